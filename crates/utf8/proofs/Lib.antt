@@ -1,0 +1,6 @@
+-- Callers need `Laws`; the other files serve the proofs of this crate.
+pub mod Laws
+mod Examples
+mod Forms
+mod Places
+mod Words
