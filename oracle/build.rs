@@ -1,0 +1,50 @@
+// Takes jsx_precompile.rs from where it is and puts it into OUT_DIR, never into the repository: once as it is (this
+// copy is the judge), once with a counter in each arm (this copy only shows how much of the Rust was reached).
+#[path = "build/count_arms.rs"]
+mod count_arms;
+
+use std::path::{Path, PathBuf};
+use std::{env, fs};
+
+const VARIABLE: &str = "JSX_PRECOMPILE_RS";
+const PLACES: [&str; 2] =
+    ["../shared/docs/src/src/transpiling/jsx_precompile.rs", "../shared/src--src--transpiling--jsx_precompile.rs.txt"];
+
+fn main() {
+    println!("cargo::rustc-check-cfg=cfg(jsx_source)");
+    println!("cargo::rerun-if-changed=build.rs");
+    println!("cargo::rerun-if-changed=build/count_arms.rs");
+    println!("cargo::rerun-if-env-changed={VARIABLE}");
+    let places = places();
+    // Only what is there is watched: cargo would build anew each time for the sake of a file that is not.
+    match places.iter().find(|p| p.is_file()) {
+        Some(place) => take(place),
+        None => {
+            let place = places[0].display();
+            println!("cargo::rerun-if-changed={place}");
+            println!(
+                "cargo::warning=jsx_precompile.rs is not there ({place}): built without it, its tests are ignored"
+            );
+        }
+    }
+}
+
+fn places() -> Vec<PathBuf> {
+    if let Some(named) = env::var_os(VARIABLE) {
+        return vec![PathBuf::from(named)];
+    }
+    let here = env::var("CARGO_MANIFEST_DIR").expect("cargo gives it");
+    let root = Path::new(&here).parent().expect("oracle/ stands in the repository").to_path_buf();
+    PLACES.iter().map(|p| root.join(p)).collect()
+}
+
+fn take(place: &Path) {
+    println!("cargo::rerun-if-changed={}", place.display());
+    let source = fs::read_to_string(place).expect("jsx_precompile.rs is text");
+    let out = PathBuf::from(env::var("OUT_DIR").expect("cargo gives it"));
+    let (counted, arms) = count_arms::with_counters(&source);
+    fs::write(out.join("jsx_precompile.rs"), &source).expect("OUT_DIR can be written");
+    fs::write(out.join("jsx_precompile_counted.rs"), counted).expect("OUT_DIR can be written");
+    fs::write(out.join("arms.rs"), arms).expect("OUT_DIR can be written");
+    println!("cargo::rustc-cfg=jsx_source");
+}

@@ -1,0 +1,60 @@
+//! Pages whose outputs come near the longest body or go over it.
+
+use super::rng::Rng;
+use super::texts;
+use crate::make::*;
+
+pub fn page(rng: &mut Rng) -> Vec<u8> {
+    match rng.below(4) {
+        0 => near_static_string(rng),
+        1 => near_item(rng),
+        2 => twice_escaped(rng),
+        _ => many(rng),
+    }
+}
+
+/// `<p>` with text whose static string is within three of the longest, 65,530 (number and header stand in the 80 too).
+fn near_static_string(rng: &mut Rng) -> Vec<u8> {
+    let wanted = 65_530 - 3 + rng.below(7);
+    let escaped = 10_900;
+    let plain = wanted - "<p></p>".len() - 6 * escaped;
+    page_of(element("p", &[text(&("\"".repeat(escaped) + &"x".repeat(plain)))]))
+}
+
+/// A call with a string whose statement is within three of the longest.
+fn near_item(rng: &mut Rng) -> Vec<u8> {
+    let wanted = 65_535 - 3 + rng.below(7);
+    // 94, 81 `Foo`, 95, 96, 81 `children`, 70: headers and names before the string.
+    let around = 3 + (3 + 3) + 3 + 3 + (3 + 8) + 3;
+    let escaped = 10_900;
+    let plain = wanted - around - 6 * escaped;
+    let children = [braces(string(&"'\"".repeat(escaped / 2))), text(&"x".repeat(plain + escaped / 2))];
+    page_of(element("Foo", &children))
+}
+
+/// A call whose children become a template, so that strings are escaped twice.
+fn twice_escaped(rng: &mut Rng) -> Vec<u8> {
+    let mut inside = vec![];
+    let length = rng.within(5_500, 8_000);
+    texts::escaped(rng, &mut inside, length);
+    let inside = String::from_utf8(inside).expect("ASCII");
+    page_of(element("Foo", &[text("a"), braces(string(&inside)), element("i", &[])]))
+}
+
+/// Several long texts, none of which need be too long by itself.
+fn many(rng: &mut Rng) -> Vec<u8> {
+    let mut parts = vec![];
+    for _ in 0..rng.within(1, 4) {
+        let mut inside = vec![];
+        let length = rng.within(500, 6_000);
+        texts::escaped(rng, &mut inside, length);
+        let inside = String::from_utf8(inside).expect("ASCII");
+        parts.push(match rng.below(4) {
+            0 => text(&inside),
+            1 => braces(string(&inside)),
+            2 => element("b", &[text(&inside)]),
+            _ => element("Bar", &[text(&inside), text("b")]),
+        });
+    }
+    page_of(element(rng.pick(&["p", "Foo", "a.b"]), &parts))
+}

@@ -1,0 +1,124 @@
+//! Random names. The names that the Rust lists are read from its own source, so that all of them are met.
+
+use super::rng::Rng;
+use crate::SOURCE;
+use std::sync::LazyLock;
+
+/// Every string in the body of a function of the source, in its order.
+pub fn listed_in(function: &str) -> Vec<&'static str> {
+    let Some(start) = SOURCE.find(&format!("\nfn {function}(")) else { return vec![] };
+    let body = &SOURCE[start..];
+    let body = &body[..body.find("\n}").unwrap_or(body.len())];
+    let code = body.lines().map(|line| line.split("//").next().unwrap_or(""));
+    code.flat_map(|line| line.split('"').skip(1).step_by(2)).filter(|name| !name.is_empty()).collect()
+}
+
+struct Listed {
+    attributes: Vec<&'static str>,
+    boolean: Vec<&'static str>,
+    void: Vec<&'static str>,
+}
+
+static LISTED: LazyLock<Listed> = LazyLock::new(|| {
+    let or = |names: Vec<&'static str>, one| if names.is_empty() { vec![one] } else { names };
+    let mut attributes = listed_in("normalize_dom_attr_name");
+    attributes.retain(|name| is_name(name));
+    Listed {
+        attributes: or(attributes, "className"),
+        boolean: or(listed_in("is_boolean_attr"), "disabled"),
+        void: or(listed_in("is_void_element"), "br"),
+    }
+});
+
+fn is_name(name: &str) -> bool {
+    name.bytes().all(|c| c.is_ascii_alphanumeric() || c == b'-')
+}
+
+const TAGS: [&str; 10] = ["div", "p", "span", "i", "a", "b", "li", "my-tag", "_x", "$y"];
+const ODD_TAGS: [&str; 6] = ["bR", "dIV", "iMg", "a-B-9", "h1", "__proto__"];
+const COMPONENTS: [&str; 6] = ["Foo", "Bar", "B", "BR", "My-Part", "F1"];
+const ATTRIBUTES: [&str; 20] = [
+    "class",
+    "className",
+    "id",
+    "title",
+    "hidden",
+    "data-x",
+    "onClick",
+    "href",
+    "htmlFor",
+    "style",
+    "value",
+    "a",
+    "b",
+    "Class",
+    "children",
+    "tabIndex",
+    "$v",
+    "_w",
+    "viewbox",
+    "xlink-href",
+];
+const SPACES: [&str; 6] = ["xlink", "xml", "svg", "a", "Xlink", "my-ns"];
+const IN_SPACES: [&str; 9] = ["href", "lang", "title", "Href", "b", "role", "key", "x-Y", "base"];
+
+pub fn tag(rng: &mut Rng) -> String {
+    match rng.weighted(&[60, 20, 8, 10, 2]) {
+        0 => rng.pick(&TAGS).to_string(),
+        1 => rng.pick(&LISTED.void).to_string(),
+        2 => rng.pick(&ODD_TAGS).to_string(),
+        3 => any(rng).to_lowercase(),
+        _ => long(rng),
+    }
+}
+
+pub fn component(rng: &mut Rng) -> String {
+    rng.pick(&COMPONENTS).to_string()
+}
+
+/// The parts of a member name; `parts` of them.
+pub fn member(rng: &mut Rng, parts: usize) -> Vec<String> {
+    (0..parts).map(|_| rng.pick(&["a", "B", "ctx", "Provider", "$", "_1", "div"]).to_string()).collect()
+}
+
+pub fn namespaced(rng: &mut Rng) -> [String; 2] {
+    [rng.pick(&SPACES).to_string(), rng.pick(&IN_SPACES).to_string()]
+}
+
+pub fn attribute(rng: &mut Rng) -> String {
+    match rng.weighted(&[40, 20, 18, 12, 2, 7, 1]) {
+        0 => rng.pick(&ATTRIBUTES).to_string(),
+        1 => rng.pick(&LISTED.attributes).to_string(),
+        2 => cased(rng, LISTED.boolean[..].to_vec()),
+        3 => cased(rng, vec!["key", "ref"]),
+        4 => "dangerouslySetInnerHTML".to_string(),
+        5 => any(rng),
+        _ => long(rng),
+    }
+}
+
+/// One of the names, now and then with a capital or in capitals.
+fn cased(rng: &mut Rng, names: Vec<&'static str>) -> String {
+    let name = rng.pick(&names);
+    match rng.below(10) {
+        0 => name.to_uppercase(),
+        1 => name[..1].to_uppercase() + &name[1..],
+        _ => name.to_string(),
+    }
+}
+
+fn any(rng: &mut Rng) -> String {
+    let first = b"abcXYZ_$";
+    let then = b"abcdefgXYZ_$0189-";
+    let mut name = vec![first[rng.below(first.len())]];
+    for _ in 0..rng.below(9) {
+        name.push(then[rng.below(then.len())]);
+    }
+    String::from_utf8(name).expect("ASCII")
+}
+
+/// A name at or near the limit of 128 bytes, never over it.
+fn long(rng: &mut Rng) -> String {
+    let length = rng.within(120, 128);
+    (0..length).map(|i| if i % 7 == 6 { 'Q' } else { 'n' }).collect()
+}

@@ -1,0 +1,60 @@
+//! Random options that meet the grammar of 01.
+
+use super::names;
+use super::rng::Rng;
+use super::texts;
+use crate::answer::MOST_OPTIONS;
+use crate::field::{begin, finish};
+
+/// Options; the listed names are drawn from `few` where it is given, so that the page's names are met.
+pub fn options(rng: &mut Rng, few: Option<&[String]>) -> Vec<u8> {
+    let mut out = vec![];
+    let percent = if few.is_some() { 60 } else { 15 };
+    if rng.chance(percent) {
+        list(rng, &mut out, 0x02, few);
+    }
+    if rng.chance(percent) {
+        list(rng, &mut out, 0x03, few);
+    }
+    if rng.chance(25) {
+        source(rng, &mut out);
+    }
+    out
+}
+
+fn list(rng: &mut Rng, out: &mut Vec<u8>, tag: u8, few: Option<&[String]>) {
+    let at = begin(out, tag);
+    for _ in 0..rng.weighted(&[8, 50, 30, 12]) {
+        let inner = begin(out, 0x20);
+        match few {
+            Some(few) if rng.chance(80) => out.extend(few[rng.below(few.len())].bytes()),
+            _ => match rng.below(4) {
+                0 => out.extend(names::tag(rng).bytes()),
+                1 => out.extend(names::attribute(rng).bytes()),
+                2 => out.extend(names::namespaced(rng).join(":").to_lowercase().bytes()),
+                _ => texts::text(rng, out, 20),
+            },
+        }
+        finish(out, inner);
+    }
+    finish(out, at);
+}
+
+fn source(rng: &mut Rng, out: &mut Vec<u8>) {
+    let at = begin(out, 0x04);
+    out.extend(rng.pick(&["preact", "npm:preact@10", "\u{65e5}", "\"", "react", "a\nb\\"]).bytes());
+    finish(out, at);
+}
+
+/// Options of exactly `length` bytes, where they have room for one more string.
+pub fn padded(rng: &mut Rng, length: usize) -> Vec<u8> {
+    let mut out = vec![];
+    list(rng, &mut out, 0x02, None);
+    if out.len() + 4 > length || length > MOST_OPTIONS + 2 {
+        return out;
+    }
+    let at = begin(&mut out, 0x04);
+    out.resize(length, b's');
+    finish(&mut out, at);
+    out
+}

@@ -1,0 +1,37 @@
+//! Cases with a name and an answer that document 01 fixes by hand: the marks of its table, its limits, the worked card,
+//! and every reading of it that was settled (which field counts first, what a listed name catches, and so on).
+
+mod limits;
+mod readings;
+mod table;
+
+use crate::answer::LEAST_SCRATCH;
+use crate::generate::{Case, Room};
+
+#[derive(Clone, Debug)]
+pub struct Mark {
+    pub name: String,
+    pub case: Case,
+    pub number: u32,
+    /// The printed text of both outputs, where it is written down.
+    pub printed: Option<String>,
+}
+
+pub fn all() -> Vec<Mark> {
+    [table::marks(), limits::marks(), readings::marks()].concat()
+}
+
+/// A page that is refused, or taken without its text being written down.
+fn mark(name: &str, page: Vec<u8>, options: Vec<u8>, number: u32) -> Mark {
+    let case = Case { page, options, scratch: LEAST_SCRATCH, templates_room: Room::More(3), page_room: Room::More(2) };
+    Mark { name: name.to_string(), case, number, printed: None }
+}
+
+/// A page that is taken, and what is then printed. The sum tells the helpers on the first line.
+fn taken(name: &str, page: Vec<u8>, options: Vec<u8>, sum: u8, behind: &str) -> Mark {
+    let helpers = crate::card::HELPERS.iter().filter(|(bit, _)| sum & bit != 0);
+    let named: Vec<String> = helpers.map(|(_, name)| format!("{name} as _{name}")).collect();
+    let import = format!("import {{ {} }} from \"react/jsx-runtime\";\n", named.join(", "));
+    let printed = if sum == 0 { behind.to_string() } else { import + behind };
+    Mark { printed: Some(printed), ..mark(name, page, options, 0) }
+}

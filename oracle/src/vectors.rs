@@ -1,0 +1,141 @@
+//! Stored answers of the judge: one call on a line (oracle/README.md describes the fields).
+
+use crate::answer::{Answer, NUMBERS};
+use crate::generate::{self, Case};
+use crate::judge::{outcome, settle};
+use crate::marks;
+use crate::show::hex;
+
+/// One call, its answer, and the bytes written up to their ends.
+#[derive(Clone, Debug, PartialEq, Eq)]
+pub struct Vector {
+    pub page: Vec<u8>,
+    pub options: Vec<u8>,
+    pub scratch: usize,
+    pub templates_out: usize,
+    pub page_out: usize,
+    pub answer: Answer,
+    pub templates_written: Vec<u8>,
+    pub page_written: Vec<u8>,
+    pub name: String,
+}
+
+impl Vector {
+    /// Asks the judge.
+    pub fn of(name: &str, case: &Case) -> Vector {
+        let outcome = outcome(&case.page, &case.options);
+        let (templates_out, page_out) = case.outs(&outcome);
+        let (mut scratch, mut templates, mut page) = (vec![0; case.scratch], vec![0; templates_out], vec![0; page_out]);
+        let answer = settle(&outcome, &mut scratch, &mut templates, &mut page);
+        templates.truncate(answer.templates_bytes);
+        page.truncate(answer.page_bytes);
+        Vector {
+            page: case.page.clone(),
+            options: case.options.clone(),
+            scratch: case.scratch,
+            templates_out,
+            page_out,
+            answer,
+            templates_written: templates,
+            page_written: page,
+            name: name.to_string(),
+        }
+    }
+
+    pub fn line(&self) -> String {
+        let bytes = |bytes: &[u8]| if bytes.is_empty() { "-".to_string() } else { hex(bytes) };
+        let a = &self.answer;
+        format!(
+            "{} {} {} {} {} {} {} {} {} {} {} {}\n",
+            bytes(&self.page),
+            bytes(&self.options),
+            self.scratch,
+            self.templates_out,
+            self.page_out,
+            a.number,
+            a.templates_bytes,
+            a.page_bytes,
+            a.templates,
+            bytes(&self.templates_written),
+            bytes(&self.page_written),
+            self.name
+        )
+    }
+
+    pub fn parse(line: &str) -> Option<Vector> {
+        let words: Vec<&str> = line.split(' ').collect();
+        let [page, options, scratch, templates_out, page_out, number, t_bytes, p_bytes, templates, t, p, name] =
+            words[..]
+        else {
+            return None;
+        };
+        let answer = Answer {
+            number: number.parse().ok()?,
+            templates_bytes: t_bytes.parse().ok()?,
+            page_bytes: p_bytes.parse().ok()?,
+            templates: templates.parse().ok()?,
+        };
+        Some(Vector {
+            page: unhex(page)?,
+            options: unhex(options)?,
+            scratch: scratch.parse().ok()?,
+            templates_out: templates_out.parse().ok()?,
+            page_out: page_out.parse().ok()?,
+            answer,
+            templates_written: unhex(t)?,
+            page_written: unhex(p)?,
+            name: name.to_string(),
+        })
+    }
+}
+
+fn unhex(word: &str) -> Option<Vec<u8>> {
+    if word == "-" {
+        return Some(vec![]);
+    }
+    let digits = word.as_bytes();
+    let pairs = digits.chunks(2).map(|pair| u8::from_str_radix(std::str::from_utf8(pair).ok()?, 16).ok());
+    if digits.len().is_multiple_of(2) { pairs.collect() } else { None }
+}
+
+/// Of the marks with long lines only these are stored.
+const LONG_MARKS: [&str; 5] = ["page-32768", "page-32769", "static-string-65530", "static-string-65531", "item-65536"];
+const LONG_LINE: usize = 20_000;
+
+/// How many seeds of each answer are stored, and how long their lines may be. 2 and 11 need long inputs.
+const QUOTAS: [(usize, usize); NUMBERS] = [
+    (1500, 800),
+    (60, 600),
+    (3, 9000),
+    (200, 700),
+    (300, 700),
+    (100, 700),
+    (100, 700),
+    (40, 700),
+    (25, 3000),
+    (100, 900),
+    (100, 900),
+    (3, 18_000),
+    (120, 700),
+    (120, 700),
+];
+
+/// The marks, then seeds from 0 on until each answer has its share.
+pub fn sample() -> Vec<Vector> {
+    let marks = marks::all().into_iter().map(|mark| Vector::of(&mark.name, &mark.case));
+    let stored = |v: &Vector| v.line().len() <= LONG_LINE || LONG_MARKS.contains(&&v.name[..]);
+    let mut sample: Vec<Vector> = marks.filter(stored).collect();
+    let mut left = QUOTAS.map(|(count, _)| count);
+    for seed in 0.. {
+        if left.iter().all(|n| *n == 0) {
+            break;
+        }
+        let vector = Vector::of(&format!("seed-{seed}"), &generate::case(seed));
+        let number = vector.answer.number as usize;
+        if left[number] > 0 && vector.line().len() <= QUOTAS[number].1 {
+            left[number] -= 1;
+            sample.push(vector);
+        }
+    }
+    sample
+}

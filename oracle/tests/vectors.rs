@@ -1,0 +1,52 @@
+//! The stored answers are the judge's, and among them is everything that they are stored for.
+
+use oracle::answer::NUMBERS;
+use oracle::judge::outcome_with;
+use oracle::transform::Copy;
+use oracle::vectors::Vector;
+use oracle::{arms, judge, marks};
+use std::collections::HashSet;
+
+const STORED: &str = include_str!("../vectors/judge.txt");
+
+fn stored() -> Vec<Vector> {
+    STORED.lines().map(|line| Vector::parse(line).expect("twelve words")).collect()
+}
+
+#[test]
+fn lines_read_back() {
+    assert!(STORED.len() < 1_500_000);
+    let again: String = stored().iter().map(Vector::line).collect();
+    assert!(again == STORED);
+}
+
+#[test]
+#[cfg_attr(not(jsx_source), ignore = "jsx_precompile.rs is not there")]
+fn the_judge_answers_as_stored() {
+    let vectors = stored();
+    for vector in &vectors {
+        let (mut scratch, mut templates, mut page) =
+            (vec![9; vector.scratch], vec![9; vector.templates_out], vec![9; vector.page_out]);
+        let answer = judge(&vector.page, &vector.options, &mut scratch, &mut templates, &mut page);
+        assert_eq!(answer, vector.answer, "{}", vector.name);
+        assert_eq!(templates[..answer.templates_bytes], vector.templates_written, "{}", vector.name);
+        assert_eq!(page[..answer.page_bytes], vector.page_written, "{}", vector.name);
+        let _ = outcome_with(Copy::Counted, &vector.page, &vector.options);
+    }
+    println!("{} vectors", vectors.len());
+    for (arm, (line, function, text)) in arms::ARMS.iter().enumerate() {
+        assert!(arms::is_dead(arm) || arms::hits(arm) > 0, "no vector reaches line {line} {function}: {text}");
+    }
+}
+
+#[test]
+fn answers_and_marks_are_all_there() {
+    let vectors = stored();
+    for number in 0..NUMBERS as u32 {
+        assert!(vectors.iter().filter(|v| v.answer.number == number).count() >= 5, "answer {number}");
+    }
+    let names: HashSet<&str> = vectors.iter().map(|v| &v.name[..]).collect();
+    let missing: Vec<String> = marks::all().into_iter().map(|m| m.name).filter(|n| !names.contains(&n[..])).collect();
+    // Those whose lines are too long to store.
+    assert!(missing.iter().all(|n| n.contains("65") || n.contains("32")), "{missing:?}");
+}
