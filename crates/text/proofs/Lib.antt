@@ -1,0 +1,10 @@
+-- The laws of `text` that the crates above cite.
+pub mod RunLaws
+pub mod WriteLaws
+pub mod LineLaws
+pub mod TrimLaws
+pub mod EscapeLaws
+pub mod TextLaws
+pub mod DecimalLaws
+pub mod TextBounds
+pub mod WhiteSpace

@@ -1,0 +1,93 @@
+-- `text::jsx_text::normalize_lit_str` meets its contract. The loop's invariant: what the lines read so far give is written, and the rest of the
+-- string comes from the lines that are left. Assumes nothing.
+use native.Mathlib.Omega.{arith}
+use Prim.Native.Nat.{_≤_, _-_}
+use lib.ListN.{length}
+use Rattle.field.proofs.PutLaws.{wrote-length}
+use Rattle.text.proofs.LineLaws.{line-cut}
+use Rattle.text.proofs.TextLaws.{Spacing, spacing-start, spacing-room, spacing-step, spacing-end}
+use borrow.Author.Needs.{needs}
+use Rattle.text.proofs.jsx_text.normalize_lit_str.Statement.{statement}
+use Rattle.text.proofs.jsx_text.normalize_lit_str.Tie as tie
+
+abbrev Inv-loop : tie.InvT-loop
+Inv-loop out₀ at s n a₀ i₀ out a i = (i ≤ length s) × Spacing s out₀ at out a i
+
+abbrev μ-loop : tie.MeasureT-loop
+μ-loop out₀ at s n a₀ i₀ out a i = length s - i
+
+loop-holds : tie.Need-loop-holds Inv-loop μ-loop
+loop-holds c = (omega arith, spacing-start _ _ _)
+
+line-at-requires : tie.Need-line-at-requires Inv-loop μ-loop
+line-at-requires c κs = search needs
+
+sub-trim-start : tie.Need-sub-trim-start Inv-loop μ-loop
+sub-trim-start c =
+    let args = c .before .before .before .before .before .args in
+    omega (arith, line-cut (args .s .now) (c .before .before .loop .i) (c .before .loop-test .taken) (c .line-at .ensures))
+
+part-trim-start-start : tie.Need-part-trim-start-start Inv-loop μ-loop
+part-trim-start-start c =
+    let args = c .before .before .before .before .before .args in
+    omega (arith, line-cut (args .s .now) (c .before .before .loop .i) (c .before .loop-test .taken) (c .line-at .ensures))
+
+part-trim-start-end : tie.Need-part-trim-start-end Inv-loop μ-loop
+part-trim-start-end c =
+    let args = c .before .before .before .before .before .args in
+    omega (arith, line-cut (args .s .now) (c .before .before .loop .i) (c .before .loop-test .taken) (c .line-at .ensures))
+
+trim-start-requires : tie.Need-trim-start-requires Inv-loop μ-loop
+trim-start-requires c κs = search needs
+
+put-spaced-line-requires : tie.Need-put-spaced-line-requires Inv-loop μ-loop
+put-spaced-line-requires c κs =
+    let line-at′ = c .before .before .before .line-at in
+    let trim-start′ = c .before .trim-start in
+    let loop = c .before .before .before .before .before .loop in
+    let args = c .before .before .before .before .before .before .before .before .args in
+    let test = c .before .before .before .before .loop-test in
+    let pre = c .before .before .before .before .before .before .before .before .pre in
+    spacing-room (line-at′ .result .end) (line-at′ .result .next) (trim-start′ .result .now) (loop .inv .1) (line-cut (args .s .now) (loop .i) (test .taken) (line-at′ .ensures)) (trim-start′ .ensures) pre
+
+loop-less : tie.Need-loop-less Inv-loop μ-loop
+loop-less c =
+    let args = c .before .before .before .before .before .before .before .before .before .before .before .args in
+    let loop = c .before .before .before .before .before .before .before .before .loop in
+    let test = c .before .before .before .before .before .before .before .loop-test in
+    let line-at′ = c .before .before .before .before .before .before .line-at in
+    omega (arith, line-cut (args .s .now) (loop .i) (test .taken) (line-at′ .ensures))
+
+loop-again : tie.Need-loop-again Inv-loop μ-loop
+loop-again c =
+    let args = c .before .before .before .before .before .before .before .before .before .before .before .args in
+    let loop = c .before .before .before .before .before .before .before .before .loop in
+    let test = c .before .before .before .before .before .before .before .loop-test in
+    let line-at′ = c .before .before .before .before .before .before .line-at in
+    let trim-start′ = c .before .before .before .before .trim-start in
+    let cut = line-cut (args .s .now) (loop .i) (test .taken) (line-at′ .ensures) in
+    (cut .within, spacing-step (line-at′ .result .end) (line-at′ .result .next) (trim-start′ .result .now) (loop .inv .1) cut (trim-start′ .ensures) (c .before .before .put-spaced-line .ensures))
+
+same-length : tie.Need-same-length Inv-loop μ-loop
+same-length c = wrote-length (c .before .loop .inv .1 .wrote)
+
+returns : tie.Need-returns Inv-loop μ-loop
+returns c = spacing-end (omega arith) (c .before .loop .inv .1)
+
+pub normalize-lit-str-spec : {M : Type 1} → statement M
+normalize-lit-str-spec =
+    tie.close
+    (tie.spec
+    Inv-loop
+    μ-loop
+    loop-holds
+    line-at-requires
+    sub-trim-start
+    part-trim-start-start
+    part-trim-start-end
+    trim-start-requires
+    put-spaced-line-requires
+    loop-less
+    loop-again
+    same-length
+    returns)

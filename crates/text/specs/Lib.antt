@@ -1,0 +1,8 @@
+-- What the contracts of `text` cite: escapes, lines, trimming, the two line rules, decimal digits, and what the helper functions answer.
+-- Each rule is 000's on bytes. On bytes that are no UTF-8 the definitions still say what the code does.
+pub mod Escape
+pub mod Lines
+pub mod Trim
+pub mod Text
+pub mod Decimal
+pub mod Runs

@@ -1,0 +1,124 @@
+// The text of a JSX text child (jsx_text_to_str) and an attribute string of a call (normalize_lit_str). Both walk the lines by line_at
+// and write each line as it comes, so that no text is held in between.
+use crate::escape::put_escaped;
+use crate::lines::line_at;
+use crate::trim::trim_end;
+use crate::trim::trim_start;
+use field::writer::put_byte;
+use field::writer::put_bytes;
+ghost use mathlib.Core.Path.{_≡_};
+ghost use mathlib.Core.Bool.{false};
+ghost use Prim.Native.Nat.{_+_, _<_, _^_};
+ghost use lib.ListN.{length};
+ghost use Rattle.field.specs.Bytes.{null?};
+ghost use Rattle.field.specs.Put.{Wrote};
+ghost use Rattle.text.specs.Text.{trimmed, escape-if, jsx-text-to-str, normalize-lit-str};
+ghost use Rattle.text.specs.Runs.{kept-line, spaced-line};
+
+fn trim_line(s: &[u8], front: bool, back: bool) -> &[u8]
+    ensures { λ r. ⌜ now r ≡ trimmed front back (now (s .entry)) ⌝ }
+{
+    if front {
+        let t = trim_start(s);
+        if back {
+            return trim_end(t);
+        }
+        return t;
+    }
+    if back {
+        return trim_end(s);
+    }
+    s
+}
+
+fn put_text(out: &mut [u8], at: usize, s: &[u8], escape: bool) -> usize
+    requires { ⌜ at + length (escape-if escape (now s)) < 2 ^ 63 ⌝ }
+    ensures { λ r. ⌜ Wrote (now (out .entry)) at (escape-if escape (now (s .entry))) (now (out .exit)) r ⌝ }
+{
+    if escape {
+        return put_escaped(out, at, s);
+    }
+    put_bytes(out, at, s)
+}
+
+// A line of the text rule: an empty one goes, and a space stands in front of one that follows text.
+fn put_kept_line(out: &mut [u8], at: usize, s: &[u8], escape: bool, later: bool) -> usize
+    requires { ⌜ at + length (escape-if escape (kept-line later (now s))) < 2 ^ 63 ⌝ }
+    ensures { λ r. ⌜ Wrote (now (out .entry)) at (escape-if escape (kept-line later (now (s .entry)))) (now (out .exit)) r ⌝ }
+{
+    if s.len() == 0 {
+        return at;
+    }
+    if later {
+        let a = put_byte(out, at, b' ');
+        return put_text(out, a, s, escape);
+    }
+    put_text(out, at, s, escape)
+}
+
+pub fn jsx_text_to_str(out: &mut [u8], at: usize, s: &[u8], escape: bool, last: bool) -> usize
+    requires { ⌜ at + length (jsx-text-to-str (now s) escape last) < 2 ^ 63 ⌝ }
+    ensures { λ r. ⌜ Wrote (now (out .entry)) at (jsx-text-to-str (now (s .entry)) escape last) (now (out .exit)) r ⌝ }
+{
+    let n = s.len();
+    let mut a = at;
+    let mut i: usize = 0;
+    while i < n {
+        let line = line_at(s, i);
+        let end = line.end;
+        let next = line.next;
+        let t = trim_line(&s[i..end], 0 < i, (next < n) | last);
+        a = put_kept_line(out, a, t, escape, at < a);
+        i = next;
+    }
+    a
+}
+
+// Whether the text rule leaves nothing.
+pub fn is_blank(s: &[u8], last: bool) -> bool
+    ensures { λ r. ⌜ r ≡ null? (jsx-text-to-str (now (s .entry)) false last) ⌝ }
+{
+    let n = s.len();
+    let mut i: usize = 0;
+    while i < n {
+        let line = line_at(s, i);
+        let end = line.end;
+        let next = line.next;
+        let t = trim_line(&s[i..end], 0 < i, (next < n) | last);
+        if 0 < t.len() {
+            return false;
+        }
+        i = next;
+    }
+    true
+}
+
+// A line of an attribute string: kept as it is, with a space in front of each but the first.
+fn put_spaced_line(out: &mut [u8], at: usize, s: &[u8], later: bool) -> usize
+    requires { ⌜ at + length (spaced-line later (now s)) < 2 ^ 63 ⌝ }
+    ensures { λ r. ⌜ Wrote (now (out .entry)) at (spaced-line later (now (s .entry))) (now (out .exit)) r ⌝ }
+{
+    if later {
+        let a = put_byte(out, at, b' ');
+        return put_bytes(out, a, s);
+    }
+    put_bytes(out, at, s)
+}
+
+pub fn normalize_lit_str(out: &mut [u8], at: usize, s: &[u8]) -> usize
+    requires { ⌜ at + length (normalize-lit-str (now s)) < 2 ^ 63 ⌝ }
+    ensures { λ r. ⌜ Wrote (now (out .entry)) at (normalize-lit-str (now (s .entry))) (now (out .exit)) r ⌝ }
+{
+    let n = s.len();
+    let mut a = at;
+    let mut i: usize = 0;
+    while i < n {
+        let line = line_at(s, i);
+        let end = line.end;
+        let next = line.next;
+        let t = trim_start(&s[i..end]);
+        a = put_spaced_line(out, a, t, 0 < i);
+        i = next;
+    }
+    a
+}
