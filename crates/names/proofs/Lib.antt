@@ -1,0 +1,10 @@
+-- The laws of `names` that the crates above cite.
+pub mod CompareLaws
+pub mod RowLaws
+pub mod SpellLaws
+pub mod FitsLaws
+pub mod ListLaws
+pub mod NormalizeLaws
+pub mod TableLaws
+pub mod MarkLaws
+pub mod NamespacedLaws

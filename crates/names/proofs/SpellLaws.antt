@@ -1,0 +1,81 @@
+-- Laws of a name copied letter by letter, and of a name that is copied as it stands.
+-- Main statements: `spelled-next`, `spelled-bound`, `plain-on`, `plain-off`.
+-- Assumes nothing.
+use mathlib.Core.Path.{_≡_, refl, sym, ap, _∙_}
+use mathlib.Core.Bool.{Bool, true, false, _&&_, not, and-false}
+use mathlib.Core.Logic.{_⊎_, ⊎-elim}
+use mathlib.Core.List.{List, [], _∷_, _++_, append-nil, append-assoc}
+use Prim.Native.Nat.{ℕ, zero, suc, _+_, _≤_, _<_}
+use native.Mathlib.Numerals.{add-one}
+use native.Mathlib.Omega.{arith}
+use lib.Dec.{leb, eqb}
+use lib.ListN.{length, getD, take, drop, length-append, take-append-drop}
+use lib.Seq.{take-suc, drop-cons, drop-length}
+use borrow.Author.Tests.{eq-eqb, ne-eqb, le-leb, lt-leb}
+use Rattle.field.specs.Bytes.{Bytes, pick}
+use Rattle.names.specs.Table.{spelled-letter, spelled, plain}
+use Rattle.names.proofs.CompareLaws.{capital-below, capital-above, capital-within}
+
+-- ---- one letter
+
+pub letter-below : (s c : ℕ) → c < 65 → c ∷ [] ≡ spelled-letter s c
+unfolding spelled-letter
+letter-below s c h = rw (capital-below c h)
+
+pub letter-above : (s c : ℕ) → 90 < c → c ∷ [] ≡ spelled-letter s c
+unfolding spelled-letter
+letter-above s c h = rw (capital-above c h)
+
+pub letter-alone : (s c : ℕ) → 65 ≤ c → c ≤ 90 → s ≡ 0 → (c + 32) ∷ [] ≡ spelled-letter s c
+unfolding spelled-letter
+letter-alone s c h k e = rw (capital-within c h k, eq-eqb s 0 e)
+
+pub letter-parted : (s c : ℕ) → 65 ≤ c → c ≤ 90 → (s ≡ 0 → ⊥) → (s ∷ []) ++ ((c + 32) ∷ []) ≡ spelled-letter s c
+unfolding spelled-letter
+letter-parted s c h k e = rw (capital-within c h k, ne-eqb s 0 e)
+
+-- ---- a name
+
+pub spelled-append : (s : ℕ) (a b : Bytes) → spelled s (a ++ b) ≡ spelled s a ++ spelled s b
+unfolding spelled
+spelled-append s [] b = refl
+spelled-append s (c ∷ a) b = ap (λ (l : Bytes). spelled-letter s c ++ l) (spelled-append s a b) ∙ sym (append-assoc (spelled-letter s c) (spelled s a) (spelled s b))
+
+-- one letter more
+pub spelled-next : (s : ℕ) (n : Bytes) (i : ℕ) → i < length n → spelled s (take i n) ++ spelled-letter s (getD n i 0) ≡ spelled s (take (i + 1) n)
+unfolding spelled
+spelled-next s n i h =
+    sym
+    (rw (add-one, take-suc n i 0 h, spelled-append s (take i n) (getD n i 0 ∷ []))
+    (ap (λ (l : Bytes). spelled s (take i n) ++ l) (append-nil (spelled-letter s (getD n i 0)))))
+
+-- the letters so far are no longer than all
+pub spelled-bound : (s : ℕ) (n : Bytes) (i : ℕ) → length (spelled s (take i n)) ≤ length (spelled s n)
+spelled-bound s n i =
+    let e = ap (λ (l : Bytes). length (spelled s l)) (take-append-drop i n) in
+    let f = ap length (spelled-append s (take i n) (drop i n)) in
+    let g = length-append (spelled s (take i n)) (spelled s (drop i n)) in
+    omega (arith, e, f, g)
+
+-- ---- a plain name
+
+plain-step : (n : Bytes) (i : ℕ) → i < length n → plain (drop i n) ≡ (not (leb 49 (getD n i 0) && leb (getD n i 0) 90) && plain (drop (suc i) n))
+unfolding plain
+plain-step n i h = rw (drop-cons n i 0 h)
+
+-- a byte that is not from `1` to `Z`
+pub plain-on : (n : Bytes) (i : ℕ) → i < length n → ((getD n i 0 < 49) ⊎ (90 < getD n i 0)) → plain (drop i n) ≡ plain n → plain (drop (i + 1) n) ≡ plain n
+plain-on n i h o p =
+    let c = getD n i 0 in
+    let q : (leb 49 c && leb c 90) ≡ false = ⊎-elim (λ u. rw (lt-leb 49 c u)) (λ u. rw (lt-leb c 90 u) (and-false (leb 49 c))) o in
+    rw add-one (rw (plain-step n i h, q) at p)
+
+pub plain-off : (n : Bytes) (i : ℕ) → i < length n → 49 ≤ getD n i 0 → getD n i 0 ≤ 90 → plain (drop i n) ≡ plain n → plain n ≡ false
+plain-off n i h u v p =
+    let c = getD n i 0 in
+    let q : (leb 49 c && leb c 90) ≡ true = rw (le-leb 49 c u, le-leb c 90 v) in
+    sym (rw (plain-step n i h, q) at p)
+
+pub plain-end : (n : Bytes) → plain (drop (length n) n) ≡ true
+unfolding plain
+plain-end n = rw (drop-length n)

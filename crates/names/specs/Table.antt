@@ -1,0 +1,57 @@
+-- How the code reads a name and the rows of its tables. Nothing here has to be believed: the laws tie each to the definitions of Names.
+-- Assumes nothing: these are definitions.
+use Prim.Native.Nat.{ℕ, zero, suc, _+_, _-_, _≤_, _<_, _/_, _%_, _^_}
+use mathlib.Core.Bool.{Bool, true, false, _&&_, not}
+use mathlib.Core.List.{List, [], _∷_, _++_}
+use lib.Dec.{leb, eqb}
+use lib.ListN.{length, take, drop, getD}
+use Rattle.field.specs.Bytes.{Bytes, ascii, pick, same}
+use Rattle.names.specs.Names.{capital, small-letters}
+
+-- a name as it stands, or in small letters
+abbrev pub read-as : Bool → Bytes → Bytes
+read-as small n = pick small (small-letters n) n
+
+-- some name of the table has this length and this first letter: of the entry at a length, the bit that the first letter modulo 32 says
+unfoldable pub fits-in : List ℕ → Bytes → Bool
+fits-in firsts [] = false
+fits-in firsts (c ∷ cs) = eqb (getD firsts (suc (length cs)) 0 / 2 ^ (c % 32) % 2) 1
+
+-- a table is rows of names, the shorter names first, and starts says where the names of each length begin: the row of length l
+abbrev pub row-of : Bytes → List ℕ → ℕ → Bytes
+row-of names starts l = take (getD starts (l + 1) 0 - getD starts l 0) (drop (getD starts l 0) names)
+
+-- a table of so many bytes has that row
+pub record HasRow (size : ℕ) (starts : List ℕ) (l : ℕ) : Type 0 where
+  pub within : l + 1 < length starts
+  pub rising : getD starts l 0 ≤ getD starts (l + 1) 0
+  pub inside : getD starts (l + 1) 0 ≤ size
+
+-- a row holds names of one length, each with a mark behind it: the mark behind the name n, or 0. So many bytes are passed over first
+unfoldable pub mark-from : Bytes → ℕ → Bytes → ℕ
+mark-from n k [] = 0
+mark-from n (suc k) (c ∷ row) = mark-from n k row
+mark-from n zero (c ∷ row) = pick (same (take (length n) (c ∷ row)) n) (getD (c ∷ row) (length n) 0) (mark-from n (length n) row)
+
+abbrev pub mark-in : Bytes → Bytes → ℕ
+mark-in row n = mark-from n 0 row
+
+-- a capital as its small letter, with the byte s in front of it unless s is 0
+unfoldable pub spelled-letter : ℕ → ℕ → Bytes
+spelled-letter s c = pick (capital c) (pick (eqb s 0) ((c + 32) ∷ []) (s ∷ (c + 32) ∷ [])) (c ∷ [])
+
+unfoldable pub spelled : ℕ → Bytes → Bytes
+spelled s [] = []
+spelled s (c ∷ cs) = spelled-letter s c ++ spelled s cs
+
+-- what a mark of the attributes' table says: `=` stays, `c` class, `f` for, `h` href, `p` panose-1; any other stands before each capital
+unfoldable pub by-mark : ℕ → Bytes → Bytes
+by-mark m n =
+    pick (eqb m 61) n
+    (pick (eqb m 99) (ascii "class")
+    (pick (eqb m 102) (ascii "for") (pick (eqb m 104) (ascii "href") (pick (eqb m 112) (ascii "panose-1") (spelled m n)))))
+
+-- no byte from `1` to `Z`
+unfoldable pub plain : Bytes → Bool
+plain [] = true
+plain (c ∷ cs) = not (leb 49 c && leb c 90) && plain cs
