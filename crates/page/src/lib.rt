@@ -1,0 +1,42 @@
+// The page and its options: the typed tree that fields read as, and the refusals 3 to 8 of document 01, front to back. The tree is
+// read leniently from any bytes; whether the bytes are the page's own is what the checks say. What becomes of a page is left to `spec`.
+pub mod element;
+pub mod leaf;
+pub mod name;
+pub mod whole;
+
+// The refusals of document 01, each under its trade's word.
+pub enum Refusal {
+    // 1, short desk
+    ScratchTooSmall,
+    // 2, thick
+    InputTooLong,
+    // 3, torn
+    Truncated,
+    // 4, misplaced
+    Misplaced,
+    // 5, bad name
+    BadName,
+    // 6, bad letters
+    NotUtf8,
+    // 7, big number
+    NumberTooLarge,
+    // 8, too deep
+    TooDeep,
+    // 9, unfinished
+    Unimplemented,
+    // 10, bare tag
+    TagLeft,
+    // 11, long
+    OutputTooLong,
+    // 12, small shelf
+    TemplatesTooSmall,
+    // 13, small page
+    PageTooSmall,
+}
+
+// What a check says: nothing to refuse, or the first refusal from the front.
+pub enum Verdict {
+    Fine,
+    Refused(Refusal),
+}
