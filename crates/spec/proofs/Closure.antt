@@ -1,0 +1,307 @@
+-- The predicates of `Good` are closed under what passes are made of. Main statements: `good-template`, `good-visits`, `good-after`,
+-- `good-after-any`; those of `Passes` are passed on.
+-- Assumes nothing.
+use Prim.Native.Nat.{ℕ, suc, _+_, _≤_}
+use native.Mathlib.Omega.{arith}
+use mathlib.Core.Path.{_≡_, refl, sym, ap, ap₂, _∙_, subst₂}
+use mathlib.Core.Bool.{Bool, true, false, _&&_, _||_, not}
+use mathlib.Core.List.{List, [], _∷_, _++_}
+use lib.Dec.{T, eqb, eqb→eq}
+use lib.ListN.{length, length-append}
+use Rattle.field.specs.Bytes.{Bytes}
+use Rattle.field.specs.Number.{big-endian}
+use Rattle.field.specs.Row.{Row, end, loose, field, Inside, only-bytes, fields-after, inside}
+use Rattle.field.proofs.RowLaws.{Shaped, FrontFits, front-full}
+use Rattle.spec.specs.Pass.{Template, Done, Pass, pure, both, bind, raise, join, long-if, Raw, Mid, none, node, raw, _⧺_, Part, chars, gap}
+use Rattle.spec.specs.Output.{gen-template, dynamic-exprs, strings-after, kinds-of}
+use Rattle.spec.specs.Visit.{visit-exprs, visit-inside, visit-after, leave, reaches-todo}
+use Rattle.spec.specs.Transform.{bit, stands}
+use Rattle.spec.specs.Demand.{kinds-in}
+use Rattle.spec.proofs.Good.{Test, recorded, called, called-row, numbered, Sound, AllSound, Kept, GoodVisit, Clean, GoodDone, GoodPass, GoodGap, GoodParts, FormedBy, no-tag, OneNode, OneField, Piece, literal, hole, piece-strings, piece-kinds}
+use Rattle.spec.proofs.Nested.{Neutral, sound-pieces}
+use Rattle.spec.proofs.Ledger.{or-either, neither, recorded-append, numbered-append, sound-append, span-first, kinds-append, stands-node, one-behind, then, kept-pure, kept-raised, kept-then}
+pub use Rattle.spec.proofs.Passes.{clean-weaken, still-weaken, still-none, still-node, still-raw, still-append, good-weaken, good-pure, good-both, good-raise-long, good-raise-todo, good-array, good-call}
+
+-- one expression: a field that is neither a jsxAttr call nor a choice, or a tag still to be visited
+unfoldable pub OneExpr : Mid → Type 0
+unfolding OneNode
+OneExpr none = ⊥
+OneExpr (node t f i r) = OneNode false (node t f i r)
+OneExpr (raw q none) = Unit {0}
+OneExpr (raw q (node t f i r)) = ⊥
+OneExpr (raw q (raw s r)) = ⊥
+
+-- the kinds of one expression, before and after its visit
+one-kind : (k : Bool) (x : Mid) → OneNode k x → kinds-of x ≡ k ∷ []
+unfolding OneNode kinds-of
+one-kind k none o = absurd o
+one-kind k (node t f i none) o = ap (λ (b : Bool). b ∷ []) o
+one-kind k (node t f i (node u g j r)) o = absurd o
+one-kind k (node t f i (raw q r)) o = absurd o
+one-kind k (raw q r) o = absurd o
+
+one-kind-in : (x : Row) → OneField x → kinds-in x ≡ false ∷ []
+unfolding OneField kinds-in
+one-kind-in end o = absurd o
+one-kind-in (loose b) o = absurd o
+one-kind-in (field t f i end) o = ap (λ (b : Bool). b ∷ []) o
+one-kind-in (field t f i (loose b)) o = absurd o
+one-kind-in (field t f i (field u g j r)) o = absurd o
+
+-- what is formed by its tag's rule is shaped by it once it is visited
+formed-fits : (c : Inside) (f : Bytes) (i : Mid) (n : ℕ) → FormedBy c f i → FrontFits c f (visit-exprs i n .value)
+unfolding FormedBy FrontFits visit-exprs pure
+formed-fits only-bytes f none n h = tt
+formed-fits only-bytes f (node t g i r) n h = absurd h
+formed-fits only-bytes f (raw q r) n h = absurd h
+formed-fits (fields-after k) f i n h = front-full k f (visit-exprs i n .value) (eqb→eq (length f) k h)
+
+module _ (Listed Fragments : Type 0) where
+  -- ---- parts
+
+  pub parts-weaken : (ps : List Part) (qs : List Piece) {v w : ℕ} → v ≤ w → GoodParts Listed Fragments ps qs v → GoodParts Listed Fragments ps qs w
+  unfolding GoodParts
+  parts-weaken [] [] h g = tt
+  parts-weaken [] (q ∷ qs) h g = absurd g
+  parts-weaken (chars b ∷ ps) [] h g = absurd g
+  parts-weaken (chars b ∷ ps) (literal c ∷ qs) h g = (g .0, parts-weaken ps qs h (g .1))
+  parts-weaken (chars b ∷ ps) (hole k ∷ qs) h g = absurd g
+  parts-weaken (gap p ∷ ps) [] h g = absurd g
+  parts-weaken (gap p ∷ ps) (literal c ∷ qs) h g = absurd g
+  parts-weaken (gap p ∷ ps) (hole k ∷ qs) h g = (g .0, g .1, omega arith, g .3, g .4)
+
+  pub parts-append : (ps ps′ : List Part) (qs qs′ : List Piece) (a b : ℕ) → GoodParts Listed Fragments ps qs a → GoodParts Listed Fragments ps′ qs′ b → GoodParts Listed Fragments (ps ++ ps′) (qs ++ qs′) (a + b)
+  unfolding GoodParts
+  parts-append [] ps′ [] qs′ a b g h = parts-weaken ps′ qs′ (omega arith) h
+  parts-append [] ps′ (q ∷ qs) qs′ a b g h = absurd g
+  parts-append (chars c ∷ ps) ps′ [] qs′ a b g h = absurd g
+  parts-append (chars c ∷ ps) ps′ (literal d ∷ qs) qs′ a b g h = (g .0, parts-append ps ps′ qs qs′ a b (g .1) h)
+  parts-append (chars c ∷ ps) ps′ (hole k ∷ qs) qs′ a b g h = absurd g
+  parts-append (gap p ∷ ps) ps′ [] qs′ a b g h = absurd g
+  parts-append (gap p ∷ ps) ps′ (literal d ∷ qs) qs′ a b g h = absurd g
+  parts-append (gap p ∷ ps) ps′ (hole k ∷ qs) qs′ a b g h = (g .0, g .1 + b, omega arith, g .3, parts-append ps ps′ qs qs′ (g .1) b (g .4) h)
+
+  -- ---- a template
+
+  -- what its parts give: dynamic expressions, their kinds, and the strings between them
+  record PartsGive (ps : List Part) (qs : List Piece) (w : ℕ) : Type 0 where
+    good : GoodPass Listed Fragments w (dynamic-exprs ps)
+    kinds : (n : ℕ) → piece-kinds qs ≡ kinds-of (dynamic-exprs ps n .value)
+    strings : (last : Bytes) → piece-strings last qs ≡ strings-after last ps
+
+  parts-give : (ps : List Part) (qs : List Piece) (w : ℕ) → GoodParts Listed Fragments ps qs w → PartsGive ps qs w
+  unfolding GoodParts dynamic-exprs piece-kinds piece-strings strings-after kinds-of pure both
+  parts-give [] [] w g = record { good = good-pure Listed Fragments (still-none Listed Fragments w); kinds = λ n. refl; strings = λ last. refl }
+  parts-give [] (q ∷ qs) w g = absurd g
+  parts-give (chars b ∷ ps) [] w g = absurd g
+  parts-give (chars b ∷ ps) (literal c ∷ qs) w g =
+      let r = parts-give ps qs w (g .1) in
+      record { good = r .good; kinds = r .kinds; strings = λ last. ap (λ (x : Bytes). piece-strings (last ++ x) qs) (sym (g .0)) ∙ r .strings (last ++ b) }
+  parts-give (chars b ∷ ps) (hole k ∷ qs) w g = absurd g
+  parts-give (gap p ∷ ps) [] w g = absurd g
+  parts-give (gap p ∷ ps) (literal c ∷ qs) w g = absurd g
+  parts-give (gap p ∷ ps) (hole k ∷ qs) w g =
+      let r = parts-give ps qs (g .1) (g .4) in
+      record {
+        good = good-weaken Listed Fragments (g .2) (good-both Listed Fragments (g .3 .good) (r .good));
+        kinds =
+            λ n.
+            let m = n + p n .taken in
+            ap₂ (λ (x y : List Bool). x ++ y) (sym (one-kind k (p n .value) (g .3 .one n))) (r .kinds m) ∙ sym (kinds-append (p n .value) (dynamic-exprs ps m .value));
+        strings = λ last. ap (λ (x : List Bytes). last ∷ x) (r .strings []);
+      }
+
+  -- the pass of a template, by that of its dynamic expressions
+  template-kept : (n : ℕ) (d : Done Mid) (t : Template) (v : Mid) → t .number ≡ n → Sound t → Kept Listed Fragments (n + 1) d → Kept Listed Fragments n (record { value = v; taken = 1 + d .taken; templates = d .templates ++ (t ∷ []); flags = d .flags })
+  unfolding numbered AllSound
+  template-kept n d t v e s k =
+      record {
+        count = omega (arith, length-append (d .templates) (t ∷ []), k .count);
+        numbers = λ m. omega (arith, numbered-append m (d .templates) (t ∷ []), span-first n (d .taken) m, k .numbers m, ap (λ (x : ℕ). bit (eqb x m) 1) e);
+        sound = sound-append (d .templates) (t ∷ []) (k .sound) (s, tt);
+        listed = k .listed;
+        fragments = k .fragments;
+      }
+
+  pub good-template : (ps : List Part) (qs : List Piece) (w : ℕ) → GoodParts Listed Fragments ps qs w → Neutral qs → GoodGap Listed Fragments (suc w) false (gen-template ps)
+  unfolding gen-template OneNode Clean FormedBy inside big-endian called recorded
+  good-template ps qs w g h =
+      let all = parts-give ps qs w g in
+      record {
+        good =
+            λ n.
+            let r = dynamic-exprs ps (n + 1) in
+            let d = all .good (n + 1) in
+            let t : Template = record { number = n; strings = strings-after [] ps; kinds = kinds-of (r .value) } in
+            let s : Sound t = subst₂ (λ (x : List Bytes) (y : List Bool). Sound (record { number = n; strings = x; kinds = y })) (all .strings []) (all .kinds (n + 1)) (sound-pieces n qs h) in
+            record {
+              kept = template-kept n r t (node 0x90 (big-endian 2 n []) (r .value) none) refl s (d .kept);
+              balance = λ p. omega (arith, recorded-append p (r .templates) (t ∷ []), d .balance p);
+              left-over = d .left-over;
+              bound = omega arith;
+              clean = (tt, tt, (d .left-over, 0, omega arith, d .clean, tt));
+            };
+        one = λ n. refl;
+      }
+
+  -- ---- visits
+
+  -- a row of expressions, visited
+  pub record Visited (m : Mid) (w n : ℕ) (d : Done Row) : Type 0 where
+    pub kept : Kept Listed Fragments n d
+    pub balance : (p : Test) → called-row p (d .value) ≡ called p m + recorded p (d .templates)
+    pub bound : d .taken ≤ w
+    pub kinds : kinds-in (d .value) ≡ kinds-of m
+    pub shaped : Shaped (d .value)
+    pub no-element : T (not (d .flags .left)) → stands 0x30 (d .value) ≡ false
+    pub no-fragment : T (not (d .flags .left)) → stands 0x31 (d .value) ≡ false
+
+  visited-none : (w n : ℕ) → Visited none w n (pure end n)
+  unfolding pure called called-row recorded kinds-in kinds-of Shaped stands
+  visited-none w n =
+      record { kept = kept-pure Listed Fragments end n; balance = λ p. refl; bound = omega arith; kinds = refl; shaped = tt; no-element = λ h. refl; no-fragment = λ h. refl }
+
+  visited-node : (t : ℕ) (f : Bytes) (i r : Mid) (a b w n : ℕ) (d e : Done Row) → T (no-tag t) → FrontFits (inside t) f (d .value) → a + b ≤ w → Visited i a n d → Visited r b (n + d .taken) e → Visited (node t f i r) w n (then (field t f (d .value) (e .value)) d e)
+  unfolding called called-row kinds-in kinds-of Shaped
+  visited-node t f i r a b w n d e k s h x y =
+      let x′ = d .value in
+      let y′ = e .value in
+      let l = d .flags .left in
+      let l′ = e .flags .left in
+      let tags = neither (eqb t 0x30) (eqb t 0x31) k in
+      record {
+        kept = kept-then Listed Fragments (field t f x′ y′) n d e (x .kept) (y .kept);
+        balance = λ p. omega (arith, ap (λ (z : List Bool). bit (eqb t 0x90 && p f z) 1) (x .kinds), x .balance p, y .balance p, recorded-append p (d .templates) (e .templates));
+        bound = omega arith;
+        kinds = ap (λ (z : List Bool). (eqb t 0x91 || eqb t 0x93) ∷ z) (y .kinds);
+        shaped = (s, x .shaped, y .shaped);
+        no-element = λ m. stands-node 0x30 t f x′ y′ (tags .0) (x .no-element (neither l l′ m .0)) (y .no-element (neither l l′ m .1));
+        no-fragment = λ m. stands-node 0x31 t f x′ y′ (tags .1) (x .no-fragment (neither l l′ m .0)) (y .no-fragment (neither l l′ m .1));
+      }
+
+  visited-raw : (q : Raw) (r : Mid) (a b w n : ℕ) (d e : Done Row) → a + b ≤ w → GoodVisit Listed Fragments a n d → Visited r b (n + d .taken) e → Visited (raw q r) w n (then (d .value ⧺ e .value) d e)
+  unfolding called kinds-of
+  visited-raw q r a b w n d e h x y =
+      let x′ = d .value in
+      let y′ = e .value in
+      let l = d .flags .left in
+      let l′ = e .flags .left in
+      let o = one-behind x′ y′ (x .one) in
+      record {
+        kept = kept-then Listed Fragments (x′ ⧺ y′) n d e (x .kept) (y .kept);
+        balance = λ p. omega (arith, o .called-both p, x .balance p, y .balance p, recorded-append p (d .templates) (e .templates));
+        bound = omega arith;
+        kinds = o .kinds ∙ ap (λ (z : List Bool). false ∷ z) (y .kinds);
+        shaped = o .shaped (x .shaped) (y .shaped);
+        no-element = λ m. o .stands-not 0x30 (x .no-element (neither l l′ m .0)) (y .no-element (neither l l′ m .1));
+        no-fragment = λ m. o .stands-not 0x31 (x .no-fragment (neither l l′ m .0)) (y .no-fragment (neither l l′ m .1));
+      }
+
+  pub good-visits : (m : Mid) {w : ℕ} → Clean Listed Fragments m w → (n : ℕ) → Visited m w n (visit-exprs m n)
+  unfolding Clean visit-exprs both
+  good-visits none {w} c n = visited-none w n
+  good-visits (node t f i r) {w} c n =
+      let d = visit-exprs i n in
+      let e = visit-exprs r (n + d .taken) in
+      visited-node t f i r (c .2 .0) (c .2 .1) w n d e (c .0) (formed-fits (inside t) f i n (c .1)) (c .2 .2) (good-visits i (c .2 .3) n) (good-visits r (c .2 .4) (n + d .taken))
+  good-visits (raw q r) {w} c n =
+      let d = q .visited n in
+      let e = visit-exprs r (n + d .taken) in
+      visited-raw q r (c .0) (c .1) w n d e (c .2) (c .3 .visits n) (good-visits r (c .4) (n + d .taken))
+
+  pub todo-listed : (m : Mid) (w : ℕ) → Clean Listed Fragments m w → T (reaches-todo m) → Listed
+  unfolding reaches-todo
+  todo-listed m w c h = good-visits m c 0 .kept .listed h
+
+  -- one field in the first pass, visited in the second
+  good-then : (w n : ℕ) (d : Done Mid) (e : Done Row) (g : GoodDone Listed Fragments w n d) → Visited (d .value) (g .left-over) (n + d .taken) e → OneField (e .value) → GoodVisit Listed Fragments w n (then (e .value) d e)
+  good-then w n d e g v o =
+      let l = d .flags .left in
+      let l′ = e .flags .left in
+      record {
+        kept = kept-then Listed Fragments (e .value) n d e (g .kept) (v .kept);
+        balance = λ p. omega (arith, v .balance p, g .balance p, recorded-append p (d .templates) (e .templates));
+        bound = omega arith;
+        one = o;
+        shaped = v .shaped;
+        no-element = λ m. v .no-element (neither l l′ m .1);
+        no-fragment = λ m. v .no-fragment (neither l l′ m .1);
+      }
+
+  inside-field : (m : Mid) {w : ℕ} → Clean Listed Fragments m w → OneNode false m → (n : ℕ) → Visited m w n (visit-inside m n) × OneField (visit-inside m n .value)
+  unfolding OneNode OneField visit-inside visit-exprs both pure
+  inside-field none c o n = absurd o
+  inside-field (node t f i none) c o n = (good-visits (node t f i none) c n, o)
+  inside-field (node t f i (node u g j r)) c o n = absurd o
+  inside-field (node t f i (raw q r)) c o n = absurd o
+  inside-field (raw q r) c o n = absurd o
+
+  -- ---- tags that are left, and the second pass after the first
+
+  pub good-leave : (b : Bool) {w : ℕ} → Fragments → (T b → Listed) → (n : ℕ) → GoodVisit Listed Fragments w n (leave b n)
+  unfolding leave raise pure called-row recorded OneField Shaped FrontFits inside stands
+  good-leave b f l n =
+      let none-taken = pure (field 0x30 [] end end) n in
+      record {
+        kept = kept-raised Listed Fragments (record { unimplemented = b; left = true; long = false }) n none-taken l (λ t. f) (kept-pure Listed Fragments (field 0x30 [] end end) n);
+        balance = λ p. refl;
+        bound = omega arith;
+        one = refl;
+        shaped = (tt, tt, tt);
+        no-element = λ t. absurd t;
+        no-fragment = λ t. absurd t;
+      }
+
+  pub good-null : {w : ℕ} (n : ℕ) → GoodVisit Listed Fragments w n (pure (field 0x73 [] end end) n)
+  unfolding pure called-row recorded OneField Shaped FrontFits inside stands
+  good-null n =
+      record {
+        kept = kept-pure Listed Fragments (field 0x73 [] end end) n;
+        balance = λ p. refl;
+        bound = omega arith;
+        one = refl;
+        shaped = (tt, tt, tt);
+        no-element = λ t. refl;
+        no-fragment = λ t. refl;
+      }
+
+  -- the second pass after the first, where the first gives a field
+  pub good-after : {p : Pass Mid} {w : ℕ} → GoodGap Listed Fragments w false p → (n : ℕ) → GoodVisit Listed Fragments w n (visit-after p n)
+  unfolding visit-after bind
+  good-after {p} {w} g n =
+      let d = p n in
+      let x = g .good n in
+      let v = inside-field (d .value) (x .clean) (g .one n) (n + d .taken) in
+      good-then w n d (visit-inside (d .value) (n + d .taken)) x (v .0) (v .1)
+
+  visited-alone : (q : Raw) (w n : ℕ) (d : Done Row) → GoodVisit Listed Fragments w n d → Visited (raw q none) w n d
+  unfolding called kinds-of
+  visited-alone q w n d g =
+      record {
+        kept = g .kept;
+        balance = λ p. omega (arith, g .balance p);
+        bound = g .bound;
+        kinds = one-kind-in (d .value) (g .one);
+        shaped = g .shaped;
+        no-element = g .no-element;
+        no-fragment = g .no-fragment;
+      }
+
+  inside-expr : Fragments → (m : Mid) {w : ℕ} → Clean Listed Fragments m w → OneExpr m → (n : ℕ) → Visited m w n (visit-inside m n) × OneField (visit-inside m n .value)
+  unfolding OneExpr Clean visit-inside
+  inside-expr f none c o n = absurd o
+  inside-expr f (node t g i r) c o n = inside-field (node t g i r) c o n
+  inside-expr f (raw q none) {w} c o n =
+      let x : GoodVisit Listed Fragments w n (leave (q .unimplemented-inside) n) = good-leave (q .unimplemented-inside) f (c .3 .inside-listed) n in
+      (visited-alone q w n (leave (q .unimplemented-inside) n) x, x .one)
+  inside-expr f (raw q (node t g i r)) c o n = absurd o
+  inside-expr f (raw q (raw s r)) c o n = absurd o
+
+  -- and where it may give a tag, which is left
+  pub good-after-any : {p : Pass Mid} {w : ℕ} → Fragments → GoodPass Listed Fragments w p → ((n : ℕ) → OneExpr (p n .value)) → (n : ℕ) → GoodVisit Listed Fragments w n (visit-after p n)
+  unfolding visit-after bind
+  good-after-any {p} {w} f g o n =
+      let d = p n in
+      let x = g n in
+      let v = inside-expr f (d .value) (x .clean) (o n) (n + d .taken) in
+      good-then w n d (visit-inside (d .value) (n + d .taken)) x (v .0) (v .1)

@@ -1,0 +1,164 @@
+-- The laws of what `Good` counts: templates recorded, called and numbered, of two rows and of two passes in a row.
+-- Main statements: `recorded-append`, `called-append`, `span-add`, `one-behind`, `kept-then`.
+-- Assumes nothing.
+use Prim.Native.Nat.{ℕ, zero, suc, _+_}
+use native.Mathlib.Omega.{arith}
+use mathlib.Core.Path.{_≡_, refl, ap}
+use mathlib.Core.Bool.{Bool, true, false, _||_, not}
+use mathlib.Core.List.{List, [], _∷_, _++_}
+use lib.Dec.{T, eqb}
+use lib.ListN.{length-append}
+use Rattle.field.specs.Bytes.{Bytes}
+use Rattle.field.specs.Row.{Row, end, loose, field}
+use Rattle.field.proofs.RowLaws.{Shaped}
+use Rattle.spec.specs.declared.Flags.{Flags}
+use Rattle.spec.specs.Pass.{Template, Done, pure, join, Mid, none, node, raw, _+++_, _⧺_}
+use Rattle.spec.specs.Output.{kinds-of}
+use Rattle.spec.specs.Transform.{bit, stands}
+use Rattle.spec.specs.Demand.{kinds-in}
+use Rattle.spec.proofs.Good.{Test, recorded, called, called-row, numbered, span, AllSound, OneField, Kept}
+
+-- ---- tests
+
+pub or-either : {C : Type 0} (a b : Bool) → (T a → C) → (T b → C) → T (a || b) → C
+or-either true b f g t = f tt
+or-either false b f g t = g t
+
+pub or-false : (a b : Bool) → a ≡ false → b ≡ false → a || b ≡ false
+or-false true b p q = p
+or-false false b p q = q
+
+pub neither : (a b : Bool) → T (not (a || b)) → T (not a) × T (not b)
+neither true b t = absurd t
+neither false b t = (tt, t)
+
+pub is-false : (a : Bool) → T (not a) → a ≡ false
+is-false true t = absurd t
+is-false false t = refl
+
+-- ---- two lists of templates
+
+pub recorded-append : (p : Test) (ts us : List Template) → recorded p (ts ++ us) ≡ recorded p ts + recorded p us
+unfolding recorded
+recorded-append p [] us = omega arith
+recorded-append p (t ∷ ts) us = omega (arith, recorded-append p ts us)
+
+pub numbered-append : (m : ℕ) (ts us : List Template) → numbered m (ts ++ us) ≡ numbered m ts + numbered m us
+unfolding numbered
+numbered-append m [] us = omega arith
+numbered-append m (t ∷ ts) us = omega (arith, numbered-append m ts us)
+
+pub sound-append : (ts us : List Template) → AllSound ts → AllSound us → AllSound (ts ++ us)
+unfolding AllSound
+sound-append [] us s u = u
+sound-append (t ∷ ts) us s u = (s .0, sound-append ts us (s .1) u)
+
+-- ---- numbers in a row
+
+pub span-add : (n a b m : ℕ) → span n (a + b) m ≡ span n a m + span (n + a) b m
+unfolding span
+span-add n zero b m =
+    let e : zero + b ≡ b = omega arith in
+    let g : n + zero ≡ n = omega arith in
+    omega (arith, ap (λ (x : ℕ). span n x m) e, ap (λ (x : ℕ). span x b m) g)
+span-add n (suc a) b m =
+    let e : suc a + b ≡ suc (a + b) = omega arith in
+    let g : n + suc a ≡ suc n + a = omega arith in
+    omega (arith, ap (λ (x : ℕ). span n x m) e, ap (λ (x : ℕ). span x b m) g, span-add (suc n) a b m)
+
+-- the first of them, counted last
+pub span-first : (n k m : ℕ) → span n (1 + k) m ≡ span (n + 1) k m + bit (eqb n m) 1
+unfolding span
+span-first n k m =
+    let e : 1 + k ≡ suc k = omega arith in
+    let g : n + 1 ≡ suc n = omega arith in
+    omega (arith, ap (λ (x : ℕ). span n x m) e, ap (λ (x : ℕ). span x k m) g)
+
+-- ---- two rows
+
+pub called-append : (p : Test) (x y : Mid) → called p (x +++ y) ≡ called p x + called p y
+unfolding called _+++_
+called-append p none y = omega arith
+called-append p (node t f i r) y = omega (arith, called-append p r y)
+called-append p (raw q r) y = called-append p r y
+
+pub uncalled-node : (p : Test) (t : ℕ) (f : Bytes) (i r : Mid) → T (not (eqb t 0x90)) → called p i ≡ 0 → called p r ≡ 0 → called p (node t f i r) ≡ 0
+unfolding called
+uncalled-node p t f i r k x y = rw (is-false (eqb t 0x90) k, x, y) refl
+
+pub kinds-append : (x y : Mid) → kinds-of (x +++ y) ≡ kinds-of x ++ kinds-of y
+unfolding kinds-of _+++_
+kinds-append none y = refl
+kinds-append (node t f i r) y = ap (λ (k : List Bool). (eqb t 0x91 || eqb t 0x93) ∷ k) (kinds-append r y)
+kinds-append (raw q r) y = ap (λ (k : List Bool). false ∷ k) (kinds-append r y)
+
+pub stands-node : (u t : ℕ) (f : Bytes) (x y : Row) → T (not (eqb t u)) → stands u x ≡ false → stands u y ≡ false → stands u (field t f x y) ≡ false
+unfolding stands
+stands-node u t f x y k p q = or-false (eqb t u) (stands u x || stands u y) (is-false (eqb t u) k) (or-false (stands u x) (stands u y) p q)
+
+-- a row behind one field
+pub record Behind (x y : Row) : Type 0 where
+  pub called-both : (p : Test) → called-row p (x ⧺ y) ≡ called-row p x + called-row p y
+  pub kinds : kinds-in (x ⧺ y) ≡ false ∷ kinds-in y
+  pub shaped : Shaped x → Shaped y → Shaped (x ⧺ y)
+  pub stands-not : (u : ℕ) → stands u x ≡ false → stands u y ≡ false → stands u (x ⧺ y) ≡ false
+
+or-behind : (a b c : Bool) → a || (b || false) ≡ false → c ≡ false → a || (b || c) ≡ false
+or-behind true b c p q = p
+or-behind false true c p q = p
+or-behind false false c p q = q
+
+pub one-behind : (x y : Row) → OneField x → Behind x y
+unfolding OneField _⧺_ called-row kinds-in Shaped stands
+one-behind end y o = absurd o
+one-behind (loose b) y o = absurd o
+one-behind (field t f i end) y o =
+    record {
+      called-both = λ p. omega arith;
+      kinds = ap (λ (k : Bool). k ∷ kinds-in y) o;
+      shaped = λ s z. (s .0, s .1, z);
+      stands-not = λ u s z. or-behind (eqb t u) (stands u i) (stands u y) s z;
+    }
+one-behind (field t f i (loose b)) y o = absurd o
+one-behind (field t f i (field u g j r)) y o = absurd o
+
+-- ---- passes
+
+-- what two passes in a row leave, with a value made of theirs
+abbrev pub then : {A B C : Type 0} → C → Done A → Done B → Done C
+then v d e = record { value = v; taken = d .taken + e .taken; templates = d .templates ++ e .templates; flags = join (d .flags) (e .flags) }
+
+-- the same with another value, and with flags raised
+abbrev pub valued : {A B : Type 0} → B → Done A → Done B
+valued v d = record { value = v; taken = d .taken; templates = d .templates; flags = d .flags }
+
+abbrev pub raised : {A : Type 0} → Flags → Done A → Done A
+raised f d = record { value = d .value; taken = d .taken; templates = d .templates; flags = join f (d .flags) }
+
+module _ (Listed Fragments : Type 0) where
+  pub kept-pure : {A : Type 0} (v : A) (n : ℕ) → Kept Listed Fragments n (pure v n)
+  unfolding pure numbered span AllSound
+  kept-pure v n = record { count = refl; numbers = λ m. refl; sound = tt; listed = λ t. absurd t; fragments = λ t. absurd t }
+
+  pub kept-valued : {A B : Type 0} (v : B) (n : ℕ) (d : Done A) → Kept Listed Fragments n d → Kept Listed Fragments n (valued v d)
+  kept-valued v n d k = record { count = k .count; numbers = k .numbers; sound = k .sound; listed = k .listed; fragments = k .fragments }
+
+  pub kept-raised : {A : Type 0} (f : Flags) (n : ℕ) (d : Done A) → (T (f .unimplemented) → Listed) → (T (f .left) → Fragments) → Kept Listed Fragments n d → Kept Listed Fragments n (raised f d)
+  kept-raised f n d l r k =
+      record {
+        count = k .count;
+        numbers = k .numbers;
+        sound = k .sound;
+        listed = or-either (f .unimplemented) (d .flags .unimplemented) l (k .listed);
+        fragments = or-either (f .left) (d .flags .left) r (k .fragments);
+      }
+
+  pub kept-then : {A B C : Type 0} (v : C) (n : ℕ) (d : Done A) (e : Done B) → Kept Listed Fragments n d → Kept Listed Fragments (n + d .taken) e → Kept Listed Fragments n (then v d e)
+  kept-then v n d e k l =
+      record {
+        count = omega (arith, length-append (d .templates) (e .templates), k .count, l .count);
+        numbers = λ m. omega (arith, numbered-append m (d .templates) (e .templates), span-add n (d .taken) (e .taken) m, k .numbers m, l .numbers m);
+        sound = sound-append (d .templates) (e .templates) (k .sound) (l .sound);
+        listed = or-either (d .flags .unimplemented) (e .flags .unimplemented) (k .listed) (l .listed);
+        fragments = or-either (d .flags .left) (e .flags .left) (k .fragments) (l .fragments);
+      }

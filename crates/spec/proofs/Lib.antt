@@ -1,0 +1,21 @@
+-- The table of marks, demand 3 and acceptance.
+pub mod Marks
+pub mod Good
+pub mod Weight
+pub mod Markup
+pub mod Place
+pub mod Free
+pub mod Nested
+pub mod Ledger
+pub mod Passes
+pub mod Closure
+pub mod Walk
+pub mod PageGood
+pub mod Counts
+pub mod PageOut
+pub mod Within
+pub mod RowDemand
+pub mod Answers
+pub mod Lent
+pub mod Export
+pub mod Accept

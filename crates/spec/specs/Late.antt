@@ -1,0 +1,34 @@
+-- The answers that may follow the reading of a page and its options, each with what decides it. Assumes nothing: these are definitions.
+use Prim.Native.Nat.{ℕ, _≤_, _<_}
+use mathlib.Core.Bool.{Bool, _||_, not}
+use lib.Dec.{T}
+use lib.ListN.{length}
+use Rattle.field.specs.Row.{Row, bytes, long-body}
+use Rattle.page.specs.Page.{Options}
+use Rattle.page.specs.declared.Refusal.the-variants as R
+use Rattle.spec.specs.Pass.{Done}
+use Rattle.spec.specs.Transform.{templates-row, page-out-row}
+use Rattle.spec.specs.Answer.{Written, Outcome, refused, accepted}
+
+-- both outputs, and how many bytes each needs
+abbrev pub written : Options → Done Row → Written
+written o d = record { templates-out = bytes (templates-row (d .templates)); page-out = bytes (page-out-row o d); templates = length (d .templates) }
+
+abbrev pub templates-need : Done Row → ℕ
+templates-need d = length (bytes (templates-row (d .templates)))
+
+abbrev pub page-need : Options → Done Row → ℕ
+page-need o d = length (bytes (page-out-row o d))
+
+-- 01, 11: a merged run, or a body of either output, over 65,535
+abbrev pub over-long : Options → Done Row → Bool
+over-long o d = d .flags .long || (long-body (templates-row (d .templates)) || long-body (page-out-row o d))
+
+-- 01, Limits: 9 to 13 over the whole, the lower number first; taken where none is given
+pub data Late (templates-room page-room : ℕ) (o : Options) (d : Done Row) : Outcome → Type 0 where
+  unimplemented : T (d .flags .unimplemented) → Late templates-room page-room o d (refused R.Unimplemented)
+  tag-left : T (not (d .flags .unimplemented)) → T (d .flags .left) → Late templates-room page-room o d (refused R.TagLeft)
+  too-long : T (not (d .flags .unimplemented)) → T (not (d .flags .left)) → T (over-long o d) → Late templates-room page-room o d (refused R.OutputTooLong)
+  templates-small : T (not (d .flags .unimplemented)) → T (not (d .flags .left)) → T (not (over-long o d)) → templates-room < templates-need d → Late templates-room page-room o d (refused R.TemplatesTooSmall)
+  page-small : T (not (d .flags .unimplemented)) → T (not (d .flags .left)) → T (not (over-long o d)) → templates-need d ≤ templates-room → page-room < page-need o d → Late templates-room page-room o d (refused R.PageTooSmall)
+  taken : T (not (d .flags .unimplemented)) → T (not (d .flags .left)) → T (not (over-long o d)) → templates-need d ≤ templates-room → page-need o d ≤ page-room → Late templates-room page-room o d (accepted (written o d))
