@@ -72,6 +72,10 @@ row("templates out one short",page(el("br")),12,sr=11)
 row("templates out as long",page(el("br")),0,1,form(1,"<br>"),out(2,tpl(1)),sr=12)
 row("page out one short",page(el("br")),13,sr=12,pr=34)
 row("page out as long",page(el("br")),0,1,form(1,"<br>"),out(2,tpl(1)),sr=12,pr=35)
+row("<Foo a={1}/>",page(el("Foo",F(0x50,name("a"),F(0x52,F(0x71,N8(1)))))),0,0,'[]',out(1,F(0x94,name("Foo"),F(0x95,F(0x96,F(0x81,A("a")),F(0x71,N8(1))))),forms=False))
+row('<a b="<&"/>',page(el("a",F(0x50,name("b"),F(0x51,A("<&"))))),0,1,form(1,'<a b="&lt;&amp;"></a>'),out(2,tpl(1)))
+row("<i/> and <b/>, side by side",page(el("i"),el("b")),0,2,cat([form(1,"<i></i>"),form(2,"<b></b>")]),out(2,tpl(1),tpl(2)))
+row("a run over 65,535 that is merged again",page(F(0x30,name("Foo"),F(0x60,A("a")),F(0x52,F(0x70,'(replicate 13107 38)')),el("i"))),11)
 row("a body over 65,535",page(F(0x30,name("p"),F(0x60,'(replicate 13107 38)'))),11)
 
 

@@ -1,17 +1,17 @@
 -- Laws of bytes compared, and of a name read letter by letter, as it stands or in small letters.
 -- Main statements: `same-eq`, `same-step`, `same-other`, `letter-at`.
 -- Assumes nothing.
-use mathlib.Core.Path.{_≡_, refl, sym, ap, ap₂, _∙_}
+use mathlib.Core.Path.{_≡_, refl, sym, ap, ap₂}
 use mathlib.Core.Bool.{Bool, true, false, _&&_, false≢true, and-eq-true-iff, and-false}
-use mathlib.Core.List.{List, [], _∷_, _++_}
+use mathlib.Core.List.{[], _∷_}
 use Prim.Native.Nat.{ℕ, zero, suc, _+_, _≤_, _<_}
 use native.Mathlib.Nat.{not-suc-le-zero, le-of-suc-le-suc}
 use native.Mathlib.Numerals.{add-one}
 use lib.Dec.{leb, eqb}
-use lib.ListN.{length, getD, take, drop}
+use lib.ListN.{length, getD, drop}
 use lib.Seq.{drop-cons, drop-length}
 use borrow.Author.Tests.{eqb-true, eq-eqb, ne-eqb, lt-leb, le-leb}
-use Rattle.field.specs.Bytes.{Bytes, pick, same, among}
+use Rattle.field.specs.Bytes.{Bytes, pick, same}
 use Rattle.names.specs.Names.{capital, small-letter, small-letters}
 use Rattle.names.specs.Table.{read-as}
 

@@ -8,3 +8,6 @@ pub mod NormalizeLaws
 pub mod TableLaws
 pub mod MarkLaws
 pub mod NamespacedLaws
+pub mod EscapedLaws
+pub mod NameLaws
+pub mod WhatwgLaws

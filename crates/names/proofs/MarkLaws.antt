@@ -6,7 +6,6 @@ use mathlib.Core.Bool.{Bool, true, false, not, false≢true}
 use mathlib.Core.Logic.{⊎-elim}
 use mathlib.Core.List.{List, [], _∷_, _++_}
 use Prim.Native.Nat.{ℕ, _+_}
-use lib.Dec.{eqb}
 use lib.ListN.{length}
 use borrow.Author.Tests.{eq-eqb, ne-eqb}
 use Rattle.field.specs.Bytes.{Bytes, pick, same}
@@ -16,15 +15,15 @@ use Rattle.names.proofs.CompareLaws.{same-eq}
 use Rattle.names.proofs.ListLaws.{refuted}
 use Rattle.names.proofs.FitsLaws.{fits-length}
 use Rattle.names.proofs.NormalizeLaws.{listed, over-lists, normalize-listed, normalize-unlisted}
-use Rattle.names.proofs.TableLaws.{all-entries, table-mark, has}
+use Rattle.names.proofs.TableLaws.{row-at, mark-at, all-entries, table-mark, has}
 
 letter-none : (c : ℕ) → spelled-letter 0 c ≡ small-letter c ∷ []
 unfolding spelled-letter small-letter
 letter-none c = on (capital c)
   where
-  on : (b : Bool) → pick b ((c + 32) ∷ []) (c ∷ []) ≡ pick b (c + 32) c ∷ []
-  on true = refl
-  on false = refl
+    on : (b : Bool) → pick b ((c + 32) ∷ []) (c ∷ []) ≡ pick b (c + 32) c ∷ []
+    on true = refl
+    on false = refl
 
 -- with nothing before a capital, the letters are the small letters
 pub spelled-none : (n : Bytes) → spelled 0 n ≡ small-letters n
@@ -37,16 +36,16 @@ unfolding by-mark
 unlisted-none n h = spelled-none n ∙ sym (normalize-unlisted n h)
 
 -- no listed name has another length or first letter
-pub mark-none : (fs : List ℕ) → over-lists (λ w v. fits-in fs w) ≡ true → (n : Bytes) → fits-in fs n ≡ false → by-mark 0 n ≡ normalize-dom-attr-name n
-mark-none fs q n h = unlisted-none n (refuted (listed n) (λ e. false≢true (sym h ∙ normalize-listed (λ w v. fits-in fs w) q n e)))
+pub mark-none : (fs : List ℕ) (n : Bytes) → fits-in fs n ≡ false → over-lists (λ w v. fits-in fs w) ≡ true → by-mark 0 n ≡ normalize-dom-attr-name n
+mark-none fs n h q = unlisted-none n (refuted (listed n) (λ e. false≢true (sym h ∙ normalize-listed (λ w v. fits-in fs w) q n e)))
 
 -- each entry's mark says what its name becomes, and each listed name has an entry
-pub mark-says : (t : Bytes) (s fs : List ℕ) → all-entries (λ w m. same (by-mark m w) (normalize-dom-attr-name w)) t s (length fs) ≡ true → over-lists (λ w v. has t s w) ≡ true → (n : Bytes) → fits-in fs n ≡ true → by-mark (mark-in (row-of t s (length n)) n) n ≡ normalize-dom-attr-name n
-mark-says t s fs p q n h =
-    let m = mark-in (row-of t s (length n)) n in
-    ⊎-elim
-    (λ z. rw z (unlisted-none n (refuted (listed n) (λ e. false≢true (sym (ap not (eq-eqb m 0 z)) ∙ normalize-listed (λ w v. has t s w) q n e)))))
-    (λ a. same-eq (by-mark m n) (normalize-dom-attr-name n) a)
+pub mark-says : (t : Bytes) (s fs : List ℕ) (n : Bytes) {r : Bytes} {m : ℕ} → m ≡ mark-in r n → r ≡ row-of t s (length n) → fits-in fs n ≡ true → all-entries (λ w m. same (by-mark m w) (normalize-dom-attr-name w)) t s (length fs) ≡ true → over-lists (λ w v. has t s w) ≡ true → by-mark m n ≡ normalize-dom-attr-name n
+mark-says t s fs n a c h p q =
+    let k = mark-in (row-at t s (length n)) n in
+    ap (λ (x : ℕ). by-mark x n) (mark-at t s n a refl c) ∙ ⊎-elim
+    (λ z. rw z (unlisted-none n (refuted (listed n) (λ e. false≢true (sym (ap not (eq-eqb k 0 z)) ∙ normalize-listed (λ w v. has t s w) q n e)))))
+    (λ a. same-eq (by-mark k n) (normalize-dom-attr-name n) a)
     (table-mark (λ w k. same (by-mark k w) (normalize-dom-attr-name w)) t s (length fs) p n (fits-length fs n h .1))
 
 -- ---- what each mark says

@@ -3,25 +3,25 @@
 -- Assumes nothing.
 use mathlib.Core.Path.{_≡_, refl, sym, ap, ap₂, _∙_}
 use mathlib.Core.Bool.{Bool, true, false, _&&_, _||_, not, false≢true, and-false, and-assoc}
-use mathlib.Core.List.{List, [], _∷_, _++_, append-assoc}
-use Prim.Native.Nat.{ℕ, zero, suc, _+_, _≤_, _<_}
+use mathlib.Core.List.{[], _∷_, _++_}
+use Prim.Native.Nat.{suc, _+_, _≤_, _<_}
 use native.Mathlib.Nat.{not-suc-le-zero, le-of-suc-le-suc}
 use native.Mathlib.Numerals.{add-one}
 use native.Mathlib.Omega.{arith}
 use lib.Dec.{eqb}
 use lib.ListN.{length, getD, take, drop, length-append}
-use borrow.Author.Tests.{ne-eqb, eqb-false, not-true}
-use Rattle.field.specs.Bytes.{Bytes, ascii, pick, same, among}
+use borrow.Author.Tests.{not-true}
+use Rattle.field.specs.Bytes.{Bytes, ascii, same, among}
 use Rattle.names.specs.Names.{hyphenated-names, kept-names, renamed, small-letter, small-letters, parted, rename-in, normalize-dom-attr-name}
 use Rattle.names.proofs.CompareLaws.{same-eq, same-other, length-small}
 use Rattle.names.proofs.ListLaws.{and-left, and-right, refuted}
 use Rattle.names.proofs.NormalizeLaws.{listed, over-lists, normalize-listed, normalize-unlisted}
 
-unfoldable colon-free : Bytes → Bool
+unfoldable pub colon-free : Bytes → Bool
 colon-free [] = true
 colon-free (c ∷ cs) = not (eqb 58 c) && colon-free cs
 
-has-colon : (a b : Bytes) → colon-free (a ++ (58 ∷ b)) ≡ false
+pub has-colon : (a b : Bytes) → colon-free (a ++ (58 ∷ b)) ≡ false
 unfolding colon-free
 has-colon [] b = refl
 has-colon (c ∷ a) b = rw (has-colon a b) (and-false (not (eqb 58 c)))
@@ -66,7 +66,7 @@ namespaced-unlisted ns n h =
 
 -- ---- all others
 
-small-append : (a b : Bytes) → small-letters (a ++ b) ≡ small-letters a ++ small-letters b
+pub small-append : (a b : Bytes) → small-letters (a ++ b) ≡ small-letters a ++ small-letters b
 unfolding small-letters
 small-append [] b = refl
 small-append (c ∷ a) b = ap (λ (l : Bytes). small-letter c ∷ l) (small-append a b)

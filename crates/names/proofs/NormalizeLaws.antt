@@ -3,15 +3,14 @@
 -- Assumes nothing.
 use mathlib.Core.Path.{_≡_, refl, sym, ap, ap₂, _∙_}
 use mathlib.Core.Bool.{Bool, true, false, _&&_, _||_, not, false≢true}
-use mathlib.Core.List.{List, [], _∷_, _++_}
-use lib.ListN.{length}
-use lib.Dec.{leb}
-use borrow.Author.Tests.{not-true, le-leb, leb-true}
+use mathlib.Core.List.{List, [], _∷_}
+use lib.Dec.{leb, eqb}
+use borrow.Author.Tests.{not-true, leb-true, lt-leb, ne-eqb}
 use native.Mathlib.Omega.{arith}
-use Prim.Native.Nat.{ℕ, _+_, _≤_}
+use Prim.Native.Nat.{ℕ, _+_}
 use Rattle.field.specs.Bytes.{Bytes, ascii, pick, same, among}
 use Rattle.names.specs.Names.{hyphenated-names, kept-names, renamed, capital, small-letter, small-letters, parted, hyphenate, rename-in, normalize-dom-attr-name}
-use Rattle.names.specs.Table.{plain}
+use Rattle.names.specs.Table.{plain-name}
 use Rattle.names.proofs.CompareLaws.{same-eq}
 use Rattle.names.proofs.ListLaws.{and-left, and-right, or-left, or-right, every, every-at, refuted}
 
@@ -96,26 +95,32 @@ small-enough g t n = on (listed n) refl
 
 -- ---- plain names
 
-plain-letter : (c : ℕ) → (leb 49 c && leb c 90) ≡ false → small-letter c ≡ c
+plain-letter : (c : ℕ) → (eqb c 45 || leb 91 c) ≡ true → small-letter c ≡ c
 unfolding small-letter
-plain-letter c h = ap (λ (b : Bool). pick b (c + 32) c) (refuted (capital c) (λ e. false≢true (sym h ∙ rw (le-leb 49 c (omega (arith, leb-true 65 c (and-left (leb 65 c) (leb c 90) e))), and-right (leb 65 c) (leb c 90) e))))
+plain-letter c h =
+    ap (λ (b : Bool). pick b (c + 32) c)
+    (refuted (capital c)
+    (λ e.
+    let low = leb-true 65 c (and-left (leb 65 c) (leb c 90) e) in
+    let high = leb-true c 90 (and-right (leb 65 c) (leb c 90) e) in
+    false≢true (sym (rw (ne-eqb c 45 (λ d. omega (arith, d, low)), lt-leb 91 c (omega arith)) refl) ∙ h)))
 
-pub small-plain : (n : Bytes) → plain n ≡ true → small-letters n ≡ n
-unfolding plain small-letters
+pub small-plain : (n : Bytes) → plain-name n ≡ true → small-letters n ≡ n
+unfolding plain-name small-letters
 small-plain [] h = refl
 small-plain (c ∷ cs) h =
-    let a = not (leb 49 c && leb c 90) in
-    ap₂ (λ (x : ℕ) (l : Bytes). x ∷ l) (plain-letter c (not-true (leb 49 c && leb c 90) (and-left a (plain cs) h))) (small-plain cs (and-right a (plain cs) h))
+    let a = eqb c 45 || leb 91 c in
+    ap₂ (λ (x : ℕ) (l : Bytes). x ∷ l) (plain-letter c (and-left a (plain-name cs) h)) (small-plain cs (and-right a (plain-name cs) h))
 
--- each listed name has a byte from `1` to `Z`
-no-plain : over-lists (λ w v. not (plain w)) ≡ true
-unfolding renamed hyphenated-names kept-names parted plain
+-- no listed name is plain
+no-plain : over-lists (λ w v. not (plain-name w)) ≡ true
+unfolding renamed hyphenated-names kept-names parted plain-name
 no-plain = refl
 
 -- so a plain name stays as it is
-pub normalize-plain : (n : Bytes) → plain n ≡ true → normalize-dom-attr-name n ≡ n
+pub normalize-plain : (n : Bytes) → plain-name n ≡ true → normalize-dom-attr-name n ≡ n
 normalize-plain n h =
-    let u = refuted (listed n) (λ e. false≢true (sym (not-true (plain n) (normalize-listed (λ w v. not (plain w)) no-plain n e)) ∙ h)) in
+    let u = refuted (listed n) (λ e. false≢true (sym (not-true (plain-name n) (normalize-listed (λ w v. not (plain-name w)) no-plain n e)) ∙ h)) in
     normalize-unlisted n u ∙ small-plain n h
 
 -- the name that is asked for before the table

@@ -1,15 +1,15 @@
 -- Laws of a row of names, each with a mark behind it, walked from one name to the next.
 -- Main statements: `row-found`, `row-passed`, `row-ended`, which are what a search does at a place of the row.
 -- Assumes nothing.
-use mathlib.Core.Path.{_≡_, refl, sym, ap, _∙_}
+use mathlib.Core.Path.{_≡_, refl, ap, _∙_}
 use mathlib.Core.Bool.{Bool, true, false}
-use mathlib.Core.List.{List, [], _∷_}
+use mathlib.Core.List.{[], _∷_}
 use Prim.Native.Nat.{ℕ, zero, suc, _+_, _≤_, _<_}
 use native.Mathlib.Nat.{not-suc-le-zero}
 use native.Mathlib.Numerals.{add-one}
 use native.Mathlib.Omega.{arith}
 use lib.ListN.{length, getD, take, drop, length-drop, drop-of-length-le, List·getD-eq-default}
-use lib.Seq.{drop-drop, drop-nil, getD-drop, getD-take, length-take-le}
+use lib.Seq.{drop-drop, getD-drop, getD-take, length-take-le}
 use Rattle.field.specs.Bytes.{Bytes, pick, same}
 use Rattle.names.specs.Table.{mark-from, mark-in}
 

@@ -2,18 +2,18 @@
 -- Main statements: `spelled-next`, `spelled-bound`, `plain-on`, `plain-off`.
 -- Assumes nothing.
 use mathlib.Core.Path.{_≡_, refl, sym, ap, _∙_}
-use mathlib.Core.Bool.{Bool, true, false, _&&_, not, and-false}
+use mathlib.Core.Bool.{true, false, _&&_, _||_, or-true}
 use mathlib.Core.Logic.{_⊎_, ⊎-elim}
-use mathlib.Core.List.{List, [], _∷_, _++_, append-nil, append-assoc}
-use Prim.Native.Nat.{ℕ, zero, suc, _+_, _≤_, _<_}
+use mathlib.Core.List.{[], _∷_, _++_, append-nil, append-assoc}
+use Prim.Native.Nat.{ℕ, suc, _+_, _≤_, _<_}
 use native.Mathlib.Numerals.{add-one}
 use native.Mathlib.Omega.{arith}
 use lib.Dec.{leb, eqb}
 use lib.ListN.{length, getD, take, drop, length-append, take-append-drop}
 use lib.Seq.{take-suc, drop-cons, drop-length}
 use borrow.Author.Tests.{eq-eqb, ne-eqb, le-leb, lt-leb}
-use Rattle.field.specs.Bytes.{Bytes, pick}
-use Rattle.names.specs.Table.{spelled-letter, spelled, plain}
+use Rattle.field.specs.Bytes.{Bytes}
+use Rattle.names.specs.Table.{spelled-letter, spelled, plain-name}
 use Rattle.names.proofs.CompareLaws.{capital-below, capital-above, capital-within}
 
 -- ---- one letter
@@ -59,23 +59,23 @@ spelled-bound s n i =
 
 -- ---- a plain name
 
-plain-step : (n : Bytes) (i : ℕ) → i < length n → plain (drop i n) ≡ (not (leb 49 (getD n i 0) && leb (getD n i 0) 90) && plain (drop (suc i) n))
-unfolding plain
+plain-step : (n : Bytes) (i : ℕ) → i < length n → plain-name (drop i n) ≡ ((eqb (getD n i 0) 45 || leb 91 (getD n i 0)) && plain-name (drop (suc i) n))
+unfolding plain-name
 plain-step n i h = rw (drop-cons n i 0 h)
 
--- a byte that is not from `1` to `Z`
-pub plain-on : (n : Bytes) (i : ℕ) → i < length n → ((getD n i 0 < 49) ⊎ (90 < getD n i 0)) → plain (drop i n) ≡ plain n → plain (drop (i + 1) n) ≡ plain n
+-- a byte that may stand in a plain name
+pub plain-on : (n : Bytes) (i : ℕ) → i < length n → ((getD n i 0 ≡ 45) ⊎ (90 < getD n i 0)) → plain-name (drop i n) ≡ plain-name n → plain-name (drop (i + 1) n) ≡ plain-name n
 plain-on n i h o p =
     let c = getD n i 0 in
-    let q : (leb 49 c && leb c 90) ≡ false = ⊎-elim (λ u. rw (lt-leb 49 c u)) (λ u. rw (lt-leb c 90 u) (and-false (leb 49 c))) o in
+    let q : (eqb c 45 || leb 91 c) ≡ true = ⊎-elim (λ u. rw (eq-eqb c 45 u)) (λ u. rw (le-leb 91 c u) (or-true (eqb c 45))) o in
     rw add-one (rw (plain-step n i h, q) at p)
 
-pub plain-off : (n : Bytes) (i : ℕ) → i < length n → 49 ≤ getD n i 0 → getD n i 0 ≤ 90 → plain (drop i n) ≡ plain n → plain n ≡ false
+pub plain-off : (n : Bytes) (i : ℕ) → i < length n → getD n i 0 ≤ 90 → (getD n i 0 ≡ 45 → ⊥) → plain-name (drop i n) ≡ plain-name n → plain-name n ≡ false
 plain-off n i h u v p =
     let c = getD n i 0 in
-    let q : (leb 49 c && leb c 90) ≡ true = rw (le-leb 49 c u, le-leb c 90 v) in
+    let q : (eqb c 45 || leb 91 c) ≡ false = rw (ne-eqb c 45 v, lt-leb 91 c (omega arith)) in
     sym (rw (plain-step n i h, q) at p)
 
-pub plain-end : (n : Bytes) → plain (drop (length n) n) ≡ true
-unfolding plain
+pub plain-end : (n : Bytes) → plain-name (drop (length n) n) ≡ true
+unfolding plain-name
 plain-end n = rw (drop-length n)

@@ -6,17 +6,28 @@ use mathlib.Core.Path.{_≡_, refl, sym, ap, _∙_}
 use mathlib.Core.Bool.{Bool, true, false, _&&_, not, false≢true}
 use mathlib.Core.Logic.{_⊎_, inl, inr, ⊎-elim}
 use mathlib.Core.List.{List, [], _∷_}
-use Prim.Native.Nat.{ℕ, zero, suc, _+_, _-_, _≤_, _<_, _/_, _%_, _^_}
+use Prim.Native.Nat.{ℕ, zero, suc, _+_, _-_, _<_}
 use native.Mathlib.Omega.{arith}
 use lib.Dec.{leb, eqb}
 use lib.ListN.{length, getD, take, drop}
-use borrow.Author.Tests.{leb-true, eq-eqb, eqb-true, not-true, not-false}
+use borrow.Author.Tests.{leb-true, eq-eqb}
 use Rattle.field.specs.Bytes.{Bytes, pick, same, among}
-use Rattle.names.specs.Names.{capital, small-letter, small-letters}
 use Rattle.names.specs.Table.{fits-in, row-of, HasRow, mark-from, mark-in}
 use Rattle.names.proofs.CompareLaws.{same-eq}
 use Rattle.names.proofs.ListLaws.{and-left, and-right, both-ways, refuted, every, every-at, upto, upto-at}
 use Rattle.names.proofs.FitsLaws.{fits-length}
+
+-- a row, as the tests below compute it
+abbrev pub row-at : Bytes → List ℕ → ℕ → Bytes
+row-at t s l = take (getD s (l + 1) 0 - getD s l 0) (drop (getD s l 0) t)
+
+row-is : {r : Bytes} (t : Bytes) (s : List ℕ) (l : ℕ) → r ≡ row-of t s l → r ≡ row-at t s l
+unfolding row-of
+row-is t s l e = e
+
+-- what is found in the row of a name's length, as the tests have it
+pub mark-at : {r : Bytes} {m l : ℕ} (t : Bytes) (s : List ℕ) (n : Bytes) → m ≡ mark-in r n → length n ≡ l → r ≡ row-of t s l → m ≡ mark-in (row-at t s (length n)) n
+mark-at t s n p e q = p ∙ ap (λ (row : Bytes). mark-in row n) (row-is t s (length n) (q ∙ ap (row-of t s) (sym e)))
 
 -- ---- every entry
 
@@ -42,28 +53,28 @@ entries-at f n zero (c ∷ row) t =
 
 -- the test passes at every entry of a table with names of less than k letters
 abbrev pub all-entries : (Bytes → ℕ → Bool) → Bytes → List ℕ → ℕ → Bool
-all-entries f t s k = upto (λ l. entries f l 0 (row-of t s l)) k
+all-entries f t s k = upto (λ l. entries f l 0 (row-at t s l)) k
 
-pub table-mark : (f : Bytes → ℕ → Bool) (t : Bytes) (s : List ℕ) (k : ℕ) → all-entries f t s k ≡ true → (n : Bytes) → length n < k → (mark-in (row-of t s (length n)) n ≡ 0) ⊎ (f n (mark-in (row-of t s (length n)) n) ≡ true)
-table-mark f t s k h n l = entries-at f n 0 (row-of t s (length n)) (upto-at (λ m. entries f m 0 (row-of t s m)) k h (length n) l)
+pub table-mark : (f : Bytes → ℕ → Bool) (t : Bytes) (s : List ℕ) (k : ℕ) → all-entries f t s k ≡ true → (n : Bytes) → length n < k → (mark-in (row-at t s (length n)) n ≡ 0) ⊎ (f n (mark-in (row-at t s (length n)) n) ≡ true)
+table-mark f t s k h n l = entries-at f n 0 (row-at t s (length n)) (upto-at (λ m. entries f m 0 (row-at t s m)) k h (length n) l)
 
 -- ---- every name
 
 -- the table has the name
 abbrev pub has : Bytes → List ℕ → Bytes → Bool
-has t s w = not (eqb (mark-in (row-of t s (length w)) w) 0)
+has t s w = not (eqb (mark-in (row-at t s (length w)) w) 0)
 
 -- a table of the names xs and of no others
-pub table-has : (t : Bytes) (s fs : List ℕ) (xs : List Bytes) → all-entries (λ w m. among w xs) t s (length fs) ≡ true → every (has t s) xs ≡ true → (n : Bytes) → fits-in fs n ≡ true → has t s n ≡ among n xs
-table-has t s fs xs p q n h =
-    let m = mark-in (row-of t s (length n)) n in
-    both-ways (not (eqb m 0)) (among n xs)
-    (λ e. ⊎-elim (λ z. absurd (false≢true (sym (ap not (eq-eqb m 0 z)) ∙ e))) (λ a. a) (table-mark (λ w k. among w xs) t s (length fs) p n (fits-length fs n h .1)))
+pub table-has : (t : Bytes) (s fs : List ℕ) (xs : List Bytes) (n : Bytes) {r : Bytes} {m l : ℕ} → m ≡ mark-in r n → length n ≡ l → r ≡ row-of t s l → fits-in fs n ≡ true → all-entries (λ w m. among w xs) t s (length fs) ≡ true → every (has t s) xs ≡ true → not (eqb m 0) ≡ among n xs
+table-has t s fs xs n a b c h p q =
+    let k = mark-in (row-at t s (length n)) n in
+    ap (λ (x : ℕ). not (eqb x 0)) (mark-at t s n a b c) ∙ both-ways (not (eqb k 0)) (among n xs)
+    (λ e. ⊎-elim (λ z. absurd (false≢true (sym (ap not (eq-eqb k 0 z)) ∙ e))) (λ a. a) (table-mark (λ w k. among w xs) t s (length fs) p n (fits-length fs n h .1)))
     (λ a. every-at (has t s) xs q n a)
 
 -- none of the names has another length or first letter
-pub table-lacks : (fs : List ℕ) (xs : List Bytes) → every (fits-in fs) xs ≡ true → (n : Bytes) → fits-in fs n ≡ false → among n xs ≡ false
-table-lacks fs xs q n h = refuted (among n xs) (λ a. false≢true (sym h ∙ every-at (fits-in fs) xs q n a))
+pub table-lacks : (fs : List ℕ) (xs : List Bytes) (n : Bytes) → fits-in fs n ≡ false → every (fits-in fs) xs ≡ true → among n xs ≡ false
+table-lacks fs xs n h q = refuted (among n xs) (λ a. false≢true (sym h ∙ every-at (fits-in fs) xs q n a))
 
 -- ---- where the rows stand
 

@@ -1,6 +1,6 @@
 -- The names of 000: attributes and what they become, void elements, boolean attributes. Assumes nothing: these are definitions.
 use Prim.Native.Nat.{ℕ, _+_}
-use mathlib.Core.Bool.{Bool, true, false, _&&_, _||_}
+use mathlib.Core.Bool.{Bool, _&&_, _||_}
 use mathlib.Core.List.{List, [], _∷_, _++_}
 use lib.Dec.{leb, eqb}
 use Rattle.field.specs.Bytes.{Bytes, ascii, pick, same, among}
@@ -125,3 +125,8 @@ is-void-element n = among n void-names
 
 unfoldable pub is-boolean-attr : Bytes → Bool
 is-boolean-attr n = among n boolean-names
+
+-- 01, Field: what names are made of, letters, digits, `-`, `_` and `$`; and the `:` of a namespaced name
+unfoldable pub name-byte : ℕ → Bool
+name-byte c =
+    (leb 97 c && leb c 122) || (leb 65 c && leb c 90) || (leb 48 c && leb c 58) || eqb c 45 || eqb c 95 || eqb c 36

@@ -1,7 +1,7 @@
 -- How the code reads a name and the rows of its tables. Nothing here has to be believed: the laws tie each to the definitions of Names.
 -- Assumes nothing: these are definitions.
 use Prim.Native.Nat.{ℕ, zero, suc, _+_, _-_, _≤_, _<_, _/_, _%_, _^_}
-use mathlib.Core.Bool.{Bool, true, false, _&&_, not}
+use mathlib.Core.Bool.{Bool, true, false, _&&_, _||_}
 use mathlib.Core.List.{List, [], _∷_, _++_}
 use lib.Dec.{leb, eqb}
 use lib.ListN.{length, take, drop, getD}
@@ -18,7 +18,7 @@ fits-in firsts [] = false
 fits-in firsts (c ∷ cs) = eqb (getD firsts (suc (length cs)) 0 / 2 ^ (c % 32) % 2) 1
 
 -- a table is rows of names, the shorter names first, and starts says where the names of each length begin: the row of length l
-abbrev pub row-of : Bytes → List ℕ → ℕ → Bytes
+unfoldable pub row-of : Bytes → List ℕ → ℕ → Bytes
 row-of names starts l = take (getD starts (l + 1) 0 - getD starts l 0) (drop (getD starts l 0) names)
 
 -- a table of so many bytes has that row
@@ -51,7 +51,7 @@ by-mark m n =
     (pick (eqb m 99) (ascii "class")
     (pick (eqb m 102) (ascii "for") (pick (eqb m 104) (ascii "href") (pick (eqb m 112) (ascii "panose-1") (spelled m n)))))
 
--- no byte from `1` to `Z`
-unfoldable pub plain : Bytes → Bool
-plain [] = true
-plain (c ∷ cs) = not (leb 49 c && leb c 90) && plain cs
+-- small letters, `-` and what else is above the capitals: no capital, no digit and no sign that is escaped
+unfoldable pub plain-name : Bytes → Bool
+plain-name [] = true
+plain-name (c ∷ cs) = (eqb c 45 || leb 91 c) && plain-name cs

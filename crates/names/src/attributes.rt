@@ -6,26 +6,30 @@ ghost use mathlib.Core.List.{_∷_, _++_};
 ghost use lib.ListN.{length};
 ghost use Rattle.field.specs.Bytes.{ascii, same};
 ghost use Rattle.field.specs.Put.{Wrote};
-ghost use Rattle.names.specs.Names.{normalize-dom-attr-name};
-ghost use Rattle.names.specs.Table.{plain, spelled-letter, spelled, by-mark};
+ghost use Rattle.names.specs.Names.{ident, get-attr-name, normalize-dom-attr-name};
+ghost use Rattle.names.specs.Table.{plain-name, spelled-letter, spelled, by-mark};
 use crate::compare::letters_are;
 use crate::compare::same_bytes;
 use crate::listed::find_mark;
 use field::writer::put_byte;
 use field::writer::put_bytes;
 
-// No byte from `1` to `Z`: most names. Every name of the table has one, so these are copied as they stand.
-fn is_plain(name: &[u8]) -> bool
-    ensures { λ r. ⌜ r ≡ plain (now (name .entry)) ⌝ }
+// No capital, no digit and no sign but `-`, as in most names. Each name of the table has a capital, a digit or a colon, so such a name
+// is copied as it stands.
+pub fn is_plain(name: &[u8]) -> bool
+    ensures { λ r. ⌜ r ≡ plain-name (now (name .entry)) ⌝ }
 {
     let n = name.len();
     let mut i: usize = 0;
     while i < n {
-        let c = name[i];
-        if c >= b'1' {
-            if c <= b'Z' {
-                return false;
+        while name[i] > b'Z' {
+            i += 1;
+            if i == n {
+                return true;
             }
+        }
+        if name[i] != b'-' {
+            return false;
         }
         i += 1;
     }
@@ -65,7 +69,7 @@ fn put_spelled(out: &mut [u8], at: usize, name: &[u8], sep: u8) -> usize
     a
 }
 
-fn put_marked(out: &mut [u8], at: usize, name: &[u8], mark: u8) -> usize
+pub fn put_marked(out: &mut [u8], at: usize, name: &[u8], mark: u8) -> usize
     requires { ⌜ at + length (by-mark mark (now name)) < 2 ^ 63 ⌝ }
     ensures { λ r. ⌜ Wrote (now (out .entry)) at (by-mark mark (now (name .entry))) (now (out .exit)) r ⌝ }
 {
@@ -94,6 +98,17 @@ pub fn normalize_dom_attr_name(out: &mut [u8], at: usize, name: &[u8]) -> usize
     put_marked(out, at, name, mark)
 }
 
+// Of an identifier. A namespaced name is normalised always, by normalize_namespaced.
+pub fn get_attr_name(out: &mut [u8], at: usize, name: &[u8], normalize: bool) -> usize
+    requires { ⌜ at + length (get-attr-name (ident (now name)) normalize) < 2 ^ 63 ⌝ }
+    ensures { λ r. ⌜ Wrote (now (out .entry)) at (get-attr-name (ident (now (name .entry))) normalize) (now (out .exit)) r ⌝ }
+{
+    if normalize {
+        return normalize_dom_attr_name(out, at, name);
+    }
+    put_bytes(out, at, name)
+}
+
 pub fn normalizes_to_key(name: &[u8]) -> bool
     ensures { λ r. ⌜ r ≡ same (normalize-dom-attr-name (now (name .entry))) (ascii "key") ⌝ }
 {
@@ -107,7 +122,7 @@ pub fn normalizes_to_ref(name: &[u8]) -> bool
 }
 
 // The one namespaced name that the table has.
-fn is_xlink_href(ns: &[u8], name: &[u8]) -> bool
+pub fn is_xlink_href(ns: &[u8], name: &[u8]) -> bool
     ensures { λ r. ⌜ r ≡ (same (now (ns .entry)) (ascii "xlink") && same (now (name .entry)) (ascii "href")) ⌝ }
 {
     if !same_bytes(ns, b"xlink") {

@@ -4,9 +4,11 @@ mod attributes;
 mod booleans;
 mod compare;
 mod elements;
+mod escaped;
 mod listed;
 mod table;
 
+pub use attributes::get_attr_name;
 pub use attributes::namespaced_is;
 pub use attributes::normalize_dom_attr_name;
 pub use attributes::normalize_namespaced;
@@ -16,3 +18,5 @@ pub use booleans::is_boolean_attr;
 pub use booleans::normalizes_to_boolean;
 pub use compare::same_bytes;
 pub use elements::is_void_element;
+pub use escaped::put_attr_name;
+pub use escaped::put_namespaced;

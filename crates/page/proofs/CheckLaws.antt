@@ -241,6 +241,7 @@ module _ (depth : ℕ) (s : Bytes) (t : ℕ) (e : t ≡ tag-of s) (h : t ≡ 256
     where
       named : is-name-tag t ≡ true
       named = ⊎-elim (λ z. rw z) (λ z. rw z) k
+
       fits : (eqb t 0x40 || eqb t 0x42) ≡ true
       fits = ⊎-elim (λ z. rw z) (λ z. rw z) k
 

@@ -60,6 +60,7 @@ not-end s h = subst NotEnd (sym (read-step s)) (on (next-of s) refl)
     in-field : (c : Inside) (t : ℕ) (w r : Bytes) → NotEnd (opened c read t w r)
     in-field only-bytes t w r = tt
     in-field (fields-after n) t w r = tt
+
     on : (n : Next) → next-of s ≡ n → NotEnd (built read s n)
     on nothing e = h (ap length (next-nothing s e))
     on no-field e = tt
@@ -237,9 +238,11 @@ ident-then depth s v = rw (read-step s) (on (next-of s))
     in-row Fine Fine w = refl
     in-row Fine (Refused n) w = refl
     in-row (Refused n) b w = refl
+
     in-field : (c : Inside) (t : ℕ) (w r : Bytes) → check-ident depth (opened c read t w r) v ≡ after (check-ident depth (opened c read t w r) λ _. Fine) λ _. v (read r)
     in-field only-bytes t w r = in-row (check-header (eqb t 0x40) depth) (check-name w) (v (read r))
     in-field (fields-after n) t w r = in-row (check-header (eqb t 0x40) depth) (check-name _) (v (read r))
+
     on : (n : Next) → check-ident depth (built read s n) v ≡ after (check-ident depth (built read s n) λ _. Fine) λ _. v (read (behind-by n))
     on nothing = refl
     on no-field = refl

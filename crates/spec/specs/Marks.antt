@@ -115,6 +115,14 @@ marks =
     mark (fld 0x01 (fld 0x12 (fld 0x30 (fld 0x40 (ascii "br"))))) [] 65536 12 34 13 0 [] [] ∷
     -- page out as long
     mark (fld 0x01 (fld 0x12 (fld 0x30 (fld 0x40 (ascii "br"))))) [] 65536 12 35 0 1 (fld 0x80 ((0 ∷ 1 ∷ []) ++ (fld 0x81 (ascii "<br>")))) ((fld 0x82 ((fld 0x81 (ascii "react/jsx-runtime")) ++ (2 ∷ []))) ++ ((fld 0x83 []) ++ (fld 0x12 (fld 0x90 (0 ∷ 1 ∷ []))))) ∷
+    -- <Foo a={1}/>
+    mark (fld 0x01 (fld 0x12 (fld 0x30 ((fld 0x40 (ascii "Foo")) ++ (fld 0x50 ((fld 0x40 (ascii "a")) ++ (fld 0x52 (fld 0x71 (0 ∷ 0 ∷ 0 ∷ 0 ∷ 0 ∷ 0 ∷ 0 ∷ 1 ∷ []))))))))) [] 65536 65536 65536 0 0 [] ((fld 0x82 ((fld 0x81 (ascii "react/jsx-runtime")) ++ (1 ∷ []))) ++ (fld 0x12 (fld 0x94 ((fld 0x40 (ascii "Foo")) ++ (fld 0x95 (fld 0x96 ((fld 0x81 (ascii "a")) ++ (fld 0x71 (0 ∷ 0 ∷ 0 ∷ 0 ∷ 0 ∷ 0 ∷ 0 ∷ 1 ∷ []))))))))) ∷
+    -- <a b="<&"/>
+    mark (fld 0x01 (fld 0x12 (fld 0x30 ((fld 0x40 (ascii "a")) ++ (fld 0x50 ((fld 0x40 (ascii "b")) ++ (fld 0x51 (ascii "<&")))))))) [] 65536 65536 65536 0 1 (fld 0x80 ((0 ∷ 1 ∷ []) ++ (fld 0x81 (ascii "<a b=\"&lt;&amp;\"></a>")))) ((fld 0x82 ((fld 0x81 (ascii "react/jsx-runtime")) ++ (2 ∷ []))) ++ ((fld 0x83 []) ++ (fld 0x12 (fld 0x90 (0 ∷ 1 ∷ []))))) ∷
+    -- <i/> and <b/>, side by side
+    mark (fld 0x01 (fld 0x12 ((fld 0x30 (fld 0x40 (ascii "i"))) ++ (fld 0x30 (fld 0x40 (ascii "b")))))) [] 65536 65536 65536 0 2 ((fld 0x80 ((0 ∷ 1 ∷ []) ++ (fld 0x81 (ascii "<i></i>")))) ++ (fld 0x80 ((0 ∷ 2 ∷ []) ++ (fld 0x81 (ascii "<b></b>"))))) ((fld 0x82 ((fld 0x81 (ascii "react/jsx-runtime")) ++ (2 ∷ []))) ++ ((fld 0x83 []) ++ (fld 0x12 ((fld 0x90 (0 ∷ 1 ∷ [])) ++ (fld 0x90 (0 ∷ 2 ∷ [])))))) ∷
+    -- a run over 65,535 that is merged again
+    mark (fld 0x01 (fld 0x12 (fld 0x30 ((fld 0x40 (ascii "Foo")) ++ ((fld 0x60 (ascii "a")) ++ ((fld 0x52 (fld 0x70 (replicate 13107 38))) ++ (fld 0x30 (fld 0x40 (ascii "i"))))))))) [] 65536 65536 65536 11 0 [] [] ∷
     -- a body over 65,535
     mark (fld 0x01 (fld 0x12 (fld 0x30 ((fld 0x40 (ascii "p")) ++ (fld 0x60 (replicate 13107 38)))))) [] 65536 65536 65536 11 0 [] [] ∷
     []

@@ -2,20 +2,20 @@
 -- Main statements: `line-none`, `line-last`, `line-cr`, `line-no-cr` for `line_at`; `lines-cons`, `line-cut` for its callers.
 -- Assumes nothing.
 use mathlib.Core.Path.{_≡_, refl, sym, ap, _∙_}
-use mathlib.Core.Bool.{Bool, true, false, _&&_, _||_, false≢true, and-false}
+use mathlib.Core.Bool.{Bool, true, false, _&&_, _||_, not, false≢true, and-false}
 use Prim.Native.Nat.{ℕ, zero, suc, _+_, _-_, _≤_, _<_}
 use native.Mathlib.Nat.{le-of-suc-le-suc, not-suc-le-zero}
 use native.Mathlib.Omega.{arith}
 use mathlib.Core.List.{List, [], _∷_}
 use lib.Dec.{eqb}
 use lib.ListN.{length, getD, take, drop, length-drop, drop-of-length-le}
-use lib.Seq.{drop-drop, getD-drop}
+use lib.Seq.{drop-cons, drop-drop, getD-drop}
 use borrow.Author.Tests.{eq-eqb, ne-eqb, not-true, not-false}
 use Rattle.field.specs.Bytes.{Bytes, pick}
 use Rattle.text.specs.Lines.{starts-with-lf, onto-first, lines, line-length, line-width, line-at}
 use Rattle.text.specs.declared.lines.Line.{Line}
 use Rattle.text.specs.Runs.{run, not-lf}
-use Rattle.text.proofs.RunLaws.{run-zero, run-suc}
+use Rattle.text.proofs.RunLaws.{run-zero, run-suc, scan-le, scan-on}
 
 -- ---- a search for LF
 
@@ -102,6 +102,16 @@ pub line-none : (s : Bytes) (at : ℕ) → length s ≤ at → _≡_ {A = Line} 
 unfolding line-at line-length line-width
 line-none s at h = rw (drop-of-length-le s {i = at} h) (line-is (omega arith) (omega arith))
 
+-- an LF stands at the place
+pub line-empty : (s : Bytes) (at : ℕ) → at < length s → getD s at 0 ≡ 10 → _≡_ {A = Line} (record { end = at; next = at + 1 }) (line-at s at)
+unfolding line-at line-length line-width
+line-empty s at h e = rw (drop-cons s at 0, eq-eqb (getD s at 0) 10 e) (line-is (omega arith) refl)
+
+-- an LF that does not stands further on, or the text ends
+pub lf-behind : {lf : ℕ} (s : Bytes) (at : ℕ) → at < length s → (getD s at 0 ≡ 10 → ⊥) → lf ≡ at + run not-lf (drop at s) → (at < lf) × (lf ≤ length s)
+unfolding not-lf
+lf-behind s at h e q = (scan-on not-lf s at h (ap not (ne-eqb (getD s at 0) 10 e)) q, scan-le not-lf s at (omega arith) q .1)
+
 module _ (s : Bytes) (at lf : ℕ) (within : at ≤ length s) (found : lf ≡ at + run not-lf (drop at s)) where
   -- no LF is left
   pub line-last : lf ≡ length s → _≡_ {A = Line} (record { end = length s; next = length s }) (line-at s at)
@@ -110,14 +120,6 @@ module _ (s : Bytes) (at lf : ℕ) (within : at ≤ length s) (found : lf ≡ at
       let l = length-drop at s in
       let r : run not-lf (drop at s) ≡ length (drop at s) = omega arith in
       line-is (omega (arith, length-all (drop at s) r)) (omega (arith, width-all (drop at s) r))
-
-  -- an LF at the front
-  pub line-empty : lf < length s → lf ≤ at → _≡_ {A = Line} (record { end = lf; next = lf + 1 }) (line-at s at)
-  unfolding line-at
-  line-empty h e =
-      let l = length-drop at s in
-      let r : run not-lf (drop at s) ≡ 0 = omega arith in
-      line-is (omega (arith, length-none (drop at s) r (omega arith))) (omega (arith, width-lf (drop at s) 0 r (omega arith)))
 
   -- an LF behind other bytes: the byte in front of it
   before-lf : at < lf → getD s (lf - 1) 0 ≡ getD (drop at s) (lf - 1 - at) 0

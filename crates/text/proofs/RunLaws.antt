@@ -9,7 +9,7 @@ use native.Mathlib.Numerals.{add-one}
 use native.Mathlib.Omega.{arith}
 use mathlib.Core.List.{[], _∷_, _++_}
 use lib.ListN.{length, getD, take, drop, length-drop}
-use lib.Seq.{take-suc, drop-cons, drop-drop, getD-drop}
+use lib.Seq.{take-suc, take-all, take-length, drop-cons, drop-drop, getD-drop}
 use Rattle.field.specs.Bytes.{Bytes, pick}
 use Rattle.text.specs.Runs.{run, all}
 
@@ -118,3 +118,28 @@ all-append p (c ∷ a) b = rw (all-append p a b) (sym (and-assoc (p c) (all p a)
 -- a run that has begun ends further on
 pub scan-on : {r : ℕ} (p : ℕ → Bool) (s : Bytes) (i : ℕ) → i < length s → p (getD s i 0) ≡ true → r ≡ i + run p (drop i s) → i < r
 scan-on p s i h e q = omega (arith, rw (drop-cons s i 0, run-cons p (getD s i 0) (drop (suc i) s) e) at q)
+
+-- ---- the last block, which may begin in front of the place
+
+run-whole : (p : ℕ → Bool) (t : Bytes) → all p t ≡ true → run p t ≡ length t
+run-whole p t h =
+    let e = run-take p (length t) t (omega arith) (rw take-length h) in
+    omega (arith, run-le p (drop (length t) t), length-drop (length t) t)
+
+all-drop : (p : ℕ → Bool) (j : ℕ) (t : Bytes) → all p t ≡ true → all p (drop j t) ≡ true
+unfolding all
+all-drop p zero t h = h
+all-drop p (suc j) [] h = refl
+all-drop p (suc j) (c ∷ cs) h = all-drop p j cs (on (p c) h)
+  where
+    on : (b : Bool) → (b && all p cs) ≡ true → all p cs ≡ true
+    on true q = q
+    on false q = absurd (false≢true q)
+
+pub scan-last : {r : ℕ} (p : ℕ → Bool) (s : Bytes) (i k : ℕ) → i ≤ length s → k ≤ length s → length s - i < k → all p (take k (drop (length s - k) s)) ≡ true → i + run p (drop i s) ≡ r → length s ≡ r
+scan-last p s i k h l w e q =
+    let m = length s - k in
+    let j : m + (i - m) ≡ i = omega arith in
+    let block = take-all k (drop m s) (rw length-drop (omega arith)) in
+    let whole : all p (drop i s) ≡ true = rw (← j, ← drop-drop (i - m) m s) (all-drop p (i - m) (drop m s) (rw block at e)) in
+    omega (arith, run-whole p (drop i s) whole, length-drop i s)

@@ -1,6 +1,6 @@
 -- Laws of the two line rules: what a walk from line to line has written, and what is still ahead.
--- Main statements: `Joining` with `joining-start`, `joining-room`, `joining-step`, `joining-end` for jsx_text_to_str; `Spacing` alike for
--- normalize_lit_str; `blank-step`, `blank-line` for is_blank.
+-- Main statements: `Joining` with `joining-start`, `joining-room`, `joining-step`, `joining-skip`, `joining-end` for jsx_text_to_str;
+-- `Spacing` alike for normalize_lit_str; `Blank` alike for is_blank.
 -- Assumes nothing.
 use mathlib.Core.Path.{_≡_, refl, sym, ap, _∙_}
 use mathlib.Core.Bool.{Bool, true, false, _||_, not}
@@ -16,7 +16,7 @@ use Rattle.field.specs.Put.{Wrote}
 use Rattle.field.proofs.PutLaws.{wrote-none, wrote-is}
 use Rattle.text.specs.Escape.{escape-byte, escape-html}
 use Rattle.text.specs.Lines.{lines}
-use Rattle.text.specs.Trim.{trim-start}
+use Rattle.text.specs.Trim.{trim-by, trim-start, trim-end}
 use Rattle.text.specs.Text.{trimmed, some-line, trimmed-lines, kept, spaced, joined, escape-if, jsx-text-to-str, normalize-lit-str}
 use Rattle.text.specs.Runs.{spaced-line, kept-line}
 use Rattle.text.proofs.LineLaws.{Cut, lines-cons}
@@ -75,6 +75,17 @@ null-kept : (t : Bytes) (ls : List Bytes) → 0 < length t → null? (joined (ke
 unfolding kept joined
 null-kept [] ls h = absurd (not-suc-le-zero h)
 null-kept (c ∷ t) ls h = refl
+
+-- an empty line stays empty
+trimmed-nil : (front back : Bool) → [] ≡ trimmed front back []
+unfolding trimmed trim-start trim-end trim-by
+trimmed-nil true true = refl
+trimmed-nil true false = refl
+trimmed-nil false true = refl
+trimmed-nil false false = refl
+
+empty-line : (front back : Bool) (s : Bytes) (i end : ℕ) → end ≡ i → [] ≡ trimmed front back (take (end - i) (drop i s))
+empty-line front back s i end h = let z : end - i ≡ 0 = omega arith in rw z (trimmed-nil front back)
 
 -- ---- what is ahead, behind text or not
 
@@ -173,6 +184,12 @@ module _ {s o o₁ : Bytes} {e last : Bool} {at a i : ℕ} (end next : ℕ) (t :
   pub joining-step : {o₂ : Bytes} {b : ℕ} → Wrote o₁ a (escape-if e (kept-line (ltb at a) t)) o₂ b → Joining s e last o at o₂ b next
   joining-step w = record { done = j .done ++ kept-line (ltb at a) t; wrote = wrote-more (j .wrote) front w; whole = whole-step }
 
+-- an empty line on
+pub joining-skip : {s o o₁ : Bytes} {e last : Bool} {at a i : ℕ} (end next : ℕ) → Joining s e last o at o₁ a i → Cut s i end next → end ≡ i → Joining s e last o at o₁ a next
+joining-skip {s} {o} {o₁} {e} {last} {at} {a} {i} end next j cut h =
+    let w = wrote-is (kept-none e (ltb at a) [] refl) (wrote-none o₁ a) in
+    joining-step end next [] j cut (empty-line (ltb 0 i) (ltb next (length s) || last) s i end h) w
+
 -- ---- the walk of normalize_lit_str, where every line is kept
 
 abbrev fronts-from : Bytes → ℕ → List Bytes
@@ -244,3 +261,6 @@ module _ (s : Bytes) (last : Bool) (i end next : ℕ) (t : Bytes) (cut : Cut s i
   blank-line h =
       let rest = trimmed-lines true last (lines (drop next s)) in
       sym (b ∙ ap (λ (ls : List Bytes). null? (joined ls)) blank-lines ∙ null-kept t rest h)
+
+pub blank-skip : (s : Bytes) (last : Bool) (i end next : ℕ) → Cut s i end next → Blank s last i → end ≡ i → Blank s last next
+blank-skip s last i end next cut b h = blank-step s last i end next [] cut (empty-line (ltb 0 i) (ltb next (length s) || last) s i end h) b (omega arith)

@@ -4,6 +4,7 @@ use field::writer::put_byte;
 use field::writer::put_bytes;
 ghost use mathlib.Core.Path.{_≡_};
 ghost use Prim.Native.Nat.{_+_, _<_, _≤_, _^_};
+ghost use mathlib.Core.List.{_∷_, []};
 ghost use lib.ListN.{length, take, drop};
 ghost use Rattle.field.specs.Bytes.{same};
 ghost use Rattle.field.specs.Put.{Wrote};
@@ -42,6 +43,14 @@ fn plain_end(s: &[u8], at: usize) -> usize
         }
         i += 16;
     }
+    // fewer than sixteen are left: the last sixteen, some of them anew
+    if s.len() - i < 16 {
+        if 16 <= s.len() {
+            if is_plain_block(s, s.len() - 16) {
+                return s.len();
+            }
+        }
+    }
     while i < s.len() {
         if !is_plain(s[i]) {
             return i;
@@ -51,16 +60,62 @@ fn plain_end(s: &[u8], at: usize) -> usize
     i
 }
 
+// The bytes of an escape where they fit, tested once for all of them; put_bytes clips them.
+fn put_four_bytes(out: &mut [u8], at: usize, a: u8, b: u8, c: u8, d: u8) -> usize
+    requires { ⌜ at + 4 < 2 ^ 64 ⌝ }
+    ensures { λ r. ⌜ Wrote (now (out .entry)) at (a ∷ b ∷ c ∷ d ∷ []) (now (out .exit)) r ⌝ }
+{
+    if at + 4 <= out.len() {
+        out[at] = a;
+        out[at + 1] = b;
+        out[at + 2] = c;
+        out[at + 3] = d;
+        return at + 4;
+    }
+    put_bytes(out, at, &[a, b, c, d])
+}
+
+fn put_five_bytes(out: &mut [u8], at: usize, a: u8, b: u8, c: u8, d: u8, e: u8) -> usize
+    requires { ⌜ at + 5 < 2 ^ 64 ⌝ }
+    ensures { λ r. ⌜ Wrote (now (out .entry)) at (a ∷ b ∷ c ∷ d ∷ e ∷ []) (now (out .exit)) r ⌝ }
+{
+    if at + 5 <= out.len() {
+        out[at] = a;
+        out[at + 1] = b;
+        out[at + 2] = c;
+        out[at + 3] = d;
+        out[at + 4] = e;
+        return at + 5;
+    }
+    put_bytes(out, at, &[a, b, c, d, e])
+}
+
+fn put_six_bytes(out: &mut [u8], at: usize, a: u8, b: u8, c: u8, d: u8, e: u8, f: u8) -> usize
+    requires { ⌜ at + 6 < 2 ^ 64 ⌝ }
+    ensures { λ r. ⌜ Wrote (now (out .entry)) at (a ∷ b ∷ c ∷ d ∷ e ∷ f ∷ []) (now (out .exit)) r ⌝ }
+{
+    if at + 6 <= out.len() {
+        out[at] = a;
+        out[at + 1] = b;
+        out[at + 2] = c;
+        out[at + 3] = d;
+        out[at + 4] = e;
+        out[at + 5] = f;
+        return at + 6;
+    }
+    put_bytes(out, at, &[a, b, c, d, e, f])
+}
+
 fn put_escape(out: &mut [u8], at: usize, b: u8) -> usize
     requires { ⌜ at + length (escape-byte b) < 2 ^ 64 ⌝ }
     ensures { λ r. ⌜ Wrote (now (out .entry)) at (escape-byte b) (now (out .exit)) r ⌝ }
 {
     match b {
-        b'&' => put_bytes(out, at, b"&amp;"),
-        b'<' => put_bytes(out, at, b"&lt;"),
-        b'>' => put_bytes(out, at, b"&gt;"),
-        b'\'' => put_bytes(out, at, b"&#39;"),
-        b'"' => put_bytes(out, at, b"&quot;"),
+        b'&' => put_five_bytes(out, at, b'&', b'a', b'm', b'p', b';'),
+        b'<' => put_four_bytes(out, at, b'&', b'l', b't', b';'),
+        b'>' => put_four_bytes(out, at, b'&', b'g', b't', b';'),
+        b'\'' => put_five_bytes(out, at, b'&', b'#', b'3', b'9', b';'),
+        b'"' => put_six_bytes(out, at, b'&', b'q', b'u', b'o', b't', b';'),
         _ => put_byte(out, at, b),
     }
 }

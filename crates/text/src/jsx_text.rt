@@ -67,9 +67,13 @@ pub fn jsx_text_to_str(out: &mut [u8], at: usize, s: &[u8], escape: bool, last: 
         let line = line_at(s, i);
         let end = line.end;
         let next = line.next;
-        let t = trim_line(&s[i..end], 0 < i, (next < n) | last);
-        a = put_kept_line(out, a, t, escape, at < a);
-        i = next;
+        if end == i {
+            i = next;
+        } else {
+            let t = trim_line(&s[i..end], 0 < i, (next < n) | last);
+            a = put_kept_line(out, a, t, escape, at < a);
+            i = next;
+        }
     }
     a
 }
@@ -84,11 +88,15 @@ pub fn is_blank(s: &[u8], last: bool) -> bool
         let line = line_at(s, i);
         let end = line.end;
         let next = line.next;
-        let t = trim_line(&s[i..end], 0 < i, (next < n) | last);
-        if 0 < t.len() {
-            return false;
+        if end == i {
+            i = next;
+        } else {
+            let left = trim_line(&s[i..end], 0 < i, (next < n) | last);
+            if 0 < left.len() {
+                return false;
+            }
+            i = next;
         }
-        i = next;
     }
     true
 }
@@ -116,7 +124,7 @@ pub fn normalize_lit_str(out: &mut [u8], at: usize, s: &[u8]) -> usize
         let line = line_at(s, i);
         let end = line.end;
         let next = line.next;
-        let t = trim_start(&s[i..end]);
+        let t = trim_line(&s[i..end], true, false);
         a = put_spaced_line(out, a, t, 0 < i);
         i = next;
     }

@@ -37,6 +37,14 @@ fn find_lf(s: &[u8], at: usize) -> usize
         }
         i += 16;
     }
+    // fewer than sixteen are left: the last sixteen, some of them anew
+    if s.len() - i < 16 {
+        if 16 <= s.len() {
+            if is_lf_free(s, s.len() - 16) {
+                return s.len();
+            }
+        }
+    }
     while i < s.len() {
         if s[i] == b'\n' {
             return i;
@@ -54,17 +62,22 @@ pub fn line_at(s: &[u8], at: usize) -> Line
     if n <= at {
         return Line { end: at, next: at };
     }
+    // the first line of a text that is laid out over several lines is empty
+    if s[at] == b'\n' {
+        return Line {
+            end: at,
+            next: at + 1,
+        };
+    }
     let lf = find_lf(s, at);
     if lf == n {
         return Line { end: n, next: n };
     }
-    if at < lf {
-        if s[lf - 1] == b'\r' {
-            return Line {
-                end: lf - 1,
-                next: lf + 1,
-            };
-        }
+    if s[lf - 1] == b'\r' {
+        return Line {
+            end: lf - 1,
+            next: lf + 1,
+        };
     }
     Line {
         end: lf,

@@ -1,11 +1,10 @@
 -- `namespaced_is` meets its contract: xlink:href, and all others part by part.
 use borrow.Author.Needs.{needs}
-use mathlib.Core.Path.{_≡_, refl, sym, ap, _∙_}
-use mathlib.Core.Bool.{false, _&&_, and-false}
+use mathlib.Core.Path.{sym, ap, _∙_}
+use mathlib.Core.Bool.{and-false}
 use native.Mathlib.Omega.{arith}
 use native.Mathlib.Nat.{le-of-lt}
 use Prim.Native.Nat.{_+_, _-_}
-use lib.Dec.{eqb}
 use lib.ListN.{length, take, drop, getD, length-drop}
 use lib.Seq.{length-take-le, take-all}
 use borrow.Author.Tests.{not-true, not-false, eq-eqb, ne-eqb}
@@ -25,21 +24,27 @@ same-bytes-requires : tie.Need-same-bytes-requires
 same-bytes-requires c κs = search needs
 
 returns : tie.Need-returns
-returns c = c .same-bytes .ensures ∙ ap (λ (x : Bytes). same x (c .before .before .before .before .before .before .before .args .b .now)) (sym (namespaced-xlink (c .before .before .before .before .before .before .before .args .ns .now) (c .before .before .before .before .before .before .before .args .name .now) (sym (c .before .before .before .is-xlink-href .ensures) ∙ c .before .before .if1 .taken)))
+returns c =
+    let a = c .before .before .before .before .before .before .before .args in
+    let x = sym (c .before .before .before .is-xlink-href .ensures) ∙ c .before .before .if1 .taken in
+    c .same-bytes .ensures ∙ ap (λ (v : Bytes). same v (a .b .now)) (sym (namespaced-xlink (a .ns .now) (a .name .now) x))
 
 returns-2 : tie.Need-returns-2
-returns-2 c = sym (namespaced-short (c .before .before .before .before .before .before .args .ns .now) (c .before .before .before .before .before .before .args .name .now) (c .before .before .before .before .before .before .args .b .now) (sym (c .before .before .is-xlink-href .ensures) ∙ c .before .if1 .left) (c .if2 .taken))
+returns-2 c =
+    let a = c .before .before .before .before .before .before .args in
+    let o = sym (c .before .before .is-xlink-href .ensures) ∙ c .before .if1 .left in
+    sym (namespaced-short (a .ns .now) (a .name .now) (a .b .now) o (c .if2 .taken))
 
 shared-slice-read-if3 : tie.Need-shared-slice-read-if3
 shared-slice-read-if3 c = search needs
 
 returns-3 : tie.Need-returns-3
-returns-3 c = 
+returns-3 c =
     let a = c .before .before .before .before .before .before .before .before .args in
-    let x = same (small-letters (a .ns .now)) (take (length (a .ns .now)) (a .b .now)) in
-    let y = same (small-letters (a .name .now)) (drop (length (a .ns .now) + 1) (a .b .now)) in
+    let o = sym (c .before .before .before .before .is-xlink-href .ensures) ∙ c .before .before .before .if1 .left in
     let e = ne-eqb 58 (getD (a .b .now) (length (a .ns .now)) 0) (λ h. c .if3 .taken (sym h)) in
-    sym (namespaced-same (c .before .before .before .before .before .before .before .before .args .ns .now) (c .before .before .before .before .before .before .before .before .args .name .now) (c .before .before .before .before .before .before .before .before .args .b .now) (sym (c .before .before .before .before .is-xlink-href .ensures) ∙ c .before .before .before .if1 .left) (c .before .before .if2 .left) ∙ rw e (and-false x))
+    let x = same (small-letters (a .ns .now)) (take (length (a .ns .now)) (a .b .now)) in
+    sym (namespaced-same (a .ns .now) (a .name .now) (a .b .now) o (c .before .before .if2 .left) ∙ rw e (and-false x))
 
 slice-aggregate-letters-are : tie.Need-slice-aggregate-letters-are
 slice-aggregate-letters-are c = sym (length-take-le (length (c .before .before .before .before .before .before .before .before .before .args .ns .now)) (c .before .before .before .before .before .before .before .before .before .args .b .now) (le-of-lt (c .before .before .before .if2 .left)))
@@ -48,9 +53,11 @@ letters-are-requires : tie.Need-letters-are-requires
 letters-are-requires c κs = search needs
 
 returns-4 : tie.Need-returns-4
-returns-4 c = 
+returns-4 c =
+    let a = c .before .before .before .before .before .before .before .before .before .before .before .args in
+    let o = sym (c .before .before .before .before .before .before .before .is-xlink-href .ensures) ∙ c .before .before .before .before .before .before .if1 .left in
     let e = sym (c .before .letters-are .ensures) ∙ not-true (c .before .letters-are .result) (c .if4 .taken) in
-    sym (namespaced-same (c .before .before .before .before .before .before .before .before .before .before .before .args .ns .now) (c .before .before .before .before .before .before .before .before .before .before .before .args .name .now) (c .before .before .before .before .before .before .before .before .before .before .before .args .b .now) (sym (c .before .before .before .before .before .before .before .is-xlink-href .ensures) ∙ c .before .before .before .before .before .before .if1 .left) (c .before .before .before .before .before .if2 .left) ∙ rw e)
+    sym (namespaced-same (a .ns .now) (a .name .now) (a .b .now) o (c .before .before .before .before .before .if2 .left) ∙ rw e)
 
 add-letters-are : tie.Need-add-letters-are
 add-letters-are c = search needs
@@ -68,13 +75,14 @@ letters-are-requires-2 : tie.Need-letters-are-requires-2
 letters-are-requires-2 c κs = search needs
 
 returns-5 : tie.Need-returns-5
-returns-5 c = 
+returns-5 c =
     let a = c .before .before .before .before .before .before .before .before .before .before .before .before .before .args in
+    let o = sym (c .before .before .before .before .before .before .before .before .before .is-xlink-href .ensures) ∙ c .before .before .before .before .before .before .before .before .if1 .left in
     let k = length (a .ns .now) in
     let e = sym (c .before .before .before .letters-are .ensures) ∙ not-false (c .before .before .before .letters-are .result) (c .before .before .if4 .left) in
     let f = eq-eqb 58 (getD (a .b .now) k 0) (sym (c .before .before .before .before .before .if3 .left)) in
     let t = take-all (length (a .b .now) - (k + 1)) (drop (k + 1) (a .b .now)) (omega (arith, length-drop (k + 1) (a .b .now))) in
-    c .letters-are2 .ensures ∙ (ap (same (small-letters (a .name .now))) t ∙ sym (namespaced-same (c .before .before .before .before .before .before .before .before .before .before .before .before .before .args .ns .now) (c .before .before .before .before .before .before .before .before .before .before .before .before .before .args .name .now) (c .before .before .before .before .before .before .before .before .before .before .before .before .before .args .b .now) (sym (c .before .before .before .before .before .before .before .before .before .is-xlink-href .ensures) ∙ c .before .before .before .before .before .before .before .before .if1 .left) (c .before .before .before .before .before .before .before .if2 .left) ∙ rw (e, f)))
+    c .letters-are2 .ensures ∙ (ap (same (small-letters (a .name .now))) t ∙ sym (namespaced-same (a .ns .now) (a .name .now) (a .b .now) o (c .before .before .before .before .before .before .before .if2 .left) ∙ rw (e, f)))
 
 pub namespaced-is-spec : {M : Type 1} → statement M
 namespaced-is-spec =

@@ -1,6 +1,6 @@
 -- `normalize_namespaced` meets its contract: xlink:href, and all others in small letters on both sides of the colon.
 use borrow.Author.Needs.{needs}
-use mathlib.Core.Path.{_≡_, refl, sym, ap, ap₂, _∙_}
+use mathlib.Core.Path.{_≡_, sym, ap, ap₂, _∙_}
 use mathlib.Core.List.{_∷_, [], _++_, append-assoc}
 use native.Mathlib.Omega.{arith}
 use lib.ListN.{length}
@@ -33,22 +33,36 @@ same-length : tie.Need-same-length
 same-length c = search needs
 
 returns : tie.Need-returns
-returns c = wrote-is (sym (namespaced-xlink (c .before .before .before .before .before .before .before .before .before .before .args .ns .now) (c .before .before .before .before .before .before .before .before .before .before .args .name .now) (sym (c .before .before .before .before .before .before .is-xlink-href .ensures) ∙ c .before .before .before .before .before .if1 .taken))) (c .before .before .put-bytes .ensures)
+returns c =
+    let a = c .before .before .before .before .before .before .before .before .before .before .args in
+    wrote-is (sym (namespaced-xlink (a .ns .now) (a .name .now) (sym (c .before .before .before .before .before .before .is-xlink-href .ensures) ∙ c .before .before .before .before .before .if1 .taken))) (c .before .before .put-bytes .ensures)
 
 put-spelled-requires : tie.Need-put-spelled-requires
-put-spelled-requires c κs = omega (arith, namespaced-length (c .before .before .before .before .before .before .args .ns .now) (c .before .before .before .before .before .before .args .name .now) (sym (c .before .before .is-xlink-href .ensures) ∙ c .before .if1 .left), length-none (c .before .before .before .before .before .before .args .ns .now))
+put-spelled-requires c κs =
+    let a = c .before .before .before .before .before .before .args in
+    let l = namespaced-length (a .ns .now) (a .name .now) (sym (c .before .before .is-xlink-href .ensures) ∙ c .before .if1 .left) in
+    omega (arith, l, length-none (a .ns .now))
 
 put-byte-requires : tie.Need-put-byte-requires
-put-byte-requires c κs = omega (arith, namespaced-length (c .before .before .before .before .before .before .before .before .before .before .args .ns .now) (c .before .before .before .before .before .before .before .before .before .before .args .name .now) (sym (c .before .before .before .before .before .before .is-xlink-href .ensures) ∙ c .before .before .before .before .before .if1 .left), length-none (c .before .before .before .before .before .before .before .before .before .before .args .ns .now), c .before .before .before .put-spelled .ensures .end-is)
+put-byte-requires c κs =
+    let a = c .before .before .before .before .before .before .before .before .before .before .args in
+    let l = namespaced-length (a .ns .now) (a .name .now) (sym (c .before .before .before .before .before .before .is-xlink-href .ensures) ∙ c .before .before .before .before .before .if1 .left) in
+    omega (arith, l, length-none (a .ns .now), c .before .before .before .put-spelled .ensures .end-is)
 
 put-spelled-requires-2 : tie.Need-put-spelled-requires-2
-put-spelled-requires-2 c κs = omega (arith, namespaced-length (c .before .before .before .before .before .before .before .before .before .before .before .before .before .before .args .ns .now) (c .before .before .before .before .before .before .before .before .before .before .before .before .before .before .args .name .now) (sym (c .before .before .before .before .before .before .before .before .before .before .is-xlink-href .ensures) ∙ c .before .before .before .before .before .before .before .before .before .if1 .left), length-none (c .before .before .before .before .before .before .before .before .before .before .before .before .before .before .args .ns .now), length-none (c .before .before .before .before .before .before .before .before .before .before .before .before .before .before .args .name .now), c .before .before .before .before .before .before .before .put-spelled .ensures .end-is, c .before .before .before .put-byte .ensures .end-is)
+put-spelled-requires-2 c κs =
+    let a = c .before .before .before .before .before .before .before .before .before .before .before .before .before .before .args in
+    let l = namespaced-length (a .ns .now) (a .name .now) (sym (c .before .before .before .before .before .before .before .before .before .before .is-xlink-href .ensures) ∙ c .before .before .before .before .before .before .before .before .before .if1 .left) in
+    omega (arith, l, length-none (a .ns .now), length-none (a .name .now), c .before .before .before .before .before .before .before .put-spelled .ensures .end-is, c .before .before .before .put-byte .ensures .end-is)
 
 same-length-2 : tie.Need-same-length-2
 same-length-2 c = search needs
 
 returns-2 : tie.Need-returns-2
-returns-2 c = wrote-is (parts (c .before .before .before .before .before .before .before .before .before .before .before .before .before .before .before .before .before .args .ns .now) (c .before .before .before .before .before .before .before .before .before .before .before .before .before .before .before .before .before .args .name .now) ∙ sym (namespaced-other (c .before .before .before .before .before .before .before .before .before .before .before .before .before .before .before .before .before .args .ns .now) (c .before .before .before .before .before .before .before .before .before .before .before .before .before .before .before .before .before .args .name .now) (sym (c .before .before .before .before .before .before .before .before .before .before .before .before .before .is-xlink-href .ensures) ∙ c .before .before .before .before .before .before .before .before .before .before .before .before .if1 .left))) (wrote-then (wrote-then (c .before .before .before .before .before .before .before .before .before .before .put-spelled .ensures) (c .before .before .before .before .before .before .put-byte .ensures)) (c .before .before .put-spelled2 .ensures))
+returns-2 c =
+    let a = c .before .before .before .before .before .before .before .before .before .before .before .before .before .before .before .before .before .args in
+    let e = namespaced-other (a .ns .now) (a .name .now) (sym (c .before .before .before .before .before .before .before .before .before .before .before .before .before .is-xlink-href .ensures) ∙ c .before .before .before .before .before .before .before .before .before .before .before .before .if1 .left) in
+    wrote-is (parts (a .ns .now) (a .name .now) ∙ sym e) (wrote-then (wrote-then (c .before .before .before .before .before .before .before .before .before .before .put-spelled .ensures) (c .before .before .before .before .before .before .put-byte .ensures)) (c .before .before .put-spelled2 .ensures))
 
 pub normalize-namespaced-spec : {M : Type 1} → statement M
 normalize-namespaced-spec =

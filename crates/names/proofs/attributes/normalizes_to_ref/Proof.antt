@@ -2,7 +2,7 @@
 use borrow.Author.Needs.{needs}
 use mathlib.Core.Path.{_≡_, refl, sym, _∙_}
 use mathlib.Core.Bool.{true, _&&_, not}
-use Rattle.field.specs.Bytes.{Bytes, ascii, same}
+use Rattle.field.specs.Bytes.{ascii, same}
 use Rattle.names.specs.Names.{hyphenated-names, kept-names, renamed, small-letter, small-letters, parted}
 use Rattle.names.proofs.NormalizeLaws.{over-lists, small-enough}
 use Rattle.names.proofs.attributes.normalizes_to_ref.Statement.{statement}

@@ -1,8 +1,7 @@
 -- `put_marked` meets its contract, mark by mark.
 use borrow.Author.Needs.{needs}
 use mathlib.Core.Path.{sym, ap}
-use Prim.Native.Nat.{ℕ, _+_, _<_, _^_}
-use lib.ListN.{length}
+use Prim.Native.Nat.{ℕ}
 use Rattle.field.proofs.PutLaws.{wrote-is}
 use Rattle.names.specs.Table.{by-mark}
 use Rattle.names.proofs.MarkLaws.{mark-other}
@@ -37,7 +36,10 @@ put-bytes-requires-5 : tie.Need-put-bytes-requires-5
 put-bytes-requires-5 c κs = search needs
 
 put-spelled-requires : tie.Need-put-spelled-requires
-put-spelled-requires c κs = rw (mark-other (c .before .before .before .before .args .mark) (c .before .before .before .before .args .name .now) (c .before .match .rest .0 .0 .0 .0 .1) (c .before .match .rest .0 .0 .0 .1) (c .before .match .rest .0 .0 .1) (c .before .match .rest .0 .1) (c .before .match .rest .1)) at (c .before .before .before .before .pre)
+put-spelled-requires c κs =
+    let a = c .before .before .before .before .args in
+    let r = c .before .match .rest in
+    rw (mark-other (a .mark) (a .name .now) (r .0 .0 .0 .0 .1) (r .0 .0 .0 .1) (r .0 .0 .1) (r .0 .1) (r .1)) at (c .before .before .before .before .pre)
 
 same-length : tie.Need-same-length
 same-length c = search needs
@@ -78,7 +80,10 @@ same-length-6 : tie.Need-same-length-6
 same-length-6 c = search needs
 
 returns-6 : tie.Need-returns-6
-returns-6 c = wrote-is (sym (mark-other (c .before .before .before .before .before .before .before .args .mark) (c .before .before .before .before .before .before .before .args .name .now) (c .before .before .before .before .match .rest .0 .0 .0 .0 .1) (c .before .before .before .before .match .rest .0 .0 .0 .1) (c .before .before .before .before .match .rest .0 .0 .1) (c .before .before .before .before .match .rest .0 .1) (c .before .before .before .before .match .rest .1))) (c .before .before .put-spelled .ensures)
+returns-6 c =
+    let a = c .before .before .before .before .before .before .before .args in
+    let r = c .before .before .before .before .match .rest in
+    wrote-is (sym (mark-other (a .mark) (a .name .now) (r .0 .0 .0 .0 .1) (r .0 .0 .0 .1) (r .0 .0 .1) (r .0 .1) (r .1))) (c .before .before .put-spelled .ensures)
 
 pub put-marked-spec : {M : Type 1} → statement M
 put-marked-spec =

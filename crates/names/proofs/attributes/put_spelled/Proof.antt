@@ -1,5 +1,5 @@
 -- `put_spelled` meets its contract. The loop's invariant: the letters so far are written.
-use mathlib.Core.Path.{_≡_, refl, sym, ap, _∙_}
+use mathlib.Core.Path.{ap}
 use Prim.Native.Nat.{_≤_, _-_}
 use native.Mathlib.Omega.{arith}
 use lib.ListN.{length, take}

@@ -1,6 +1,4 @@
 -- `letter` meets its contract: a test on each side of the capitals.
-use mathlib.Core.Path.{_≡_, refl}
-use mathlib.Core.Bool.{true, false}
 use borrow.Author.Needs.{needs}
 use borrow.Author.Tests.{not-true, not-false}
 use Rattle.names.specs.Names.{small-letter}

@@ -391,7 +391,7 @@ check-attributes-body-requires t c κs = tt
 check-attributes-add-check-attribute : (t : ℕ) → check-attributes-lts.Need-add-check-attribute (check-attributes-calls t) (check-attributes-at t) check-attributes.Post check-attributes-Inv-loop check-attributes-μ-loop
 check-attributes-add-check-attribute t c = search needs
 
-check-attributes-check-attribute-requires : (t : ℕ) → check-attributes-lts.Need-check-attribute-requires ( tag-at-reads.Asked, tag-at-reads.Learnt, behind-reads.Asked, behind-reads.Learnt, body-reads.Asked, body-reads.Learnt, check-attribute-below t, check-attribute.Post, check-expr-below t, check-expr.Post, check-children-below t, check-children.Post, ) (check-attributes-at t) check-attributes.Post check-attributes-Inv-loop check-attributes-μ-loop
+check-attributes-check-attribute-requires : (t : ℕ) → check-attributes-lts.Need-check-attribute-requires (tag-at-reads.Asked, tag-at-reads.Learnt, behind-reads.Asked, behind-reads.Learnt, body-reads.Asked, body-reads.Learnt, check-attribute-below t, check-attribute.Post, check-expr-below t, check-expr.Post, check-children-below t, check-children.Post) (check-attributes-at t) check-attributes.Post check-attributes-Inv-loop check-attributes-μ-loop
 check-attributes-check-attribute-requires t c κs = (omega (arith, c .before .before .before .before .before .before .before .pre .0, c .before .before .before .before .before .loop .inv .0, body-less _ _ (c .before .before .before .before .tag-at .ensures .0) (λ z. omega (arith, c .before .before .before .match .keys1)) (c .body .ensures)), tt)
 
 check-attributes-enum-told : (t : ℕ) → check-attributes-lts.Need-enum-told (check-attributes-calls t) (check-attributes-at t) check-attributes.Post check-attributes-Inv-loop check-attributes-μ-loop
@@ -439,7 +439,7 @@ check-attributes-enum-known-e-2 t c = search needs
 check-attributes-returns-4 : (t : ℕ) → check-attributes-lts.Need-returns-4 (check-attributes-calls t) (check-attributes-at t) check-attributes.Post check-attributes-Inv-loop check-attributes-μ-loop
 check-attributes-returns-4 t c = refused-at (name-next (attributes-53 _ _ _ (c .before .before .before .before .before .before .before .before .tag-at .ensures .0) (c .before .before .before .before .body2 .ensures) (c .before .before .before .before .before .behind2 .ensures) (c .before .before .before .before .before .before .before .match .keys2)) (c .before .before .before .before .before .before .if2 .left)) (c .before .before .before .check-expr .ensures) (c .before .e2 .given .1) ∙ sym (c .before .before .before .before .before .before .before .before .before .loop .inv .1)
 
-check-attributes-check-children-requires : (t : ℕ) → check-attributes-lts.Need-check-children-requires ( tag-at-reads.Asked, tag-at-reads.Learnt, behind-reads.Asked, behind-reads.Learnt, body-reads.Asked, body-reads.Learnt, check-attribute-below t, check-attribute.Post, check-expr-below t, check-expr.Post, check-children-below t, check-children.Post, ) (check-attributes-at t) check-attributes.Post check-attributes-Inv-loop check-attributes-μ-loop
+check-attributes-check-children-requires : (t : ℕ) → check-attributes-lts.Need-check-children-requires (tag-at-reads.Asked, tag-at-reads.Learnt, behind-reads.Asked, behind-reads.Learnt, body-reads.Asked, body-reads.Learnt, check-attribute-below t, check-attribute.Post, check-expr-below t, check-expr.Post, check-children-below t, check-children.Post) (check-attributes-at t) check-attributes.Post check-attributes-Inv-loop check-attributes-μ-loop
 check-attributes-check-children-requires t c κs = (omega (arith, c .before .before .before .before .pre .0, c .before .before .loop .inv .0), tt)
 
 check-attributes-returns-5 : (t : ℕ) → check-attributes-lts.Need-returns-5 (check-attributes-calls t) (check-attributes-at t) check-attributes.Post check-attributes-Inv-loop check-attributes-μ-loop
@@ -499,7 +499,7 @@ check-children-loop-holds t c = (search needs, refl)
 check-children-tag-at-requires : (t : ℕ) → check-children-lts.Need-tag-at-requires (check-children-calls t) (check-children-at t) check-children.Post check-children-Inv-loop check-children-μ-loop
 check-children-tag-at-requires t c κs = tt
 
-check-children-check-nothing-after-requires : (t : ℕ) → check-children-lts.Need-check-nothing-after-requires ( tag-at-reads.Asked, tag-at-reads.Learnt, check-nothing-after-reads.Asked, check-nothing-after-reads.Learnt, behind-reads.Asked, behind-reads.Learnt, body-reads.Asked, body-reads.Learnt, check-child-below t, check-child.Post, ) (check-children-at t) check-children.Post check-children-Inv-loop check-children-μ-loop
+check-children-check-nothing-after-requires : (t : ℕ) → check-children-lts.Need-check-nothing-after-requires (tag-at-reads.Asked, tag-at-reads.Learnt, check-nothing-after-reads.Asked, check-nothing-after-reads.Learnt, behind-reads.Asked, behind-reads.Learnt, body-reads.Asked, body-reads.Learnt, check-child-below t, check-child.Post) (check-children-at t) check-children.Post check-children-Inv-loop check-children-μ-loop
 check-children-check-nothing-after-requires t c κs = tt
 
 check-children-returns : (t : ℕ) → check-children-lts.Need-returns (check-children-calls t) (check-children-at t) check-children.Post check-children-Inv-loop check-children-μ-loop
@@ -565,7 +565,7 @@ check-element-check-name-by-requires t c κs = tt
 check-element-enum-told : (t : ℕ) → check-element-lts.Need-enum-told (check-element-calls t) (check-element-at t) check-element.Post
 check-element-enum-told t c = search needs
 
-check-element-check-attributes-requires : (t : ℕ) → check-element-lts.Need-check-attributes-requires ( tag-at-reads.Asked, tag-at-reads.Learnt, check-missing-reads.Asked, check-missing-reads.Learnt, behind-reads.Asked, behind-reads.Learnt, body-reads.Asked, body-reads.Learnt, check-name-by-reads.Asked, check-name-by-reads.Learnt, check-attributes-below t, check-attributes.Post, ) (check-element-at t) check-element.Post
+check-element-check-attributes-requires : (t : ℕ) → check-element-lts.Need-check-attributes-requires (tag-at-reads.Asked, tag-at-reads.Learnt, check-missing-reads.Asked, check-missing-reads.Learnt, behind-reads.Asked, behind-reads.Learnt, body-reads.Asked, body-reads.Learnt, check-name-by-reads.Asked, check-name-by-reads.Learnt, check-attributes-below t, check-attributes.Post) (check-element-at t) check-element.Post
 check-element-check-attributes-requires t c κs = (omega (arith, c .before .before .before .before .before .before .before .before .before .before .before .pre .0, behind-less _ _ (c .before .before .before .before .before .before .before .before .before .tag-at .ensures .0) (c .before .before .before .before .before .before .before .before .match .rest .1) (c .before .before .before .before .behind .ensures)), tt)
 
 check-element-returns-3 : (t : ℕ) → check-element-lts.Need-returns-3 (check-element-calls t) (check-element-at t) check-element.Post
@@ -637,7 +637,7 @@ check-expr-field-returns-4 t c = fine-at (expr-number _ _ (c .before .before .ma
 check-expr-field-returns-5 : (t : ℕ) → check-expr-field-lts.Need-returns-5 (check-expr-field-calls t) (check-expr-field-at t) check-expr-field.Post
 check-expr-field-returns-5 t c = deep-at (expr-72 _ _ (c .before .match .keys3)) (c .if3 .taken)
 
-check-expr-field-check-boolean-requires : (t : ℕ) → check-expr-field-lts.Need-check-boolean-requires ( check-text-reads.Asked, check-text-reads.Learnt, check-number-reads.Asked, check-number-reads.Learnt, check-boolean-reads.Asked, check-boolean-reads.Learnt, check-empty-reads.Asked, check-empty-reads.Learnt, check-items-below t, check-items.Post, check-pieces-below t, check-pieces.Post, check-tag-below t, check-tag.Post, ) (check-expr-field-at t) check-expr-field.Post
+check-expr-field-check-boolean-requires : (t : ℕ) → check-expr-field-lts.Need-check-boolean-requires (check-text-reads.Asked, check-text-reads.Learnt, check-number-reads.Asked, check-number-reads.Learnt, check-boolean-reads.Asked, check-boolean-reads.Learnt, check-empty-reads.Asked, check-empty-reads.Learnt, check-items-below t, check-items.Post, check-pieces-below t, check-pieces.Post, check-tag-below t, check-tag.Post) (check-expr-field-at t) check-expr-field.Post
 check-expr-field-check-boolean-requires t c κs = tt
 
 check-expr-field-returns-6 : (t : ℕ) → check-expr-field-lts.Need-returns-6 (check-expr-field-calls t) (check-expr-field-at t) check-expr-field.Post
@@ -724,7 +724,7 @@ check-items-loop-holds t c = (search needs, refl)
 check-items-tag-at-requires : (t : ℕ) → check-items-lts.Need-tag-at-requires (check-items-calls t) (check-items-at t) check-items.Post check-items-Inv-loop check-items-μ-loop
 check-items-tag-at-requires t c κs = tt
 
-check-items-check-nothing-after-requires : (t : ℕ) → check-items-lts.Need-check-nothing-after-requires ( tag-at-reads.Asked, tag-at-reads.Learnt, check-nothing-after-reads.Asked, check-nothing-after-reads.Learnt, behind-reads.Asked, behind-reads.Learnt, body-reads.Asked, body-reads.Learnt, check-item-below t, check-item.Post, ) (check-items-at t) check-items.Post check-items-Inv-loop check-items-μ-loop
+check-items-check-nothing-after-requires : (t : ℕ) → check-items-lts.Need-check-nothing-after-requires (tag-at-reads.Asked, tag-at-reads.Learnt, check-nothing-after-reads.Asked, check-nothing-after-reads.Learnt, behind-reads.Asked, behind-reads.Learnt, body-reads.Asked, body-reads.Learnt, check-item-below t, check-item.Post) (check-items-at t) check-items.Post check-items-Inv-loop check-items-μ-loop
 check-items-check-nothing-after-requires t c κs = tt
 
 check-items-returns : (t : ℕ) → check-items-lts.Need-returns (check-items-calls t) (check-items-at t) check-items.Post check-items-Inv-loop check-items-μ-loop
@@ -784,7 +784,7 @@ check-pieces-loop-holds t c = (search needs, refl)
 check-pieces-tag-at-requires : (t : ℕ) → check-pieces-lts.Need-tag-at-requires (check-pieces-calls t) (check-pieces-at t) check-pieces.Post check-pieces-Inv-loop check-pieces-μ-loop
 check-pieces-tag-at-requires t c κs = tt
 
-check-pieces-check-nothing-after-requires : (t : ℕ) → check-pieces-lts.Need-check-nothing-after-requires ( tag-at-reads.Asked, tag-at-reads.Learnt, check-nothing-after-reads.Asked, check-nothing-after-reads.Learnt, behind-reads.Asked, behind-reads.Learnt, body-reads.Asked, body-reads.Learnt, check-piece-below t, check-piece.Post, ) (check-pieces-at t) check-pieces.Post check-pieces-Inv-loop check-pieces-μ-loop
+check-pieces-check-nothing-after-requires : (t : ℕ) → check-pieces-lts.Need-check-nothing-after-requires (tag-at-reads.Asked, tag-at-reads.Learnt, check-nothing-after-reads.Asked, check-nothing-after-reads.Learnt, behind-reads.Asked, behind-reads.Learnt, body-reads.Asked, body-reads.Learnt, check-piece-below t, check-piece.Post) (check-pieces-at t) check-pieces.Post check-pieces-Inv-loop check-pieces-μ-loop
 check-pieces-check-nothing-after-requires t c κs = tt
 
 check-pieces-returns : (t : ℕ) → check-pieces-lts.Need-returns (check-pieces-calls t) (check-pieces-at t) check-pieces.Post check-pieces-Inv-loop check-pieces-μ-loop
@@ -844,7 +844,7 @@ check-tag-returns-5 t c = tag-other _ _ (c .match .rest .0 .1) (c .match .rest .
 check-value-tag-at-requires : (t : ℕ) → check-value-lts.Need-tag-at-requires (check-value-calls t) (check-value-at t) check-value.Post
 check-value-tag-at-requires t c κs = tt
 
-check-value-check-nothing-after-requires : (t : ℕ) → check-value-lts.Need-check-nothing-after-requires ( tag-at-reads.Asked, tag-at-reads.Learnt, check-nothing-after-reads.Asked, check-nothing-after-reads.Learnt, behind-reads.Asked, behind-reads.Learnt, body-reads.Asked, body-reads.Learnt, check-value-field-below t, check-value-field.Post, check-end-reads.Asked, check-end-reads.Learnt, ) (check-value-at t) check-value.Post
+check-value-check-nothing-after-requires : (t : ℕ) → check-value-lts.Need-check-nothing-after-requires (tag-at-reads.Asked, tag-at-reads.Learnt, check-nothing-after-reads.Asked, check-nothing-after-reads.Learnt, behind-reads.Asked, behind-reads.Learnt, body-reads.Asked, body-reads.Learnt, check-value-field-below t, check-value-field.Post, check-end-reads.Asked, check-end-reads.Learnt) (check-value-at t) check-value.Post
 check-value-check-nothing-after-requires t c κs = tt
 
 check-value-returns : (t : ℕ) → check-value-lts.Need-returns (check-value-calls t) (check-value-at t) check-value.Post
@@ -889,7 +889,7 @@ check-value-field-returns-3 t c = deep-at (value-52 _ _ (c .before .match .keys2
 check-value-field-add-check-container : (t : ℕ) → check-value-field-lts.Need-add-check-container (check-value-field-calls t) (check-value-field-at t) check-value-field.Post
 check-value-field-add-check-container t c = search needs
 
-check-value-field-check-container-requires : (t : ℕ) → check-value-field-lts.Need-check-container-requires ( check-text-reads.Asked, check-text-reads.Learnt, check-container-below t, check-container.Post, check-tag-below t, check-tag.Post, ) (check-value-field-at t) check-value-field.Post
+check-value-field-check-container-requires : (t : ℕ) → check-value-field-lts.Need-check-container-requires (check-text-reads.Asked, check-text-reads.Learnt, check-container-below t, check-container.Post, check-tag-below t, check-tag.Post) (check-value-field-at t) check-value-field.Post
 check-value-field-check-container-requires t c κs = (omega (arith, c .before .before .before .pre .0), tt)
 
 check-value-field-returns-4 : (t : ℕ) → check-value-field-lts.Need-returns-4 (check-value-field-calls t) (check-value-field-at t) check-value-field.Post

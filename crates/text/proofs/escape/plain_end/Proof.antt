@@ -6,7 +6,7 @@ use Prim.Native.Nat.{_+_, _≤_, _-_}
 use lib.ListN.{length, drop}
 use borrow.Author.Tests.{not-true, not-false}
 use Rattle.text.specs.Runs.{plain, run}
-use Rattle.text.proofs.RunLaws.{scan-step, scan-block, scan-stop, scan-end}
+use Rattle.text.proofs.RunLaws.{scan-step, scan-block, scan-last, scan-stop, scan-end}
 use borrow.Author.Needs.{needs}
 use Rattle.text.proofs.escape.plain_end.Statement.{statement}
 use Rattle.text.proofs.escape.plain_end.Tie as tie
@@ -41,13 +41,28 @@ loop-less c = omega arith
 loop-again : tie.Need-loop-again Inv-loop μ-loop Inv-loop2 μ-loop2
 loop-again c =
     let args = c .before .before .before .before .before .args in
-    let l = c .before .before .before .loop in
-    let s = args .s .now in
+    let loop = c .before .before .before .loop in
     let e = sym (c .before .is-plain-block .ensures) ∙ not-false _ (c .if1 .left) in
-    (omega arith, scan-block plain s (l .i) 16 (omega arith) e (l .inv .1))
+    (omega arith, scan-block plain (args .s .now) (loop .i) 16 (omega arith) e (loop .inv .1))
+
+sub-if2 : tie.Need-sub-if2 Inv-loop μ-loop Inv-loop2 μ-loop2
+sub-if2 c = omega arith
+
+sub-is-plain-block : tie.Need-sub-is-plain-block Inv-loop μ-loop Inv-loop2 μ-loop2
+sub-is-plain-block c = omega arith
+
+is-plain-block-requires-2 : tie.Need-is-plain-block-requires-2 Inv-loop μ-loop Inv-loop2 μ-loop2
+is-plain-block-requires-2 c κs = omega arith
+
+returns : tie.Need-returns Inv-loop μ-loop Inv-loop2 μ-loop2
+returns c =
+    let args = c .before .before .before .before .before .before .before .args in
+    let loop = c .before .before .before .before .before .loop in
+    let e = sym (c .before .is-plain-block2 .ensures) ∙ c .if4 .taken in
+    scan-last plain (args .s .now) (loop .i) 16 (omega arith) (omega arith) (omega arith) e (loop .inv .1)
 
 loop2-holds : tie.Need-loop2-holds Inv-loop μ-loop Inv-loop2 μ-loop2
-loop2-holds c = c .before .loop .inv
+loop2-holds c = c .before .before .loop .inv
 
 shared-slice-read-is-plain : tie.Need-shared-slice-read-is-plain Inv-loop μ-loop Inv-loop2 μ-loop2
 shared-slice-read-is-plain c = omega arith
@@ -55,13 +70,12 @@ shared-slice-read-is-plain c = omega arith
 is-plain-requires : tie.Need-is-plain-requires Inv-loop μ-loop Inv-loop2 μ-loop2
 is-plain-requires c κs = search needs
 
-returns : tie.Need-returns Inv-loop μ-loop Inv-loop2 μ-loop2
-returns c =
-    let args = c .before .before .before .before .before .before .before .before .args in
-    let l = c .before .before .before .before .loop2 in
-    let s = args .s .now in
-    let e = sym (c .before .is-plain .ensures) ∙ not-true _ (c .if2 .taken) in
-    scan-stop plain s (l .i) (omega arith) e (l .inv .1)
+returns-2 : tie.Need-returns-2 Inv-loop μ-loop Inv-loop2 μ-loop2
+returns-2 c =
+    let args = c .before .before .before .before .before .before .before .before .before .args in
+    let loop = c .before .before .before .before .loop2 in
+    let e = sym (c .before .is-plain .ensures) ∙ not-true _ (c .if5 .taken) in
+    scan-stop plain (args .s .now) (loop .i) (omega arith) e (loop .inv .1)
 
 add-i-2 : tie.Need-add-i-2 Inv-loop μ-loop Inv-loop2 μ-loop2
 add-i-2 c = omega arith
@@ -71,18 +85,16 @@ loop2-less c = omega arith
 
 loop2-again : tie.Need-loop2-again Inv-loop μ-loop Inv-loop2 μ-loop2
 loop2-again c =
-    let args = c .before .before .before .before .before .before .before .before .args in
-    let l = c .before .before .before .before .loop2 in
-    let s = args .s .now in
-    let e = sym (c .before .is-plain .ensures) ∙ not-false _ (c .if2 .left) in
-    (omega arith, scan-step plain s (l .i) (omega arith) e (l .inv .1))
+    let args = c .before .before .before .before .before .before .before .before .before .args in
+    let loop = c .before .before .before .before .loop2 in
+    let e = sym (c .before .is-plain .ensures) ∙ not-false _ (c .if5 .left) in
+    (omega arith, scan-step plain (args .s .now) (loop .i) (omega arith) e (loop .inv .1))
 
-returns-2 : tie.Need-returns-2 Inv-loop μ-loop Inv-loop2 μ-loop2
-returns-2 c =
-    let args = c .before .before .before .before .before .args in
-    let l = c .before .loop2 in
-    let s = args .s .now in
-    scan-end plain s (l .i) (omega arith) (l .inv .1)
+returns-3 : tie.Need-returns-3 Inv-loop μ-loop Inv-loop2 μ-loop2
+returns-3 c =
+    let args = c .before .before .before .before .before .before .args in
+    let loop = c .before .loop2 in
+    scan-end plain (args .s .now) (loop .i) (omega arith) (loop .inv .1)
 
 pub plain-end-spec : {M : Type 1} → statement M
 plain-end-spec =
@@ -98,11 +110,15 @@ plain-end-spec =
     add-i
     loop-less
     loop-again
+    sub-if2
+    sub-is-plain-block
+    is-plain-block-requires-2
+    returns
     loop2-holds
     shared-slice-read-is-plain
     is-plain-requires
-    returns
+    returns-2
     add-i-2
     loop2-less
     loop2-again
-    returns-2)
+    returns-3)

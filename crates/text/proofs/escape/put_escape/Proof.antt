@@ -12,54 +12,39 @@ use borrow.Author.Needs.{needs}
 use Rattle.text.proofs.escape.put_escape.Statement.{statement}
 use Rattle.text.proofs.escape.put_escape.Tie as tie
 
-slice-aggregate-put-bytes : tie.Need-slice-aggregate-put-bytes
-slice-aggregate-put-bytes c = search needs
-
-put-bytes-requires : tie.Need-put-bytes-requires
+put-five-bytes-requires : tie.Need-put-five-bytes-requires
 unfolding escape-byte
-put-bytes-requires c κs =
-    let args = c .before .before .before .before .args in
-    let e : length (escape-byte (args .b)) ≡ 5 = ap (λ (x : ℕ). length (escape-byte x)) (c .before .before .match .keys1) in
+put-five-bytes-requires c κs =
+    let args = c .before .before .before .args in
+    let e : length (escape-byte (args .b)) ≡ 5 = ap (λ (x : ℕ). length (escape-byte x)) (c .before .match .keys1) in
     omega arith
 
-slice-aggregate-put-bytes-2 : tie.Need-slice-aggregate-put-bytes-2
-slice-aggregate-put-bytes-2 c = search needs
-
-put-bytes-requires-2 : tie.Need-put-bytes-requires-2
+put-four-bytes-requires : tie.Need-put-four-bytes-requires
 unfolding escape-byte
-put-bytes-requires-2 c κs =
-    let args = c .before .before .before .before .args in
-    let e : length (escape-byte (args .b)) ≡ 4 = ap (λ (x : ℕ). length (escape-byte x)) (c .before .before .match .keys2) in
+put-four-bytes-requires c κs =
+    let args = c .before .before .before .args in
+    let e : length (escape-byte (args .b)) ≡ 4 = ap (λ (x : ℕ). length (escape-byte x)) (c .before .match .keys2) in
     omega arith
 
-slice-aggregate-put-bytes-3 : tie.Need-slice-aggregate-put-bytes-3
-slice-aggregate-put-bytes-3 c = search needs
-
-put-bytes-requires-3 : tie.Need-put-bytes-requires-3
+put-four-bytes-requires-2 : tie.Need-put-four-bytes-requires-2
 unfolding escape-byte
-put-bytes-requires-3 c κs =
-    let args = c .before .before .before .before .args in
-    let e : length (escape-byte (args .b)) ≡ 4 = ap (λ (x : ℕ). length (escape-byte x)) (c .before .before .match .keys3) in
+put-four-bytes-requires-2 c κs =
+    let args = c .before .before .before .args in
+    let e : length (escape-byte (args .b)) ≡ 4 = ap (λ (x : ℕ). length (escape-byte x)) (c .before .match .keys3) in
     omega arith
 
-slice-aggregate-put-bytes-4 : tie.Need-slice-aggregate-put-bytes-4
-slice-aggregate-put-bytes-4 c = search needs
-
-put-bytes-requires-4 : tie.Need-put-bytes-requires-4
+put-five-bytes-requires-2 : tie.Need-put-five-bytes-requires-2
 unfolding escape-byte
-put-bytes-requires-4 c κs =
-    let args = c .before .before .before .before .args in
-    let e : length (escape-byte (args .b)) ≡ 5 = ap (λ (x : ℕ). length (escape-byte x)) (c .before .before .match .keys4) in
+put-five-bytes-requires-2 c κs =
+    let args = c .before .before .before .args in
+    let e : length (escape-byte (args .b)) ≡ 5 = ap (λ (x : ℕ). length (escape-byte x)) (c .before .match .keys4) in
     omega arith
 
-slice-aggregate-put-bytes-5 : tie.Need-slice-aggregate-put-bytes-5
-slice-aggregate-put-bytes-5 c = search needs
-
-put-bytes-requires-5 : tie.Need-put-bytes-requires-5
+put-six-bytes-requires : tie.Need-put-six-bytes-requires
 unfolding escape-byte
-put-bytes-requires-5 c κs =
-    let args = c .before .before .before .before .args in
-    let e : length (escape-byte (args .b)) ≡ 6 = ap (λ (x : ℕ). length (escape-byte x)) (c .before .before .match .keys5) in
+put-six-bytes-requires c κs =
+    let args = c .before .before .before .args in
+    let e : length (escape-byte (args .b)) ≡ 6 = ap (λ (x : ℕ). length (escape-byte x)) (c .before .match .keys5) in
     omega arith
 
 put-byte-requires : tie.Need-put-byte-requires
@@ -75,8 +60,8 @@ same-length c = search needs
 returns : tie.Need-returns
 unfolding escape-byte
 returns c =
-    let match = c .before .before .before .before .before .match in
-    wrote-is (sym (ap {B = Bytes} escape-byte (match .keys1))) (c .before .before .put-bytes .ensures)
+    let match = c .before .before .before .before .match in
+    wrote-is (sym (ap {B = Bytes} escape-byte (match .keys1))) (c .before .before .put-five-bytes .ensures)
 
 same-length-2 : tie.Need-same-length-2
 same-length-2 c = search needs
@@ -84,8 +69,8 @@ same-length-2 c = search needs
 returns-2 : tie.Need-returns-2
 unfolding escape-byte
 returns-2 c =
-    let match = c .before .before .before .before .before .match in
-    wrote-is (sym (ap {B = Bytes} escape-byte (match .keys2))) (c .before .before .put-bytes2 .ensures)
+    let match = c .before .before .before .before .match in
+    wrote-is (sym (ap {B = Bytes} escape-byte (match .keys2))) (c .before .before .put-four-bytes .ensures)
 
 same-length-3 : tie.Need-same-length-3
 same-length-3 c = search needs
@@ -93,8 +78,8 @@ same-length-3 c = search needs
 returns-3 : tie.Need-returns-3
 unfolding escape-byte
 returns-3 c =
-    let match = c .before .before .before .before .before .match in
-    wrote-is (sym (ap {B = Bytes} escape-byte (match .keys3))) (c .before .before .put-bytes3 .ensures)
+    let match = c .before .before .before .before .match in
+    wrote-is (sym (ap {B = Bytes} escape-byte (match .keys3))) (c .before .before .put-four-bytes2 .ensures)
 
 same-length-4 : tie.Need-same-length-4
 same-length-4 c = search needs
@@ -102,8 +87,8 @@ same-length-4 c = search needs
 returns-4 : tie.Need-returns-4
 unfolding escape-byte
 returns-4 c =
-    let match = c .before .before .before .before .before .match in
-    wrote-is (sym (ap {B = Bytes} escape-byte (match .keys4))) (c .before .before .put-bytes4 .ensures)
+    let match = c .before .before .before .before .match in
+    wrote-is (sym (ap {B = Bytes} escape-byte (match .keys4))) (c .before .before .put-five-bytes2 .ensures)
 
 same-length-5 : tie.Need-same-length-5
 same-length-5 c = search needs
@@ -111,8 +96,8 @@ same-length-5 c = search needs
 returns-5 : tie.Need-returns-5
 unfolding escape-byte
 returns-5 c =
-    let match = c .before .before .before .before .before .match in
-    wrote-is (sym (ap {B = Bytes} escape-byte (match .keys5))) (c .before .before .put-bytes5 .ensures)
+    let match = c .before .before .before .before .match in
+    wrote-is (sym (ap {B = Bytes} escape-byte (match .keys5))) (c .before .before .put-six-bytes .ensures)
 
 same-length-6 : tie.Need-same-length-6
 same-length-6 c = search needs
@@ -127,16 +112,11 @@ pub put-escape-spec : {M : Type 1} → statement M
 put-escape-spec =
     tie.close
     (tie.spec
-    slice-aggregate-put-bytes
-    put-bytes-requires
-    slice-aggregate-put-bytes-2
-    put-bytes-requires-2
-    slice-aggregate-put-bytes-3
-    put-bytes-requires-3
-    slice-aggregate-put-bytes-4
-    put-bytes-requires-4
-    slice-aggregate-put-bytes-5
-    put-bytes-requires-5
+    put-five-bytes-requires
+    put-four-bytes-requires
+    put-four-bytes-requires-2
+    put-five-bytes-requires-2
+    put-six-bytes-requires
     put-byte-requires
     same-length
     returns

@@ -3,7 +3,7 @@ use native.Mathlib.Omega.{arith}
 use Prim.Native.Nat.{_≤_, _-_}
 use lib.ListN.{length}
 use Rattle.text.proofs.LineLaws.{line-cut}
-use Rattle.text.proofs.TextLaws.{Blank, blank-start, blank-step, blank-line, blank-end}
+use Rattle.text.proofs.TextLaws.{Blank, blank-start, blank-step, blank-skip, blank-line, blank-end}
 use borrow.Author.Needs.{needs}
 use Rattle.text.proofs.jsx_text.is_blank.Statement.{statement}
 use Rattle.text.proofs.jsx_text.is_blank.Tie as tie
@@ -20,51 +20,68 @@ loop-holds c = (omega arith, blank-start _ _)
 line-at-requires : tie.Need-line-at-requires Inv-loop μ-loop
 line-at-requires c κs = search needs
 
+loop-less : tie.Need-loop-less Inv-loop μ-loop
+loop-less c =
+    let args = c .before .before .before .before .before .args in
+    let loop = c .before .before .before .loop in
+    omega (arith, line-cut (args .s .now) (loop .i) (c .before .before .loop-test .taken) (c .before .line-at .ensures))
+
+loop-again : tie.Need-loop-again Inv-loop μ-loop
+loop-again c =
+    let args = c .before .before .before .before .before .args in
+    let loop = c .before .before .before .loop in
+    let line-at′ = c .before .line-at in
+    let cut = line-cut (args .s .now) (loop .i) (c .before .before .loop-test .taken) (line-at′ .ensures) in
+    (cut .within, blank-skip (args .s .now) (args .last) (loop .i) (line-at′ .result .end) (line-at′ .result .next) cut (loop .inv .1) (c .if1 .taken))
+
 sub-trim-line : tie.Need-sub-trim-line Inv-loop μ-loop
 sub-trim-line c =
-    let args = c .before .before .before .before .args in
-    omega (arith, line-cut (args .s .now) (c .before .before .loop .i) (c .before .loop-test .taken) (c .line-at .ensures))
+    let args = c .before .before .before .before .before .args in
+    let loop = c .before .before .before .loop in
+    omega (arith, line-cut (args .s .now) (loop .i) (c .before .before .loop-test .taken) (c .before .line-at .ensures))
 
 part-trim-line-start : tie.Need-part-trim-line-start Inv-loop μ-loop
 part-trim-line-start c =
-    let args = c .before .before .before .before .args in
-    omega (arith, line-cut (args .s .now) (c .before .before .loop .i) (c .before .loop-test .taken) (c .line-at .ensures))
+    let args = c .before .before .before .before .before .args in
+    let loop = c .before .before .before .loop in
+    omega (arith, line-cut (args .s .now) (loop .i) (c .before .before .loop-test .taken) (c .before .line-at .ensures))
 
 part-trim-line-end : tie.Need-part-trim-line-end Inv-loop μ-loop
 part-trim-line-end c =
-    let args = c .before .before .before .before .args in
-    omega (arith, line-cut (args .s .now) (c .before .before .loop .i) (c .before .loop-test .taken) (c .line-at .ensures))
+    let args = c .before .before .before .before .before .args in
+    let loop = c .before .before .before .loop in
+    omega (arith, line-cut (args .s .now) (loop .i) (c .before .before .loop-test .taken) (c .before .line-at .ensures))
 
 trim-line-requires : tie.Need-trim-line-requires Inv-loop μ-loop
 trim-line-requires c κs = search needs
 
 returns : tie.Need-returns Inv-loop μ-loop
 returns c =
-    let args = c .before .before .before .before .before .before .before .args in
-    let loop = c .before .before .before .before .before .loop in
-    let test = c .before .before .before .before .loop-test in
-    let line-at′ = c .before .before .before .line-at in
+    let args = c .before .before .before .before .before .before .before .before .args in
+    let loop = c .before .before .before .before .before .before .loop in
+    let test = c .before .before .before .before .before .loop-test in
+    let line-at′ = c .before .before .before .before .line-at in
     let trim-line′ = c .before .trim-line in
     let cut = line-cut (args .s .now) (loop .i) (test .taken) (line-at′ .ensures) in
-    blank-line (args .s .now) (args .last) (loop .i) (line-at′ .result .end) (line-at′ .result .next) (trim-line′ .result .now) cut (trim-line′ .ensures) (loop .inv .1) (c .if1 .taken)
+    blank-line (args .s .now) (args .last) (loop .i) (line-at′ .result .end) (line-at′ .result .next) (trim-line′ .result .now) cut (trim-line′ .ensures) (loop .inv .1) (c .if2 .taken)
 
-loop-less : tie.Need-loop-less Inv-loop μ-loop
-loop-less c =
-    let args = c .before .before .before .before .before .before .before .args in
-    let loop = c .before .before .before .before .before .loop in
-    let test = c .before .before .before .before .loop-test in
-    let line-at′ = c .before .before .before .line-at in
+loop-less-2 : tie.Need-loop-less-2 Inv-loop μ-loop
+loop-less-2 c =
+    let args = c .before .before .before .before .before .before .before .before .args in
+    let loop = c .before .before .before .before .before .before .loop in
+    let test = c .before .before .before .before .before .loop-test in
+    let line-at′ = c .before .before .before .before .line-at in
     omega (arith, line-cut (args .s .now) (loop .i) (test .taken) (line-at′ .ensures))
 
-loop-again : tie.Need-loop-again Inv-loop μ-loop
-loop-again c =
-    let args = c .before .before .before .before .before .before .before .args in
-    let loop = c .before .before .before .before .before .loop in
-    let test = c .before .before .before .before .loop-test in
-    let line-at′ = c .before .before .before .line-at in
+loop-again-2 : tie.Need-loop-again-2 Inv-loop μ-loop
+loop-again-2 c =
+    let args = c .before .before .before .before .before .before .before .before .args in
+    let loop = c .before .before .before .before .before .before .loop in
+    let test = c .before .before .before .before .before .loop-test in
+    let line-at′ = c .before .before .before .before .line-at in
     let trim-line′ = c .before .trim-line in
     let cut = line-cut (args .s .now) (loop .i) (test .taken) (line-at′ .ensures) in
-    (cut .within, blank-step (args .s .now) (args .last) (loop .i) (line-at′ .result .end) (line-at′ .result .next) (trim-line′ .result .now) cut (trim-line′ .ensures) (loop .inv .1) (c .if1 .left))
+    (cut .within, blank-step (args .s .now) (args .last) (loop .i) (line-at′ .result .end) (line-at′ .result .next) (trim-line′ .result .now) cut (trim-line′ .ensures) (loop .inv .1) (c .if2 .left))
 
 returns-2 : tie.Need-returns-2 Inv-loop μ-loop
 returns-2 c =
@@ -80,11 +97,13 @@ is-blank-spec =
     μ-loop
     loop-holds
     line-at-requires
+    loop-less
+    loop-again
     sub-trim-line
     part-trim-line-start
     part-trim-line-end
     trim-line-requires
     returns
-    loop-less
-    loop-again
+    loop-less-2
+    loop-again-2
     returns-2)

@@ -5,7 +5,7 @@ use Prim.Native.Nat.{_≤_, _-_}
 use lib.ListN.{length}
 use Rattle.field.proofs.PutLaws.{wrote-length}
 use Rattle.text.proofs.LineLaws.{line-cut}
-use Rattle.text.proofs.TextLaws.{Joining, joining-start, joining-room, joining-step, joining-end}
+use Rattle.text.proofs.TextLaws.{Joining, joining-start, joining-room, joining-step, joining-skip, joining-end}
 use borrow.Author.Needs.{needs}
 use Rattle.text.proofs.jsx_text.jsx_text_to_str.Statement.{statement}
 use Rattle.text.proofs.jsx_text.jsx_text_to_str.Tie as tie
@@ -22,48 +22,66 @@ loop-holds c = (omega arith, joining-start _ _ _ _ _)
 line-at-requires : tie.Need-line-at-requires Inv-loop μ-loop
 line-at-requires c κs = search needs
 
+loop-less : tie.Need-loop-less Inv-loop μ-loop
+loop-less c =
+    let args = c .before .before .before .before .before .before .args in
+    let loop = c .before .before .before .loop in
+    omega (arith, line-cut (args .s .now) (loop .i) (c .before .before .loop-test .taken) (c .before .line-at .ensures))
+
+loop-again : tie.Need-loop-again Inv-loop μ-loop
+loop-again c =
+    let args = c .before .before .before .before .before .before .args in
+    let loop = c .before .before .before .loop in
+    let line-at′ = c .before .line-at in
+    let cut = line-cut (args .s .now) (loop .i) (c .before .before .loop-test .taken) (line-at′ .ensures) in
+    (cut .within, joining-skip (line-at′ .result .end) (line-at′ .result .next) (loop .inv .1) cut (c .if1 .taken))
+
 sub-trim-line : tie.Need-sub-trim-line Inv-loop μ-loop
 sub-trim-line c =
-    let args = c .before .before .before .before .before .args in
-    omega (arith, line-cut (args .s .now) (c .before .before .loop .i) (c .before .loop-test .taken) (c .line-at .ensures))
+    let args = c .before .before .before .before .before .before .args in
+    let loop = c .before .before .before .loop in
+    omega (arith, line-cut (args .s .now) (loop .i) (c .before .before .loop-test .taken) (c .before .line-at .ensures))
 
 part-trim-line-start : tie.Need-part-trim-line-start Inv-loop μ-loop
 part-trim-line-start c =
-    let args = c .before .before .before .before .before .args in
-    omega (arith, line-cut (args .s .now) (c .before .before .loop .i) (c .before .loop-test .taken) (c .line-at .ensures))
+    let args = c .before .before .before .before .before .before .args in
+    let loop = c .before .before .before .loop in
+    omega (arith, line-cut (args .s .now) (loop .i) (c .before .before .loop-test .taken) (c .before .line-at .ensures))
 
 part-trim-line-end : tie.Need-part-trim-line-end Inv-loop μ-loop
 part-trim-line-end c =
-    let args = c .before .before .before .before .before .args in
-    omega (arith, line-cut (args .s .now) (c .before .before .loop .i) (c .before .loop-test .taken) (c .line-at .ensures))
+    let args = c .before .before .before .before .before .before .args in
+    let loop = c .before .before .before .loop in
+    omega (arith, line-cut (args .s .now) (loop .i) (c .before .before .loop-test .taken) (c .before .line-at .ensures))
 
 trim-line-requires : tie.Need-trim-line-requires Inv-loop μ-loop
 trim-line-requires c κs = search needs
 
 put-kept-line-requires : tie.Need-put-kept-line-requires Inv-loop μ-loop
 put-kept-line-requires c κs =
-    let line-at′ = c .before .before .before .line-at in
+    let args = c .before .before .before .before .before .before .before .before .before .args in
+    let loop = c .before .before .before .before .before .before .loop in
+    let test = c .before .before .before .before .before .loop-test in
+    let line-at′ = c .before .before .before .before .line-at in
     let trim-line′ = c .before .trim-line in
-    let loop = c .before .before .before .before .before .loop in
-    let args = c .before .before .before .before .before .before .before .before .args in
-    let test = c .before .before .before .before .loop-test in
-    let pre = c .before .before .before .before .before .before .before .before .pre in
-    joining-room (line-at′ .result .end) (line-at′ .result .next) (trim-line′ .result .now) (loop .inv .1) (line-cut (args .s .now) (loop .i) (test .taken) (line-at′ .ensures)) (trim-line′ .ensures) pre
+    let pre = c .before .before .before .before .before .before .before .before .before .pre in
+    let cut = line-cut (args .s .now) (loop .i) (test .taken) (line-at′ .ensures) in
+    joining-room (line-at′ .result .end) (line-at′ .result .next) (trim-line′ .result .now) (loop .inv .1) cut (trim-line′ .ensures) pre
 
-loop-less : tie.Need-loop-less Inv-loop μ-loop
-loop-less c =
-    let args = c .before .before .before .before .before .before .before .before .before .before .before .args in
-    let loop = c .before .before .before .before .before .before .before .before .loop in
-    let test = c .before .before .before .before .before .before .before .loop-test in
-    let line-at′ = c .before .before .before .before .before .before .line-at in
+loop-less-2 : tie.Need-loop-less-2 Inv-loop μ-loop
+loop-less-2 c =
+    let args = c .before .before .before .before .before .before .before .before .before .before .before .before .args in
+    let loop = c .before .before .before .before .before .before .before .before .before .loop in
+    let test = c .before .before .before .before .before .before .before .before .loop-test in
+    let line-at′ = c .before .before .before .before .before .before .before .line-at in
     omega (arith, line-cut (args .s .now) (loop .i) (test .taken) (line-at′ .ensures))
 
-loop-again : tie.Need-loop-again Inv-loop μ-loop
-loop-again c =
-    let args = c .before .before .before .before .before .before .before .before .before .before .before .args in
-    let loop = c .before .before .before .before .before .before .before .before .loop in
-    let test = c .before .before .before .before .before .before .before .loop-test in
-    let line-at′ = c .before .before .before .before .before .before .line-at in
+loop-again-2 : tie.Need-loop-again-2 Inv-loop μ-loop
+loop-again-2 c =
+    let args = c .before .before .before .before .before .before .before .before .before .before .before .before .args in
+    let loop = c .before .before .before .before .before .before .before .before .before .loop in
+    let test = c .before .before .before .before .before .before .before .before .loop-test in
+    let line-at′ = c .before .before .before .before .before .before .before .line-at in
     let trim-line′ = c .before .before .before .before .trim-line in
     let cut = line-cut (args .s .now) (loop .i) (test .taken) (line-at′ .ensures) in
     (cut .within, joining-step (line-at′ .result .end) (line-at′ .result .next) (trim-line′ .result .now) (loop .inv .1) cut (trim-line′ .ensures) (c .before .before .put-kept-line .ensures))
@@ -82,12 +100,14 @@ jsx-text-to-str-spec =
     μ-loop
     loop-holds
     line-at-requires
+    loop-less
+    loop-again
     sub-trim-line
     part-trim-line-start
     part-trim-line-end
     trim-line-requires
     put-kept-line-requires
-    loop-less
-    loop-again
+    loop-less-2
+    loop-again-2
     same-length
     returns)

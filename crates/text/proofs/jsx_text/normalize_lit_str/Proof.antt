@@ -4,6 +4,7 @@ use native.Mathlib.Omega.{arith}
 use Prim.Native.Nat.{_≤_, _-_}
 use lib.ListN.{length}
 use Rattle.field.proofs.PutLaws.{wrote-length}
+use Rattle.text.specs.Text.{trimmed}
 use Rattle.text.proofs.LineLaws.{line-cut}
 use Rattle.text.proofs.TextLaws.{Spacing, spacing-start, spacing-room, spacing-step, spacing-end}
 use borrow.Author.Needs.{needs}
@@ -22,33 +23,35 @@ loop-holds c = (omega arith, spacing-start _ _ _)
 line-at-requires : tie.Need-line-at-requires Inv-loop μ-loop
 line-at-requires c κs = search needs
 
-sub-trim-start : tie.Need-sub-trim-start Inv-loop μ-loop
-sub-trim-start c =
+sub-trim-line : tie.Need-sub-trim-line Inv-loop μ-loop
+sub-trim-line c =
     let args = c .before .before .before .before .before .args in
     omega (arith, line-cut (args .s .now) (c .before .before .loop .i) (c .before .loop-test .taken) (c .line-at .ensures))
 
-part-trim-start-start : tie.Need-part-trim-start-start Inv-loop μ-loop
-part-trim-start-start c =
+part-trim-line-start : tie.Need-part-trim-line-start Inv-loop μ-loop
+part-trim-line-start c =
     let args = c .before .before .before .before .before .args in
     omega (arith, line-cut (args .s .now) (c .before .before .loop .i) (c .before .loop-test .taken) (c .line-at .ensures))
 
-part-trim-start-end : tie.Need-part-trim-start-end Inv-loop μ-loop
-part-trim-start-end c =
+part-trim-line-end : tie.Need-part-trim-line-end Inv-loop μ-loop
+part-trim-line-end c =
     let args = c .before .before .before .before .before .args in
     omega (arith, line-cut (args .s .now) (c .before .before .loop .i) (c .before .loop-test .taken) (c .line-at .ensures))
 
-trim-start-requires : tie.Need-trim-start-requires Inv-loop μ-loop
-trim-start-requires c κs = search needs
+trim-line-requires : tie.Need-trim-line-requires Inv-loop μ-loop
+trim-line-requires c κs = search needs
 
 put-spaced-line-requires : tie.Need-put-spaced-line-requires Inv-loop μ-loop
+unfolding trimmed
 put-spaced-line-requires c κs =
-    let line-at′ = c .before .before .before .line-at in
-    let trim-start′ = c .before .trim-start in
-    let loop = c .before .before .before .before .before .loop in
     let args = c .before .before .before .before .before .before .before .before .args in
+    let loop = c .before .before .before .before .before .loop in
     let test = c .before .before .before .before .loop-test in
+    let line-at′ = c .before .before .before .line-at in
+    let trim-line′ = c .before .trim-line in
     let pre = c .before .before .before .before .before .before .before .before .pre in
-    spacing-room (line-at′ .result .end) (line-at′ .result .next) (trim-start′ .result .now) (loop .inv .1) (line-cut (args .s .now) (loop .i) (test .taken) (line-at′ .ensures)) (trim-start′ .ensures) pre
+    let cut = line-cut (args .s .now) (loop .i) (test .taken) (line-at′ .ensures) in
+    spacing-room (line-at′ .result .end) (line-at′ .result .next) (trim-line′ .result .now) (loop .inv .1) cut (trim-line′ .ensures) pre
 
 loop-less : tie.Need-loop-less Inv-loop μ-loop
 loop-less c =
@@ -59,14 +62,15 @@ loop-less c =
     omega (arith, line-cut (args .s .now) (loop .i) (test .taken) (line-at′ .ensures))
 
 loop-again : tie.Need-loop-again Inv-loop μ-loop
+unfolding trimmed
 loop-again c =
     let args = c .before .before .before .before .before .before .before .before .before .before .before .args in
     let loop = c .before .before .before .before .before .before .before .before .loop in
     let test = c .before .before .before .before .before .before .before .loop-test in
     let line-at′ = c .before .before .before .before .before .before .line-at in
-    let trim-start′ = c .before .before .before .before .trim-start in
+    let trim-line′ = c .before .before .before .before .trim-line in
     let cut = line-cut (args .s .now) (loop .i) (test .taken) (line-at′ .ensures) in
-    (cut .within, spacing-step (line-at′ .result .end) (line-at′ .result .next) (trim-start′ .result .now) (loop .inv .1) cut (trim-start′ .ensures) (c .before .before .put-spaced-line .ensures))
+    (cut .within, spacing-step (line-at′ .result .end) (line-at′ .result .next) (trim-line′ .result .now) (loop .inv .1) cut (trim-line′ .ensures) (c .before .before .put-spaced-line .ensures))
 
 same-length : tie.Need-same-length Inv-loop μ-loop
 same-length c = wrote-length (c .before .loop .inv .1 .wrote)
@@ -82,10 +86,10 @@ normalize-lit-str-spec =
     μ-loop
     loop-holds
     line-at-requires
-    sub-trim-start
-    part-trim-start-start
-    part-trim-start-end
-    trim-start-requires
+    sub-trim-line
+    part-trim-line-start
+    part-trim-line-end
+    trim-line-requires
     put-spaced-line-requires
     loop-less
     loop-again
