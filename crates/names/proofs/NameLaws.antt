@@ -171,10 +171,15 @@ pub namespaced-never-boolean : (ns n : Bytes) → is-boolean-attr (normalize-dom
 unfolding is-boolean-attr boolean-names among same colon-free
 namespaced-never-boolean ns n = namespaced-never boolean-names refl refl ns n
 
+-- no name without a colon, `href` apart
+pub namespaced-never-is : (b : Bytes) → colon-free b ≡ true → same (ascii "href") b ≡ false → (ns n : Bytes) → same (normalize-dom-attr-name (ns ++ (58 ∷ n))) b ≡ false
+unfolding among every
+namespaced-never-is b q h ns n = sym (or-false (same (normalize-dom-attr-name (ns ++ (58 ∷ n))) b)) ∙ namespaced-never (b ∷ []) (rw q) (rw h) ns n
+
 pub namespaced-never-key : (ns n : Bytes) → same (normalize-dom-attr-name (ns ++ (58 ∷ n))) (ascii "key") ≡ false
-unfolding among same colon-free
-namespaced-never-key ns n = sym (or-false (same (normalize-dom-attr-name (ns ++ (58 ∷ n))) (ascii "key"))) ∙ namespaced-never (ascii "key" ∷ []) refl refl ns n
+unfolding same colon-free
+namespaced-never-key ns n = namespaced-never-is (ascii "key") refl refl ns n
 
 pub namespaced-never-ref : (ns n : Bytes) → same (normalize-dom-attr-name (ns ++ (58 ∷ n))) (ascii "ref") ≡ false
-unfolding among same colon-free
-namespaced-never-ref ns n = sym (or-false (same (normalize-dom-attr-name (ns ++ (58 ∷ n))) (ascii "ref"))) ∙ namespaced-never (ascii "ref" ∷ []) refl refl ns n
+unfolding same colon-free
+namespaced-never-ref ns n = namespaced-never-is (ascii "ref") refl refl ns n

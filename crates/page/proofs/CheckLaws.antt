@@ -1,164 +1,69 @@
--- What the checker's code learns at each return and at each turn of a loop. A check of a row is first put into the form of the code, by the
--- tag in front and the bytes of its body (`children-step` and the like; `child-60` and the like for a known tag); the laws of the first
--- section then go by the depth and by what was found. Assumes nothing.
-use mathlib.Core.Path.{_≡_, refl, sym, ap, _∙_, subst}
+-- What the code of the checker learns at each return and at each turn of a loop: the checks of `Check` by the tag in front and the bytes of
+-- its body (`nodes-child`, `items-step` and the like), and of one field by its tag (`child-60` and the like). Assumes nothing.
+use mathlib.Core.Path.{_≡_, refl, sym, ap, _∙_}
 use mathlib.Core.Bool.{Bool, true, false, _&&_, _||_, or-false}
 use mathlib.Core.Logic.{_⊎_, ⊎-elim, inl, inr}
-use Prim.Native.Nat.{ℕ, zero, suc, _+_, _≤_, _<_}
+use Prim.Native.Nat.{ℕ, suc, _+_, _≤_, _<_}
 use native.Mathlib.Omega.{arith}
 use native.Mathlib.Numerals.{add-one}
-use mathlib.Core.List.{[], _∷_}
 use lib.Dec.{leb, eqb}
-use lib.ListN.{length, take, drop}
-use borrow.Author.Tests.{le-leb, lt-leb, leb-true, eq-eqb, ne-eqb, eqb-true, eqb-false}
-use Rattle.field.specs.Bytes.{Bytes, pick}
-use Rattle.field.specs.Row.{Row, end, loose, field, read, Ended, Inside, only-bytes, fields-after, inside, opened}
-use Rattle.field.specs.Front.{tag-of, body-of, behind-of}
-use Rattle.field.proofs.FrontLaws.{read-at, read-empty, nest-at}
-use Rattle.page.proofs.RowEnds.{NotEnd, not-end}
+use lib.ListN.{length}
+use borrow.Author.Tests.{le-leb, lt-leb, ne-eqb}
+use Rattle.field.specs.Bytes.{Bytes}
+use Rattle.field.specs.Row.{Row, end, loose, field, read, Ended, Inside, only-bytes, fields-after, inside, opened, Next, nothing, no-field, next, next-of, built}
+use Rattle.field.specs.Front.{tag-of, body-of, behind-of, behind-by}
+use Rattle.field.proofs.RowLaws.{read-step, next-sizes}
+use Rattle.field.proofs.FrontLaws.{read-empty, nest-at}
+use Rattle.utf8.specs.Utf8.{utf8}
 use Rattle.page.specs.Refusal.{after, unless}
 use Rattle.page.specs.Tree.{choose}
-use Rattle.page.specs.Check.{check-header, check-end, check-text, check-empty, check-number, check-boolean, check-name-by, check-source, is-name-tag, is-tag, is-expr, is-child, is-attribute, check-child-by, check-expr-by, check-element, check-attributes, check-attribute, check-value, check-children, check-container, check-expr, check-items, check-pieces, check-module-items, check-nothing-after, check-page, check-texts, check-options-from, check-options}
-use Rattle.page.specs.CheckField.{check-missing, check-tag-field, check-child-field, check-expr-field, check-value-field, check-item-field, check-piece-field, check-module-item, check-option}
-use Rattle.page.specs.declared.Refusal.{Refusal}
+use Rattle.page.specs.Check.{check-header, check-end, check-text, check-empty, check-number, check-boolean, check-name-by, is-name-tag, is-tag, is-expr, is-child, check-child-by, check-expr-by, check-element, check-attributes, check-attribute, check-value, check-children, check-container, check-expr, check-items, check-pieces, check-nothing-after}
+use Rattle.page.specs.CheckField.{check-missing, check-element-name, check-nodes, check-tag-field, check-expr-field}
 use Rattle.page.specs.declared.Refusal.the-variants as R
 use Rattle.page.specs.declared.Verdict.{Verdict}
 use Rattle.page.specs.declared.Verdict.the-variants.{Fine, Refused}
+use Rattle.page.proofs.RowEnds.{NotEnd, not-end}
+use Rattle.page.proofs.Steps.{Checked, Then, last-at, front, inner, row-at, same-body, one-field, ended, tested, seventies, between, name-tag-cases, child-cases, value-cases, piece-cases, expr-cases, item-cases}
 
--- ---- a verdict in the form of the code
+-- ---- texts
 
--- y is v behind a header that may stand
-pub record Checked (y : Verdict) (depth : ℕ) (v : Verdict) : Type 0 where
-  pub checked : y ≡ after (check-header true depth) λ _. v
+module _ (b : Bytes) {v : Bool} (e : v ≡ utf8 b) where
+  pub text-fine : v ≡ true → Fine ≡ check-text b
+  unfolding check-text
+  text-fine h = rw (← e, h)
 
--- y is v and then k
-pub record Then (y v k : Verdict) : Type 0 where
-  pub then-is : y ≡ after v λ _. k
+  pub text-bad : v ≡ false → Refused R.NotUtf8 ≡ check-text b
+  unfolding check-text
+  text-bad h = rw (← e, h)
 
-module _ {y : Verdict} {depth : ℕ} {v : Verdict} (e : Checked y depth v) where
-  pub deep-at : 48 < depth → Refused R.TooDeep ≡ y
-  unfolding check-header after
-  deep-at d = sym (e .checked ∙ rw (lt-leb depth 48 d))
+-- ---- one field of a series by its tag and the bytes of its body
 
-  pub past : depth ≤ 48 → y ≡ v
-  unfolding check-header after
-  past d = e .checked ∙ rw (le-leb depth 48 d)
+unfoldable pub check-child-field : ℕ → ℕ → Bytes → Verdict
+check-child-field depth t w =
+    after (check-header (is-child t) depth) λ _.
+    check-child-by t w (λ _. check-container (suc depth) (read w)) (λ _. check-expr (suc depth) (read w)) (λ _. check-element (suc depth) (read w)) (λ _. check-children (suc depth) (read w))
 
-  pub fine-at : depth ≤ 48 → {r : Verdict} → r ≡ v → r ≡ y
-  fine-at d {r} h = h ∙ sym (past d)
+unfoldable pub check-value-field : ℕ → ℕ → Bytes → Verdict
+check-value-field depth t w =
+    after (check-header (eqb t 0x51 || eqb t 0x52 || is-tag t) depth) λ _.
+    choose (eqb t 0x51) (λ _. check-text w) λ _.
+    choose (eqb t 0x52) (λ _. check-container (suc depth) (read w)) λ _.
+    choose (eqb t 0x30) (λ _. check-element (suc depth) (read w)) λ _. check-children (suc depth) (read w)
 
-module _ {y v k : Verdict} (e : Then y v k) {r : Verdict} (h : r ≡ v) where
-  pub on-at : r ≡ Fine → y ≡ k
-  unfolding after
-  on-at f = e .then-is ∙ rw (← h, f)
+unfoldable pub check-item-field : ℕ → ℕ → Bytes → Verdict
+check-item-field depth t w =
+    after (check-header (is-expr t || eqb t 0x77 || eqb t 0x78) depth) λ _.
+    choose (eqb t 0x77) (λ _. check-expr (suc depth) (read w)) λ _.
+    choose (eqb t 0x78) (λ _. check-empty w) λ _.
+    check-expr-by t w (λ _. check-items (suc depth) (read w)) (λ _. check-pieces (suc depth) (read w)) (λ _. check-element (suc depth) (read w)) (λ _. check-children (suc depth) (read w))
 
-  pub refused-at : {n : Refusal} → r ≡ Refused n → Refused n ≡ y
-  unfolding after
-  refused-at f = sym (e .then-is ∙ rw (← h, f))
+unfoldable pub check-piece-field : ℕ → ℕ → Bytes → Verdict
+check-piece-field depth t w =
+    after (check-header (eqb t 0x20 || is-tag t) depth) λ _.
+    choose (eqb t 0x20) (λ _. check-text w) λ _.
+    choose (eqb t 0x30) (λ _. check-element (suc depth) (read w)) λ _. check-children (suc depth) (read w)
 
-  -- what comes behind is what another check found
-  pub last-at : r ≡ Fine → {x : Verdict} → x ≡ k → x ≡ y
-  last-at f {x} g = g ∙ sym (on-at f)
-
--- ---- the row in front by its tag and its body
-
--- what the tag leaves in front of a body, and what it reads as fields
-abbrev front : Inside → Bytes → Bytes
-front only-bytes w = w
-front (fields-after n) w = take n w
-
-abbrev inner : Inside → Bytes → Row
-inner only-bytes w = end
-inner (fields-after n) w = read (drop n w)
-
-row-at : (s : Bytes) (t : ℕ) → t ≡ tag-of s → (t ≡ 256 → ⊥) → read s ≡ field t (front (inside t) (body-of s)) (inner (inside t) (body-of s)) (read (behind-of s))
-unfolding opened
-row-at s t e h = read-at s t e h ∙ on (inside t)
-  where
-    on : (c : Inside) → opened c read t (body-of s) (behind-of s) ≡ field t (front c (body-of s)) (inner c (body-of s)) (read (behind-of s))
-    on only-bytes = refl
-    on (fields-after n) = refl
-
--- two ways to write what a body is checked by, the same where the tag may stand
-module _ (ok : Bool) (depth : ℕ) (b b′ k : Verdict) (h : ok ≡ true → b ≡ b′) where
-  same-body : after (check-header ok depth) (λ _. after b λ _. k) ≡ after (check-header ok depth) λ _. after b′ λ _. k
-  unfolding check-header after
-  same-body = on ok refl
-    where
-      on : (o : Bool) → ok ≡ o → after (check-header o depth) (λ _. after b λ _. k) ≡ after (check-header o depth) λ _. after b′ λ _. k
-      on true q = ap (λ (x : Verdict). after (check-header true depth) λ _. after x λ _. k) (h q)
-      on false q = refl
-
-  one-field : after (check-header ok depth) (λ _. after b λ _. k) ≡ after (after (check-header ok depth) λ _. b′) λ _. k
-  unfolding after
-  one-field = same-body ∙ on (check-header ok depth)
-    where
-      on : (a : Verdict) → after a (λ _. after b′ λ _. k) ≡ after (after a λ _. b′) λ _. k
-      on Fine = refl
-      on (Refused n) = refl
-
--- ---- which tag it is
-
-either : {A : Type 0} (a b : Bool) → (a ≡ true → A) → (b ≡ true → A) → (a || b) ≡ true → A
-either true b f g h = f refl
-either false b f g h = g h
-
--- equal or not
-tested : {A : Type 0} (t k : ℕ) → (t ≡ k → A) → ((t ≡ k → ⊥) → A) → A
-tested {A} t k f g = on (eqb t k) refl
-  where
-    on : (b : Bool) → eqb t k ≡ b → A
-    on true q = f (eqb-true t k q)
-    on false q = g (eqb-false t k q)
-
--- the literals from 70 to 76
-seventies : {A : Type 0} (t : ℕ) → 0x70 ≤ t → t ≤ 0x76 → (t ≡ 0x70 → A) → (t ≡ 0x71 → A) → (t ≡ 0x72 → A) → (t ≡ 0x73 → A) → (t ≡ 0x74 → A) → (t ≡ 0x75 → A) → (t ≡ 0x76 → A) → A
-seventies t l u a b c d e f g =
-    tested t 0x70 a λ n0. tested t 0x71 b λ n1. tested t 0x72 c λ n2. tested t 0x73 d λ n3. tested t 0x74 e λ n4. tested t 0x75 f λ n5. g (omega arith)
-
-module _ (P : ℕ → Type 0) (t : ℕ) where
-  at : (k : ℕ) → P k → t ≡ k → P t
-  at k p h = subst P (sym h) p
-
-  is-one : (k : ℕ) → P k → eqb t k ≡ true → P t
-  is-one k p h = at k p (eqb-true t k h)
-
-  between : (a b : ℕ) → (leb a t && leb t b) ≡ true → (a ≤ t → t ≤ b → P t) → P t
-  between a b h f = on (leb a t) refl h
-    where
-      on : (x : Bool) → leb a t ≡ x → (x && leb t b) ≡ true → P t
-      on true q z = f (leb-true a t q) (leb-true t b z)
-      on false q z = absurd (let k : _≡_ {A = ℕ} 0 1 = cc in omega arith)
-
-  tag-cases : P 0x30 → P 0x31 → is-tag t ≡ true → P t
-  tag-cases a b h = either (eqb t 0x30) (eqb t 0x31) (is-one 0x30 a) (is-one 0x31 b) h
-
-  name-tag-cases : P 0x40 → P 0x41 → P 0x42 → is-name-tag t ≡ true → P t
-  name-tag-cases a b c h = between 0x40 0x42 h λ l u. tested t 0x40 (at 0x40 a) λ n. tested t 0x41 (at 0x41 b) λ m. at 0x42 c (omega arith)
-
-  child-cases : P 0x60 → P 0x52 → P 0x30 → P 0x31 → P 0x61 → is-child t ≡ true → P t
-  child-cases a b c d e h = either _ _ (either _ _ (either _ _ (is-one 0x60 a) (is-one 0x52 b)) (tag-cases c d)) (is-one 0x61 e) h
-
-  value-cases : P 0x51 → P 0x52 → P 0x30 → P 0x31 → (eqb t 0x51 || eqb t 0x52 || is-tag t) ≡ true → P t
-  value-cases a b c d h = either _ _ (either _ _ (is-one 0x51 a) (is-one 0x52 b)) (tag-cases c d) h
-
-  piece-cases : P 0x20 → P 0x30 → P 0x31 → (eqb t 0x20 || is-tag t) ≡ true → P t
-  piece-cases a c d h = either _ _ (is-one 0x20 a) (tag-cases c d) h
-
-  expr-cases : P 0x70 → P 0x71 → P 0x72 → P 0x73 → P 0x74 → P 0x75 → P 0x76 → P 0x79 → P 0x30 → P 0x31 → is-expr t ≡ true → P t
-  expr-cases a b c d e f g i j k h =
-      either _ _ (either _ _ (λ z. between 0x70 0x76 z λ l u. seventies t l u (at 0x70 a) (at 0x71 b) (at 0x72 c) (at 0x73 d) (at 0x74 e) (at 0x75 f) (at 0x76 g)) (is-one 0x79 i)) (tag-cases j k) h
-
-  item-cases : P 0x70 → P 0x71 → P 0x72 → P 0x73 → P 0x74 → P 0x75 → P 0x76 → P 0x79 → P 0x30 → P 0x31 → P 0x77 → P 0x78 → (is-expr t || eqb t 0x77 || eqb t 0x78) ≡ true → P t
-  item-cases a b c d e f g i j k m n h = either _ _ (either _ _ (expr-cases a b c d e f g i j k) (is-one 0x77 m)) (is-one 0x78 n) h
-
--- two checks that agree where no field stands
-ended : (v w : Row → Verdict) → v end ≡ w end → ((b : Bytes) → v (loose b) ≡ w (loose b)) → (r : Row) → Ended r → v r ≡ w r
-ended v w e l end i = e
-ended v w e l (loose b) i = l b
-ended v w e l (field t f j r) i = absurd i
-
--- ---- one field of a series: its bytes in the place of the row's front and fields
+-- ---- the bytes of a body in the place of the row's front and fields
 
 abbrev child-row : ℕ → ℕ → Bytes → Row → Verdict
 child-row depth t f i = check-child-by t f (λ _. check-container (suc depth) i) (λ _. check-expr (suc depth) i) (λ _. check-element (suc depth) i) (λ _. check-children (suc depth) i)
@@ -230,10 +135,21 @@ module _ (depth : ℕ) (s : Bytes) (t : ℕ) (e : t ≡ tag-of s) (h : t ≡ 256
   expr-step = record { then-is = ap (check-expr depth) row ∙ one-field (is-expr t) depth _ _ _ (expr-body depth t b) }
 
   -- a name in front, as the code's match on its tag has it
-  pub element-name : 0x40 ≤ t → t < 0x43 → Checked (check-element depth (read s)) depth (after (check-name-by t (depth + 1) b (read b)) λ _. check-attributes depth (read r))
-  unfolding check-element
+  pub element-name : 0x40 ≤ t → t < 0x43 → Checked (check-element-name depth (read s)) depth (check-name-by t (depth + 1) b (read b))
+  unfolding check-element-name
   element-name l m =
-      record { checked = ap (check-element depth) row ∙ same-body (is-name-tag t) depth _ _ _ (name-body depth t b) ∙ rw (le-leb 0x40 t l, le-leb t 0x42 (omega arith), add-one depth) }
+      record { checked = ap (check-element-name depth) row ∙ rw (name-body depth t b fits, le-leb 0x40 t l, le-leb t 0x42 (omega arith), add-one depth) }
+    where
+      fits : is-name-tag t ≡ true
+      fits = rw (le-leb 0x40 t l, le-leb t 0x42 (omega arith))
+
+  pub element-below : t < 0x40 → Refused R.Misplaced ≡ check-element-name depth (read s)
+  unfolding check-element-name check-header after
+  element-below l = sym (ap (check-element-name depth) row ∙ rw (lt-leb 0x40 t l))
+
+  pub element-above : 0x43 ≤ t → Refused R.Misplaced ≡ check-element-name depth (read s)
+  unfolding check-element-name check-header after
+  element-above l = sym (ap (check-element-name depth) row ∙ rw (le-leb 0x40 t (omega arith), lt-leb t 0x42 (omega arith)))
 
   pub attribute-name : (t ≡ 0x40) ⊎ (t ≡ 0x42) → Checked (check-attribute depth (read s)) depth (after (check-name-by t (depth + 1) b (read b)) λ _. check-value depth (read r))
   unfolding check-attribute
@@ -245,47 +161,80 @@ module _ (depth : ℕ) (s : Bytes) (t : ℕ) (e : t ≡ tag-of s) (h : t ≡ 256
       fits : (eqb t 0x40 || eqb t 0x42) ≡ true
       fits = ⊎-elim (λ z. rw z) (λ z. rw z) k
 
-  pub element-below : t < 0x40 → Refused R.Misplaced ≡ check-element depth (read s)
-  unfolding check-element check-header after
-  element-below l = sym (ap (check-element depth) row ∙ rw (lt-leb 0x40 t l))
-
-  pub element-above : 0x43 ≤ t → Refused R.Misplaced ≡ check-element depth (read s)
-  unfolding check-element check-header after
-  element-above l = sym (ap (check-element depth) row ∙ rw (le-leb 0x40 t (omega arith), lt-leb t 0x42 (omega arith)))
-
   pub attribute-other : ((t ≡ 0x40) ⊎ (t ≡ 0x42) → ⊥) → Refused R.Misplaced ≡ check-attribute depth (read s)
   unfolding check-attribute check-header after
   attribute-other n = sym (ap (check-attribute depth) row ∙ rw (ne-eqb t 0x40 (λ z. n (inl z)), ne-eqb t 0x42 (λ z. n (inr z))))
 
-pub name-next : {y v k : Verdict} {depth : ℕ} → Checked y depth (after v λ _. k) → depth ≤ 48 → Then y v k
-name-next e d = record { then-is = past e d }
+-- ---- an element, and the nodes behind its name
 
--- ---- attributes
+-- what follows the name is checked once that is fine
+pub element-then : (depth : ℕ) (s : Bytes) {r : Bytes} → r ≡ behind-of s → Then (check-element depth (read s)) (check-element-name depth (read s)) (check-nodes true depth (read r))
+unfolding check-element check-element-name check-nodes behind-of built opened after
+element-then depth s u = record { then-is = rw u (rw (read-step s) (on (next-of s))) }
+  where
+    in-row : (a b w : Verdict) → after a (λ _. after b λ _. w) ≡ after (after a λ _. b) λ _. w
+    in-row Fine b w = refl
+    in-row (Refused n) b w = refl
 
-module _ (depth : ℕ) (s : Bytes) (t : ℕ) (e : t ≡ tag-of s) where
-  module _ {b : Bytes} (q : b ≡ body-of s) {r : Bytes} (u : r ≡ behind-of s) where
-    pub attributes-50 : t ≡ 0x50 → Checked (check-attributes depth (read s)) depth (after (check-attribute (depth + 1) (read b)) λ _. check-attributes depth (read r))
-    unfolding check-attributes inside choose
-    attributes-50 k = record { checked = ap (check-attributes depth) (nest-at s t e 0x50 k tt refl) ∙ rw (add-one depth, q, u) }
+    in-field : (c : Inside) (t : ℕ) (w r : Bytes) → check-element depth (opened c read t w r) ≡ after (check-element-name depth (opened c read t w r)) λ _. check-attributes depth (read r)
+    in-field only-bytes t w r = in-row (check-header (is-name-tag t) depth) _ _
+    in-field (fields-after n) t w r = in-row (check-header (is-name-tag t) depth) _ _
 
-    pub attributes-53 : t ≡ 0x53 → Checked (check-attributes depth (read s)) depth (after (check-expr (depth + 1) (read b)) λ _. check-attributes depth (read r))
-    unfolding check-attributes inside choose
-    attributes-53 k = record { checked = ap (check-attributes depth) (nest-at s t e 0x53 k tt refl) ∙ rw (add-one depth, q, u) }
+    on : (n : Next) → check-element depth (built read s n) ≡ after (check-element-name depth (built read s n)) λ _. check-attributes depth (read (behind-by n))
+    on nothing = refl
+    on no-field = refl
+    on (next t w r) = in-field (inside t) t w r
 
-  -- behind the last attribute
-  pub attributes-last : (t ≡ 256 → Ended (read s)) → (t ≡ 0x50 → ⊥) → (t ≡ 0x53 → ⊥) → check-attributes depth (read s) ≡ check-children depth (read s)
+-- the nodes t that the code goes on with, of an element and of a fragment
+module _ (depth : ℕ) (b t : Bytes) (a : Bool) {x : Verdict} (g : x ≡ check-nodes a depth (read t)) where
+  pub element-nodes : {v : Verdict} → v ≡ check-element-name depth (read b) → v ≡ Fine → t ≡ behind-of b → a ≡ true → x ≡ check-element depth (read b)
+  element-nodes n f u h = last-at (element-then depth b u) n f (rw h at g)
+
+  pub fragment-nodes : t ≡ b → a ≡ false → x ≡ check-children depth (read b)
+  unfolding check-nodes
+  fragment-nodes u h = rw (u, h) at g
+
+-- behind the front lie no more bytes than there are
+pub behind-short : (s : Bytes) → length (behind-of s) ≤ length s
+unfolding behind-of
+behind-short s = on (next-of s) refl
+  where
+    on : (n : Next) → next-of s ≡ n → length (behind-by n) ≤ length s
+    on nothing e = omega arith
+    on no-field e = omega arith
+    on (next t w r) e = omega (arith, next-sizes s t w r e)
+
+module _ (first : Bool) (depth : ℕ) (s : Bytes) (t : ℕ) (e : t ≡ tag-of s) (h : t ≡ 256 → ⊥) {b : Bytes} (q : b ≡ body-of s) {r : Bytes} (u : r ≡ behind-of s) where
+  attributes-last : (t ≡ 0x50 → ⊥) → (t ≡ 0x53 → ⊥) → check-attributes depth (read s) ≡ check-children depth (read s)
   unfolding check-attributes check-children choose
-  attributes-last i n m =
-      tested t 256 (λ z. ended (check-attributes depth) (check-children depth) refl (λ b. refl) (read s) (i z)) λ z.
-      rw (row-at s t e z) (rw (ne-eqb t 0x50 n, ne-eqb t 0x53 m))
+  attributes-last n m = rw (row-at s t e h) (rw (ne-eqb t 0x50 n, ne-eqb t 0x53 m))
+
+  -- a child, behind which no attribute may come
+  pub nodes-child : (t ≡ 0x50 → ⊥) → (t ≡ 0x53 → ⊥) → Then (check-nodes first depth (read s)) (check-child-field depth t b) (check-nodes false depth (read r))
+  unfolding check-nodes
+  nodes-child n m = record { then-is = on first ∙ children-step depth s t e h q u .then-is }
+    where
+      on : (f : Bool) → check-nodes f depth (read s) ≡ check-children depth (read s)
+      on true = attributes-last n m
+      on false = refl
+
+  module _ (f : first ≡ true) where
+    pub nodes-50 : t ≡ 0x50 → Checked (check-nodes first depth (read s)) depth (after (check-attribute (depth + 1) (read b)) λ _. check-nodes first depth (read r))
+    unfolding check-nodes check-attributes inside choose
+    nodes-50 k = record { checked = rw f (ap (check-attributes depth) (nest-at s t e 0x50 k tt refl) ∙ rw (add-one depth, q, u)) }
+
+    pub nodes-53 : t ≡ 0x53 → Checked (check-nodes first depth (read s)) depth (after (check-expr (depth + 1) (read b)) λ _. check-nodes first depth (read r))
+    unfolding check-nodes check-attributes inside choose
+    nodes-53 k = record { checked = rw f (ap (check-attributes depth) (nest-at s t e 0x53 k tt refl) ∙ rw (add-one depth, q, u)) }
+
+  -- an attribute behind a child
+  pub nodes-late : first ≡ false → is-child t ≡ false → Refused R.Misplaced ≡ check-nodes first depth (read s)
+  unfolding check-nodes check-children check-header after
+  nodes-late f n = sym (rw f (ap (check-children depth) (row-at s t e h) ∙ rw n))
 
 -- ---- no field in front
 
 module _ (depth : ℕ) (r : Row) (i : Ended r) where
-  pub children-end : check-nothing-after r ≡ check-children depth r
-  unfolding check-nothing-after check-children
-  children-end = ended check-nothing-after (check-children depth) refl (λ b. refl) r i
-
   pub items-end : check-nothing-after r ≡ check-items depth r
   unfolding check-nothing-after check-items
   items-end = ended check-nothing-after (check-items depth) refl (λ b. refl) r i
@@ -302,13 +251,18 @@ module _ (depth : ℕ) (r : Row) (i : Ended r) where
   unfolding check-missing check-expr
   expr-end = ended check-missing (check-expr depth) refl (λ b. refl) r i
 
-  pub element-end : check-missing r ≡ check-element depth r
-  unfolding check-missing check-element
-  element-end = ended check-missing (check-element depth) refl (λ b. refl) r i
-
   pub attribute-end : check-missing r ≡ check-attribute depth r
   unfolding check-missing check-attribute
   attribute-end = ended check-missing (check-attribute depth) refl (λ b. refl) r i
+
+  pub element-end : check-missing r ≡ check-element-name depth r
+  unfolding check-missing check-element-name
+  element-end = ended check-missing (check-element-name depth) refl (λ b. refl) r i
+
+  pub nodes-end : (first : Bool) → check-nothing-after r ≡ check-nodes first depth r
+  unfolding check-nothing-after check-nodes check-attributes check-children
+  nodes-end true = ended check-nothing-after (check-attributes depth) refl (λ b. refl) r i
+  nodes-end false = ended check-nothing-after (check-children depth) refl (λ b. refl) r i
 
 -- ---- a container: nothing, or one expression
 
@@ -425,119 +379,3 @@ module _ (depth : ℕ) {t : ℕ} (w : Bytes) where
   pub piece-tag : (t ≡ 0x20 → ⊥) → check-tag-field depth t w ≡ check-piece-field depth t w
   unfolding check-tag-field check-piece-field choose
   piece-tag n = rw (ne-eqb t 0x20 n)
-
--- ---- a page
-
-abbrev module-row : ℕ → Bytes → Row → Verdict
-module-row t f i = choose (eqb t 0x13) (λ _. check-empty f) λ _. check-pieces 3 i
-
-module-body : (t : ℕ) (w : Bytes) → (leb 0x10 t && leb t 0x13) ≡ true → module-row t (front (inside t) w) (inner (inside t) w) ≡ module-row t w (read w)
-unfolding inside choose
-module-body t w h =
-    let P : ℕ → Type 0 = λ (t : ℕ). module-row t (front (inside t) w) (inner (inside t) w) ≡ module-row t w (read w) in
-    between P t 0x10 0x13 h λ l u. tested t 0x10 (at P t 0x10 refl) λ n. tested t 0x11 (at P t 0x11 refl) λ m. tested t 0x12 (at P t 0x12 refl) λ o. at P t 0x13 refl (omega arith)
-
-module _ (s : Bytes) (t : ℕ) (e : t ≡ tag-of s) (h : t ≡ 256 → ⊥) {b : Bytes} (q : b ≡ body-of s) {r : Bytes} (u : r ≡ behind-of s) where
-  front-row : read s ≡ field t (front (inside t) b) (inner (inside t) b) (read r)
-  front-row = rw (q, u) (row-at s t e h)
-
-  pub module-step : Then (check-module-items (read s)) (check-module-item t b) (check-module-items (read r))
-  unfolding check-module-items check-module-item
-  module-step = record { then-is = ap check-module-items front-row ∙ one-field (leb 0x10 t && leb t 0x13) 2 _ _ _ (module-body t b) }
-
-  pub page-01 : t ≡ 0x01 → Then (check-page (read s)) (check-module-items (read b)) (check-nothing-after (read r))
-  unfolding check-page check-header after inside
-  page-01 k = record { then-is = ap check-page front-row ∙ rw k }
-
-  pub page-other : (t ≡ 0x01 → ⊥) → Refused R.Misplaced ≡ check-page (read s)
-  unfolding check-page check-header after
-  page-other n = sym (ap check-page front-row ∙ rw (ne-eqb t 0x01 n))
-
-  pub texts-20 : t ≡ 0x20 → Then (check-texts (read s)) (check-text b) (check-texts (read r))
-  unfolding check-texts check-header after inside
-  texts-20 k = record { then-is = ap check-texts front-row ∙ rw k }
-
-  pub texts-other : (t ≡ 0x20 → ⊥) → Refused R.Misplaced ≡ check-texts (read s)
-  unfolding check-texts check-header after
-  texts-other n = sym (ap check-texts front-row ∙ rw (ne-eqb t 0x20 n))
-
-module _ (r : Row) (i : Ended r) where
-  pub module-end : check-nothing-after r ≡ check-module-items r
-  unfolding check-nothing-after check-module-items
-  module-end = ended check-nothing-after check-module-items refl (λ b. refl) r i
-
-  pub page-none : Refused R.Truncated ≡ check-page r
-  unfolding check-page
-  page-none = ended (λ _. Refused R.Truncated) check-page refl (λ b. refl) r i
-
-  pub texts-end : check-nothing-after r ≡ check-texts r
-  unfolding check-nothing-after check-texts
-  texts-end = ended check-nothing-after check-texts refl (λ b. refl) r i
-
-  pub options-end : (k : ℕ) → check-nothing-after r ≡ check-options-from k r
-  unfolding check-nothing-after check-options-from
-  options-end k = ended check-nothing-after (check-options-from k) refl (λ b. refl) r i
-
-module _ {t : ℕ} (w : Bytes) where
-  pub module-below : t < 0x10 → Refused R.Misplaced ≡ check-module-item t w
-  unfolding check-module-item check-header after
-  module-below l = rw (lt-leb 0x10 t l)
-
-  pub module-above : 0x13 ≤ t → (t ≡ 0x13 → ⊥) → Refused R.Misplaced ≡ check-module-item t w
-  unfolding check-module-item check-header after
-  module-above l n = rw (le-leb 0x10 t (omega arith), lt-leb t 0x13 (omega arith))
-
-  pub module-pieces : 0x10 ≤ t → t < 0x13 → check-pieces 3 (read w) ≡ check-module-item t w
-  unfolding check-module-item check-header after choose
-  module-pieces l m = rw (le-leb 0x10 t l, le-leb t 0x13 (omega arith), ne-eqb t 0x13 (λ z. omega arith))
-
-  pub module-13 : t ≡ 0x13 → check-empty w ≡ check-module-item t w
-  unfolding check-module-item check-header after choose
-  module-13 k = rw k
-
--- ---- options
-
-abbrev option-row : ℕ → Bytes → Row → Verdict
-option-row t f i = choose (eqb t 0x04) (λ _. check-source f) λ _. check-texts i
-
-module _ (least t : ℕ) where
-  option-body : 2 ≤ least → (w : Bytes) → (leb least t && leb t 0x04) ≡ true → option-row t (front (inside t) w) (inner (inside t) w) ≡ option-row t w (read w)
-  unfolding inside choose
-  option-body g w h =
-      let P : ℕ → Type 0 = λ (t : ℕ). option-row t (front (inside t) w) (inner (inside t) w) ≡ option-row t w (read w) in
-      between P t least 0x04 h λ l u. tested t 0x02 (at P t 0x02 refl) λ n. tested t 0x03 (at P t 0x03 refl) λ m. at P t 0x04 refl (omega arith)
-
-  pub options-step : 2 ≤ least → (s : Bytes) → t ≡ tag-of s → (t ≡ 256 → ⊥) → {b : Bytes} → b ≡ body-of s → {r : Bytes} → r ≡ behind-of s →
-      Then (check-options-from least (read s)) (check-option least t b) (check-options-from (t + 1) (read r))
-  unfolding check-options-from check-option
-  options-step g s e h {b} q {r} u =
-      record { then-is = ap (check-options-from least) (front-row s t e h q u) ∙ one-field (leb least t && leb t 0x04) 1 _ _ _ (option-body g b) ∙ rw (add-one t) }
-
-  module _ (w : Bytes) where
-    pub option-below : t < least → Refused R.Misplaced ≡ check-option least t w
-    unfolding check-option check-header after
-    option-below l = rw (lt-leb least t l)
-
-    module _ (l : least ≤ t) where
-      pub option-above : 0x04 < t → Refused R.Misplaced ≡ check-option least t w
-      unfolding check-option check-header after
-      option-above m = rw (le-leb least t l, lt-leb t 0x04 m)
-
-      module _ (m : t ≤ 0x04) where
-        pub option-source : t ≡ 0x04 → check-source w ≡ check-option least t w
-        unfolding check-option check-header after choose
-        option-source k = rw (le-leb least t l, le-leb t 0x04 m, eq-eqb t 0x04 k)
-
-        pub option-texts : (t ≡ 0x04 → ⊥) → check-texts (read w) ≡ check-option least t w
-        unfolding check-option check-header after choose
-        option-texts n = rw (le-leb least t l, le-leb t 0x04 m, ne-eqb t 0x04 n)
-
-    -- a tag that was fine is one of those that may come
-    pub option-in : {v : Verdict} → v ≡ check-option least t w → v ≡ Fine → (least ≤ t) × (t ≤ 0x04)
-    unfolding check-option check-header after
-    option-in {v} e f = on (leb least t) refl (leb t 0x04) refl (sym e ∙ f)
-      where
-        on : (a : Bool) → leb least t ≡ a → (b : Bool) → leb t 0x04 ≡ b → after (check-header (a && b) 1) (λ _. option-row t w (read w)) ≡ Fine → (least ≤ t) × (t ≤ 0x04)
-        on true p true q z = (leb-true least t p, leb-true t 0x04 q)
-        on true p false q z = absurd (let k : _≡_ {A = ℕ} 0 1 = cc in omega arith)
-        on false p b q z = absurd (let k : _≡_ {A = ℕ} 0 1 = cc in omega arith)

@@ -1,5 +1,5 @@
 -- The laws of `page` that the crates above cite: what is accepted is a page's own row, and every page within the limits is accepted.
--- `LeafLaws` and `RowEnds` are for the proofs of the checker's code.
+-- `LeafLaws`, `RowEnds`, `Steps`, `CheckLaws` and `WholeLaws` are for the proofs of the checker's code.
 pub mod Verdicts
 pub mod Tags
 pub mod Sound
@@ -11,4 +11,6 @@ pub mod Exact
 pub mod Jsx
 pub mod LeafLaws
 pub mod RowEnds
+pub mod Steps
 pub mod CheckLaws
+pub mod WholeLaws

@@ -1,13 +1,13 @@
 -- The checks as the code makes them: of one field by its tag and the bytes of its body, and of what stands where no field does. The proofs
 -- hold them to the checks of a row in `Check`. Assumes nothing: these are definitions.
 use Prim.Native.Nat.{ℕ, suc}
-use mathlib.Core.Bool.{_&&_, _||_}
+use mathlib.Core.Bool.{Bool, true, false, _&&_}
 use lib.Dec.{leb, eqb}
 use Rattle.field.specs.Bytes.{Bytes}
 use Rattle.field.specs.Row.{Row, end, loose, field, read}
 use Rattle.page.specs.Refusal.{after, unless}
 use Rattle.page.specs.Tree.{choose}
-use Rattle.page.specs.Check.{check-header, check-end, check-text, check-empty, check-name, check-members, at-least, check-ident, check-source, check-texts, is-tag, is-child, is-expr, check-child-by, check-expr-by, check-element, check-children, check-container, check-expr, check-items, check-pieces}
+use Rattle.page.specs.Check.{check-header, check-end, check-empty, check-members, at-least, check-ident, check-name-by, check-source, check-texts, is-name-tag, is-tag, is-expr, check-expr-by, check-element, check-attributes, check-children, check-items, check-pieces}
 use Rattle.page.specs.declared.Refusal.the-variants as R
 use Rattle.page.specs.declared.Verdict.{Verdict}
 use Rattle.page.specs.declared.Verdict.the-variants.{Fine, Refused}
@@ -31,42 +31,28 @@ check-first depth r = check-ident depth r λ _. Fine
 unfoldable pub check-namespaced : ℕ → Row → Verdict
 check-namespaced depth i = check-ident depth i λ r. check-ident depth r check-end
 
--- ---- one field of a series, from its header to its body's end
+-- the name in front of an element's fields, and nothing of what follows it
+unfoldable pub check-element-name : ℕ → Row → Verdict
+check-element-name depth end = Refused R.Misplaced
+check-element-name depth (loose b) = Refused R.Truncated
+check-element-name depth (field t f i r) = after (check-header (is-name-tag t) depth) λ _. check-name-by t (suc depth) f i
+
+-- what follows it: attributes may still come, or children alone
+unfoldable pub check-nodes : Bool → ℕ → Row → Verdict
+check-nodes true depth r = check-attributes depth r
+check-nodes false depth r = check-children depth r
+
+-- ---- one field, from its header to its body's end
 
 unfoldable pub check-tag-field : ℕ → ℕ → Bytes → Verdict
 check-tag-field depth t w =
     after (check-header (is-tag t) depth) λ _.
     choose (eqb t 0x30) (λ _. check-element (suc depth) (read w)) λ _. check-children (suc depth) (read w)
 
-unfoldable pub check-child-field : ℕ → ℕ → Bytes → Verdict
-check-child-field depth t w =
-    after (check-header (is-child t) depth) λ _.
-    check-child-by t w (λ _. check-container (suc depth) (read w)) (λ _. check-expr (suc depth) (read w)) (λ _. check-element (suc depth) (read w)) (λ _. check-children (suc depth) (read w))
-
 unfoldable pub check-expr-field : ℕ → ℕ → Bytes → Verdict
 check-expr-field depth t w =
     after (check-header (is-expr t) depth) λ _.
     check-expr-by t w (λ _. check-items (suc depth) (read w)) (λ _. check-pieces (suc depth) (read w)) (λ _. check-element (suc depth) (read w)) (λ _. check-children (suc depth) (read w))
-
-unfoldable pub check-value-field : ℕ → ℕ → Bytes → Verdict
-check-value-field depth t w =
-    after (check-header (eqb t 0x51 || eqb t 0x52 || is-tag t) depth) λ _.
-    choose (eqb t 0x51) (λ _. check-text w) λ _.
-    choose (eqb t 0x52) (λ _. check-container (suc depth) (read w)) λ _.
-    choose (eqb t 0x30) (λ _. check-element (suc depth) (read w)) λ _. check-children (suc depth) (read w)
-
-unfoldable pub check-item-field : ℕ → ℕ → Bytes → Verdict
-check-item-field depth t w =
-    after (check-header (is-expr t || eqb t 0x77 || eqb t 0x78) depth) λ _.
-    choose (eqb t 0x77) (λ _. check-expr (suc depth) (read w)) λ _.
-    choose (eqb t 0x78) (λ _. check-empty w) λ _.
-    check-expr-by t w (λ _. check-items (suc depth) (read w)) (λ _. check-pieces (suc depth) (read w)) (λ _. check-element (suc depth) (read w)) (λ _. check-children (suc depth) (read w))
-
-unfoldable pub check-piece-field : ℕ → ℕ → Bytes → Verdict
-check-piece-field depth t w =
-    after (check-header (eqb t 0x20 || is-tag t) depth) λ _.
-    choose (eqb t 0x20) (λ _. check-text w) λ _.
-    choose (eqb t 0x30) (λ _. check-element (suc depth) (read w)) λ _. check-children (suc depth) (read w)
 
 unfoldable pub check-module-item : ℕ → Bytes → Verdict
 check-module-item t w =

@@ -8,6 +8,9 @@ use crate::Refusal;
 use crate::Verdict;
 use utf8::is_utf8;
 
+// 01, Expression: the largest number of a 71 and a 75.
+const MAX_NUMBER: u64 = 9_007_199_254_740_991;
+
 pub fn check_text(s: &[u8]) -> Verdict
     ensures { λ r. ⌜ r ≡ check-text (now (s .entry)) ⌝ }
 {
@@ -77,7 +80,7 @@ pub fn check_number(s: &[u8]) -> Verdict
     if s.len() != 8 {
         return Verdict::Refused(Refusal::Misplaced);
     }
-    if number_in(s) <= 9_007_199_254_740_991 {
+    if number_in(s) <= MAX_NUMBER {
         return Verdict::Fine;
     }
     Verdict::Refused(Refusal::NumberTooLarge)

@@ -5,6 +5,9 @@ pub mod leaf;
 pub mod name;
 pub mod whole;
 
+// 01, Limits and the answer: the depth of the deepest field.
+pub const MAX_DEPTH: usize = 48;
+
 // The refusals of document 01, each under its trade's word.
 pub enum Refusal {
     // 1, short desk

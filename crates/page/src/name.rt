@@ -3,12 +3,20 @@ ghost use mathlib.Core.Path.{_≡_};
 ghost use mathlib.Core.Bool.{_&&_};
 ghost use Rattle.field.specs.Row.{read};
 ghost use Rattle.page.specs.Check.{name-start, name-part, no-hyphen, is-name, check-end, check-nothing-after, check-name-by};
-ghost use Rattle.page.specs.CheckField.{check-missing, check-counted, check-first, check-namespaced};
+ghost use Rattle.page.specs.CheckField.{check-missing, check-counted, check-first, check-namespaced, check-element-name};
+use crate::MAX_DEPTH;
 use crate::Refusal;
 use crate::Verdict;
 use field::reader::behind;
 use field::reader::body;
 use field::reader::tag_at;
+
+// 01, Name: the bytes of a 40, and the 40s of a 41.
+const MAX_NAME: usize = 128;
+
+const MIN_MEMBERS: usize = 2;
+
+const MAX_MEMBERS: usize = 8;
 
 // The small letters come first in both tests: most names have no others.
 fn is_start(c: u8) -> bool
@@ -45,7 +53,7 @@ fn is_name(s: &[u8]) -> bool
     if n == 0 {
         return false;
     }
-    if 128 < n {
+    if MAX_NAME < n {
         return false;
     }
     if !is_start(s[0]) {
@@ -116,7 +124,7 @@ pub fn check_missing(s: &[u8]) -> Verdict
     Verdict::Refused(Refusal::Truncated)
 }
 
-// Two to eight 40s without hyphens.
+// The 40s of a member: two to eight, without hyphens.
 fn check_members(s: &[u8], depth: usize) -> Verdict
     ensures { λ r. ⌜ r ≡ check-counted 8 2 depth (read (now (s .entry))) ⌝ }
 {
@@ -125,10 +133,10 @@ fn check_members(s: &[u8], depth: usize) -> Verdict
     loop {
         match tag_at(t) {
             0x40 => {
-                if n == 8 {
+                if n == MAX_MEMBERS {
                     return Verdict::Refused(Refusal::Misplaced);
                 }
-                if 48 < depth {
+                if MAX_DEPTH < depth {
                     return Verdict::Refused(Refusal::TooDeep);
                 }
                 if !is_member(body(t)) {
@@ -139,7 +147,7 @@ fn check_members(s: &[u8], depth: usize) -> Verdict
                 t = r;
             }
             256 => {
-                if n < 2 {
+                if n < MIN_MEMBERS {
                     return check_missing(t);
                 }
                 return check_nothing_after(t);
@@ -157,7 +165,7 @@ fn check_first(s: &[u8], depth: usize) -> Verdict
 {
     match tag_at(s) {
         0x40 => {
-            if 48 < depth {
+            if MAX_DEPTH < depth {
                 return Verdict::Refused(Refusal::TooDeep);
             }
             if is_name(body(s)) {
@@ -210,4 +218,25 @@ pub fn check_name_by(tag: usize, b: &[u8], depth: usize) -> Verdict
         return Verdict::Fine;
     }
     Verdict::Refused(Refusal::BadName)
+}
+
+// The name in front of an element's fields.
+pub fn check_element_name(s: &[u8], depth: usize) -> Verdict
+    ensures { λ r. ⌜ r ≡ check-element-name depth (read (now (s .entry))) ⌝ }
+{
+    let tag = tag_at(s);
+    match tag {
+        0x40..=0x42 => {
+            if MAX_DEPTH < depth {
+                return Verdict::Refused(Refusal::TooDeep);
+            }
+            return check_name_by(tag, body(s), depth + 1);
+        }
+        256 => {
+            return check_missing(s);
+        }
+        _ => {
+            return Verdict::Refused(Refusal::Misplaced);
+        }
+    }
 }

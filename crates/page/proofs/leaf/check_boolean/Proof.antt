@@ -1,3 +1,4 @@
+-- `page::leaf::check_boolean` meets its contract. Assumes nothing.
 use mathlib.Core.Path.{sym, _∙_}
 use borrow.Author.Tests.{lt-leb, le-leb}
 use Rattle.page.proofs.LeafLaws.{fine-if, refused-if, boolean-long, boolean-one}

@@ -1,3 +1,4 @@
+-- `page::leaf::check_empty` meets its contract. Assumes nothing.
 use borrow.Author.Tests.{eq-eqb, ne-eqb}
 use Rattle.page.specs.Check.{check-empty}
 use Rattle.page.proofs.LeafLaws.{fine-if, refused-if}

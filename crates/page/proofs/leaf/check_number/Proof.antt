@@ -1,3 +1,4 @@
+-- `page::leaf::check_number` meets its contract. Assumes nothing.
 use native.Mathlib.Omega.{arith}
 use lib.Seq.{take-all}
 use mathlib.Core.Path.{sym, _∙_}

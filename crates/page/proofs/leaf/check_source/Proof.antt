@@ -1,3 +1,4 @@
+-- `page::leaf::check_source` meets its contract. Assumes nothing.
 use mathlib.Core.Path.{sym, _∙_}
 use borrow.Author.Tests.{lt-leb, le-leb}
 use Rattle.page.specs.Check.{check-source}

@@ -1,3 +1,4 @@
+-- `page::leaf::check_text` meets its contract. Assumes nothing.
 use mathlib.Core.Path.{sym, _∙_}
 use Rattle.page.specs.Check.{check-text}
 use Rattle.page.proofs.LeafLaws.{fine-if, refused-if}

@@ -1,3 +1,4 @@
+-- `page::leaf::number_in` meets its contract: each byte in its turn. Assumes nothing.
 use Rattle.page.proofs.LeafLaws.{number-eight}
 use borrow.Author.Needs.{needs}
 use Rattle.page.proofs.leaf.number_in.Statement.{statement}

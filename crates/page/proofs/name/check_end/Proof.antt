@@ -1,3 +1,4 @@
+-- `page::name::check_end` meets its contract. Assumes nothing.
 use Rattle.page.proofs.RowEnds.{end-empty, end-torn, end-extra}
 use borrow.Author.Needs.{needs}
 use Rattle.page.proofs.name.check_end.Statement.{statement}

@@ -1,3 +1,4 @@
+-- `page::name::check_first` meets its contract. Assumes nothing.
 use Rattle.page.proofs.RowEnds.{first-missing, first-other, first-deep, first-fine, first-bad}
 use mathlib.Core.Path.{_∙_}
 use borrow.Author.Needs.{needs}
@@ -23,10 +24,14 @@ is-name-requires : tie.Need-is-name-requires
 is-name-requires c κs = search needs
 
 returns-2 : tie.Need-returns-2
-returns-2 c = first-fine _ _ _ (c .before .before .before .before .before .tag-at .ensures .0) (c .before .before .before .before .match .keys1) (c .before .before .before .if1 .left) _ (c .before .before .body .ensures) _ (c .before .is-name .ensures) (c .if2 .taken)
+returns-2 c =
+    let tag = c .before .before .before .before .before .tag-at .ensures .0 in
+    first-fine _ _ _ tag (c .before .before .before .before .match .keys1) (c .before .before .before .if1 .left) _ (c .before .before .body .ensures) _ (c .before .is-name .ensures) (c .if2 .taken)
 
 returns-3 : tie.Need-returns-3
-returns-3 c = first-bad _ _ _ (c .before .before .before .before .before .tag-at .ensures .0) (c .before .before .before .before .match .keys1) (c .before .before .before .if1 .left) _ (c .before .before .body .ensures) _ (c .before .is-name .ensures) (c .if2 .left)
+returns-3 c =
+    let tag = c .before .before .before .before .before .tag-at .ensures .0 in
+    first-bad _ _ _ tag (c .before .before .before .before .match .keys1) (c .before .before .before .if1 .left) _ (c .before .before .body .ensures) _ (c .before .is-name .ensures) (c .if2 .left)
 
 check-missing-requires : tie.Need-check-missing-requires
 check-missing-requires c κs = search needs

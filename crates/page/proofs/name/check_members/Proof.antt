@@ -1,3 +1,4 @@
+-- `page::name::check_members` meets its contract: n members are passed, so that n fewer may and n fewer must come. Assumes nothing.
 use Prim.Native.Nat.{_≤_, _-_}
 use mathlib.Core.Path.{_≡_, refl, sym, _∙_}
 use native.Mathlib.Omega.{arith}
@@ -44,7 +45,9 @@ is-member-requires : tie.Need-is-member-requires Inv-loop μ-loop
 is-member-requires c κs = tt
 
 returns-3 : tie.Need-returns-3 Inv-loop μ-loop
-returns-3 c = members-bad _ _ _ _ (c .before .before .before .before .before .before .before .loop .inv .0) (c .before .before .before .before .before .before .before .loop .inv .1) _ (c .before .before .before .before .before .before .tag-at .ensures .0) (c .before .before .before .before .before .match .keys1) (c .before .before .before .before .if1 .left) (c .before .before .before .if2 .left) _ (c .before .before .body .ensures) _ (c .before .is-member .ensures) (not-true _ (c .if3 .taken))
+returns-3 c =
+    let key = c .before .before .before .before .before .match .keys1 in
+    members-bad _ _ _ _ (c .before .before .before .before .before .before .before .loop .inv .0) (c .before .before .before .before .before .before .before .loop .inv .1) _ (c .before .before .before .before .before .before .tag-at .ensures .0) key (c .before .before .before .before .if1 .left) (c .before .before .before .if2 .left) _ (c .before .before .body .ensures) _ (c .before .is-member .ensures) (not-true _ (c .if3 .taken))
 
 add-n : tie.Need-add-n Inv-loop μ-loop
 add-n c = search needs
@@ -53,10 +56,14 @@ behind-requires : tie.Need-behind-requires Inv-loop μ-loop
 behind-requires c κs = tt
 
 loop-less : tie.Need-loop-less Inv-loop μ-loop
-loop-less c = behind-less _ _ (c .before .before .before .before .before .before .before .tag-at .ensures .0) (λ z. omega (arith, (c .before .before .before .before .before .before .match .keys1))) (c .behind .ensures)
+loop-less c =
+    let key = c .before .before .before .before .before .before .match .keys1 in
+    behind-less _ _ (c .before .before .before .before .before .before .before .tag-at .ensures .0) (λ z. omega (arith, key)) (c .behind .ensures)
 
 loop-again : tie.Need-loop-again Inv-loop μ-loop
-loop-again c = (omega (arith, c .before .before .before .before .before .before .before .before .loop .inv .0, c .before .before .before .before .before .if1 .left), members-on _ _ _ _ (c .before .before .before .before .before .before .before .before .loop .inv .0) (c .before .before .before .before .before .before .before .before .loop .inv .1) _ (c .before .before .before .before .before .before .before .tag-at .ensures .0) (c .before .before .before .before .before .before .match .keys1) (c .before .before .before .before .before .if1 .left) (c .before .before .before .before .if2 .left) _ (c .before .before .before .body .ensures) _ (c .before .before .is-member .ensures) (not-false _ (c .before .if3 .left)) _ (c .behind .ensures))
+loop-again c =
+    let key = c .before .before .before .before .before .before .match .keys1 in
+    (omega (arith, c .before .before .before .before .before .before .before .before .loop .inv .0, c .before .before .before .before .before .if1 .left), members-on _ _ _ _ (c .before .before .before .before .before .before .before .before .loop .inv .0) (c .before .before .before .before .before .before .before .before .loop .inv .1) _ (c .before .before .before .before .before .before .before .tag-at .ensures .0) key (c .before .before .before .before .before .if1 .left) (c .before .before .before .before .if2 .left) _ (c .before .before .before .body .ensures) _ (c .before .before .is-member .ensures) (not-false _ (c .before .if3 .left)) _ (c .behind .ensures))
 
 check-missing-requires : tie.Need-check-missing-requires Inv-loop μ-loop
 check-missing-requires c κs = tt

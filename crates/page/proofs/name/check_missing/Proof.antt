@@ -1,3 +1,4 @@
+-- `page::name::check_missing` meets its contract. Assumes nothing.
 use Rattle.page.proofs.RowEnds.{missing-empty, missing-some}
 use Rattle.page.proofs.name.check_missing.Statement.{statement}
 use Rattle.page.proofs.name.check_missing.Tie as tie

@@ -1,3 +1,4 @@
+-- `page::name::check_name_by` meets its contract. Assumes nothing.
 use mathlib.Core.Path.{sym, _∙_}
 use borrow.Author.Tests.{eq-eqb, ne-eqb}
 use Rattle.page.specs.Tree.{choose}

@@ -1,3 +1,4 @@
+-- `page::name::check_namespaced` meets its contract. Assumes nothing.
 use Rattle.page.proofs.RowEnds.{space-refused, name-refused, name-end}
 use borrow.Author.Needs.{needs}
 use Rattle.page.proofs.name.check_namespaced.Statement.{statement}
@@ -30,19 +31,25 @@ check-end-requires : tie.Need-check-end-requires
 check-end-requires c κs = search needs
 
 returns : tie.Need-returns
-returns c = name-end _ _ _ (c .before .before .before .before .before .before .before .before .check-first .ensures) (c .before .before .before .before .before .before .enum-told .given .1) _ (c .before .before .before .before .before .behind .ensures) _ (c .before .before .before .before .check-first2 .ensures) (c .before .before .enum-told2 .given .1) _ (c .before .behind2 .ensures) _ (c .check-end .ensures)
+returns c =
+    let first = c .before .before .before .before .before .before .before .before .check-first .ensures in
+    name-end _ _ _ first (c .before .before .before .before .before .before .enum-told .given .1) _ (c .before .before .before .before .before .behind .ensures) _ (c .before .before .before .before .check-first2 .ensures) (c .before .before .enum-told2 .given .1) _ (c .before .behind2 .ensures) _ (c .check-end .ensures)
 
 enum-known-e : tie.Need-enum-known-e
 enum-known-e c = search needs
 
 returns-2 : tie.Need-returns-2
-returns-2 c = name-refused _ _ _ (c .before .before .before .before .before .before .before .check-first .ensures) (c .before .before .before .before .before .enum-told .given .1) _ (c .before .before .before .before .behind .ensures) _ (c .before .before .before .check-first2 .ensures) _ (c .before .e .given .1)
+returns-2 c =
+    let first = c .before .before .before .before .before .before .before .check-first .ensures in
+    name-refused _ _ _ first (c .before .before .before .before .before .enum-told .given .1) _ (c .before .before .before .before .behind .ensures) _ (c .before .before .before .check-first2 .ensures) _ (c .before .e .given .1)
 
 enum-known-e-2 : tie.Need-enum-known-e-2
 enum-known-e-2 c = search needs
 
 returns-3 : tie.Need-returns-3
-returns-3 c = space-refused _ _ _ (c .before .before .before .check-first .ensures) _ (c .before .e2 .given .1)
+returns-3 c =
+    let first = c .before .before .before .check-first .ensures in
+    space-refused _ _ _ first _ (c .before .e2 .given .1)
 
 pub check-namespaced-spec : {M : Type 1} → statement M
 check-namespaced-spec =

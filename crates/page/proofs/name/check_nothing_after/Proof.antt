@@ -1,3 +1,4 @@
+-- `page::name::check_nothing_after` meets its contract. Assumes nothing.
 use Rattle.page.proofs.RowEnds.{after-empty, after-some}
 use Rattle.page.proofs.name.check_nothing_after.Statement.{statement}
 use Rattle.page.proofs.name.check_nothing_after.Tie as tie

@@ -1,3 +1,4 @@
+-- `page::name::has_no_hyphen` meets its contract: the bytes left hold a hyphen exactly when all do. Assumes nothing.
 use Prim.Native.Nat.{_≤_, _-_}
 use mathlib.Core.Path.{_≡_, refl, sym, _∙_}
 use native.Mathlib.Omega.{arith}

@@ -1,3 +1,4 @@
+-- `page::name::is_member` meets its contract. Assumes nothing.
 use mathlib.Core.Path.{sym, _∙_}
 use borrow.Author.Needs.{needs}
 use Rattle.page.proofs.name.is_member.Statement.{statement}

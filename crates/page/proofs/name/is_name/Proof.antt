@@ -1,3 +1,4 @@
+-- `page::name::is_name` meets its contract: behind the first letter, the bytes left are name parts exactly when all are. Assumes nothing.
 use Prim.Native.Nat.{_≤_, _-_}
 use mathlib.Core.Path.{_≡_, refl, sym, _∙_}
 use mathlib.Core.Bool.{_&&_}
@@ -33,7 +34,9 @@ is-start-requires : tie.Need-is-start-requires Inv-loop μ-loop
 is-start-requires c κs = search needs
 
 returns-3 : tie.Need-returns-3 Inv-loop μ-loop
-returns-3 c = rw (name-from _ (c .before .before .before .before .if1 .left), le-leb _ 128 (c .before .before .before .if2 .left), sym (c .before .is-start .ensures) ∙ not-true _ (c .if3 .taken))
+returns-3 c =
+    let some = c .before .before .before .before .if1 .left in
+    rw (name-from _ some, le-leb _ 128 (c .before .before .before .if2 .left), sym (c .before .is-start .ensures) ∙ not-true _ (c .if3 .taken))
 
 loop-holds : tie.Need-loop-holds Inv-loop μ-loop
 loop-holds c = (search needs, refl)
@@ -45,7 +48,9 @@ is-part-requires : tie.Need-is-part-requires Inv-loop μ-loop
 is-part-requires c κs = search needs
 
 returns-4 : tie.Need-returns-4 Inv-loop μ-loop
-returns-4 c = rw (name-from _ (c .before .before .before .before .before .before .before .before .before .if1 .left), le-leb _ 128 (c .before .before .before .before .before .before .before .before .if2 .left), (sym (c .before .before .before .before .before .before .is-start .ensures) ∙ not-false _ (c .before .before .before .before .before .if3 .left)), c .before .before .before .before .loop .inv .1) (sym (parts-off _ _ (c .before .before .before .loop-test .taken) (sym (c .before .is-part .ensures) ∙ not-true _ (c .if4 .taken))))
+returns-4 c =
+    let some = c .before .before .before .before .before .before .before .before .before .if1 .left in
+    rw (name-from _ some, le-leb _ 128 (c .before .before .before .before .before .before .before .before .if2 .left), (sym (c .before .before .before .before .before .before .is-start .ensures) ∙ not-false _ (c .before .before .before .before .before .if3 .left)), c .before .before .before .before .loop .inv .1) (sym (parts-off _ _ (c .before .before .before .loop-test .taken) (sym (c .before .is-part .ensures) ∙ not-true _ (c .if4 .taken))))
 
 add-i : tie.Need-add-i Inv-loop μ-loop
 add-i c = search needs
@@ -57,7 +62,9 @@ loop-again : tie.Need-loop-again Inv-loop μ-loop
 loop-again c = (search needs, c .before .before .before .before .loop .inv .1 ∙ parts-on _ _ (c .before .before .before .loop-test .taken) (sym (c .before .is-part .ensures) ∙ not-false _ (c .if4 .left)))
 
 returns-5 : tie.Need-returns-5 Inv-loop μ-loop
-returns-5 c = rw (name-from _ (c .before .before .before .before .before .before .if1 .left), le-leb _ 128 (c .before .before .before .before .before .if2 .left), (sym (c .before .before .before .is-start .ensures) ∙ not-false _ (c .before .before .if3 .left)), c .before .loop .inv .1) (sym (parts-all _ _ (c .loop-test .left)))
+returns-5 c =
+    let some = c .before .before .before .before .before .before .if1 .left in
+    rw (name-from _ some, le-leb _ 128 (c .before .before .before .before .before .if2 .left), (sym (c .before .before .before .is-start .ensures) ∙ not-false _ (c .before .before .if3 .left)), c .before .loop .inv .1) (sym (parts-all _ _ (c .loop-test .left)))
 
 pub is-name-spec : {M : Type 1} → statement M
 is-name-spec =

@@ -1,3 +1,4 @@
+-- `page::name::is_part` meets its contract. Assumes nothing.
 use Rattle.page.proofs.LeafLaws.{part-small, part-capital, part-digit, part-other}
 use Rattle.page.proofs.name.is_part.Statement.{statement}
 use Rattle.page.proofs.name.is_part.Tie as tie

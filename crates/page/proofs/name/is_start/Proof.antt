@@ -1,3 +1,4 @@
+-- `page::name::is_start` meets its contract. Assumes nothing.
 use Rattle.page.proofs.LeafLaws.{start-small, start-capital, start-other}
 use Rattle.page.proofs.name.is_start.Statement.{statement}
 use Rattle.page.proofs.name.is_start.Tie as tie

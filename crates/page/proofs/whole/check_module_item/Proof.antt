@@ -1,5 +1,6 @@
+-- `page::whole::check_module_item` meets its contract. Assumes nothing.
 use mathlib.Core.Path.{_∙_}
-use Rattle.page.proofs.CheckLaws.{module-below, module-above, module-pieces, module-13}
+use Rattle.page.proofs.WholeLaws.{module-below, module-above, module-pieces, module-13}
 use borrow.Author.Needs.{needs}
 use Rattle.page.proofs.whole.check_module_item.Statement.{statement}
 use Rattle.page.proofs.whole.check_module_item.Tie as tie

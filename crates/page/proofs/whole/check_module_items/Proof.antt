@@ -1,3 +1,4 @@
+-- `page::whole::check_module_items` meets its contract: what is left is checked as the whole was. Assumes nothing.
 use Prim.Native.Nat.{_≤_}
 use mathlib.Core.Path.{_≡_, refl, sym, _∙_}
 use borrow.Author.Needs.{needs}
@@ -5,7 +6,8 @@ use lib.ListN.{length}
 use Rattle.field.specs.Row.{read}
 use Rattle.field.proofs.FrontLaws.{behind-less}
 use Rattle.page.specs.Check.{check-module-items}
-use Rattle.page.proofs.CheckLaws.{on-at, refused-at, module-step, module-end}
+use Rattle.page.proofs.Steps.{on-at, refused-at}
+use Rattle.page.proofs.WholeLaws.{module-step, module-end}
 use Rattle.page.proofs.whole.check_module_items.Statement.{statement}
 use Rattle.page.proofs.whole.check_module_items.Tie as tie
 use Rattle.page.proofs.whole.check_module_items.Reads as reads
@@ -47,16 +49,22 @@ enum-told : tie.Need-enum-told Inv-loop μ-loop
 enum-told c = search needs
 
 loop-less : tie.Need-loop-less Inv-loop μ-loop
-loop-less c = behind-less _ _ (c .before .before .before .before .before .before .tag-at .ensures .0) (c .before .before .before .before .before .if1 .left) (c .before .before .before .before .behind .ensures)
+loop-less c =
+    let tag = c .before .before .before .before .before .before .tag-at .ensures .0 in
+    behind-less _ _ tag (c .before .before .before .before .before .if1 .left) (c .before .before .before .before .behind .ensures)
 
 loop-again : tie.Need-loop-again Inv-loop μ-loop
-loop-again c = c .before .before .before .before .before .before .before .loop .inv ∙ on-at (module-step _ _ (c .before .before .before .before .before .before .tag-at .ensures .0) (c .before .before .before .before .before .if1 .left) (c .before .before .before .body .ensures) (c .before .before .before .before .behind .ensures)) (c .before .before .check-module-item .ensures) (c .enum-told .given .1)
+loop-again c =
+    let tag = c .before .before .before .before .before .before .tag-at .ensures .0 in
+    c .before .before .before .before .before .before .before .loop .inv ∙ on-at (module-step _ _ tag (c .before .before .before .before .before .if1 .left) (c .before .before .before .body .ensures) (c .before .before .before .before .behind .ensures)) (c .before .before .check-module-item .ensures) (c .enum-told .given .1)
 
 enum-known-e : tie.Need-enum-known-e Inv-loop μ-loop
 enum-known-e c = search needs
 
 returns-2 : tie.Need-returns-2 Inv-loop μ-loop
-returns-2 c = refused-at (module-step _ _ (c .before .before .before .before .before .before .before .tag-at .ensures .0) (c .before .before .before .before .before .before .if1 .left) (c .before .before .before .before .body .ensures) (c .before .before .before .before .before .behind .ensures)) (c .before .before .before .check-module-item .ensures) (c .before .e .given .1) ∙ sym (c .before .before .before .before .before .before .before .before .loop .inv)
+returns-2 c =
+    let tag = c .before .before .before .before .before .before .before .tag-at .ensures .0 in
+    refused-at (module-step _ _ tag (c .before .before .before .before .before .before .if1 .left) (c .before .before .before .before .body .ensures) (c .before .before .before .before .before .behind .ensures)) (c .before .before .before .check-module-item .ensures) (c .before .e .given .1) ∙ sym (c .before .before .before .before .before .before .before .before .loop .inv)
 
 pub check-module-items-spec : {M : Type 1} → statement M
 check-module-items-spec =

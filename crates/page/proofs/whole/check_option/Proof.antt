@@ -1,5 +1,6 @@
+-- `page::whole::check_option` meets its contract. Assumes nothing.
 use mathlib.Core.Path.{_∙_}
-use Rattle.page.proofs.CheckLaws.{option-below, option-above, option-source, option-texts}
+use Rattle.page.proofs.WholeLaws.{option-below, option-above, option-source, option-texts}
 use borrow.Author.Needs.{needs}
 use Rattle.page.proofs.whole.check_option.Statement.{statement}
 use Rattle.page.proofs.whole.check_option.Tie as tie

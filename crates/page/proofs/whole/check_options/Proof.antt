@@ -1,3 +1,4 @@
+-- `page::whole::check_options` meets its contract: what is left is checked from the least tag that may still come. Assumes nothing.
 use Prim.Native.Nat.{_≤_}
 use mathlib.Core.Path.{_≡_, refl, sym, _∙_}
 use native.Mathlib.Omega.{arith}
@@ -6,7 +7,8 @@ use lib.ListN.{length}
 use Rattle.field.specs.Row.{read}
 use Rattle.field.proofs.FrontLaws.{behind-less}
 use Rattle.page.specs.Check.{check-options, check-options-from}
-use Rattle.page.proofs.CheckLaws.{on-at, refused-at, options-step, options-end, option-in}
+use Rattle.page.proofs.Steps.{on-at, refused-at}
+use Rattle.page.proofs.WholeLaws.{options-step, options-end, option-in}
 use Rattle.page.proofs.whole.check_options.Statement.{statement}
 use Rattle.page.proofs.whole.check_options.Tie as tie
 use Rattle.page.proofs.whole.check_options.Reads as reads
@@ -34,7 +36,9 @@ check-nothing-after-requires c κs = tt
 
 returns : tie.Need-returns Inv-loop μ-loop
 unfolding check-options
-returns c = c .check-nothing-after .ensures ∙ options-end _ (c .before .before .tag-at .ensures .1 (c .before .if1 .taken)) _ ∙ sym (c .before .before .before .loop .inv .1)
+returns c =
+    let inv = c .before .before .before .loop .inv .1 in
+    c .check-nothing-after .ensures ∙ options-end _ (c .before .before .tag-at .ensures .1 (c .before .if1 .taken)) _ ∙ sym inv
 
 behind-requires : tie.Need-behind-requires Inv-loop μ-loop
 behind-requires c κs = tt
@@ -52,17 +56,27 @@ add-from : tie.Need-add-from Inv-loop μ-loop
 add-from c = omega (arith, (option-in _ _ _ (c .before .before .check-option .ensures) (c .enum-told .given .1)))
 
 loop-less : tie.Need-loop-less Inv-loop μ-loop
-loop-less c = behind-less _ _ (c .before .before .before .before .before .before .tag-at .ensures .0) (c .before .before .before .before .before .if1 .left) (c .before .before .before .before .behind .ensures)
+loop-less c =
+    let tag = c .before .before .before .before .before .before .tag-at .ensures .0 in
+    behind-less _ _ tag (c .before .before .before .before .before .if1 .left) (c .before .before .before .before .behind .ensures)
 
 loop-again : tie.Need-loop-again Inv-loop μ-loop
-loop-again c = (omega (arith, (option-in _ _ _ (c .before .before .check-option .ensures) (c .enum-told .given .1)), c .before .before .before .before .before .before .before .loop .inv .0), (c .before .before .before .before .before .before .before .loop .inv .1) ∙ on-at (options-step _ _ (c .before .before .before .before .before .before .before .loop .inv .0) _ (c .before .before .before .before .before .before .tag-at .ensures .0) (c .before .before .before .before .before .if1 .left) (c .before .before .before .body .ensures) (c .before .before .before .before .behind .ensures)) (c .before .before .check-option .ensures) (c .enum-told .given .1))
+loop-again c =
+    let p = c .before .before .before .before .before .before in
+    let tag = p .tag-at .ensures .0 in
+    let inv = p .before .loop .inv .1 in
+    (omega (arith, (option-in _ _ _ (c .before .before .check-option .ensures) (c .enum-told .given .1)), c .before .before .before .before .before .before .before .loop .inv .0), inv ∙ on-at (options-step _ _ (c .before .before .before .before .before .before .before .loop .inv .0) _ tag (c .before .before .before .before .before .if1 .left) (c .before .before .before .body .ensures) (c .before .before .before .before .behind .ensures)) (c .before .before .check-option .ensures) (c .enum-told .given .1))
 
 enum-known-e : tie.Need-enum-known-e Inv-loop μ-loop
 enum-known-e c = search needs
 
 returns-2 : tie.Need-returns-2 Inv-loop μ-loop
 unfolding check-options
-returns-2 c = refused-at (options-step _ _ (c .before .before .before .before .before .before .before .before .loop .inv .0) _ (c .before .before .before .before .before .before .before .tag-at .ensures .0) (c .before .before .before .before .before .before .if1 .left) (c .before .before .before .before .body .ensures) (c .before .before .before .before .before .behind .ensures)) (c .before .before .before .check-option .ensures) (c .before .e .given .1) ∙ sym (c .before .before .before .before .before .before .before .before .loop .inv .1)
+returns-2 c =
+    let p = c .before .before .before .before .before .before .before in
+    let tag = p .tag-at .ensures .0 in
+    let inv = p .before .loop .inv .1 in
+    refused-at (options-step _ _ (c .before .before .before .before .before .before .before .before .loop .inv .0) _ tag (c .before .before .before .before .before .before .if1 .left) (c .before .before .before .before .body .ensures) (c .before .before .before .before .before .behind .ensures)) (c .before .before .before .check-option .ensures) (c .before .e .given .1) ∙ sym inv
 
 pub check-options-spec : {M : Type 1} → statement M
 check-options-spec =

@@ -1,6 +1,8 @@
+-- `page::whole::check_page` meets its contract. Assumes nothing.
 use mathlib.Core.Path.{refl}
 use native.Mathlib.Omega.{arith}
-use Rattle.page.proofs.CheckLaws.{refused-at, last-at, page-01, page-other, page-none}
+use Rattle.page.proofs.Steps.{refused-at, last-at}
+use Rattle.page.proofs.WholeLaws.{page-01, page-other, page-none}
 use borrow.Author.Needs.{needs}
 use Rattle.page.proofs.whole.check_page.Statement.{statement}
 use Rattle.page.proofs.whole.check_page.Tie as tie

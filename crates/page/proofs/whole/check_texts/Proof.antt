@@ -1,3 +1,4 @@
+-- `page::whole::check_texts` meets its contract: what is left is checked as the whole was. Assumes nothing.
 use Prim.Native.Nat.{_≤_}
 use mathlib.Core.Path.{_≡_, refl, sym, _∙_}
 use native.Mathlib.Omega.{arith}
@@ -6,7 +7,8 @@ use lib.ListN.{length}
 use Rattle.field.specs.Row.{read}
 use Rattle.field.proofs.FrontLaws.{behind-less}
 use Rattle.page.specs.Check.{check-texts}
-use Rattle.page.proofs.CheckLaws.{on-at, refused-at, texts-20, texts-other, texts-end}
+use Rattle.page.proofs.Steps.{on-at, refused-at}
+use Rattle.page.proofs.WholeLaws.{texts-20, texts-other, texts-end}
 use Rattle.page.proofs.whole.check_texts.Statement.{statement}
 use Rattle.page.proofs.whole.check_texts.Tie as tie
 use Rattle.page.proofs.whole.check_texts.Reads as reads
@@ -42,16 +44,22 @@ enum-told : tie.Need-enum-told Inv-loop μ-loop
 enum-told c = search needs
 
 loop-less : tie.Need-loop-less Inv-loop μ-loop
-loop-less c = behind-less _ _ (c .before .before .before .before .before .before .tag-at .ensures .0) (λ z. omega (arith, c .before .before .before .before .before .match .keys1)) (c .before .before .before .before .behind .ensures)
+loop-less c =
+    let tag = c .before .before .before .before .before .before .tag-at .ensures .0 in
+    behind-less _ _ tag (λ z. omega (arith, c .before .before .before .before .before .match .keys1)) (c .before .before .before .before .behind .ensures)
 
 loop-again : tie.Need-loop-again Inv-loop μ-loop
-loop-again c = c .before .before .before .before .before .before .before .loop .inv ∙ on-at (texts-20 _ _ (c .before .before .before .before .before .before .tag-at .ensures .0) (λ z. omega (arith, c .before .before .before .before .before .match .keys1)) (c .before .before .before .body .ensures) (c .before .before .before .before .behind .ensures) (c .before .before .before .before .before .match .keys1)) (c .before .before .check-text .ensures) (c .enum-told .given .1)
+loop-again c =
+    let tag = c .before .before .before .before .before .before .tag-at .ensures .0 in
+    c .before .before .before .before .before .before .before .loop .inv ∙ on-at (texts-20 _ _ tag (λ z. omega (arith, c .before .before .before .before .before .match .keys1)) (c .before .before .before .body .ensures) (c .before .before .before .before .behind .ensures) (c .before .before .before .before .before .match .keys1)) (c .before .before .check-text .ensures) (c .enum-told .given .1)
 
 enum-known-e : tie.Need-enum-known-e Inv-loop μ-loop
 enum-known-e c = search needs
 
 returns : tie.Need-returns Inv-loop μ-loop
-returns c = refused-at (texts-20 _ _ (c .before .before .before .before .before .before .before .tag-at .ensures .0) (λ z. omega (arith, c .before .before .before .before .before .before .match .keys1)) (c .before .before .before .before .body .ensures) (c .before .before .before .before .before .behind .ensures) (c .before .before .before .before .before .before .match .keys1)) (c .before .before .before .check-text .ensures) (c .before .e .given .1) ∙ sym (c .before .before .before .before .before .before .before .before .loop .inv)
+returns c =
+    let tag = c .before .before .before .before .before .before .before .tag-at .ensures .0 in
+    refused-at (texts-20 _ _ tag (λ z. omega (arith, c .before .before .before .before .before .before .match .keys1)) (c .before .before .before .before .body .ensures) (c .before .before .before .before .before .behind .ensures) (c .before .before .before .before .before .before .match .keys1)) (c .before .before .before .check-text .ensures) (c .before .e .given .1) ∙ sym (c .before .before .before .before .before .before .before .before .loop .inv)
 
 check-nothing-after-requires : tie.Need-check-nothing-after-requires Inv-loop μ-loop
 check-nothing-after-requires c κs = tt
