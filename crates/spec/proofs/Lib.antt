@@ -1,4 +1,4 @@
--- The table of marks, demand 3 and acceptance.
+-- The table of marks, demand 3, acceptance, and how long the outputs are at most.
 pub mod Marks
 pub mod Good
 pub mod Weight
@@ -19,3 +19,6 @@ pub mod Answers
 pub mod Lent
 pub mod Export
 pub mod Accept
+pub mod Cost
+pub mod CostWalk
+pub mod Growth

@@ -42,10 +42,10 @@ module _ (R : Row → Row → Type 0) (same : (r : Row) → R r r) (past : (r : 
       on false = past r
 
 -- and an 82 in front
-abbrev import-row : Bytes → ℕ → Row → Row
+abbrev pub import-row : Bytes → ℕ → Row → Row
 import-row source sum r = field 0x82 [] (field 0x81 source end (loose (sum ∷ []))) r
 
-import-related : (P : Row → Type 0) (source : Bytes) (sum : ℕ) (r : Row) → P r → P (import-row (source ++ ascii "/jsx-runtime") sum r) → P (with-import source sum r)
+pub import-related : (P : Row → Type 0) (source : Bytes) (sum : ℕ) (r : Row) → P r → P (import-row (source ++ ascii "/jsx-runtime") sum r) → P (with-import source sum r)
 unfolding with-import
 import-related P source sum r h k = on (eqb sum 0)
   where
