@@ -1,0 +1,102 @@
+// A series of children. Fields that are no child are passed over, so that the fields behind an element's name may be given whole.
+ghost use mathlib.Core.Path.{_≡_};
+ghost use Rattle.field.specs.Row.{read};
+ghost use Rattle.page.specs.Tree.{children-in};
+ghost use Rattle.decisions.specs.At.{FirstChild, few, becomes};
+use crate::element::is_serializable;
+use field::reader::behind;
+use field::reader::body;
+use field::reader::tag_at;
+use text::jsx_text::is_blank;
+
+// From the first child on; empty where there is none.
+pub fn children_at(s: &[u8]) -> &[u8]
+    ensures { λ r. ⌜ FirstChild (now (s .entry)) (now r) ⌝ }
+{
+    let mut t = s;
+    loop {
+        match tag_at(t) {
+            0x60 => {
+                return t;
+            }
+            0x52 => {
+                return t;
+            }
+            0x30 => {
+                return t;
+            }
+            0x31 => {
+                return t;
+            }
+            0x61 => {
+                return t;
+            }
+            256 => {
+                return &s[..0];
+            }
+            _ => {
+                let r = behind(t);
+                t = r;
+            }
+        }
+    }
+}
+
+// How many children: none, one, or more.
+pub fn child_count(s: &[u8]) -> usize
+    ensures { λ r. ⌜ r ≡ few (children-in (read (now (s .entry)))) ⌝ }
+{
+    let a = children_at(s);
+    if a.len() == 0 {
+        return 0;
+    }
+    let b = children_at(behind(a));
+    if b.len() == 0 {
+        return 1;
+    }
+    2
+}
+
+// Whether several children of a call become one template.
+pub fn becomes_template(skip: &[u8], s: &[u8]) -> bool
+    ensures { λ r. ⌜ r ≡ becomes (now (skip .entry)) (children-in (read (now (s .entry)))) ⌝ }
+{
+    let mut t = s;
+    let mut tags: usize = 0;
+    let mut texts: usize = 0;
+    loop {
+        if 2 <= tags {
+            return true;
+        }
+        if 1 <= tags && 1 <= texts {
+            return true;
+        }
+        match tag_at(t) {
+            0x60 => {
+                let r = behind(t);
+                if is_blank(body(t), false) {
+                    t = r;
+                } else {
+                    texts = 1;
+                    t = r;
+                }
+            }
+            0x30 => {
+                let r = behind(t);
+                if is_serializable(skip, body(t)) {
+                    tags += 1;
+                    t = r;
+                } else {
+                    t = r;
+                }
+            }
+            256 => {
+                return false;
+            }
+            _ => {
+                let r = behind(t);
+                t = r;
+            }
+        }
+    }
+}
