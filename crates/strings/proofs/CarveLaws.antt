@@ -1,0 +1,145 @@
+-- Laws of `carve`: parts one after the other, room, characters in two goes, flags, and what the functions that put characters show.
+-- Main statements: `carving`, `lows`, `same-size`, `put-on-append`, `carve-flagged`, `put-is`. Assumes nothing.
+use mathlib.Core.Path.{_≡_, refl, sym, ap, _∙_, subst}
+use Prim.Native.Nat.{ℕ, _+_, _-_, _≤_, _<_, _^_}
+use native.Mathlib.Nat.{add-zero}
+use native.Mathlib.Omega.{arith}
+use mathlib.Core.List.{List, [], _∷_, _++_}
+use mathlib.Core.Bool.{Bool, true, false, _||_, or-assoc, or-comm, or-false, or-true}
+use borrow.Author.Tests.{lt-ltb, le-ltb}
+use lib.Dec.{ltb}
+use lib.ListN.{length, length-append}
+use Rattle.field.specs.Bytes.{Bytes}
+use Rattle.field.specs.Put.{put, head, Wrote}
+use Rattle.field.proofs.PutLaws.{put-put, put-nil, length-put}
+use Rattle.field.proofs.Actions.{Action, Lows, Keeps, Steps, by-steps, place-steps, keep-steps}
+use Rattle.spec.specs.Pass.{Part, chars, gap, Pass, Mid}
+use Rattle.strings.specs.declared.writer.Open.{Open}
+use Rattle.strings.specs.Carve.{Carved, at, end, put-on, close, carve, flagged, Low, ended-at}
+
+-- ---- carve as an action
+
+abbrev pub part : Part → Carved → Carved
+part (chars b) w = put-on b w
+part (gap p) w = close w
+
+carve-part : (a : Part) (ps : List Part) (w : Carved) → carve (a ∷ ps) w ≡ carve ps (part a w)
+unfolding carve
+carve-part (chars b) ps w = refl
+carve-part (gap p) ps w = refl
+
+pub carves : Steps part carve
+unfolding carve
+carves = record { nil = λ w. refl; cons = carve-part }
+
+pub carving : Action [] _++_ carve
+carving = by-steps carves
+
+place : Carved → ℕ
+place w = end (w .st)
+
+part-grows : (a : Part) (w : Carved) → place w ≤ place (part a w)
+unfolding place
+part-grows (chars b) w = omega arith
+part-grows (gap p) w = omega arith
+
+pub lows : Lows Low carve
+unfolding place
+lows = place-steps carves place part-grows (2 ^ 63)
+
+abbrev pub size : Carved → ℕ
+size w = length (w .out)
+
+part-keeps : (a : Part) (w : Carved) → size (part a w) ≡ size w
+part-keeps (chars b) w = length-put (w .out) (end (w .st)) b
+part-keeps (gap p) w = length-put (w .out) (w .st .head) (head 0x81 (w .st .len))
+
+pub same-size : Keeps size carve
+same-size = keep-steps carves size part-keeps
+
+-- ---- characters
+
+pub put-on-nil : (w : Carved) → put-on [] w ≡ w
+put-on-nil w =
+    let e₁ : put (w .out) (end (w .st)) [] ≡ w .out = put-nil (w .out) (end (w .st)) in
+    let e₂ : w .st .len + 0 ≡ w .st .len = add-zero (w .st .len) in
+    λ i. record { out = e₁ i; st = record { head = w .st .head; len = e₂ i; long = w .st .long } }
+
+pub put-on-append : (a b : Bytes) (w : Carved) → put-on b (put-on a w) ≡ put-on (a ++ b) w
+put-on-append a b w =
+    let e₁ : put (put (w .out) (end (w .st)) a) (w .st .head + 3 + (w .st .len + length a)) b ≡ put (w .out) (end (w .st)) (a ++ b) =
+    ap (λ (k : ℕ). put (put (w .out) (end (w .st)) a) k b) (omega arith) ∙ put-put (w .out) (end (w .st)) a b in
+    let e₂ : w .st .len + length a + length b ≡ w .st .len + length (a ++ b) = omega (arith, length-append a b) in
+    λ i. record { out = e₁ i; st = record { head = w .st .head; len = e₂ i; long = w .st .long } }
+
+-- characters in two goes
+pub two-chars : (a b : Bytes) (w : Carved) → carve ((chars a ∷ []) ++ (chars b ∷ [])) w ≡ carve (chars (a ++ b) ∷ []) w
+unfolding carve
+two-chars a b w = put-on-append a b w
+
+module _ (o : Bytes) (st : Open) where
+  -- room for them
+  pub put-low : (b : Bytes) → Low (carve (chars b ∷ []) (at o st)) → st .head + 3 + st .len + length b < 2 ^ 63
+  unfolding carve
+  put-low b l = omega (arith, l)
+
+  -- they are written, and the string ends behind them
+  pub put-is : {b o′ : Bytes} {e : ℕ} {r : Open} → r ≡ ended-at st e → Wrote o (end st) b o′ e → at o′ r ≡ carve (chars b ∷ []) (at o st)
+  unfolding carve
+  put-is {b} {o′} {e} {r} q w =
+      let l : e - (st .head + 3) ≡ st .len + length b = omega (arith, w .end-is) in
+      ap (at o′) q ∙ (λ i. record { out = w .out-is i; st = record { head = st .head; len = l i; long = st .long } })
+
+  pub end-low : {b o′ : Bytes} {e : ℕ} → Wrote o (end st) b o′ e → st .head + 3 ≤ e
+  end-low {b} w = omega (arith, w .end-is)
+
+  -- the string is closed
+  module _ {o′ : Bytes} {n : ℕ} (w : Wrote o (st .head) (head 0x81 (st .len)) o′ n) where
+    pub cut-long : 65535 < st .len → at o′ (record { head = end st; len = 0; long = true }) ≡ close (at o st)
+    cut-long h =
+        let l : true ≡ (st .long || ltb 65535 (st .len)) = sym (ap (λ (x : Bool). st .long || x) (lt-ltb 65535 (st .len) h) ∙ or-true (st .long)) in
+        λ i. record { out = w .out-is i; st = record { head = end st; len = 0; long = l i } }
+
+    pub cut-short : st .len ≤ 65535 → at o′ (record { head = end st; len = 0; long = st .long }) ≡ close (at o st)
+    cut-short h =
+        let l : st .long ≡ (st .long || ltb 65535 (st .len)) = sym (ap (λ (x : Bool). st .long || x) (le-ltb 65535 (st .len) h) ∙ or-false (st .long)) in
+        λ i. record { out = w .out-is i; st = record { head = end st; len = 0; long = l i } }
+
+-- a space and a cut
+abbrev pub spaced : Carved → Carved
+spaced w = close (put-on (32 ∷ []) w)
+
+module _ (o : Bytes) (st : Open) where
+  pub space-room : Low (spaced (at o st)) → Low (carve (chars (32 ∷ []) ∷ []) (at o st))
+  unfolding carve
+  space-room l = omega (arith, l)
+
+  module _ {v : Carved} (e : v ≡ carve (chars (32 ∷ []) ∷ []) (at o st)) where
+    pub space-cut : close v ≡ spaced (at o st)
+    unfolding carve
+    space-cut = ap close e
+
+    pub cut-room : Low (spaced (at o st)) → Low (close v)
+    cut-room l = subst Low (sym space-cut) l
+
+-- ---- flags
+
+long-is : (w : Carved) (l : Bool) → w .st .long ≡ l → w ≡ record { out = w .out; st = record { head = w .st .head; len = w .st .len; long = l } }
+long-is w l e = λ i. record { out = w .out; st = record { head = w .st .head; len = w .st .len; long = e i } }
+
+pub flagged-none : (w : Carved) → flagged false w ≡ w
+flagged-none w = sym (long-is w (w .st .long || false) (sym (or-false (w .st .long))))
+
+pub flagged-twice : (a b : Bool) (w : Carved) → flagged b (flagged a w) ≡ flagged (a || b) w
+flagged-twice a b w = long-is (flagged b (flagged a w)) (w .st .long || (a || b)) (or-assoc (w .st .long) a b)
+
+swap : (a b c : Bool) → ((a || b) || c) ≡ ((a || c) || b)
+swap a b c = or-assoc a b c ∙ ap (λ (x : Bool). a || x) (or-comm b c) ∙ sym (or-assoc a c b)
+
+pub carve-flagged : (f : Bool) (ps : List Part) (w : Carved) → carve ps (flagged f w) ≡ flagged f (carve ps w)
+unfolding carve
+carve-flagged f [] w = refl
+carve-flagged f (chars b ∷ ps) w = carve-flagged f ps (put-on b w)
+carve-flagged f (gap p ∷ ps) w =
+    ap (carve ps) (long-is (close (flagged f w)) ((w .st .long || ltb 65535 (w .st .len)) || f) (swap (w .st .long) f (ltb 65535 (w .st .len))))
+    ∙ carve-flagged f ps (close w)

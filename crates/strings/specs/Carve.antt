@@ -1,0 +1,90 @@
+-- Writing static strings: the buffer with an open string, and what the parts of a template do to it. The open string's head is written when
+-- it is closed. Assumes nothing: these are definitions.
+use Prim.Native.Nat.{ℕ, _+_, _-_, _<_, _^_}
+use mathlib.Core.Bool.{Bool, true, false, _||_}
+use mathlib.Core.List.{List, [], _∷_}
+use mathlib.Core.Option.{Option, none, some}
+use lib.Dec.{ltb}
+use lib.ListN.{length}
+use Rattle.field.specs.Bytes.{Bytes, pick}
+use Rattle.field.specs.Row.{read}
+use Rattle.field.specs.Put.{put, head}
+use Rattle.text.specs.Text.{jsx-text-to-str}
+use Rattle.names.specs.Names.{get-attr-name}
+use Rattle.page.specs.Page.{Options}
+use Rattle.page.specs.Tree.{attr-name-in, Contained, nothing-contained, contained}
+use Rattle.spec.specs.Pass as P
+use Rattle.spec.specs.Pass.{Part, chars, gap, Mid, pure}
+use Rattle.spec.specs.Merge.{Shape, joined-text}
+use Rattle.spec.specs.Children.{maybe-wrap}
+use Rattle.spec.specs.Transform.{shape-of, expr}
+use Rattle.strings.specs.declared.writer.Open.{Open}
+
+pub record Carved : Type 0 where
+  pub out : Bytes
+  pub st : Open
+
+abbrev pub at : Bytes → Open → Carved
+at o s = record { out = o; st = s }
+
+-- the place behind the open string
+abbrev pub end : Open → ℕ
+end s = s .head + 3 + s .len
+
+abbrev pub put-on : Bytes → Carved → Carved
+put-on b w = record { out = put (w .out) (end (w .st)) b; st = record { head = w .st .head; len = w .st .len + length b; long = w .st .long } }
+
+-- the open string is closed, and another opened behind it
+abbrev pub close : Carved → Carved
+close w = record { out = put (w .out) (w .st .head) (head 0x81 (w .st .len)); st = record { head = end (w .st); len = 0; long = w .st .long || ltb 65535 (w .st .len) } }
+
+unfoldable pub carve : List Part → Carved → Carved
+carve [] w = w
+carve (chars b ∷ ps) w = carve ps (put-on b w)
+carve (gap p ∷ ps) w = carve ps (close w)
+
+-- a run that is merged a second time was too long
+abbrev pub flagged : Bool → Carved → Carved
+flagged b w = record { out = w .out; st = record { head = w .st .head; len = w .st .len; long = w .st .long || b } }
+
+abbrev pub Low : Carved → Type 0
+Low w = end (w .st) < 2 ^ 63
+
+-- ---- what the helper functions answer
+
+-- the open string when it ends at that place
+abbrev pub ended-at : Open → ℕ → Open
+ended-at s e = record { head = s .head; len = e - (s .head + 3); long = s .long }
+
+-- the normalised name of the attribute with these fields
+abbrev pub name-at : Bytes → Bytes
+name-at a = get-attr-name (attr-name-in (read a)) true
+
+-- what joins a run, or nothing where the run ends
+abbrev pub option-bytes : Option Bytes → Bytes
+option-bytes none = []
+option-bytes (some b) = b
+
+abbrev pub is-some : Option Bytes → Bool
+is-some none = false
+is-some (some b) = true
+
+unfoldable pub joined-by : Contained → Bytes
+joined-by nothing-contained = []
+joined-by (contained e) = option-bytes (joined-text (shape-of e))
+
+unfoldable pub is-joined : Contained → Bool
+is-joined nothing-contained = true
+is-joined (contained e) = is-some (joined-text (shape-of e))
+
+-- a container among children: what joins the run, or a gap
+unfoldable pub child-parts : Shape → Mid → List Part
+child-parts s m = elim (joined-text s) [ some b ↦ chars b ∷ [] | none ↦ gap (pure (maybe-wrap s m)) ∷ [] ]
+
+unfoldable pub contained-parts : Options → Contained → List Part
+contained-parts o nothing-contained = []
+contained-parts o (contained e) = child-parts (shape-of e) (expr o e P.none)
+
+-- a run of n bytes is merged a second time, or was too long
+unfoldable pub put-again : ℕ → Bytes → Carved → Carved
+put-again n t w = pick (ltb 65535 n) (flagged true w) (put-on (jsx-text-to-str t true false) w)
