@@ -130,6 +130,9 @@ long-is w l e = λ i. record { out = w .out; st = record { head = w .st .head; l
 pub flagged-none : (w : Carved) → flagged false w ≡ w
 flagged-none w = sym (long-is w (w .st .long || false) (sym (or-false (w .st .long))))
 
+pub long-true : (w : Carved) → record { out = w .out; st = record { head = w .st .head; len = w .st .len; long = true } } ≡ flagged true w
+long-true w = sym (long-is (flagged true w) true (or-true (w .st .long)))
+
 pub flagged-twice : (a b : Bool) (w : Carved) → flagged b (flagged a w) ≡ flagged (a || b) w
 flagged-twice a b w = long-is (flagged b (flagged a w)) (w .st .long || (a || b)) (or-assoc (w .st .long) a b)
 

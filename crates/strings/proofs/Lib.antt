@@ -1,5 +1,9 @@
--- The laws of `strings` that the crates above cite: `CarveLaws` has the strings that a whole template leaves, `MergeLaws` that merging
--- changes none of them, `ShapeLaws` what an attribute's value does by the shape of its expression.
+-- The laws of `strings` that the crates above cite: `CarveLaws` has the strings that a whole template leaves.
 pub mod CarveLaws
 pub mod MergeLaws
 pub mod ShapeLaws
+pub mod FrontSizes
+pub mod TreeLaws
+pub mod AttrLaws
+pub mod MergedLaws
+pub mod ElementLaws

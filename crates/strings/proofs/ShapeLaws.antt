@@ -1,101 +1,43 @@
 -- What a container gives, by the shape that the code matches on and the body of its expression; an attribute by its value's tag.
--- Main statements: `container-shape`, `parts-shape`, `joined-shape`, `joins-shape`, `plain-held`, `attribute-listed`, `attribute-plain`.
--- Assumes nothing.
-use mathlib.Core.Path.{_≡_, refl, sym, ap, _∙_, subst}
-use Prim.Native.Nat.{ℕ}
+-- Main statements: `container-shape`, `container-string` and the like; `joins-shape`, `joined-shape`, `child-string` and the like; of an
+-- attribute `listed`, `absent-boolean`, `in-container`, `string-plain`, `no-text`. Assumes nothing.
+use mathlib.Core.Path.{_≡_, refl, sym, ap, _∙_}
+use Prim.Native.Nat.{ℕ, _+_, _*_, _≤_}
 use native.Mathlib.Omega.{arith}
 use mathlib.Core.Bool.{Bool, true, false, _||_}
 use mathlib.Core.List.{List, [], _∷_}
 use mathlib.Core.Option.{Option, none, some}
-use lib.Dec.{eqb}
-use lib.ListN.{take, drop}
-use borrow.Author.Tests.{eqb-true, eq-eqb, ne-eqb}
+use lib.ListN.{length, take}
 use Rattle.field.specs.Bytes.{Bytes, ascii, pick, same, among}
 use Rattle.field.specs.Number.{number-of}
-use Rattle.field.specs.Row.{Row, end, loose, field, read, Inside, only-bytes, fields-after, inside, opened, Next, nothing, no-field, next, next-of, built}
-use Rattle.field.specs.Front.{body-of, behind-of, body-by}
-use Rattle.field.proofs.RowLaws.{read-step}
+use Rattle.field.specs.Row.{read}
+use Rattle.field.specs.Front.{body-of, behind-of}
 use Rattle.text.specs.Escape.{escape-html}
 use Rattle.text.specs.Decimal.{decimal}
-use Rattle.names.specs.Names.{AttrName, get-attr-name, is-boolean-attr}
-use Rattle.page.specs.Number.{Number, render, number-in}
+use Rattle.text.proofs.EscapeLaws.{length-escape-html}
+use Rattle.text.proofs.DecimalLaws.{length-decimal}
+use Rattle.names.specs.Names.{get-attr-name, is-boolean-attr}
+use Rattle.page.specs.Number.{render, number-in}
 use Rattle.page.specs.Page as P
 use Rattle.page.specs.Page.{Options}
-use Rattle.page.specs.Tree.{choose, expr-by, value-by, Contained, nothing-contained, contained, contained-value, contained-in, attr-name-in, value-in, value-behind, items-in, pieces-in, element-in, fragment-in}
+use Rattle.page.specs.Tree.{Contained, nothing-contained, contained, contained-value, contained-in, attr-name-in, value-in}
 use Rattle.spec.specs.Pass as M
 use Rattle.spec.specs.Pass.{Part, chars, gap, pure, Mid}
 use Rattle.spec.specs.Merge.{joined-text}
-use Rattle.spec.specs.Attributes.{attribute, serialize-attr, listed-attr, dynamic-attr, container-attr, plain-attr, attr-parts}
 use Rattle.spec.specs.Attributes as A
+use Rattle.spec.specs.Attributes.{attribute, serialize-attr, listed-attr, dynamic-attr, container-attr, plain-attr, attr-parts}
 use Rattle.spec.specs.Children.{maybe-wrap}
 use Rattle.spec.specs.Transform.{shape-of, value, expr}
-use Rattle.decisions.specs.At.{shape-by, shape-of-contained, value-of}
+use Rattle.decisions.specs.At.{shape-of-contained, value-of}
 use Rattle.decisions.specs.declared.attribute.Value.{Value}
 use Rattle.decisions.specs.declared.attribute.Value.the-variants as Held
 use Rattle.decisions.specs.declared.expr.Shape.{Shape}
 use Rattle.decisions.specs.declared.expr.Shape.the-variants as Form
 use Rattle.decisions.proofs.Series.{value-in-at}
+use Rattle.decisions.proofs.Laws.{ValueAt, is-absent, is-string, is-container, is-element, is-fragment, value-view, string-held, container-held, absent-held, ContainedAt, is-empty, is-text, is-number, is-boolean, is-null, is-literal, is-minus, is-other, contained-view}
 use Rattle.strings.specs.Carve.{Carved, put-on, close, carve, name-at, option-bytes, is-some, joined-by, is-joined, child-parts, contained-parts}
 use Rattle.strings.proofs.CarveLaws.{spaced, put-on-nil}
-
--- ---- the body of the expression in front
-
--- what a shape says of it
-abbrev Holds : Contained → Bytes → Type 0
-Holds nothing-contained b = Unit {0}
-Holds (contained (P.string-literal s)) b = s ≡ b
-Holds (contained (P.number-literal n)) b = n ≡ number-in b
-Holds (contained (P.boolean-literal v)) b = Unit {0}
-Holds (contained P.null-literal) b = Unit {0}
-Holds (contained (P.other-literal s)) b = Unit {0}
-Holds (contained (P.minus-literal n)) b = n ≡ number-in b
-Holds (contained (P.array-literal is)) b = Unit {0}
-Holds (contained (P.other-expr ps)) b = Unit {0}
-Holds (contained (P.tag-expr t)) b = Unit {0}
-
-chosen : {A : Type 0} (Q : A → Type 0) (b : Bool) (f g : Unit {0} → A) → (b ≡ true → Q (f tt)) → (b ≡ false → Q (g tt)) → Q (choose b f g)
-unfolding choose
-chosen Q true f g p q = p refl
-chosen Q false f g p q = q refl
-
--- f, the bytes in front, are the whole body b where the tag is that of a string or of a number
-module _ (t : ℕ) (f b : Bytes) (is : Unit {0} → P.Items) (ps : Unit {0} → P.Pieces) (el fr : Unit {0} → P.Tag) where
-  expr-holds : (eqb t 0x70 ≡ true → f ≡ b) → (eqb t 0x71 ≡ true → f ≡ b) → (eqb t 0x75 ≡ true → f ≡ b) → Holds (contained (expr-by t f is ps el fr)) b
-  unfolding expr-by
-  expr-holds p q r =
-      chosen H (eqb t 0x70) _ _ p λ _.
-      chosen H (eqb t 0x71) _ _ (λ e. ap number-in (q e)) λ _.
-      chosen H (eqb t 0x72) _ _ (λ _. tt) λ _.
-      chosen H (eqb t 0x74) _ _ (λ _. tt) λ _.
-      chosen H (eqb t 0x75) _ _ (λ e. ap number-in (r e)) λ _.
-      chosen H (eqb t 0x76) _ _ (λ _. tt) λ _.
-      chosen H (eqb t 0x79) _ _ (λ _. tt) λ _.
-      chosen H (eqb t 0x30) _ _ (λ _. tt) λ _.
-      chosen H (eqb t 0x31) _ _ (λ _. tt) λ _. tt
-    where
-      H : P.Expr → Type 0
-      H e = Holds (contained e) b
-
--- a tag that holds bytes alone is none that holds fields
-leaf-not : {A : Type 0} {n : ℕ} (t u : ℕ) → inside u ≡ only-bytes → inside t ≡ fields-after n → eqb t u ≡ true → A
-leaf-not {A} {n} t u p q e = absurd (clash (sym p ∙ ap inside (sym (eqb-true t u e)) ∙ q))
-  where
-    clash : only-bytes ≡ fields-after n → ⊥
-    clash z = let k : _≡_ {A = ℕ} 0 1 = cc in omega arith
-
-holds-by : (s : Bytes) (n : Next) → Holds (contained-in (built read s n)) (body-by n)
-unfolding contained-in built opened inside
-holds-by s nothing = tt
-holds-by s no-field = tt
-holds-by s (next t w r) = on (inside t) refl
-  where
-    on : (c : Inside) → inside t ≡ c → Holds (contained-in (opened c read t w r)) w
-    on only-bytes q = expr-holds t w w _ _ _ _ (λ _. refl) (λ _. refl) (λ _. refl)
-    on (fields-after n) q = expr-holds t (take n w) w _ _ _ _ (leaf-not t 0x70 refl q) (leaf-not t 0x71 refl q) (leaf-not t 0x75 refl q)
-
-pub holds : (c : Bytes) → Holds (contained-in (read c)) (body-of c)
-unfolding body-of
-holds c = subst (λ (x : Row). Holds (contained-in x) (body-by (next-of c))) (sym (read-step c)) (holds-by c (next-of c))
+use Rattle.strings.proofs.FrontSizes.{body-le}
 
 -- ---- containers by their shape
 
@@ -126,32 +68,30 @@ else-carve : (b : Bool) (p q r : List Part) (w : Carved) → carve q w ≡ carve
 else-carve true p q r w g = refl
 else-carve false p q r w g = g
 
+then-carve : (b : Bool) (p q r : List Part) (w : Carved) → carve p w ≡ carve r w → carve (pick b p q) w ≡ carve (pick b r q) w
+then-carve true p q r w g = g
+then-carve false p q r w g = refl
+
 dynamic-carve : (n : Bytes) (m : Mid) (w : Carved) → carve (dynamic-attr n m) w ≡ carve space-gap w
 unfolding dynamic-attr carve
 dynamic-carve n m w = either-carve (is-boolean-attr n) _ _ space-gap w refl refl
 
-render-is : {k : Number} (b : Bytes) → k ≡ number-in b → render k ≡ digits-in b
-unfolding render number-in
-render-is b e = ap render e
+module _ (o : Options) (n c : Bytes) (w : Carved) where
+  shape-carve : {x : Contained} {r : Shape} → ContainedAt c x r → carve (plain-attr n (value o (contained-value x))) w ≡ carve (attr-by n r (body-of c)) w
+  unfolding plain-attr container-attr value contained-value shape-of render number-in
+  shape-carve is-empty = refl
+  shape-carve is-text = refl
+  shape-carve is-number = refl
+  shape-carve is-boolean = else-carve (is-boolean-attr n) _ _ space-gap w (dynamic-carve n _ w)
+  shape-carve is-null = dynamic-carve n _ w
+  shape-carve is-literal = dynamic-carve n _ w
+  shape-carve is-minus = refl
+  shape-carve (is-other {e} h) = ap (λ s. carve (container-attr n s (expr o e M.none)) w) h ∙ dynamic-carve n (expr o e M.none) w
 
-module _ (o : Options) (n b : Bytes) (w : Carved) where
-  shape-carve : (x : Contained) → Holds x b → carve (plain-attr n (value o (contained-value x))) w ≡ carve (attr-by n (shape-of-contained x) b) w
-  unfolding plain-attr container-attr value contained-value shape-of-contained shape-by shape-of
-  shape-carve nothing-contained h = refl
-  shape-carve (contained (P.string-literal s)) h = ap (λ (v : Bytes). carve (chars (serialize-attr n v) ∷ []) w) h
-  shape-carve (contained (P.number-literal k)) h = ap (λ (v : Bytes). carve (chars (serialize-attr n v) ∷ []) w) (render-is b h)
-  shape-carve (contained (P.boolean-literal v)) h = else-carve (is-boolean-attr n) _ _ space-gap w (dynamic-carve n _ w)
-  shape-carve (contained P.null-literal) h = dynamic-carve n _ w
-  shape-carve (contained (P.other-literal s)) h = dynamic-carve n _ w
-  shape-carve (contained (P.minus-literal k)) h = ap (λ (v : Bytes). carve (chars (serialize-attr n (45 ∷ v)) ∷ []) w) (render-is b h)
-  shape-carve (contained (P.array-literal is)) h = dynamic-carve n _ w
-  shape-carve (contained (P.other-expr ps)) h = dynamic-carve n _ w
-  shape-carve (contained (P.tag-expr t)) h = dynamic-carve n _ w
-
--- the container with the fields c, of the shape that was found
-pub container-shape : (o : Options) (n c : Bytes) (w : Carved) {r : Shape} → r ≡ shape-of-contained (contained-in (read c)) →
-    carve (plain-attr n (value o (contained-value (contained-in (read c))))) w ≡ carve (attr-by n r (body-of c)) w
-container-shape o n c w e = shape-carve o n (body-of c) w (contained-in (read c)) (holds c) ∙ ap (λ (r : Shape). carve (attr-by n r (body-of c)) w) (sym e)
+  -- the container with the fields c, of the shape that was found
+  pub container-shape : {r : Shape} → r ≡ shape-of-contained (contained-in (read c)) →
+      carve (plain-attr n (value o (contained-value (contained-in (read c))))) w ≡ carve (attr-by n r (body-of c)) w
+  container-shape e = shape-carve (contained-view c) ∙ ap (λ (r : Shape). carve (attr-by n r (body-of c)) w) (sym e)
 
 module _ (o : Options) (n c : Bytes) (w : Carved) {v : Bytes} (b : v ≡ body-of c) where
   pub container-string : Form.String ≡ shape-of-contained (contained-in (read c)) →
@@ -224,38 +164,56 @@ joined-at Form.Literal b = []
 joined-at Form.Minus b = []
 joined-at Form.Other b = []
 
-shape-joins : (x : Contained) → is-joined x ≡ joins-by (shape-of-contained x)
-unfolding is-joined joined-text shape-of shape-of-contained shape-by
-shape-joins nothing-contained = refl
-shape-joins (contained (P.string-literal s)) = refl
-shape-joins (contained (P.number-literal k)) = refl
-shape-joins (contained (P.boolean-literal v)) = refl
-shape-joins (contained P.null-literal) = refl
-shape-joins (contained (P.other-literal s)) = refl
-shape-joins (contained (P.minus-literal k)) = refl
-shape-joins (contained (P.array-literal is)) = refl
-shape-joins (contained (P.other-expr ps)) = refl
-shape-joins (contained (P.tag-expr t)) = refl
+shape-joins : {c : Bytes} {x : Contained} {r : Shape} → ContainedAt c x r → is-joined x ≡ joins-by r
+unfolding is-joined joined-text shape-of
+shape-joins is-empty = refl
+shape-joins is-text = refl
+shape-joins is-number = refl
+shape-joins is-boolean = refl
+shape-joins is-null = refl
+shape-joins is-literal = refl
+shape-joins is-minus = refl
+shape-joins (is-other {e} h) = ap (λ s. is-some (joined-text s)) h
 
-shape-joined : (b : Bytes) (x : Contained) → Holds x b → joined-by x ≡ joined-at (shape-of-contained x) b
-unfolding joined-by joined-text shape-of shape-of-contained shape-by
-shape-joined b nothing-contained h = refl
-shape-joined b (contained (P.string-literal s)) h = ap escape-html h
-shape-joined b (contained (P.number-literal k)) h = render-is b h
-shape-joined b (contained (P.boolean-literal v)) h = refl
-shape-joined b (contained P.null-literal) h = refl
-shape-joined b (contained (P.other-literal s)) h = refl
-shape-joined b (contained (P.minus-literal k)) h = refl
-shape-joined b (contained (P.array-literal is)) h = refl
-shape-joined b (contained (P.other-expr ps)) h = refl
-shape-joined b (contained (P.tag-expr t)) h = refl
+shape-joined : {c : Bytes} {x : Contained} {r : Shape} → ContainedAt c x r → joined-by x ≡ joined-at r (body-of c)
+unfolding joined-by joined-text shape-of render number-in
+shape-joined is-empty = refl
+shape-joined is-text = refl
+shape-joined is-number = refl
+shape-joined is-boolean = refl
+shape-joined is-null = refl
+shape-joined is-literal = refl
+shape-joined is-minus = refl
+shape-joined (is-other {e} h) = ap (λ s. option-bytes (joined-text s)) h
 
 module _ (c : Bytes) {r : Shape} (e : r ≡ shape-of-contained (contained-in (read c))) where
   pub joins-shape : is-joined (contained-in (read c)) ≡ joins-by r
-  joins-shape = shape-joins (contained-in (read c)) ∙ ap joins-by (sym e)
+  joins-shape = shape-joins (contained-view c) ∙ ap joins-by (sym e)
 
   pub joined-shape : joined-by (contained-in (read c)) ≡ joined-at r (body-of c)
-  joined-shape = shape-joined (body-of c) (contained-in (read c)) (holds c) ∙ ap (λ (r : Shape). joined-at r (body-of c)) (sym e)
+  joined-shape = shape-joined (contained-view c) ∙ ap (λ (r : Shape). joined-at r (body-of c)) (sym e)
+
+module _ (c : Bytes) {v : Bytes} (b : v ≡ body-of c) where
+  pub joined-string : Form.String ≡ shape-of-contained (contained-in (read c)) → joined-by (contained-in (read c)) ≡ escape-html v
+  joined-string e = joined-shape c e ∙ ap escape-html (sym b)
+
+  pub joined-number : {k : ℕ} → k ≡ number-of (take 8 v) → Form.Number ≡ shape-of-contained (contained-in (read c)) → joined-by (contained-in (read c)) ≡ decimal k
+  joined-number q e = joined-shape c e ∙ ap digits-in (sym b) ∙ ap decimal (sym q)
+
+-- what joins is not much longer than the body
+joined-most : (b : Bytes) (r : Shape) → length (joined-at r b) ≤ 6 * length b + 20
+joined-most b Form.Empty = omega arith
+joined-most b Form.String = omega (arith, length-escape-html b)
+joined-most b Form.Number = omega (arith, length-decimal (number-of (take 8 b)))
+joined-most b (Form.Boolean v) = omega arith
+joined-most b Form.Null = omega arith
+joined-most b Form.Literal = omega arith
+joined-most b Form.Minus = omega arith
+joined-most b Form.Other = omega arith
+
+pub joined-length : (c : Bytes) → length (joined-by (contained-in (read c))) ≤ 6 * length c + 20
+joined-length c =
+    omega (arith, joined-most (body-of c) (shape-of-contained (contained-in (read c))), ap length (joined-shape c refl), body-le c)
 
 -- a child: what joins a run, or a gap
 parts-joined : (o : Options) (x : Contained) (w : Carved) → carve (contained-parts o x) w ≡ carve (pick (is-joined x) (chars (joined-by x) ∷ []) (gap (pure M.none) ∷ [])) w
@@ -311,84 +269,15 @@ module _ (o : Options) (c : Bytes) (w : Carved) where
 
 -- ---- an attribute by its value
 
--- v is the body of the field behind the name
-abbrev ValueHolds : P.Value → Bytes → Type 0
-ValueHolds P.absent v = Unit {0}
-ValueHolds (P.string-value s) v = s ≡ v
-ValueHolds P.empty-value v = nothing-contained ≡ contained-in (read v)
-ValueHolds (P.container-value e) v = contained e ≡ contained-in (read v)
-ValueHolds (P.tag-value t) v = Unit {0}
-
-contained-holds : (v : Bytes) (x : Contained) → x ≡ contained-in (read v) → ValueHolds (contained-value x) v
-unfolding contained-value
-contained-holds v nothing-contained e = e
-contained-holds v (contained x) e = e
-
-module _ (t : ℕ) (f v : Bytes) (co : Unit {0} → Contained) (el fr : Unit {0} → P.Tag) where
-  value-holds-by : (eqb t 0x51 ≡ true → f ≡ v) → (eqb t 0x52 ≡ true → co tt ≡ contained-in (read v)) → ValueHolds (value-by t f co el fr) v
-  unfolding value-by
-  value-holds-by p q =
-      chosen H (eqb t 0x51) _ _ p λ _.
-      chosen H (eqb t 0x52) _ _ (λ e. contained-holds v (co tt) (q e)) λ _.
-      chosen H (eqb t 0x30) _ _ (λ _. tt) λ _.
-      chosen H (eqb t 0x31) _ _ (λ _. tt) λ _. tt
-    where
-      H : P.Value → Type 0
-      H x = ValueHolds x v
-
--- a tag that holds fields from the first byte on
-nest-zero : {n : ℕ} (t u : ℕ) → inside u ≡ fields-after 0 → inside t ≡ fields-after n → eqb t u ≡ true → n ≡ 0
-nest-zero {n} t u p q e = after (sym q ∙ ap inside (eqb-true t u e) ∙ p)
-  where
-    after : fields-after n ≡ fields-after 0 → n ≡ 0
-    after z = cc
-
-nest-not : {A : Type 0} (t u : ℕ) → inside u ≡ fields-after 0 → inside t ≡ only-bytes → eqb t u ≡ true → A
-nest-not t u p q e = absurd (clash (sym q ∙ ap inside (eqb-true t u e) ∙ p))
-  where
-    clash : only-bytes ≡ fields-after 0 → ⊥
-    clash z = let k : _≡_ {A = ℕ} 0 1 = cc in omega arith
-
-behind-holds-by : (s : Bytes) (n : Next) → ValueHolds (value-behind (built read s n)) (body-by n)
-unfolding value-behind built opened inside
-behind-holds-by s nothing = tt
-behind-holds-by s no-field = tt
-behind-holds-by s (next t w r) = on (inside t) refl
-  where
-    on : (c : Inside) → inside t ≡ c → ValueHolds (value-behind (opened c read t w r)) w
-    on only-bytes q = value-holds-by t w w _ _ _ (λ _. refl) (nest-not t 0x52 refl q)
-    on (fields-after n) q =
-        value-holds-by t (take n w) w _ _ _ (leaf-not t 0x51 refl q) λ e. ap (λ (k : ℕ). contained-in (read (drop k w))) (nest-zero t 0x52 refl q e)
-
-behind-holds : (s : Bytes) → ValueHolds (value-behind (read s)) (body-of s)
-unfolding body-of
-behind-holds s = subst (λ (x : Row). ValueHolds (value-behind x) (body-by (next-of s))) (sym (read-step s)) (behind-holds-by s (next-of s))
-
-value-holds : (a : Bytes) → ValueHolds (value-in (read a)) (body-of (behind-of a))
-value-holds a = subst (λ (x : P.Value). ValueHolds x (body-of (behind-of a))) (sym (value-in-at a)) (behind-holds (behind-of a))
-
--- n is the name, v the body of the field behind it
-abbrev plain-by : Options → Bytes → Value → Bytes → List Part
-plain-by o n Held.Absent v = pick (is-boolean-attr n) (chars (32 ∷ escape-html n) ∷ []) space-gap
-plain-by o n (Held.Field t) v =
-    pick (eqb t 0x51) (pick (same n (ascii "key") || same n (ascii "ref")) space-gap (chars (serialize-attr n v) ∷ []))
-    (pick (eqb t 0x52) (plain-attr n (value o (contained-value (contained-in (read v))))) [])
-
-then-carve : (b : Bool) (p q r : List Part) (w : Carved) → carve p w ≡ carve r w → carve (pick b p q) w ≡ carve (pick b r q) w
-then-carve true p q r w g = g
-then-carve false p q r w g = refl
-
-module _ (o : Options) (n v : Bytes) (w : Carved) where
-  plain-carve : (x : P.Value) → ValueHolds x v → carve (plain-attr n (value o x)) w ≡ carve (plain-by o n (value-of x) v) w
-  unfolding plain-attr value value-of contained-value carve
-  plain-carve P.absent h = else-carve (is-boolean-attr n) _ _ space-gap w refl
-  plain-carve (P.string-value s) h =
-      then-carve (same n (ascii "key") || same n (ascii "ref")) _ _ space-gap w refl
-      ∙ ap (λ (x : Bytes). carve (pick (same n (ascii "key") || same n (ascii "ref")) space-gap (chars (serialize-attr n x) ∷ [])) w) h
-  plain-carve P.empty-value h = ap (λ (x : Contained). carve (plain-attr n (value o (contained-value x))) w) h
-  plain-carve (P.container-value e) h = ap (λ (x : Contained). carve (plain-attr n (value o (contained-value x))) w) h
-  plain-carve (P.tag-value (P.element m as′ cs)) h = refl
-  plain-carve (P.tag-value (P.fragment cs)) h = refl
+-- a tag as the value leaves nothing
+tag-carve : (o : Options) (n : Bytes) (w : Carved) (g : ℕ) {s : Bytes} {x : P.Value} {r : Value} → ValueAt s x r → r ≡ Held.Field g → (g ≡ 0x51 → ⊥) → (g ≡ 0x52 → ⊥) →
+    carve (plain-attr n (value o x)) w ≡ w
+unfolding plain-attr value carve
+tag-carve o n w g is-absent e p q = absurd (let z : _≡_ {A = ℕ} 0 1 = cc e in omega arith)
+tag-carve o n w g is-string e p q = absurd (p (let z : g ≡ 0x51 = cc e in z))
+tag-carve o n w g is-container e p q = absurd (q (let z : g ≡ 0x52 = cc e in z))
+tag-carve o n w g is-element e p q = refl
+tag-carve o n w g is-fragment e p q = refl
 
 module _ (o : Options) (a : Bytes) (w : Carved) {l : Bool} (le : l ≡ among (get-attr-name (attr-name-in (read a)) false) (o .skip-prop-serialize)) where
   abbrev total : Carved
@@ -413,14 +302,15 @@ module _ (o : Options) (a : Bytes) (w : Carved) {l : Bool} (le : l ≡ among (ge
 
   -- what stands there is h, and v is its body
   module _ (ln : l ≡ false) {h : Value} (he : h ≡ value-of (value-in (read a))) where
-    plain : (x : Value) → h ≡ x → total ≡ carve (plain-by o (name-at a) x (body-of (behind-of a))) w
-    plain x e =
-        by-list false ln ∙ plain-carve o (name-at a) (body-of (behind-of a)) w (value-in (read a)) (value-holds a)
-        ∙ ap (λ (x : Value). carve (plain-by o (name-at a) x (body-of (behind-of a))) w) (sym he ∙ e)
+    plain : {x : P.Value} → value-in (read a) ≡ x → total ≡ carve (plain-attr (name-at a) (value o x)) w
+    plain e = by-list false ln ∙ ap (λ (x : P.Value). carve (plain-attr (name-at a) (value o x)) w) e
 
     module _ (e : h ≡ Held.Absent) {b : Bool} (t : b ≡ is-boolean-attr (name-at a)) where
       absent-by : (x : Bool) → b ≡ x → total ≡ carve (pick x (chars (32 ∷ escape-html (name-at a)) ∷ []) space-gap) w
-      absent-by x k = plain Held.Absent e ∙ ap (λ (x : Bool). carve (pick x (chars (32 ∷ escape-html (name-at a)) ∷ []) space-gap) w) (sym t ∙ k)
+      unfolding plain-attr value carve
+      absent-by x k =
+          plain (absent-held a (sym he ∙ e)) ∙ else-carve (is-boolean-attr (name-at a)) _ _ space-gap w refl
+          ∙ ap (λ (x : Bool). carve (pick x (chars (32 ∷ escape-html (name-at a)) ∷ []) space-gap) w) (sym t ∙ k)
 
       pub absent-boolean : b ≡ true → total ≡ carve (chars (32 ∷ escape-html (name-at a)) ∷ []) w
       absent-boolean k = absent-by true k
@@ -430,30 +320,32 @@ module _ (o : Options) (a : Bytes) (w : Carved) {l : Bool} (le : l ≡ among (ge
       absent-other k = absent-by false k
 
     module _ {g : ℕ} (e : h ≡ Held.Field g) {v : Bytes} (ve : v ≡ body-of (behind-of a)) where
-      held-by : (x y : Bool) → eqb g 0x51 ≡ x → eqb g 0x52 ≡ y →
-          total
-          ≡ carve (pick x (pick (same (name-at a) (ascii "key") || same (name-at a) (ascii "ref")) space-gap (chars (serialize-attr (name-at a) v) ∷ [])) (pick y (plain-attr (name-at a) (value o (contained-value (contained-in (read v))))) [])) w
-      held-by x y p q = plain (Held.Field g) e ∙ rw (p, q, ve)
+      field-is : {k : ℕ} → g ≡ k → value-of (value-in (read a)) ≡ Held.Field k
+      field-is q = sym he ∙ e ∙ ap Held.Field q
 
-      pub in-container : (g ≡ 0x51 → ⊥) → g ≡ 0x52 → total ≡ carve (plain-attr (name-at a) (value o (contained-value (contained-in (read v))))) w
-      in-container p q = held-by false true (ne-eqb g 0x51 p) (eq-eqb g 0x52 q)
+      pub in-container : g ≡ 0x52 → total ≡ carve (plain-attr (name-at a) (value o (contained-value (contained-in (read v))))) w
+      in-container q =
+          plain (container-held a (field-is q)) ∙ ap (λ (x : Bytes). carve (plain-attr (name-at a) (value o (contained-value (contained-in (read x))))) w) (sym ve)
 
       pub no-text : (g ≡ 0x51 → ⊥) → (g ≡ 0x52 → ⊥) → total ≡ w
-      unfolding carve
-      no-text p q = held-by false false (ne-eqb g 0x51 p) (ne-eqb g 0x52 q)
+      no-text p q =
+          plain (value-in-at a)
+          ∙ tag-carve o (name-at a) w g (value-view (behind-of a)) (ap value-of (sym (value-in-at a)) ∙ sym he ∙ e) p q
 
       module _ (gs : g ≡ 0x51) {k : Bool} (ke : k ≡ same (name-at a) (ascii "key")) where
-        string-by : (x y : Bool) → k ≡ x → same (name-at a) (ascii "ref") ≡ y → total ≡ carve (pick (x || y) space-gap (chars (serialize-attr (name-at a) v) ∷ [])) w
-        string-by x y p q = held-by true false (eq-eqb g 0x51 gs) (ap (λ (z : ℕ). eqb z 0x52) gs) ∙ rw (← ke, p, q)
+        string-by : {y : Bool} (x : Bool) → k ≡ x → same (name-at a) (ascii "ref") ≡ y → total ≡ carve (pick (x || y) space-gap (chars (serialize-attr (name-at a) v) ∷ [])) w
+        unfolding plain-attr value carve
+        string-by {y} x p q =
+            plain (string-held a (field-is gs)) ∙ then-carve (same (name-at a) (ascii "key") || same (name-at a) (ascii "ref")) _ _ space-gap w refl ∙ rw (← ke, p, q, ve)
 
         pub string-key : k ≡ true → total ≡ spaced w
         unfolding carve
-        string-key p = string-by true _ p refl
+        string-key p = string-by true p refl
 
         module _ (kn : k ≡ false) {r : Bool} (re : r ≡ same (name-at a) (ascii "ref")) where
           pub string-ref : r ≡ true → total ≡ spaced w
           unfolding carve
-          string-ref p = string-by false true kn (sym re ∙ p)
+          string-ref p = string-by false kn (sym re ∙ p)
 
           pub string-plain : r ≡ false → total ≡ carve (chars (serialize-attr (name-at a) v) ∷ []) w
-          string-plain p = string-by false false kn (sym re ∙ p)
+          string-plain p = string-by false kn (sym re ∙ p)

@@ -1,4 +1,16 @@
-// The static strings of a template, written one behind the other as fields 81: the open string, and the laws that walks over it are stated
-// by. What parts do to the open string is `carve` of specs/Carve.antt. The walks over attributes, elements and children come with their
-// proofs.
-pub mod writer;
+// The static strings of a template, written one behind the other as fields 81. An element, a series of children, or the children of a
+// call that are merged twice, become what their parts do to the open string: `carve` of specs/Carve.antt. Nothing is buffered but the
+// runs of a first merge. Which tags become a template, and the field around the strings, are left to the crates above.
+mod attributes;
+mod elements;
+mod merged;
+mod writer;
+
+pub use attributes::put_name;
+pub use elements::children_strings;
+pub use elements::element_strings;
+pub use merged::joins;
+pub use merged::merged_children_strings;
+pub use merged::put_joined;
+pub use writer::Open;
+pub use writer::cut;

@@ -1,0 +1,6 @@
+-- Laws of recording.
+pub mod Templates
+pub mod KeepLaws
+pub mod ChildLaws
+pub mod ReadLaws
+pub mod WalkLaws

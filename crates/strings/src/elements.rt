@@ -1,0 +1,158 @@
+// Elements and children in a template. A child that stays dynamic leaves a gap; all else is written into the open string as it comes, so
+// that the runs of a merge need no buffer.
+ghost use mathlib.Core.Path.{_≡_};
+ghost use mathlib.Core.Bool.{true, _&&_};
+ghost use mathlib.Core.List.{_∷_, [], _++_};
+ghost use Rattle.field.specs.Row.{read};
+ghost use Rattle.text.specs.Escape.{escape-html};
+ghost use Rattle.page.specs.Tree.{children-in, contained-in};
+ghost use Rattle.spec.specs.Pass.{chars};
+ghost use Rattle.spec.specs.Children.{children-to-string};
+ghost use Rattle.decisions.specs.At.{opts, children-at, element-at, is-none};
+ghost use Rattle.strings.specs.Carve.{at, carve, contained-parts, Low};
+use crate::attributes::attributes_strings;
+use crate::writer::Open;
+use crate::writer::cut;
+use crate::writer::ended;
+use crate::writer::put_chars;
+use crate::writer::put_text;
+use decisions::children::children_at;
+use decisions::element::identifier;
+use decisions::element::is_serializable;
+use decisions::expr::Shape;
+use decisions::expr::number_in;
+use decisions::expr::shape_at;
+use field::reader::behind;
+use field::reader::body;
+use field::reader::tag_at;
+use field::writer::put_byte;
+use names::is_void_element;
+use text::decimal::put_decimal;
+use text::escape::put_escaped;
+
+// `<name`
+fn put_open(out: &mut [u8], st: Open, n: &[u8]) -> Open
+    requires { ⌜ Low (carve (chars (60 ∷ escape-html (now n)) ∷ []) (at (now out) st)) ⌝ }
+    ensures { λ r. ⌜ at (now (out .exit)) r ≡ carve (chars (60 ∷ escape-html (now (n .entry))) ∷ []) (at (now (out .entry)) st) ⌝ }
+{
+    let p = put_byte(out, st.head + 3 + st.len, b'<');
+    let q = put_escaped(out, p, n);
+    ended(st, q)
+}
+
+// `</name>`
+fn put_close(out: &mut [u8], st: Open, n: &[u8]) -> Open
+    requires { ⌜ Low (carve (chars (60 ∷ 47 ∷ (now n ++ (62 ∷ []))) ∷ []) (at (now out) st)) ⌝ }
+    ensures { λ r. ⌜ at (now (out .exit)) r ≡ carve (chars (60 ∷ 47 ∷ (now (n .entry) ++ (62 ∷ []))) ∷ []) (at (now (out .entry)) st) ⌝ }
+{
+    let a = put_chars(out, st, b"</");
+    let b = put_chars(out, a, n);
+    put_chars(out, b, b">")
+}
+
+// A container among children, by its fields c.
+fn container_child(skip: &[u8], props: &[u8], c: &[u8], out: &mut [u8], st: Open) -> Open
+    requires { ⌜ Low (carve (contained-parts (opts (now skip) (now props)) (contained-in (read (now c)))) (at (now out) st)) ⌝ }
+    ensures { λ r. ⌜ at (now (out .exit)) r ≡ carve (contained-parts (opts (now (skip .entry)) (now (props .entry))) (contained-in (read (now (c .entry))))) (at (now (out .entry)) st) ⌝ }
+{
+    match shape_at(c) {
+        Shape::Empty => st,
+        Shape::String => {
+            let end = put_escaped(out, st.head + 3 + st.len, body(c));
+            ended(st, end)
+        }
+        Shape::Number => {
+            let end = put_decimal(out, st.head + 3 + st.len, number_in(body(c)));
+            ended(st, end)
+        }
+        Shape::Boolean(_) => st,
+        Shape::Null => cut(out, st),
+        Shape::Literal => cut(out, st),
+        Shape::Minus => cut(out, st),
+        Shape::Other => cut(out, st),
+    }
+}
+
+// Whether no child follows, where that matters to a text's last line.
+fn is_last(parent: bool, s: &[u8]) -> bool
+    ensures { λ r. ⌜ r ≡ (parent && is-none (children-in (read (now (s .entry))))) ⌝ }
+{
+    if parent {
+        return children_at(s).len() == 0;
+    }
+    false
+}
+
+// An element in a template: one that is no HTML leaves a gap.
+pub fn element_strings<'a>(
+    skip: &[u8],
+    props: &'a [u8],
+    b: &'a [u8],
+    out: &mut [u8],
+    st: Open,
+) -> Open
+    requires { ⌜ Low (carve (element-at (now skip) (now props) (now b) .to-string-vec) (at (now out) st)) ⌝ }
+    ensures { λ r. ⌜ at (now (out .exit)) r ≡ carve (element-at (now (skip .entry)) (now (props .entry)) (now (b .entry)) .to-string-vec) (at (now (out .entry)) st) ⌝ }
+{
+    if !is_serializable(skip, b) {
+        return cut(out, st);
+    }
+    let n = identifier(b);
+    let rest = behind(b);
+    let p = put_open(out, st, n);
+    let a = attributes_strings(skip, props, rest, out, p);
+    let c = put_chars(out, a, b">");
+    if is_void_element(n) {
+        return c;
+    }
+    let d = children_strings(skip, props, rest, true, out, c);
+    put_close(out, d, n)
+}
+
+// Children in a template; `parent` where they are an element's.
+pub fn children_strings<'a>(
+    skip: &[u8],
+    props: &'a [u8],
+    s: &'a [u8],
+    parent: bool,
+    out: &mut [u8],
+    st: Open,
+) -> Open
+    requires { ⌜ Low (carve (children-to-string parent (children-at (now skip) (now props) (read (now s)))) (at (now out) st)) ⌝ }
+    ensures { λ r. ⌜ at (now (out .exit)) r ≡ carve (children-to-string parent (children-at (now (skip .entry)) (now (props .entry)) (read (now (s .entry))))) (at (now (out .entry)) st) ⌝ }
+{
+    let mut t = s;
+    let mut cur = st;
+    loop {
+        match tag_at(t) {
+            0x60 => {
+                let r = behind(t);
+                let last = is_last(parent, r);
+                cur = put_text(out, cur, body(t), last);
+                t = r;
+            }
+            0x52 => {
+                cur = container_child(skip, props, body(t), out, cur);
+                let r = behind(t);
+                t = r;
+            }
+            0x30 => {
+                cur = element_strings(skip, props, body(t), out, cur);
+                let r = behind(t);
+                t = r;
+            }
+            0x31 => {
+                cur = children_strings(skip, props, body(t), false, out, cur);
+                let r = behind(t);
+                t = r;
+            }
+            256 => {
+                return cur;
+            }
+            _ => {
+                let r = behind(t);
+                t = r;
+            }
+        }
+    }
+}
