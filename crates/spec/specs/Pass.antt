@@ -78,11 +78,11 @@ none +++ y = y
 (node t f i r) +++ y = node t f i (r +++ y)
 (raw t r) +++ y = raw t (r +++ y)
 
--- two rows of fields, one behind the other
+-- two rows of fields, one behind the other; loose bytes are no field, and go
 infixr 65 _⧺_
 unfoldable pub _⧺_ : Row → Row → Row
 end ⧺ y = y
-(loose b) ⧺ y = loose b
+(loose b) ⧺ y = y
 (field t f i r) ⧺ y = field t f i (r ⧺ y)
 
 -- what a template is made of: `strings.last_mut().push_str(..)`, and `strings.push("")` with `dynamic_exprs.push(..)`. A gap holds a pass
