@@ -1,6 +1,6 @@
--- How many bytes a pass may write, in templates out and in page out together. A predicate for each thing that 000's functions handle,
--- with a budget: a field costs its header and its front, a tag still to be visited what its visit writes, a template its record. Closed
--- under what passes are made of. Main statements: `template-costs`, `visit-costs`, `after-costs`.
+-- How many bytes a pass may write, in templates out and in page out together, and how many numbers it may take besides. A predicate for
+-- each thing that 000's functions handle, with a budget: a field costs its header and its front, a tag still to be visited what its visit
+-- writes and takes, a template its record and its number. Closed under what passes are made of. Main statements: `template-costs`, `visit-costs`, `after-costs`.
 --
 -- `Good` has budgets too, of numbers taken. Its walk needs names that are names, and carries kinds and nesting; this one holds of every
 -- page, as the contracts of the code do, and its budgets fall at each field. So it is a walk of its own, over sizes alone.
@@ -28,9 +28,9 @@ use Rattle.spec.specs.Transform.{templates-row}
 unfoldable pub templates-size : List Template → ℕ
 templates-size ts = length (bytes (templates-row ts))
 
--- both outputs of a visit
+-- both outputs of a visit, and the numbers that it took
 unfoldable pub written-size : Done Row → ℕ
-written-size d = templates-size (d .templates) + length (bytes (d .value))
+written-size d = templates-size (d .templates) + length (bytes (d .value)) + d .taken
 
 -- ---- budgets
 
@@ -45,10 +45,10 @@ pub data Costs : Mid → ℕ → Type 0 where
   node-costs : {t : ℕ} {f : Bytes} {i r : Mid} {w : ℕ} (a b : ℕ) → 3 + length f + a + b ≤ w → Costs i a → Costs r b → Costs (node t f i r) w
   raw-costs : {q : Raw} {r : Mid} {w : ℕ} (a b : ℕ) → a + b ≤ w → RawCosts a q → Costs r b → Costs (raw q r) w
 
--- a first pass: its templates, and what the visits of its value may write
+-- a first pass: its templates, its numbers, and what the visits of its value may write
 pub record DoneCosts (w : ℕ) (d : Done Mid) : Type 0 where
   pub left-over : ℕ
-  pub bound : templates-size (d .templates) + left-over ≤ w
+  pub bound : templates-size (d .templates) + d .taken + left-over ≤ w
   pub value-costs : Costs (d .value) left-over
 
 abbrev pub PassCosts : ℕ → Pass Mid → Type 0
@@ -184,8 +184,8 @@ parts-give (gap-costs {ps = ps} u v k p x) =
       static = λ last. omega (arith, r .static [], length-bytes 0x81 last end (strings-row (strings-after [] ps)));
     }
 
--- the record has a header, a number and one string more than gaps; the call a header and a number
-pub template-costs : {ps : List Part} {w : ℕ} → PartsCosts ps w → PassCosts (13 + w) (gen-template ps)
+-- the record has a header, a number and one string more than gaps; the call a header and a number; and one number is taken
+pub template-costs : {ps : List Part} {w : ℕ} → PartsCosts ps w → PassCosts (14 + w) (gen-template ps)
 unfolding gen-template
 template-costs {ps} {w} g n =
     let all = parts-give g in

@@ -437,16 +437,16 @@ one-child-costs (fragment f) a h g = found-weaken (omega arith) (g .found)
 one-child-costs (spread m) a h g = nothing-costs
 
 -- merged once for an array, twice for a template
-many-costs : (cs : List Child) (c : ℕ) → ChildrenCosts 36 24 cs c → FoundCosts (many-children cs) (13 + c)
+many-costs : (cs : List Child) (c : ℕ) → ChildrenCosts 36 24 cs c → FoundCosts (many-children cs) (14 + c)
 unfolding many-children choose
 many-costs cs c g = on (becomes-template cs) (merge-costs false false 6 12 [] (omega arith) g)
   where
     on : (b : Bool) → ChildrenCosts 6 12 (merge false false [] cs) c →
-        FoundCosts (choose b (λ _. one-found (passed (raise (long-if (long-run (merge false false [] cs))) (gen-template (children-to-string false (short-runs (merge false false [] cs))))))) λ _. flattened (entries (merge false false [] cs))) (13 + c)
+        FoundCosts (choose b (λ _. one-found (passed (raise (long-if (long-run (merge false false [] cs))) (gen-template (children-to-string false (short-runs (merge false false [] cs))))))) λ _. flattened (entries (merge false false [] cs))) (14 + c)
     on true x = found-passed (raise-costs (long-if (long-run (merge false false [] cs))) (template-costs (string-costs false (short-costs x))))
     on false x = found-weaken (omega arith) (flattened-costs (entries-costs x))
 
-expr-costs : (cs : List Child) (c : ℕ) → ChildrenCosts 36 24 cs c → FoundCosts (children-to-expr cs) (13 + c)
+expr-costs : (cs : List Child) (c : ℕ) → ChildrenCosts 36 24 cs c → FoundCosts (children-to-expr cs) (14 + c)
 unfolding children-to-expr
 expr-costs [] w g = nothing-costs
 expr-costs (c ∷ []) w (more-children a b p x y) = one-child-costs c a (omega arith) x
@@ -513,9 +513,9 @@ call-costs n {as′} {a} g m w c =
     let arguments : Costs (props-node (props-of norm as′ +++ children-prop m) +++ key-of norm as′ none) (17 + a + w) = costs-append (omega (arith, k .within)) wrapped (k .key) in
     costs-nest (20 + name-size n + a + w) (omega arith) (costs-append (omega arith) (name-costs n) arguments)
 
-to-call-costs : (n : Name) {as′ : List Attribute} (cs : List Child) {w : ℕ} (a c : ℕ) → 39 + name-size n + a + c ≤ w → AttributesCosts as′ a → ChildrenCosts 36 24 cs c → PassCosts w (to-call-expr n as′ cs)
+to-call-costs : (n : Name) {as′ : List Attribute} (cs : List Child) {w : ℕ} (a c : ℕ) → 40 + name-size n + a + c ≤ w → AttributesCosts as′ a → ChildrenCosts 36 24 cs c → PassCosts w (to-call-expr n as′ cs)
 unfolding to-call-expr
-to-call-costs n {as′} cs a c h x y = pass-weaken (omega arith) (map-costs (call-node n as′) (23 + name-size n + a) (call-costs n x) (found-pass-costs {w = 16 + c} (omega arith) (expr-costs cs c y)))
+to-call-costs n {as′} cs a c h x y = pass-weaken (omega arith) (map-costs (call-node n as′) (23 + name-size n + a) (call-costs n x) (found-pass-costs {w = 17 + c} (omega arith) (expr-costs cs c y)))
 
 -- ---- elements and fragments
 
@@ -531,11 +531,11 @@ call-parts : {p : Pass Mid} {a w : ℕ} → 3 + a ≤ w → PassCosts a p → Pa
 call-parts {a = a} h g = parts-gap a 0 (omega arith) g no-parts
 
 -- an element as a child, whichever way its parent takes it
-pub element-costs : (o : Options) (n : Name) (as′ : List Attribute) (cs : List Child) {w : ℕ} (a c : ℕ) → 42 + 7 * name-size n + a + c ≤ w → AttributesCosts as′ a → ChildrenCosts 36 24 cs c → ElementCosts w (element-of o n as′ cs)
+pub element-costs : (o : Options) (n : Name) (as′ : List Attribute) (cs : List Child) {w : ℕ} (a c : ℕ) → 43 + 7 * name-size n + a + c ≤ w → AttributesCosts as′ a → ChildrenCosts 36 24 cs c → ElementCosts w (element-of o n as′ cs)
 unfolding element-of serialize-jsx element-to-string-vec is-serializable name-size choose
 element-costs o (identifier n) as′ cs {w} a c h x y = record { in-parts = parts (is-serializable o (identifier n) as′); serialized = pass (is-serializable o (identifier n) as′) }
   where
-    call : PassCosts (39 + 7 * length n + a + c) (to-call-expr (identifier n) as′ cs)
+    call : PassCosts (40 + 7 * length n + a + c) (to-call-expr (identifier n) as′ cs)
     call = to-call-costs (identifier n) cs a c (omega arith) x y
 
     written : PartsCosts (open-close o n as′ cs) (5 + 7 * length n + a + c)
@@ -549,13 +549,13 @@ element-costs o (identifier n) as′ cs {w} a c h x y = record { in-parts = part
     pass true = pass-weaken (omega arith) (template-costs written)
     pass false = pass-weaken (omega arith) call
 element-costs o (member ns) as′ cs {w} a c h x y =
-    let call : PassCosts (39 + members-size ns + a + c) (to-call-expr (member ns) as′ cs) = to-call-costs (member ns) cs a c (omega arith) x y in
+    let call : PassCosts (40 + members-size ns + a + c) (to-call-expr (member ns) as′ cs) = to-call-costs (member ns) cs a c (omega arith) x y in
     record { in-parts = call-parts (omega arith) call; serialized = pass-weaken (omega arith) call }
 element-costs o (namespaced n m) as′ cs {w} a c h x y =
-    let call : PassCosts (40 + length n + length m + a + c) (to-call-expr (namespaced n m) as′ cs) = to-call-costs (namespaced n m) cs a c (omega arith) x y in
+    let call : PassCosts (41 + length n + length m + a + c) (to-call-expr (namespaced n m) as′ cs) = to-call-costs (namespaced n m) cs a c (omega arith) x y in
     record { in-parts = call-parts (omega arith) call; serialized = pass-weaken (omega arith) call }
 
-pub fragment-costs : (cs : List Child) {w : ℕ} (c : ℕ) → 13 + c ≤ w → ChildrenCosts 36 24 cs c → FragmentCosts w (fragment-of cs)
+pub fragment-costs : (cs : List Child) {w : ℕ} (c : ℕ) → 14 + c ≤ w → ChildrenCosts 36 24 cs c → FragmentCosts w (fragment-of cs)
 unfolding fragment-of
 fragment-costs cs c h y = record { in-parts = parts-weaken (omega arith) (string-costs false (once y)); found = found-weaken h (expr-costs cs c y) }
 
@@ -571,10 +571,10 @@ visit-found-costs b h nothing-costs n = leave-costs b (omega arith) n
 visit-found-costs b h (one-costs x) n = after-costs (found-pass-costs h (one-costs x)) n
 visit-found-costs b h (array-costs x) n = after-costs (found-pass-costs h (array-costs x)) n
 
-template-visit : {cs : List Child} {w : ℕ} (c : ℕ) → 13 + c ≤ w → ChildrenCosts 36 24 cs c → (n : ℕ) → written-size (visit-after (gen-template (children-to-string false cs)) n) ≤ w
+template-visit : {cs : List Child} {w : ℕ} (c : ℕ) → 14 + c ≤ w → ChildrenCosts 36 24 cs c → (n : ℕ) → written-size (visit-after (gen-template (children-to-string false cs)) n) ≤ w
 template-visit c h y n = after-costs (pass-weaken h (template-costs (string-costs false (once y)))) n
 
-visit-only-costs : (x : Child) {w : ℕ} (c : ℕ) → 13 + c ≤ w → ChildrenCosts 36 24 (x ∷ []) c → (n : ℕ) → written-size (visit-only-child x n) ≤ w
+visit-only-costs : (x : Child) {w : ℕ} (c : ℕ) → 14 + c ≤ w → ChildrenCosts 36 24 (x ∷ []) c → (n : ℕ) → written-size (visit-only-child x n) ≤ w
 unfolding visit-only-child ChildCosts
 visit-only-costs (text t) c h y n = template-visit c h y n
 visit-only-costs empty c h y n = template-visit c h y n
@@ -583,12 +583,12 @@ visit-only-costs (element e) c h (more-children a b p x y) n = after-costs (pass
 visit-only-costs (fragment f) c h (more-children a b p x y) n = visit-found-costs (f .unimplemented-inside) (omega arith) (x .found) n
 visit-only-costs (spread m) c h y n = leave-costs (reaches-todo m) (omega arith) n
 
-visit-fragment-costs : (cs : List Child) {w : ℕ} (c : ℕ) → 13 + c ≤ w → ChildrenCosts 36 24 cs c → (n : ℕ) → written-size (visit-fragment cs n) ≤ w
+visit-fragment-costs : (cs : List Child) {w : ℕ} (c : ℕ) → 14 + c ≤ w → ChildrenCosts 36 24 cs c → (n : ℕ) → written-size (visit-fragment cs n) ≤ w
 unfolding visit-fragment
 visit-fragment-costs [] c h y n = null-costs n (omega arith)
 visit-fragment-costs (x ∷ []) c h y n = visit-only-costs x c h y n
 visit-fragment-costs (x ∷ x′ ∷ cs) c h y n = template-visit c h y n
 
-pub fragment-raw-costs : (cs : List Child) {w : ℕ} (c : ℕ) → 13 + c ≤ w → ChildrenCosts 36 24 cs c → RawCosts w (fragment-raw cs)
+pub fragment-raw-costs : (cs : List Child) {w : ℕ} (c : ℕ) → 14 + c ≤ w → ChildrenCosts 36 24 cs c → RawCosts w (fragment-raw cs)
 unfolding fragment-raw
 fragment-raw-costs cs c h y = record { left-costs = omega arith; visits-cost = visit-fragment-costs cs c h y }

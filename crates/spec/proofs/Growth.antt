@@ -1,5 +1,5 @@
--- How long the outputs are at most, for every page: the law that keeps the code's places within its numbers.
--- Main statements: `growth`, `page-growth`. Assumes nothing.
+-- How long the outputs are at most, and how many numbers are taken, for every page: the law that keeps the code's places within its
+-- numbers. Main statements: `growth`, `taken-growth`, `page-growth`; `expr-growth` for an expression. Assumes nothing.
 use Prim.Native.Nat.{ℕ, suc, _+_, _*_, _≤_}
 use native.Mathlib.Omega.{arith}
 use mathlib.Core.Path.{_≡_, refl}
@@ -19,6 +19,7 @@ use Rattle.page.specs.Page as P
 use Rattle.page.specs.Page.{Page, Options}
 use Rattle.page.specs.Encode.{boolean-byte, texts-row, name-row, attr-name-row, tag-row, attributes-row, value-row, children-row, expr-row, items-row, pieces-row, module-items-row, page-row, encode}
 use Rattle.spec.specs.Pass.{Template, Mid, none}
+use Rattle.spec.specs.Visit.{visit-exprs}
 use Rattle.spec.specs.Transform.{transform, templates-row, page-out-row, with-templates, helper-sum, shape-of, child, raw-tag, attributes, value, children, expr, items, pieces, module-items}
 use Rattle.spec.proofs.PageOut.{templates-related, import-row, import-related}
 use Rattle.spec.proofs.Cost.{templates-size, written-size, RawCosts, raw-weaken, Costs, none-costs, costs-weaken, costs-node, costs-raw, costs-leaf, visit-costs}
@@ -26,20 +27,20 @@ use Rattle.spec.proofs.CostWalk.{shape-size, ChildCosts, ChildrenCosts,
 
 -- ---- rows in front of others
 
-abbrev size : Row → ℕ
+abbrev pub size : Row → ℕ
 size r = length (bytes r)
 
 -- what an element or a fragment holds
-unfoldable tag-body : P.Tag → Row
+unfoldable pub tag-body : P.Tag → Row
 tag-body (P.element n as′ cs) = name-row n (attributes-row as′ (children-row cs))
 tag-body (P.fragment cs) = children-row cs
 
-tag-front : (t : P.Tag) (r : Row) → size (tag-row t r) ≡ 3 + size (tag-body t) + size r
+pub tag-front : (t : P.Tag) (r : Row) → size (tag-row t r) ≡ 3 + size (tag-body t) + size r
 unfolding tag-row tag-body bytes
 tag-front (P.element n as′ cs) r = length-bytes 0x30 [] (name-row n (attributes-row as′ (children-row cs))) r
 tag-front (P.fragment cs) r = length-bytes 0x31 [] (children-row cs) r
 
-expr-front : (e : P.Expr) (r : Row) → size (expr-row e r) ≡ size (expr-row e end) + size r
+pub expr-front : (e : P.Expr) (r : Row) → size (expr-row e r) ≡ size (expr-row e end) + size r
 unfolding expr-row bytes
 expr-front (P.string-literal b) r = omega (arith, length-bytes 0x70 b end r, length-bytes 0x70 b end end)
 expr-front (P.number-literal n) r = omega (arith, length-bytes 0x71 (number-bytes n) end r, length-bytes 0x71 (number-bytes n) end end)
@@ -66,7 +67,7 @@ unfolding members-size texts-row bytes
 members-fit [] = refl
 members-fit (n ∷ ns) = omega (arith, length-bytes 0x40 n end (texts-row 0x40 ns), members-fit ns)
 
-two-names : (n m : Bytes) → size (texts-row 0x40 (n ∷ m ∷ [])) ≡ 6 + length n + length m
+pub two-names : (n m : Bytes) → size (texts-row 0x40 (n ∷ m ∷ [])) ≡ 6 + length n + length m
 unfolding texts-row bytes
 two-names n m = omega (arith, length-bytes 0x40 n end (field 0x40 m end end), length-bytes 0x40 m end end)
 
@@ -96,7 +97,7 @@ render-length : (n : Number) → length (render n) ≤ 20
 unfolding render
 render-length (whole n) = length-decimal n
 
-number-length : (n : Number) → length (number-bytes n) ≡ 8
+pub number-length : (n : Number) → length (number-bytes n) ≡ 8
 unfolding number-bytes
 number-length (whole n) = length-big-endian 8 n []
 
@@ -193,9 +194,22 @@ module _ (o : Options) where
 
 -- ---- the law
 
+-- outputs and numbers together
+whole-growth : (o : Options) (p : Page) → written-size (transform o p) ≤ 512 * length (encode p)
+unfolding transform encode page-row bytes
+whole-growth o p = omega (arith, visit-costs (module-cost o p) 1, length-bytes 0x01 [] (module-items-row p) end)
+
 pub growth : (o : Options) (p : Page) → length (bytes (templates-row (transform o p .templates))) + length (bytes (transform o p .value)) ≤ 512 * length (encode p)
-unfolding transform encode page-row bytes written-size templates-size
-growth o p = omega (arith, visit-costs (module-cost o p) 1, length-bytes 0x01 [] (module-items-row p) end)
+unfolding written-size templates-size
+growth o p = omega (arith, whole-growth o p)
+
+pub taken-growth : (o : Options) (p : Page) → transform o p .taken ≤ 512 * length (encode p)
+unfolding written-size
+taken-growth o p = omega (arith, whole-growth o p)
+
+-- an expression visited by itself
+pub expr-growth : (o : Options) (e : P.Expr) (n : ℕ) → written-size (visit-exprs (expr o e none) n) ≤ 512 * size (expr-row e end)
+expr-growth o e n = omega (arith, visit-costs (expr-cost o e none nothing-behind) n)
 
 -- the place of the templates is three bytes
 with-templates-growth : (ts : List Template) (r : Row) → size (with-templates ts r) ≤ size r + 3

@@ -22,3 +22,4 @@ pub mod Accept
 pub mod Cost
 pub mod CostWalk
 pub mod Growth
+pub mod Lenient
