@@ -1,5 +1,7 @@
 // A series of children. Fields that are no child are passed over, so that the fields behind an element's name may be given whole.
 ghost use mathlib.Core.Path.{_≡_};
+ghost use Prim.Native.Nat.{_≤_};
+ghost use lib.ListN.{length};
 ghost use Rattle.field.specs.Row.{read};
 ghost use Rattle.page.specs.Tree.{children-in};
 ghost use Rattle.decisions.specs.At.{FirstChild, few, becomes};
@@ -11,7 +13,7 @@ use text::jsx_text::is_blank;
 
 // From the first child on; empty where there is none.
 pub fn children_at(s: &[u8]) -> &[u8]
-    ensures { λ r. ⌜ FirstChild (now (s .entry)) (now r) ⌝ }
+    ensures { λ r. ⌜ FirstChild (now (s .entry)) (now r) × (length (now r) ≤ length (now (s .entry))) ⌝ }
 {
     let mut t = s;
     loop {

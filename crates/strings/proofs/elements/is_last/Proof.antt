@@ -8,7 +8,7 @@ children-at-requires : tie.Need-children-at-requires
 children-at-requires c κs = search needs
 
 returns : tie.Need-returns
-returns c = last-child (c .before .if1 .taken) (c .children-at .ensures)
+returns c = last-child (c .before .if1 .taken) (c .children-at .ensures .0)
 
 returns-2 : tie.Need-returns-2
 returns-2 c = search needs
