@@ -1,4 +1,4 @@
--- The table of marks, demand 3, acceptance, and how long the outputs are at most.
+-- The table of marks, demand 3, acceptance, how long the outputs are at most, and that as many templates are called as recorded.
 pub mod Marks
 pub mod Good
 pub mod Weight
@@ -23,3 +23,6 @@ pub mod Cost
 pub mod CostWalk
 pub mod Growth
 pub mod Lenient
+pub mod Calls
+pub mod CallsWalk
+pub mod Called

@@ -1,0 +1,216 @@
+-- What `children_todo` needs to meet its contract. Assumes nothing.
+use mathlib.Core.Path.{_≡_, refl, _∙_}
+use Prim.Native.Nat.{ℕ, _≤_}
+use native.Mathlib.Nat.{le-refl}
+use native.Mathlib.Omega.{arith}
+use lib.ListN.{length}
+use Rattle.field.proofs.FrontLaws.{body-less, behind-less}
+use Rattle.visits.proofs.TodoLaws.{kids-reach, container-front, spread-child-front, element-front, fragment-front, past-child, no-child}
+use Rattle.visits.proofs.calls.children_todo.Reads as children-todo
+use Rattle.visits.proofs.calls.+attrs_todo+children_todo+held_todo+page_attrs+page_call+page_element+page_entries+page_found+page_jsx+page_parts+page_props+tag_todo+visit_element+visit_expr+visit_found+visit_fragment+visit_given+visit_held+visit_items+visit_pieces+visit_template.Lts-children_todo as children-todo-lts
+use Rattle.visits.proofs.calls.held_todo.Reads as held-todo
+use Rattle.visits.proofs.calls.tag_todo.Reads as tag-todo
+use Rattle.field.proofs.reader.behind.Reads as behind-reads
+use Rattle.field.proofs.reader.body.Reads as body-reads
+use Rattle.field.proofs.reader.tag_at.Reads as tag-at-reads
+use Rattle.visits.proofs.calls.+attrs_todo+children_todo+held_todo+page_attrs+page_call+page_element+page_entries+page_found+page_jsx+page_parts+page_props+tag_todo+visit_element+visit_expr+visit_found+visit_fragment+visit_given+visit_held+visit_items+visit_pieces+visit_template.Proof.Cycle.{children-todo-at, held-todo-below, tag-todo-below}
+
+abbrev pub children-todo-calls : ℕ → children-todo-lts.Claims
+children-todo-calls t = (tag-at-reads.Asked, tag-at-reads.Learnt, body-reads.Asked, body-reads.Learnt, held-todo-below t, held-todo.Post, behind-reads.Asked, behind-reads.Learnt, tag-todo-below t, tag-todo.Post)
+
+abbrev pub children-todo-Inv-loop : children-todo-lts.InvT-loop
+children-todo-Inv-loop skip props s scratch₀ t₀ scratch t = (length scratch ≡ length scratch₀) × ((length t ≤ length s) × (kids-reach skip props t ≡ kids-reach skip props s))
+
+abbrev pub children-todo-μ-loop : children-todo-lts.MeasureT-loop
+children-todo-μ-loop skip props s scratch₀ t₀ scratch t = length t
+
+pub children-todo-loop-holds : (t : ℕ) → children-todo-lts.Need-loop-holds (children-todo-calls t) (children-todo-at t) children-todo.Post children-todo-Inv-loop children-todo-μ-loop
+children-todo-loop-holds t c = (refl, (le-refl _, refl))
+
+pub children-todo-tag-at-requires : (t : ℕ) → children-todo-lts.Need-tag-at-requires (children-todo-calls t) (children-todo-at t) children-todo.Post children-todo-Inv-loop children-todo-μ-loop
+children-todo-tag-at-requires t c κs = tt
+
+pub children-todo-body-requires : (t : ℕ) → children-todo-lts.Need-body-requires (children-todo-calls t) (children-todo-at t) children-todo.Post children-todo-Inv-loop children-todo-μ-loop
+children-todo-body-requires t c κs = tt
+
+pub children-todo-held-todo-requires : (t : ℕ) → children-todo-lts.Need-held-todo-requires (children-todo-calls t) (children-todo-at t) children-todo.Post children-todo-Inv-loop children-todo-μ-loop
+children-todo-held-todo-requires t c κs =
+    let i = c .before .before in
+    let s = i .before .before .loop in
+    let a = i .before .before .before .before .before .before .before in
+    let b = body-less _ _ (i .before .tag-at .ensures .0) (λ q. omega (arith, i .match .keys1)) (c .before .body .ensures) in
+    (omega (arith, b, s .inv .1 .0, a .pre .0), (omega (arith, s .inv .0, a .pre .1 .0), omega (arith, b, s .inv .1 .0, a .pre .1 .1)))
+
+pub children-todo-same-length : (t : ℕ) → children-todo-lts.Need-same-length (children-todo-calls t) (children-todo-at t) children-todo.Post children-todo-Inv-loop children-todo-μ-loop
+children-todo-same-length t c =
+    let i = c .before .before .before .before .before .before in
+    let s = i .before .before .loop in
+    c .before .before .before .held-todo .kept .1 .1 .1 .0 ∙ s .inv .0
+
+pub children-todo-returns : (t : ℕ) → children-todo-lts.Need-returns (children-todo-calls t) (children-todo-at t) children-todo.Post children-todo-Inv-loop children-todo-μ-loop
+children-todo-returns t c =
+    let i = c .before .before .before .before .before .before in
+    let s = i .before .before .loop in
+    container-front _ _ _ (i .before .tag-at .ensures .0) refl (c .before .before .before .before .before .body .ensures) (c .before .before .before .held-todo .ensures) (i .match .keys1) .reached (c .if1 .taken) ∙ s .inv .1 .1
+
+pub children-todo-behind-requires : (t : ℕ) → children-todo-lts.Need-behind-requires (children-todo-calls t) (children-todo-at t) children-todo.Post children-todo-Inv-loop children-todo-μ-loop
+children-todo-behind-requires t c κs = tt
+
+pub children-todo-loop-less : (t : ℕ) → children-todo-lts.Need-loop-less (children-todo-calls t) (children-todo-at t) children-todo.Post children-todo-Inv-loop children-todo-μ-loop
+children-todo-loop-less t c =
+    let i = c .before .before .before .before .before .before .before in
+    behind-less _ _ (i .before .tag-at .ensures .0) (λ q. omega (arith, i .match .keys1)) (c .behind .ensures)
+
+pub children-todo-loop-again : (t : ℕ) → children-todo-lts.Need-loop-again (children-todo-calls t) (children-todo-at t) children-todo.Post children-todo-Inv-loop children-todo-μ-loop
+children-todo-loop-again t c =
+    let i = c .before .before .before .before .before .before .before in
+    let s = i .before .before .loop in
+    (
+      c .before .before .before .before .held-todo .kept .1 .1 .1 .0 ∙ s .inv .0,
+      (
+        omega (arith, behind-less _ _ (i .before .tag-at .ensures .0) (λ q. omega (arith, i .match .keys1)) (c .behind .ensures), s .inv .1 .0),
+        container-front _ _ _ (i .before .tag-at .ensures .0) (c .behind .ensures) (c .before .before .before .before .before .before .body .ensures) (c .before .before .before .before .held-todo .ensures) (i .match .keys1) .past (c .before .if1 .left) ∙ s .inv .1 .1
+      )
+    )
+
+pub children-todo-body-requires-2 : (t : ℕ) → children-todo-lts.Need-body-requires-2 (children-todo-calls t) (children-todo-at t) children-todo.Post children-todo-Inv-loop children-todo-μ-loop
+children-todo-body-requires-2 t c κs = tt
+
+pub children-todo-held-todo-requires-2 : (t : ℕ) → children-todo-lts.Need-held-todo-requires-2 (children-todo-calls t) (children-todo-at t) children-todo.Post children-todo-Inv-loop children-todo-μ-loop
+children-todo-held-todo-requires-2 t c κs =
+    let i = c .before .before in
+    let s = i .before .before .loop in
+    let a = i .before .before .before .before .before .before .before in
+    let b = body-less _ _ (i .before .tag-at .ensures .0) (λ q. omega (arith, i .match .keys2)) (c .before .body2 .ensures) in
+    (omega (arith, b, s .inv .1 .0, a .pre .0), (omega (arith, s .inv .0, a .pre .1 .0), omega (arith, b, s .inv .1 .0, a .pre .1 .1)))
+
+pub children-todo-same-length-2 : (t : ℕ) → children-todo-lts.Need-same-length-2 (children-todo-calls t) (children-todo-at t) children-todo.Post children-todo-Inv-loop children-todo-μ-loop
+children-todo-same-length-2 t c =
+    let i = c .before .before .before .before .before .before in
+    let s = i .before .before .loop in
+    c .before .before .before .held-todo2 .kept .1 .1 .1 .0 ∙ s .inv .0
+
+pub children-todo-returns-2 : (t : ℕ) → children-todo-lts.Need-returns-2 (children-todo-calls t) (children-todo-at t) children-todo.Post children-todo-Inv-loop children-todo-μ-loop
+children-todo-returns-2 t c =
+    let i = c .before .before .before .before .before .before in
+    let s = i .before .before .loop in
+    spread-child-front _ _ _ (i .before .tag-at .ensures .0) refl (c .before .before .before .before .before .body2 .ensures) (c .before .before .before .held-todo2 .ensures) (i .match .keys2) .reached (c .if2 .taken) ∙ s .inv .1 .1
+
+pub children-todo-behind-requires-2 : (t : ℕ) → children-todo-lts.Need-behind-requires-2 (children-todo-calls t) (children-todo-at t) children-todo.Post children-todo-Inv-loop children-todo-μ-loop
+children-todo-behind-requires-2 t c κs = tt
+
+pub children-todo-loop-less-2 : (t : ℕ) → children-todo-lts.Need-loop-less-2 (children-todo-calls t) (children-todo-at t) children-todo.Post children-todo-Inv-loop children-todo-μ-loop
+children-todo-loop-less-2 t c =
+    let i = c .before .before .before .before .before .before .before in
+    behind-less _ _ (i .before .tag-at .ensures .0) (λ q. omega (arith, i .match .keys2)) (c .behind2 .ensures)
+
+pub children-todo-loop-again-2 : (t : ℕ) → children-todo-lts.Need-loop-again-2 (children-todo-calls t) (children-todo-at t) children-todo.Post children-todo-Inv-loop children-todo-μ-loop
+children-todo-loop-again-2 t c =
+    let i = c .before .before .before .before .before .before .before in
+    let s = i .before .before .loop in
+    (
+      c .before .before .before .before .held-todo2 .kept .1 .1 .1 .0 ∙ s .inv .0,
+      (
+        omega (arith, behind-less _ _ (i .before .tag-at .ensures .0) (λ q. omega (arith, i .match .keys2)) (c .behind2 .ensures), s .inv .1 .0),
+        spread-child-front _ _ _ (i .before .tag-at .ensures .0) (c .behind2 .ensures) (c .before .before .before .before .before .before .body2 .ensures) (c .before .before .before .before .held-todo2 .ensures) (i .match .keys2) .past (c .before .if2 .left) ∙ s .inv .1 .1
+      )
+    )
+
+pub children-todo-tag-todo-requires : (t : ℕ) → children-todo-lts.Need-tag-todo-requires (children-todo-calls t) (children-todo-at t) children-todo.Post children-todo-Inv-loop children-todo-μ-loop
+children-todo-tag-todo-requires t c κs =
+    let i = c .before in
+    let s = i .before .before .loop in
+    let a = i .before .before .before .before .before .before .before in
+    (omega (arith, s .inv .1 .0, a .pre .0), (omega (arith, s .inv .0, a .pre .1 .0), omega (arith, s .inv .1 .0, a .pre .1 .1)))
+
+pub children-todo-same-length-3 : (t : ℕ) → children-todo-lts.Need-same-length-3 (children-todo-calls t) (children-todo-at t) children-todo.Post children-todo-Inv-loop children-todo-μ-loop
+children-todo-same-length-3 t c =
+    let i = c .before .before .before .before .before in
+    let s = i .before .before .loop in
+    c .before .before .before .tag-todo .kept .1 .1 .1 .0 ∙ s .inv .0
+
+pub children-todo-returns-3 : (t : ℕ) → children-todo-lts.Need-returns-3 (children-todo-calls t) (children-todo-at t) children-todo.Post children-todo-Inv-loop children-todo-μ-loop
+children-todo-returns-3 t c =
+    let i = c .before .before .before .before .before in
+    let s = i .before .before .loop in
+    element-front _ _ _ (i .before .tag-at .ensures .0) refl (c .before .before .before .tag-todo .ensures) (i .match .keys3) .reached (c .if3 .taken) ∙ s .inv .1 .1
+
+pub children-todo-behind-requires-3 : (t : ℕ) → children-todo-lts.Need-behind-requires-3 (children-todo-calls t) (children-todo-at t) children-todo.Post children-todo-Inv-loop children-todo-μ-loop
+children-todo-behind-requires-3 t c κs = tt
+
+pub children-todo-loop-less-3 : (t : ℕ) → children-todo-lts.Need-loop-less-3 (children-todo-calls t) (children-todo-at t) children-todo.Post children-todo-Inv-loop children-todo-μ-loop
+children-todo-loop-less-3 t c =
+    let i = c .before .before .before .before .before .before in
+    behind-less _ _ (i .before .tag-at .ensures .0) (λ q. omega (arith, i .match .keys3)) (c .behind3 .ensures)
+
+pub children-todo-loop-again-3 : (t : ℕ) → children-todo-lts.Need-loop-again-3 (children-todo-calls t) (children-todo-at t) children-todo.Post children-todo-Inv-loop children-todo-μ-loop
+children-todo-loop-again-3 t c =
+    let i = c .before .before .before .before .before .before in
+    let s = i .before .before .loop in
+    (
+      c .before .before .before .before .tag-todo .kept .1 .1 .1 .0 ∙ s .inv .0,
+      (
+        omega (arith, behind-less _ _ (i .before .tag-at .ensures .0) (λ q. omega (arith, i .match .keys3)) (c .behind3 .ensures), s .inv .1 .0),
+        element-front _ _ _ (i .before .tag-at .ensures .0) (c .behind3 .ensures) (c .before .before .before .before .tag-todo .ensures) (i .match .keys3) .past (c .before .if3 .left) ∙ s .inv .1 .1
+      )
+    )
+
+pub children-todo-tag-todo-requires-2 : (t : ℕ) → children-todo-lts.Need-tag-todo-requires-2 (children-todo-calls t) (children-todo-at t) children-todo.Post children-todo-Inv-loop children-todo-μ-loop
+children-todo-tag-todo-requires-2 t c κs =
+    let i = c .before in
+    let s = i .before .before .loop in
+    let a = i .before .before .before .before .before .before .before in
+    (omega (arith, s .inv .1 .0, a .pre .0), (omega (arith, s .inv .0, a .pre .1 .0), omega (arith, s .inv .1 .0, a .pre .1 .1)))
+
+pub children-todo-same-length-4 : (t : ℕ) → children-todo-lts.Need-same-length-4 (children-todo-calls t) (children-todo-at t) children-todo.Post children-todo-Inv-loop children-todo-μ-loop
+children-todo-same-length-4 t c =
+    let i = c .before .before .before .before .before in
+    let s = i .before .before .loop in
+    c .before .before .before .tag-todo2 .kept .1 .1 .1 .0 ∙ s .inv .0
+
+pub children-todo-returns-4 : (t : ℕ) → children-todo-lts.Need-returns-4 (children-todo-calls t) (children-todo-at t) children-todo.Post children-todo-Inv-loop children-todo-μ-loop
+children-todo-returns-4 t c =
+    let i = c .before .before .before .before .before in
+    let s = i .before .before .loop in
+    fragment-front _ _ _ (i .before .tag-at .ensures .0) refl (c .before .before .before .tag-todo2 .ensures) (i .match .keys4) .reached (c .if4 .taken) ∙ s .inv .1 .1
+
+pub children-todo-behind-requires-4 : (t : ℕ) → children-todo-lts.Need-behind-requires-4 (children-todo-calls t) (children-todo-at t) children-todo.Post children-todo-Inv-loop children-todo-μ-loop
+children-todo-behind-requires-4 t c κs = tt
+
+pub children-todo-loop-less-4 : (t : ℕ) → children-todo-lts.Need-loop-less-4 (children-todo-calls t) (children-todo-at t) children-todo.Post children-todo-Inv-loop children-todo-μ-loop
+children-todo-loop-less-4 t c =
+    let i = c .before .before .before .before .before .before in
+    behind-less _ _ (i .before .tag-at .ensures .0) (λ q. omega (arith, i .match .keys4)) (c .behind4 .ensures)
+
+pub children-todo-loop-again-4 : (t : ℕ) → children-todo-lts.Need-loop-again-4 (children-todo-calls t) (children-todo-at t) children-todo.Post children-todo-Inv-loop children-todo-μ-loop
+children-todo-loop-again-4 t c =
+    let i = c .before .before .before .before .before .before in
+    let s = i .before .before .loop in
+    (
+      c .before .before .before .before .tag-todo2 .kept .1 .1 .1 .0 ∙ s .inv .0,
+      (
+        omega (arith, behind-less _ _ (i .before .tag-at .ensures .0) (λ q. omega (arith, i .match .keys4)) (c .behind4 .ensures), s .inv .1 .0),
+        fragment-front _ _ _ (i .before .tag-at .ensures .0) (c .behind4 .ensures) (c .before .before .before .before .tag-todo2 .ensures) (i .match .keys4) .past (c .before .if4 .left) ∙ s .inv .1 .1
+      )
+    )
+
+pub children-todo-same-length-5 : (t : ℕ) → children-todo-lts.Need-same-length-5 (children-todo-calls t) (children-todo-at t) children-todo.Post children-todo-Inv-loop children-todo-μ-loop
+children-todo-same-length-5 t c = c .before .before .loop .inv .0
+
+pub children-todo-returns-5 : (t : ℕ) → children-todo-lts.Need-returns-5 (children-todo-calls t) (children-todo-at t) children-todo.Post children-todo-Inv-loop children-todo-μ-loop
+children-todo-returns-5 t c = no-child _ _ _ (c .before .tag-at .ensures .1 (c .match .keys5)) ∙ c .before .before .loop .inv .1 .1
+
+pub children-todo-behind-requires-5 : (t : ℕ) → children-todo-lts.Need-behind-requires-5 (children-todo-calls t) (children-todo-at t) children-todo.Post children-todo-Inv-loop children-todo-μ-loop
+children-todo-behind-requires-5 t c κs = tt
+
+pub children-todo-loop-less-5 : (t : ℕ) → children-todo-lts.Need-loop-less-5 (children-todo-calls t) (children-todo-at t) children-todo.Post children-todo-Inv-loop children-todo-μ-loop
+children-todo-loop-less-5 t c =
+    let i = c .before in
+    behind-less _ _ (i .before .tag-at .ensures .0) (i .match .rest .1) (c .behind5 .ensures)
+
+pub children-todo-loop-again-5 : (t : ℕ) → children-todo-lts.Need-loop-again-5 (children-todo-calls t) (children-todo-at t) children-todo.Post children-todo-Inv-loop children-todo-μ-loop
+children-todo-loop-again-5 t c =
+    let i = c .before in
+    let s = i .before .before .loop in
+    let n = i .match .rest in
+    (s .inv .0, (omega (arith, behind-less _ _ (i .before .tag-at .ensures .0) (n .1) (c .behind5 .ensures), s .inv .1 .0), past-child _ _ _ (i .before .tag-at .ensures .0) (c .behind5 .ensures) (n .1) (n .0 .0 .0 .0 .1) (n .0 .0 .0 .1) (n .0 .0 .1) (n .0 .1) ∙ s .inv .1 .1))
