@@ -5,22 +5,22 @@
 use mathlib.Core.Path.{_≡_, refl, sym, ap, _∙_, subst}
 use Prim.Native.Nat.{ℕ, _+_, _*_, _≤_, _<_, _^_}
 use native.Mathlib.Omega.{arith}
-use mathlib.Core.List.{List, [], _∷_}
+use mathlib.Core.List.{List, _∷_}
 use mathlib.Core.Bool.{Bool, true, false, _||_}
 use lib.ListN.{length}
 use borrow.Author.Tests.{ne-eqb}
 use Rattle.field.specs.Bytes.{Bytes}
-use Rattle.field.specs.Row.{Row, end, loose, field, read, bytes, Ended}
+use Rattle.field.specs.Row.{Row, read, bytes, Ended}
 use Rattle.field.specs.Front.{tag-of, body-of, behind-of}
 use Rattle.names.specs.Names.{AttrName}
 use Rattle.page.specs.Page as P
 use Rattle.page.specs.Page.{Options}
-use Rattle.page.specs.Tree.{choose, expr-by, Contained, nothing-contained, contained, attr-name-in, value-in, attributes-in, children-in, contained-in, expr-in, element-in}
-use Rattle.spec.specs.Pass.{Mid, none, Raw, pure, both}
+use Rattle.page.specs.Tree.{choose, expr-by, Contained, nothing-contained, contained, attr-name-in, value-in, contained-in, expr-in}
+use Rattle.spec.specs.Pass.{Mid, none, Raw, pure}
 use Rattle.spec.specs.Merge as M
 use Rattle.spec.specs.Attributes as A
 use Rattle.spec.specs.Visit.{visit-exprs, reaches-todo, attributes-reach-todo, children-reach-todo}
-use Rattle.spec.specs.Transform.{templates-row, element-of, fragment-of, element-raw, fragment-raw, raw-tag, value, attributes, children, expr}
+use Rattle.spec.specs.Transform.{templates-row, element-of, fragment-of, element-raw, fragment-raw, value, attributes, children, expr}
 use Rattle.spec.proofs.Lenient.{lenient-growth, nothing-growth}
 use Rattle.decisions.specs.At.{opts, element-at, attributes-at, children-at}
 use Rattle.decisions.proofs.Laws.{raw-element, raw-fragment}

@@ -40,50 +40,58 @@ attrs-todo-key-held-requires t c κs = tt
 
 pub attrs-todo-held-todo-requires : (t : ℕ) → attrs-todo-lts.Need-held-todo-requires (attrs-todo-calls t) (attrs-todo-at t) attrs-todo.Post attrs-todo-Inv-loop attrs-todo-μ-loop
 attrs-todo-held-todo-requires t c κs =
-    let i = c .before .before .before in
+    let d = c .before .before in
+    let i = d .before in
     let s = i .before .before .loop in
     let a = i .before .before .before .before .before .before .before in
-    let b = body-less _ _ (i .before .tag-at .ensures .0) (λ q. omega (arith, i .match .keys1)) (c .before .before .body .ensures) in
-    let k = c .before .key-held .ensures .1 in
-    (omega (arith, k, b, s .inv .1 .0, a .pre .0), (omega (arith, s .inv .0, a .pre .1 .0), omega (arith, k, b, s .inv .1 .0, a .pre .1 .1)))
+    let b = body-less _ _ (i .before .tag-at .ensures .0) (λ q. omega (arith, i .match .keys1)) (d .body .ensures) in
+    let l = c .before .key-held .ensures .1 in
+    (omega (arith, l, b, s .inv .1 .0, a .pre .0), (omega (arith, s .inv .0, a .pre .1 .0), omega (arith, l, b, s .inv .1 .0, a .pre .1 .1)))
 
 pub attrs-todo-same-length : (t : ℕ) → attrs-todo-lts.Need-same-length (attrs-todo-calls t) (attrs-todo-at t) attrs-todo.Post attrs-todo-Inv-loop attrs-todo-μ-loop
-attrs-todo-same-length t c =
-    let i = c .before .before .before .before .before .before .before in
-    let s = i .before .before .loop in
-    c .before .before .before .held-todo .kept .1 .1 .1 .0 ∙ s .inv .0
+attrs-todo-same-length t c = c .before .before .before .held-todo .kept .1 .1 .1 .0 ∙ c .before .before .before .before .before .before .before .before .before .loop .inv .0
 
 pub attrs-todo-returns : (t : ℕ) → attrs-todo-lts.Need-returns (attrs-todo-calls t) (attrs-todo-at t) attrs-todo.Post attrs-todo-Inv-loop attrs-todo-μ-loop
 attrs-todo-returns t c =
-    let i = c .before .before .before .before .before .before .before in
-    let s = i .before .before .loop in
+    let h = c .before .before .before in
+    let k = h .before .before in
+    let d = k .before in
+    let i = d .before in
     let a = i .before .before .before .before .before .before .before in
-    attribute-front (a .args .skip .now) (a .args .props .now) _ (i .before .tag-at .ensures .0) refl (i .match .keys1) (c .before .before .before .before .before .before .body .ensures) (c .before .before .before .before .before .key-held .ensures .0 (a .args .skip .now) (a .args .props .now)) (c .before .before .before .held-todo .ensures) .reached (c .if1 .taken) ∙ s .inv .1 .1
+    attribute-front _ _ _ (i .before .tag-at .ensures .0) refl (i .match .keys1) (d .body .ensures) (k .key-held .ensures .0 (a .args .skip .now) (a .args .props .now)) (h .held-todo .ensures) .reached (c .if1 .taken) ∙ i .before .before .loop .inv .1 .1
 
 pub attrs-todo-tag-value-requires : (t : ℕ) → attrs-todo-lts.Need-tag-value-requires (attrs-todo-calls t) (attrs-todo-at t) attrs-todo.Post attrs-todo-Inv-loop attrs-todo-μ-loop
 attrs-todo-tag-value-requires t c κs = tt
 
 pub attrs-todo-tag-todo-requires : (t : ℕ) → attrs-todo-lts.Need-tag-todo-requires (attrs-todo-calls t) (attrs-todo-at t) attrs-todo.Post attrs-todo-Inv-loop attrs-todo-μ-loop
 attrs-todo-tag-todo-requires t c κs =
-    let i = c .before .before .before .before .before .before .before .before .before in
+    let v = c .before in
+    let h = v .before .before .before .before in
+    let k = h .before .before in
+    let d = k .before in
+    let i = d .before in
     let s = i .before .before .loop in
     let a = i .before .before .before .before .before .before .before in
-    let b = body-less _ _ (i .before .tag-at .ensures .0) (λ q. omega (arith, i .match .keys1)) (c .before .before .before .before .before .before .before .before .body .ensures) in
-    let v = c .before .tag-value .ensures .1 in
-    (omega (arith, v, b, s .inv .1 .0, a .pre .0), (omega (arith, c .before .before .before .before .before .held-todo .kept .1 .1 .1 .0, s .inv .0, a .pre .1 .0), omega (arith, v, b, s .inv .1 .0, a .pre .1 .1)))
+    let b = body-less _ _ (i .before .tag-at .ensures .0) (λ q. omega (arith, i .match .keys1)) (d .body .ensures) in
+    let l = v .tag-value .ensures .1 in
+    (omega (arith, l, b, s .inv .1 .0, a .pre .0), (omega (arith, h .held-todo .kept .1 .1 .1 .0, s .inv .0, a .pre .1 .0), omega (arith, l, b, s .inv .1 .0, a .pre .1 .1)))
 
 pub attrs-todo-same-length-2 : (t : ℕ) → attrs-todo-lts.Need-same-length-2 (attrs-todo-calls t) (attrs-todo-at t) attrs-todo.Post attrs-todo-Inv-loop attrs-todo-μ-loop
 attrs-todo-same-length-2 t c =
-    let i = c .before .before .before .before .before .before .before .before .before .before .before .before .before in
-    let s = i .before .before .loop in
-    c .before .before .before .tag-todo .kept .1 .1 .1 .0 ∙ (c .before .before .before .before .before .before .before .before .before .held-todo .kept .1 .1 .1 .0 ∙ s .inv .0)
+    let y = c .before .before .before in
+    let h = y .before .before .before .before .before .before in
+    y .tag-todo .kept .1 .1 .1 .0 ∙ (h .held-todo .kept .1 .1 .1 .0 ∙ h .before .before .before .before .before .before .loop .inv .0)
 
 pub attrs-todo-returns-2 : (t : ℕ) → attrs-todo-lts.Need-returns-2 (attrs-todo-calls t) (attrs-todo-at t) attrs-todo.Post attrs-todo-Inv-loop attrs-todo-μ-loop
 attrs-todo-returns-2 t c =
-    let i = c .before .before .before .before .before .before .before .before .before .before .before .before .before in
-    let s = i .before .before .loop in
+    let y = c .before .before .before in
+    let v = y .before .before in
+    let h = v .before .before .before .before in
+    let k = h .before .before in
+    let d = k .before in
+    let i = d .before in
     let a = i .before .before .before .before .before .before .before in
-    value-front (a .args .skip .now) (a .args .props .now) _ (i .before .tag-at .ensures .0) refl (i .match .keys1) (c .before .before .before .before .before .before .before .before .before .before .before .before .body .ensures) (c .before .before .before .before .before .before .before .before .before .before .before .key-held .ensures .0 (a .args .skip .now) (a .args .props .now)) (c .before .before .before .before .before .before .before .before .before .held-todo .ensures) (c .before .before .before .before .before .before .if1 .left) (c .before .before .before .tag-todo .ensures ∙ c .before .before .before .before .before .tag-value .ensures .0 (a .args .skip .now) (a .args .props .now)) .reached (c .if2 .taken) ∙ s .inv .1 .1
+    value-front _ _ _ (i .before .tag-at .ensures .0) refl (i .match .keys1) (d .body .ensures) (k .key-held .ensures .0 (a .args .skip .now) (a .args .props .now)) (h .held-todo .ensures) (v .before .if1 .left) (y .tag-todo .ensures ∙ v .tag-value .ensures .0 (a .args .skip .now) (a .args .props .now)) .reached (c .if2 .taken) ∙ i .before .before .loop .inv .1 .1
 
 pub attrs-todo-behind-requires : (t : ℕ) → attrs-todo-lts.Need-behind-requires (attrs-todo-calls t) (attrs-todo-at t) attrs-todo.Post attrs-todo-Inv-loop attrs-todo-μ-loop
 attrs-todo-behind-requires t c κs = tt
@@ -95,14 +103,19 @@ attrs-todo-loop-less t c =
 
 pub attrs-todo-loop-again : (t : ℕ) → attrs-todo-lts.Need-loop-again (attrs-todo-calls t) (attrs-todo-at t) attrs-todo.Post attrs-todo-Inv-loop attrs-todo-μ-loop
 attrs-todo-loop-again t c =
-    let i = c .before .before .before .before .before .before .before .before .before .before .before .before .before .before in
+    let y = c .before .before .before .before in
+    let v = y .before .before in
+    let h = v .before .before .before .before in
+    let k = h .before .before in
+    let d = k .before in
+    let i = d .before in
     let s = i .before .before .loop in
     let a = i .before .before .before .before .before .before .before in
     (
-      c .before .before .before .before .tag-todo .kept .1 .1 .1 .0 ∙ (c .before .before .before .before .before .before .before .before .before .before .held-todo .kept .1 .1 .1 .0 ∙ s .inv .0),
+      y .tag-todo .kept .1 .1 .1 .0 ∙ (h .held-todo .kept .1 .1 .1 .0 ∙ s .inv .0),
       (
         omega (arith, behind-less _ _ (i .before .tag-at .ensures .0) (λ q. omega (arith, i .match .keys1)) (c .behind .ensures), s .inv .1 .0),
-        value-front (a .args .skip .now) (a .args .props .now) _ (i .before .tag-at .ensures .0) (c .behind .ensures) (i .match .keys1) (c .before .before .before .before .before .before .before .before .before .before .before .before .before .body .ensures) (c .before .before .before .before .before .before .before .before .before .before .before .before .key-held .ensures .0 (a .args .skip .now) (a .args .props .now)) (c .before .before .before .before .before .before .before .before .before .before .held-todo .ensures) (c .before .before .before .before .before .before .before .if1 .left) (c .before .before .before .before .tag-todo .ensures ∙ c .before .before .before .before .before .before .tag-value .ensures .0 (a .args .skip .now) (a .args .props .now)) .past (c .before .if2 .left) ∙ s .inv .1 .1
+        value-front _ _ _ (i .before .tag-at .ensures .0) (c .behind .ensures) (i .match .keys1) (d .body .ensures) (k .key-held .ensures .0 (a .args .skip .now) (a .args .props .now)) (h .held-todo .ensures) (v .before .if1 .left) (y .tag-todo .ensures ∙ v .tag-value .ensures .0 (a .args .skip .now) (a .args .props .now)) .past (c .before .if2 .left) ∙ s .inv .1 .1
       )
     )
 
@@ -111,23 +124,22 @@ attrs-todo-body-requires-2 t c κs = tt
 
 pub attrs-todo-held-todo-requires-2 : (t : ℕ) → attrs-todo-lts.Need-held-todo-requires-2 (attrs-todo-calls t) (attrs-todo-at t) attrs-todo.Post attrs-todo-Inv-loop attrs-todo-μ-loop
 attrs-todo-held-todo-requires-2 t c κs =
-    let i = c .before .before in
+    let d = c .before in
+    let i = d .before in
     let s = i .before .before .loop in
     let a = i .before .before .before .before .before .before .before in
-    let b = body-less _ _ (i .before .tag-at .ensures .0) (λ q. omega (arith, i .match .keys2)) (c .before .body2 .ensures) in
+    let b = body-less _ _ (i .before .tag-at .ensures .0) (λ q. omega (arith, i .match .keys2)) (d .body2 .ensures) in
     (omega (arith, b, s .inv .1 .0, a .pre .0), (omega (arith, s .inv .0, a .pre .1 .0), omega (arith, b, s .inv .1 .0, a .pre .1 .1)))
 
 pub attrs-todo-same-length-3 : (t : ℕ) → attrs-todo-lts.Need-same-length-3 (attrs-todo-calls t) (attrs-todo-at t) attrs-todo.Post attrs-todo-Inv-loop attrs-todo-μ-loop
-attrs-todo-same-length-3 t c =
-    let i = c .before .before .before .before .before .before in
-    let s = i .before .before .loop in
-    c .before .before .before .held-todo2 .kept .1 .1 .1 .0 ∙ s .inv .0
+attrs-todo-same-length-3 t c = c .before .before .before .held-todo2 .kept .1 .1 .1 .0 ∙ c .before .before .before .before .before .before .before .before .loop .inv .0
 
 pub attrs-todo-returns-3 : (t : ℕ) → attrs-todo-lts.Need-returns-3 (attrs-todo-calls t) (attrs-todo-at t) attrs-todo.Post attrs-todo-Inv-loop attrs-todo-μ-loop
 attrs-todo-returns-3 t c =
-    let i = c .before .before .before .before .before .before in
-    let s = i .before .before .loop in
-    spread-front _ _ _ (i .before .tag-at .ensures .0) refl (i .match .keys2) (c .before .before .before .before .before .body2 .ensures) (c .before .before .before .held-todo2 .ensures) .reached (c .if3 .taken) ∙ s .inv .1 .1
+    let h = c .before .before .before in
+    let d = h .before .before in
+    let i = d .before in
+    spread-front _ _ _ (i .before .tag-at .ensures .0) refl (i .match .keys2) (d .body2 .ensures) (h .held-todo2 .ensures) .reached (c .if3 .taken) ∙ i .before .before .loop .inv .1 .1
 
 pub attrs-todo-behind-requires-2 : (t : ℕ) → attrs-todo-lts.Need-behind-requires-2 (attrs-todo-calls t) (attrs-todo-at t) attrs-todo.Post attrs-todo-Inv-loop attrs-todo-μ-loop
 attrs-todo-behind-requires-2 t c κs = tt
@@ -139,13 +151,15 @@ attrs-todo-loop-less-2 t c =
 
 pub attrs-todo-loop-again-2 : (t : ℕ) → attrs-todo-lts.Need-loop-again-2 (attrs-todo-calls t) (attrs-todo-at t) attrs-todo.Post attrs-todo-Inv-loop attrs-todo-μ-loop
 attrs-todo-loop-again-2 t c =
-    let i = c .before .before .before .before .before .before .before in
+    let h = c .before .before .before .before in
+    let d = h .before .before in
+    let i = d .before in
     let s = i .before .before .loop in
     (
-      c .before .before .before .before .held-todo2 .kept .1 .1 .1 .0 ∙ s .inv .0,
+      h .held-todo2 .kept .1 .1 .1 .0 ∙ s .inv .0,
       (
         omega (arith, behind-less _ _ (i .before .tag-at .ensures .0) (λ q. omega (arith, i .match .keys2)) (c .behind2 .ensures), s .inv .1 .0),
-        spread-front _ _ _ (i .before .tag-at .ensures .0) (c .behind2 .ensures) (i .match .keys2) (c .before .before .before .before .before .before .body2 .ensures) (c .before .before .before .before .held-todo2 .ensures) .past (c .before .if3 .left) ∙ s .inv .1 .1
+        spread-front _ _ _ (i .before .tag-at .ensures .0) (c .behind2 .ensures) (i .match .keys2) (d .body2 .ensures) (h .held-todo2 .ensures) .past (c .before .if3 .left) ∙ s .inv .1 .1
       )
     )
 

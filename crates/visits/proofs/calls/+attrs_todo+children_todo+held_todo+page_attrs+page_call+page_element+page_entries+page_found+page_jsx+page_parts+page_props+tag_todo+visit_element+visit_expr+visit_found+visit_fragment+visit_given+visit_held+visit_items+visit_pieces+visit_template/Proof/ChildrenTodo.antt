@@ -35,23 +35,22 @@ children-todo-body-requires t c κs = tt
 
 pub children-todo-held-todo-requires : (t : ℕ) → children-todo-lts.Need-held-todo-requires (children-todo-calls t) (children-todo-at t) children-todo.Post children-todo-Inv-loop children-todo-μ-loop
 children-todo-held-todo-requires t c κs =
-    let i = c .before .before in
+    let d = c .before in
+    let i = d .before in
     let s = i .before .before .loop in
     let a = i .before .before .before .before .before .before .before in
-    let b = body-less _ _ (i .before .tag-at .ensures .0) (λ q. omega (arith, i .match .keys1)) (c .before .body .ensures) in
+    let b = body-less _ _ (i .before .tag-at .ensures .0) (λ q. omega (arith, i .match .keys1)) (d .body .ensures) in
     (omega (arith, b, s .inv .1 .0, a .pre .0), (omega (arith, s .inv .0, a .pre .1 .0), omega (arith, b, s .inv .1 .0, a .pre .1 .1)))
 
 pub children-todo-same-length : (t : ℕ) → children-todo-lts.Need-same-length (children-todo-calls t) (children-todo-at t) children-todo.Post children-todo-Inv-loop children-todo-μ-loop
-children-todo-same-length t c =
-    let i = c .before .before .before .before .before .before in
-    let s = i .before .before .loop in
-    c .before .before .before .held-todo .kept .1 .1 .1 .0 ∙ s .inv .0
+children-todo-same-length t c = c .before .before .before .held-todo .kept .1 .1 .1 .0 ∙ c .before .before .before .before .before .before .before .before .loop .inv .0
 
 pub children-todo-returns : (t : ℕ) → children-todo-lts.Need-returns (children-todo-calls t) (children-todo-at t) children-todo.Post children-todo-Inv-loop children-todo-μ-loop
 children-todo-returns t c =
-    let i = c .before .before .before .before .before .before in
-    let s = i .before .before .loop in
-    container-front _ _ _ (i .before .tag-at .ensures .0) refl (c .before .before .before .before .before .body .ensures) (c .before .before .before .held-todo .ensures) (i .match .keys1) .reached (c .if1 .taken) ∙ s .inv .1 .1
+    let h = c .before .before .before in
+    let d = h .before .before in
+    let i = d .before in
+    container-front _ _ _ (i .before .tag-at .ensures .0) refl (d .body .ensures) (h .held-todo .ensures) (i .match .keys1) .reached (c .if1 .taken) ∙ i .before .before .loop .inv .1 .1
 
 pub children-todo-behind-requires : (t : ℕ) → children-todo-lts.Need-behind-requires (children-todo-calls t) (children-todo-at t) children-todo.Post children-todo-Inv-loop children-todo-μ-loop
 children-todo-behind-requires t c κs = tt
@@ -63,13 +62,15 @@ children-todo-loop-less t c =
 
 pub children-todo-loop-again : (t : ℕ) → children-todo-lts.Need-loop-again (children-todo-calls t) (children-todo-at t) children-todo.Post children-todo-Inv-loop children-todo-μ-loop
 children-todo-loop-again t c =
-    let i = c .before .before .before .before .before .before .before in
+    let h = c .before .before .before .before in
+    let d = h .before .before in
+    let i = d .before in
     let s = i .before .before .loop in
     (
-      c .before .before .before .before .held-todo .kept .1 .1 .1 .0 ∙ s .inv .0,
+      h .held-todo .kept .1 .1 .1 .0 ∙ s .inv .0,
       (
         omega (arith, behind-less _ _ (i .before .tag-at .ensures .0) (λ q. omega (arith, i .match .keys1)) (c .behind .ensures), s .inv .1 .0),
-        container-front _ _ _ (i .before .tag-at .ensures .0) (c .behind .ensures) (c .before .before .before .before .before .before .body .ensures) (c .before .before .before .before .held-todo .ensures) (i .match .keys1) .past (c .before .if1 .left) ∙ s .inv .1 .1
+        container-front _ _ _ (i .before .tag-at .ensures .0) (c .behind .ensures) (d .body .ensures) (h .held-todo .ensures) (i .match .keys1) .past (c .before .if1 .left) ∙ s .inv .1 .1
       )
     )
 
@@ -78,23 +79,22 @@ children-todo-body-requires-2 t c κs = tt
 
 pub children-todo-held-todo-requires-2 : (t : ℕ) → children-todo-lts.Need-held-todo-requires-2 (children-todo-calls t) (children-todo-at t) children-todo.Post children-todo-Inv-loop children-todo-μ-loop
 children-todo-held-todo-requires-2 t c κs =
-    let i = c .before .before in
+    let d = c .before in
+    let i = d .before in
     let s = i .before .before .loop in
     let a = i .before .before .before .before .before .before .before in
-    let b = body-less _ _ (i .before .tag-at .ensures .0) (λ q. omega (arith, i .match .keys2)) (c .before .body2 .ensures) in
+    let b = body-less _ _ (i .before .tag-at .ensures .0) (λ q. omega (arith, i .match .keys2)) (d .body2 .ensures) in
     (omega (arith, b, s .inv .1 .0, a .pre .0), (omega (arith, s .inv .0, a .pre .1 .0), omega (arith, b, s .inv .1 .0, a .pre .1 .1)))
 
 pub children-todo-same-length-2 : (t : ℕ) → children-todo-lts.Need-same-length-2 (children-todo-calls t) (children-todo-at t) children-todo.Post children-todo-Inv-loop children-todo-μ-loop
-children-todo-same-length-2 t c =
-    let i = c .before .before .before .before .before .before in
-    let s = i .before .before .loop in
-    c .before .before .before .held-todo2 .kept .1 .1 .1 .0 ∙ s .inv .0
+children-todo-same-length-2 t c = c .before .before .before .held-todo2 .kept .1 .1 .1 .0 ∙ c .before .before .before .before .before .before .before .before .loop .inv .0
 
 pub children-todo-returns-2 : (t : ℕ) → children-todo-lts.Need-returns-2 (children-todo-calls t) (children-todo-at t) children-todo.Post children-todo-Inv-loop children-todo-μ-loop
 children-todo-returns-2 t c =
-    let i = c .before .before .before .before .before .before in
-    let s = i .before .before .loop in
-    spread-child-front _ _ _ (i .before .tag-at .ensures .0) refl (c .before .before .before .before .before .body2 .ensures) (c .before .before .before .held-todo2 .ensures) (i .match .keys2) .reached (c .if2 .taken) ∙ s .inv .1 .1
+    let h = c .before .before .before in
+    let d = h .before .before in
+    let i = d .before in
+    spread-child-front _ _ _ (i .before .tag-at .ensures .0) refl (d .body2 .ensures) (h .held-todo2 .ensures) (i .match .keys2) .reached (c .if2 .taken) ∙ i .before .before .loop .inv .1 .1
 
 pub children-todo-behind-requires-2 : (t : ℕ) → children-todo-lts.Need-behind-requires-2 (children-todo-calls t) (children-todo-at t) children-todo.Post children-todo-Inv-loop children-todo-μ-loop
 children-todo-behind-requires-2 t c κs = tt
@@ -106,13 +106,15 @@ children-todo-loop-less-2 t c =
 
 pub children-todo-loop-again-2 : (t : ℕ) → children-todo-lts.Need-loop-again-2 (children-todo-calls t) (children-todo-at t) children-todo.Post children-todo-Inv-loop children-todo-μ-loop
 children-todo-loop-again-2 t c =
-    let i = c .before .before .before .before .before .before .before in
+    let h = c .before .before .before .before in
+    let d = h .before .before in
+    let i = d .before in
     let s = i .before .before .loop in
     (
-      c .before .before .before .before .held-todo2 .kept .1 .1 .1 .0 ∙ s .inv .0,
+      h .held-todo2 .kept .1 .1 .1 .0 ∙ s .inv .0,
       (
         omega (arith, behind-less _ _ (i .before .tag-at .ensures .0) (λ q. omega (arith, i .match .keys2)) (c .behind2 .ensures), s .inv .1 .0),
-        spread-child-front _ _ _ (i .before .tag-at .ensures .0) (c .behind2 .ensures) (c .before .before .before .before .before .before .body2 .ensures) (c .before .before .before .before .held-todo2 .ensures) (i .match .keys2) .past (c .before .if2 .left) ∙ s .inv .1 .1
+        spread-child-front _ _ _ (i .before .tag-at .ensures .0) (c .behind2 .ensures) (d .body2 .ensures) (h .held-todo2 .ensures) (i .match .keys2) .past (c .before .if2 .left) ∙ s .inv .1 .1
       )
     )
 
@@ -124,16 +126,13 @@ children-todo-tag-todo-requires t c κs =
     (omega (arith, s .inv .1 .0, a .pre .0), (omega (arith, s .inv .0, a .pre .1 .0), omega (arith, s .inv .1 .0, a .pre .1 .1)))
 
 pub children-todo-same-length-3 : (t : ℕ) → children-todo-lts.Need-same-length-3 (children-todo-calls t) (children-todo-at t) children-todo.Post children-todo-Inv-loop children-todo-μ-loop
-children-todo-same-length-3 t c =
-    let i = c .before .before .before .before .before in
-    let s = i .before .before .loop in
-    c .before .before .before .tag-todo .kept .1 .1 .1 .0 ∙ s .inv .0
+children-todo-same-length-3 t c = c .before .before .before .tag-todo .kept .1 .1 .1 .0 ∙ c .before .before .before .before .before .before .before .loop .inv .0
 
 pub children-todo-returns-3 : (t : ℕ) → children-todo-lts.Need-returns-3 (children-todo-calls t) (children-todo-at t) children-todo.Post children-todo-Inv-loop children-todo-μ-loop
 children-todo-returns-3 t c =
-    let i = c .before .before .before .before .before in
-    let s = i .before .before .loop in
-    element-front _ _ _ (i .before .tag-at .ensures .0) refl (c .before .before .before .tag-todo .ensures) (i .match .keys3) .reached (c .if3 .taken) ∙ s .inv .1 .1
+    let h = c .before .before .before in
+    let i = h .before .before in
+    element-front _ _ _ (i .before .tag-at .ensures .0) refl (h .tag-todo .ensures) (i .match .keys3) .reached (c .if3 .taken) ∙ i .before .before .loop .inv .1 .1
 
 pub children-todo-behind-requires-3 : (t : ℕ) → children-todo-lts.Need-behind-requires-3 (children-todo-calls t) (children-todo-at t) children-todo.Post children-todo-Inv-loop children-todo-μ-loop
 children-todo-behind-requires-3 t c κs = tt
@@ -145,13 +144,14 @@ children-todo-loop-less-3 t c =
 
 pub children-todo-loop-again-3 : (t : ℕ) → children-todo-lts.Need-loop-again-3 (children-todo-calls t) (children-todo-at t) children-todo.Post children-todo-Inv-loop children-todo-μ-loop
 children-todo-loop-again-3 t c =
-    let i = c .before .before .before .before .before .before in
+    let h = c .before .before .before .before in
+    let i = h .before .before in
     let s = i .before .before .loop in
     (
-      c .before .before .before .before .tag-todo .kept .1 .1 .1 .0 ∙ s .inv .0,
+      h .tag-todo .kept .1 .1 .1 .0 ∙ s .inv .0,
       (
         omega (arith, behind-less _ _ (i .before .tag-at .ensures .0) (λ q. omega (arith, i .match .keys3)) (c .behind3 .ensures), s .inv .1 .0),
-        element-front _ _ _ (i .before .tag-at .ensures .0) (c .behind3 .ensures) (c .before .before .before .before .tag-todo .ensures) (i .match .keys3) .past (c .before .if3 .left) ∙ s .inv .1 .1
+        element-front _ _ _ (i .before .tag-at .ensures .0) (c .behind3 .ensures) (h .tag-todo .ensures) (i .match .keys3) .past (c .before .if3 .left) ∙ s .inv .1 .1
       )
     )
 
@@ -163,16 +163,13 @@ children-todo-tag-todo-requires-2 t c κs =
     (omega (arith, s .inv .1 .0, a .pre .0), (omega (arith, s .inv .0, a .pre .1 .0), omega (arith, s .inv .1 .0, a .pre .1 .1)))
 
 pub children-todo-same-length-4 : (t : ℕ) → children-todo-lts.Need-same-length-4 (children-todo-calls t) (children-todo-at t) children-todo.Post children-todo-Inv-loop children-todo-μ-loop
-children-todo-same-length-4 t c =
-    let i = c .before .before .before .before .before in
-    let s = i .before .before .loop in
-    c .before .before .before .tag-todo2 .kept .1 .1 .1 .0 ∙ s .inv .0
+children-todo-same-length-4 t c = c .before .before .before .tag-todo2 .kept .1 .1 .1 .0 ∙ c .before .before .before .before .before .before .before .loop .inv .0
 
 pub children-todo-returns-4 : (t : ℕ) → children-todo-lts.Need-returns-4 (children-todo-calls t) (children-todo-at t) children-todo.Post children-todo-Inv-loop children-todo-μ-loop
 children-todo-returns-4 t c =
-    let i = c .before .before .before .before .before in
-    let s = i .before .before .loop in
-    fragment-front _ _ _ (i .before .tag-at .ensures .0) refl (c .before .before .before .tag-todo2 .ensures) (i .match .keys4) .reached (c .if4 .taken) ∙ s .inv .1 .1
+    let h = c .before .before .before in
+    let i = h .before .before in
+    fragment-front _ _ _ (i .before .tag-at .ensures .0) refl (h .tag-todo2 .ensures) (i .match .keys4) .reached (c .if4 .taken) ∙ i .before .before .loop .inv .1 .1
 
 pub children-todo-behind-requires-4 : (t : ℕ) → children-todo-lts.Need-behind-requires-4 (children-todo-calls t) (children-todo-at t) children-todo.Post children-todo-Inv-loop children-todo-μ-loop
 children-todo-behind-requires-4 t c κs = tt
@@ -184,13 +181,14 @@ children-todo-loop-less-4 t c =
 
 pub children-todo-loop-again-4 : (t : ℕ) → children-todo-lts.Need-loop-again-4 (children-todo-calls t) (children-todo-at t) children-todo.Post children-todo-Inv-loop children-todo-μ-loop
 children-todo-loop-again-4 t c =
-    let i = c .before .before .before .before .before .before in
+    let h = c .before .before .before .before in
+    let i = h .before .before in
     let s = i .before .before .loop in
     (
-      c .before .before .before .before .tag-todo2 .kept .1 .1 .1 .0 ∙ s .inv .0,
+      h .tag-todo2 .kept .1 .1 .1 .0 ∙ s .inv .0,
       (
         omega (arith, behind-less _ _ (i .before .tag-at .ensures .0) (λ q. omega (arith, i .match .keys4)) (c .behind4 .ensures), s .inv .1 .0),
-        fragment-front _ _ _ (i .before .tag-at .ensures .0) (c .behind4 .ensures) (c .before .before .before .before .tag-todo2 .ensures) (i .match .keys4) .past (c .before .if4 .left) ∙ s .inv .1 .1
+        fragment-front _ _ _ (i .before .tag-at .ensures .0) (c .behind4 .ensures) (h .tag-todo2 .ensures) (i .match .keys4) .past (c .before .if4 .left) ∙ s .inv .1 .1
       )
     )
 
@@ -213,4 +211,10 @@ children-todo-loop-again-5 t c =
     let i = c .before in
     let s = i .before .before .loop in
     let n = i .match .rest in
-    (s .inv .0, (omega (arith, behind-less _ _ (i .before .tag-at .ensures .0) (n .1) (c .behind5 .ensures), s .inv .1 .0), past-child _ _ _ (i .before .tag-at .ensures .0) (c .behind5 .ensures) (n .1) (n .0 .0 .0 .0 .1) (n .0 .0 .0 .1) (n .0 .0 .1) (n .0 .1) ∙ s .inv .1 .1))
+    (
+      s .inv .0,
+      (
+        omega (arith, behind-less _ _ (i .before .tag-at .ensures .0) (n .1) (c .behind5 .ensures), s .inv .1 .0),
+        past-child _ _ _ (i .before .tag-at .ensures .0) (c .behind5 .ensures) (n .1) (n .0 .0 .0 .0 .1) (n .0 .0 .0 .1) (n .0 .0 .1) (n .0 .1) ∙ s .inv .1 .1
+      )
+    )

@@ -30,7 +30,7 @@ held-todo-fresh-requires t c κs = tt
 pub held-todo-visit-held-requires : (t : ℕ) → held-todo-lts.Need-visit-held-requires (held-todo-calls t) (held-todo-at t) held-todo.Post
 held-todo-visit-held-requires t c κs =
     let a = c .before .before .before .before .before .before .before .before in
-    (omega (arith, a .pre .0), record { desk = a .pre .1 .0; short = a .pre .1 .1; low = todo-low (a .args .skip .now) (a .args .props .now) (a .args .c .now) _ _ (c .fresh .ensures) (a .pre .1 .1) })
+    (omega (arith, a .pre .0), record { desk = a .pre .1 .0; short = a .pre .1 .1; low = todo-low _ _ _ _ _ (c .fresh .ensures) (a .pre .1 .1) })
 
 pub held-todo-same-length : (t : ℕ) → held-todo-lts.Need-same-length (held-todo-calls t) (held-todo-at t) held-todo.Post
 held-todo-same-length t c = c .before .before .before .before .before .visit-held .kept .1 .1 .1 .0
@@ -38,5 +38,4 @@ held-todo-same-length t c = c .before .before .before .before .before .visit-hel
 pub held-todo-returns : (t : ℕ) → held-todo-lts.Need-returns (held-todo-calls t) (held-todo-at t) held-todo.Post
 held-todo-returns t c =
     let v = c .before .before .before .before .before in
-    let a = v .before .before .before .before .before .before .before .before .before in
-    todo-seen (a .args .skip .now) (a .args .props .now) (a .args .c .now) _ _ (v .before .fresh .ensures) (v .visit-held .ensures)
+    todo-seen _ _ _ _ _ (v .before .fresh .ensures) (v .visit-held .ensures)

@@ -28,27 +28,32 @@ tag-todo-behind-requires t c κs = tt
 
 pub tag-todo-attrs-todo-requires : (t : ℕ) → tag-todo-lts.Need-attrs-todo-requires (tag-todo-calls t) (tag-todo-at t) tag-todo.Post
 tag-todo-attrs-todo-requires t c κs =
-    let i = c .before .before in
+    let r = c .before in
+    let i = r .before in
     let a = i .before .before .before .before .before .before .before in
     let b = body-less _ _ (i .before .tag-at .ensures .0) (λ q. omega (arith, i .match .keys1)) (i .before .before .body .ensures) in
-    let r = behind-le (i .before .before .body .result .now) (c .before .behind .ensures) in
-    (omega (arith, r, b, a .pre .0), (a .pre .1 .0, omega (arith, r, b, a .pre .1 .1)))
+    let l = behind-le (i .before .before .body .result .now) (r .behind .ensures) in
+    (omega (arith, l, b, a .pre .0), (a .pre .1 .0, omega (arith, l, b, a .pre .1 .1)))
 
 pub tag-todo-same-length : (t : ℕ) → tag-todo-lts.Need-same-length (tag-todo-calls t) (tag-todo-at t) tag-todo.Post
 tag-todo-same-length t c = c .before .before .before .attrs-todo .kept .1 .1 .1 .0
 
 pub tag-todo-returns : (t : ℕ) → tag-todo-lts.Need-returns (tag-todo-calls t) (tag-todo-at t) tag-todo.Post
 tag-todo-returns t c =
-    let i = c .before .before .before .before .before .before in
-    tag-element _ _ _ (i .before .tag-at .ensures .0) (i .match .keys1) (i .before .before .body .ensures) (c .before .before .before .before .before .behind .ensures) (c .before .before .before .attrs-todo .ensures) .reached (c .if1 .taken)
+    let h = c .before .before .before in
+    let r = h .before .before in
+    let i = r .before in
+    tag-element _ _ _ (i .before .tag-at .ensures .0) (i .match .keys1) (i .before .before .body .ensures) (r .behind .ensures) (h .attrs-todo .ensures) .reached (c .if1 .taken)
 
 pub tag-todo-children-todo-requires : (t : ℕ) → tag-todo-lts.Need-children-todo-requires (tag-todo-calls t) (tag-todo-at t) tag-todo.Post
 tag-todo-children-todo-requires t c κs =
-    let i = c .before .before .before .before .before .before .before in
+    let h = c .before .before .before .before in
+    let r = h .before .before in
+    let i = r .before in
     let a = i .before .before .before .before .before .before .before in
     let b = body-less _ _ (i .before .tag-at .ensures .0) (λ q. omega (arith, i .match .keys1)) (i .before .before .body .ensures) in
-    let r = behind-le (i .before .before .body .result .now) (c .before .before .before .before .before .before .behind .ensures) in
-    (omega (arith, r, b, a .pre .0), (omega (arith, a .pre .1 .0, c .before .before .before .before .attrs-todo .kept .1 .1 .1 .0), omega (arith, r, b, a .pre .1 .1)))
+    let l = behind-le (i .before .before .body .result .now) (r .behind .ensures) in
+    (omega (arith, l, b, a .pre .0), (omega (arith, a .pre .1 .0, h .attrs-todo .kept .1 .1 .1 .0), omega (arith, l, b, a .pre .1 .1)))
 
 pub tag-todo-children-todo-requires-2 : (t : ℕ) → tag-todo-lts.Need-children-todo-requires-2 (tag-todo-calls t) (tag-todo-at t) tag-todo.Post
 tag-todo-children-todo-requires-2 t c κs =
@@ -62,17 +67,20 @@ tag-todo-same-length-2 t c = c .before .before .children-todo .kept .1 .1 .1 .0 
 
 pub tag-todo-returns-2 : (t : ℕ) → tag-todo-lts.Need-returns-2 (tag-todo-calls t) (tag-todo-at t) tag-todo.Post
 tag-todo-returns-2 t c =
-    let i = c .before .before .before .before .before .before .before .before .before .before in
-    c .before .before .children-todo .ensures
-    ∙ tag-element _ _ _ (i .before .tag-at .ensures .0) (i .match .keys1) (i .before .before .body .ensures) (c .before .before .before .before .before .before .before .before .before .behind .ensures) (c .before .before .before .before .before .before .before .attrs-todo .ensures) .past (c .before .before .before .before .if1 .left)
+    let k = c .before .before in
+    let h = k .before .before .before .before .before in
+    let r = h .before .before in
+    let i = r .before in
+    k .children-todo .ensures ∙ tag-element _ _ _ (i .before .tag-at .ensures .0) (i .match .keys1) (i .before .before .body .ensures) (r .behind .ensures) (h .attrs-todo .ensures) .past (k .before .before .if1 .left)
 
 pub tag-todo-same-length-3 : (t : ℕ) → tag-todo-lts.Need-same-length-3 (tag-todo-calls t) (tag-todo-at t) tag-todo.Post
 tag-todo-same-length-3 t c = c .before .before .children-todo2 .kept .1 .1 .1 .0
 
 pub tag-todo-returns-3 : (t : ℕ) → tag-todo-lts.Need-returns-3 (tag-todo-calls t) (tag-todo-at t) tag-todo.Post
 tag-todo-returns-3 t c =
-    let i = c .before .before .before .before in
-    c .before .before .children-todo2 .ensures ∙ tag-fragment _ _ _ (i .before .tag-at .ensures .0) (i .match .keys2) (i .before .before .body .ensures)
+    let k = c .before .before in
+    let i = k .before .before in
+    k .children-todo2 .ensures ∙ tag-fragment _ _ _ (i .before .tag-at .ensures .0) (i .match .keys2) (i .before .before .body .ensures)
 
 pub tag-todo-returns-4 : (t : ℕ) → tag-todo-lts.Need-returns-4 (tag-todo-calls t) (tag-todo-at t) tag-todo.Post
 tag-todo-returns-4 t c = tag-none _ _ _ (c .before .tag-at .ensures .0) (c .match .rest .0 .1) (c .match .rest .1)
