@@ -131,13 +131,12 @@ module _ (skip s : Bytes) {n : ℕ} (c : n ≡ few (children-in (read s))) where
     unfolding few children children-to-expr one-child
     found-30 k = (
       stands-room s at a stands-at,
-      λ props.
-          (
-            alone props (P.tag-child (element-in (read (body-of a))) P.no-children) (only (P.tag-child (element-in (read (body-of a)))) (children-30 a u e k) refl)
+      λ props. (
+        alone props (P.tag-child (element-in (read (body-of a))) P.no-children) (only (P.tag-child (element-in (read (body-of a)))) (children-30 a u e k) refl)
             ∙ (ap one-child (child-element skip props (body-of a))
             ∙ ap (λ (x : Bytes). M.one-found (element-entry skip props x)) (sym (stands-part s at a stands-at))),
-            ap tag-of (stands-part s at a stands-at) ∙ sym e ∙ k,
-          ),
+        ap tag-of (stands-part s at a stands-at) ∙ sym e ∙ k,
+      ),
     )
 
     -- a spread is dropped

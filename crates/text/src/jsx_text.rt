@@ -1,7 +1,7 @@
-// The text of a JSX text child (jsx_text_to_str) and an attribute string of a call (normalize_lit_str). Both walk the lines by line_at
+// The text of a JSX text child (jsx_text_to_str) and an attribute string of a call (normalize_lit_str). Both walk the lines by read_line
 // and write each line as it comes, so that no text is held in between.
 use crate::escape::put_escaped;
-use crate::lines::line_at;
+use crate::lines::read_line;
 use crate::trim::trim_end;
 use crate::trim::trim_start;
 use field::writer::put_byte;
@@ -64,7 +64,7 @@ pub fn jsx_text_to_str(out: &mut [u8], at: usize, s: &[u8], escape: bool, last: 
     let mut a = at;
     let mut i: usize = 0;
     while i < n {
-        let line = line_at(s, i);
+        let line = read_line(s, i);
         let end = line.end;
         let next = line.next;
         if end == i {
@@ -85,7 +85,7 @@ pub fn is_blank(s: &[u8], last: bool) -> bool
     let n = s.len();
     let mut i: usize = 0;
     while i < n {
-        let line = line_at(s, i);
+        let line = read_line(s, i);
         let end = line.end;
         let next = line.next;
         if end == i {
@@ -121,7 +121,7 @@ pub fn normalize_lit_str(out: &mut [u8], at: usize, s: &[u8]) -> usize
     let mut a = at;
     let mut i: usize = 0;
     while i < n {
-        let line = line_at(s, i);
+        let line = read_line(s, i);
         let end = line.end;
         let next = line.next;
         let t = trim_line(&s[i..end], true, false);

@@ -1,4 +1,5 @@
-// str::lines by places: callers walk a text line by line through line_at alone.
+// str::lines by places. Callers walk a text line by line through read_line alone, and it through a reader that holds the text and a
+// place. No function over such a struct is covered by the borrow checker, so those here are thin, and line_at does the work.
 ghost use mathlib.Core.Path.{_≡_};
 ghost use Prim.Native.Nat.{_+_, _≤_};
 ghost use lib.ListN.{length, take, drop};
@@ -55,7 +56,7 @@ fn find_lf(s: &[u8], at: usize) -> usize
 }
 
 // The line that begins at a place.
-pub fn line_at(s: &[u8], at: usize) -> Line
+fn line_at(s: &[u8], at: usize) -> Line
     ensures { λ r. ⌜ r ≡ line-at (now (s .entry)) at ⌝ }
 {
     let n = s.len();
@@ -83,4 +84,29 @@ pub fn line_at(s: &[u8], at: usize) -> Line
         end: lf,
         next: lf + 1,
     }
+}
+
+// A text, and the place in it where the next line begins.
+struct Lines<'a> {
+    text: &'a [u8],
+    place: usize,
+}
+
+fn reader_at<'a>(text: &'a [u8], place: usize) -> Lines<'a>
+    ensures { λ r. ⌜ (r .text ≡ text .entry) × (r .place ≡ place) ⌝ }
+{
+    Lines { text, place }
+}
+
+fn next_line<'a>(r: Lines<'a>) -> Line
+    ensures { λ l. ⌜ l ≡ line-at (now (r .entry .text)) (r .entry .place) ⌝ }
+{
+    line_at(r.text, r.place)
+}
+
+// The parameters are plain, so its callers are covered.
+pub fn read_line(s: &[u8], at: usize) -> Line
+    ensures { λ r. ⌜ r ≡ line-at (now (s .entry)) at ⌝ }
+{
+    next_line(reader_at(s, at))
 }

@@ -543,11 +543,12 @@ module _ (skip props : Bytes) (norm : Bool) (s : Bytes) (n : ℕ) (e : n ≡ tag
 
         pub prop-back-page : plan-by 0x96 (λ b. b) u (attr-name-in (read a)) A.absent .stands ≡ true → w .st .page + 3 ≤ x₂ .page
         prop-back-page y =
-            omega
-            (arith,
-            front-page plan w (stands-text 0x96 normalize-lit-str (λ b. b) u attr-name held-value A.absent ∙ y),
-            see-grows (plan .held) (plan-front plan w) .g-page,
-            ap (λ (x : World). x .st .page) (e₂ ∙ inner-is))
+            omega (
+              arith,
+              front-page plan w (stands-text 0x96 normalize-lit-str (λ b. b) u attr-name held-value A.absent ∙ y),
+              see-grows (plan .held) (plan-front plan w) .g-page,
+              ap (λ (x : World). x .st .page) (e₂ ∙ inner-is),
+            )
 
         pub prop-back-room : Low (total .st) → Low (plan-back (plan-by 0x96 (λ b. b) u (attr-name-in (read a)) A.absent) (w .st .page) (at [] p₂ x₂) .st)
         prop-back-room l = subst Low (sym (ap (λ (x : World). x .st) back-is)) (prop-low l)

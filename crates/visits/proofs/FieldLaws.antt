@@ -138,11 +138,10 @@ module _ (b : Bool) (t : ℕ) (F : World → World) (grows : Growing F) (o p : B
 
     module _ (o′ q : Bytes) (x : Walk) (e₂ : at o′ q x ≡ F (at o p r)) where
       pub field-if-close : Low (total .st) → (b ≡ true → st .page + 3 ≤ x .page) × Low x
-      field-if-close l =
-          (
-            λ h. omega (arith, begun-if-page b (at o p st) h, grows (begun-if b (at o p st)) .g-page, ap (λ (y : World). y .st .page) (e₂ ∙ ap F (lift-begun-if o b p st r e₁))),
-            low-is e₂ (field-if-inner l)
-          )
+      field-if-close l = (
+        λ h. omega (arith, begun-if-page b (at o p st) h, grows (begun-if b (at o p st)) .g-page, ap (λ (y : World). y .st .page) (e₂ ∙ ap F (lift-begun-if o b p st r e₁))),
+        low-is e₂ (field-if-inner l),
+      )
 
       pub field-if-done : (q′ : Bytes) (y : Walk) → at [] q′ y ≡ wrap-if b t (st .page) (at [] q x) → at o′ q′ y ≡ total
       field-if-done q′ y e₃ = lift-wrap-if o′ q q′ x y b t (st .page) e₃ ∙ ap (wrap-if b t (st .page)) (e₂ ∙ ap F (lift-begun-if o b p st r e₁)) ∙ sym is
@@ -150,7 +149,6 @@ module _ (b : Bool) (t : ℕ) (F : World → World) (grows : Growing F) (o p : B
 -- ---- a field with something in front: `begin`, what writes m, F, `close`. What writes m shows it of page out alone
 
 module _ (t : ℕ) (m : Mid) (h : plain m ≡ true) (F : World → World) (grows : Growing F) (o p : Bytes) (st : Walk) (total : World) (is : total ≡ wrap t (st .page) (F (see m (begun (at o p st))))) where
-
   pub fronted-begin : Low (total .st) → st .page + 3 < 2 ^ 63
   fronted-begin l =
       let k = low-back (see-grows m (begun (at o p st))) (started-low t (st .page) (see m (begun (at o p st))) F grows total is l) in
@@ -183,34 +181,30 @@ module _ (t : ℕ) (m : Mid) (h : plain m ≡ true) (F : World → World) (grows
 
 module _ (o p o′ p′ : Bytes) (s r : Walk) where
   pub see-kept : (m : Mid) → at o′ p′ r ≡ see m (at o p s) → (length o′ ≡ length o) × (length p′ ≡ length p)
-  see-kept m e =
-      (
-        ap (λ (x : World). length (x .templates)) e ∙ see-templates-length m (at o p s),
-        ap (λ (x : World). length (x .page)) e ∙ see-page-length m (at o p s)
-      )
+  see-kept m e = (
+    ap (λ (x : World). length (x .templates)) e ∙ see-templates-length m (at o p s),
+    ap (λ (x : World). length (x .page)) e ∙ see-page-length m (at o p s),
+  )
 
   pub act-kept : (m : Pass Mid) → at o′ p′ r ≡ act m (at o p s) → (length o′ ≡ length o) × (length p′ ≡ length p)
-  act-kept m e =
-      (
-        ap (λ (x : World). length (x .templates)) e ∙ act-templates-length m (at o p s),
-        ap (λ (x : World). length (x .page)) e ∙ act-page-length m (at o p s)
-      )
+  act-kept m e = (
+    ap (λ (x : World). length (x .templates)) e ∙ act-templates-length m (at o p s),
+    ap (λ (x : World). length (x .page)) e ∙ act-page-length m (at o p s),
+  )
 
 -- between the start of a loop and any turn of it
 module _ (o p o₀ p₀ : Bytes) (s s₀ : Walk) where
   pub kept-since : (m m₀ : Mid) → see m (at o p s) ≡ see m₀ (at o₀ p₀ s₀) → (length o ≡ length o₀) × (length p ≡ length p₀)
-  kept-since m m₀ e =
-      (
-        sym (see-templates-length m (at o p s)) ∙ ap (λ (x : World). length (x .templates)) e ∙ see-templates-length m₀ (at o₀ p₀ s₀),
-        sym (see-page-length m (at o p s)) ∙ ap (λ (x : World). length (x .page)) e ∙ see-page-length m₀ (at o₀ p₀ s₀)
-      )
+  kept-since m m₀ e = (
+    sym (see-templates-length m (at o p s)) ∙ ap (λ (x : World). length (x .templates)) e ∙ see-templates-length m₀ (at o₀ p₀ s₀),
+    sym (see-page-length m (at o p s)) ∙ ap (λ (x : World). length (x .page)) e ∙ see-page-length m₀ (at o₀ p₀ s₀),
+  )
 
   pub act-kept-since : (m m₀ : Pass Mid) → act m (at o p s) ≡ act m₀ (at o₀ p₀ s₀) → (length o ≡ length o₀) × (length p ≡ length p₀)
-  act-kept-since m m₀ e =
-      (
-        sym (act-templates-length m (at o p s)) ∙ ap (λ (x : World). length (x .templates)) e ∙ act-templates-length m₀ (at o₀ p₀ s₀),
-        sym (act-page-length m (at o p s)) ∙ ap (λ (x : World). length (x .page)) e ∙ act-page-length m₀ (at o₀ p₀ s₀)
-      )
+  act-kept-since m m₀ e = (
+    sym (act-templates-length m (at o p s)) ∙ ap (λ (x : World). length (x .templates)) e ∙ act-templates-length m₀ (at o₀ p₀ s₀),
+    sym (act-page-length m (at o p s)) ∙ ap (λ (x : World). length (x .page)) e ∙ act-page-length m₀ (at o₀ p₀ s₀),
+  )
 
 -- ---- room of a part: scratch keeps its length, the part is no longer, and no more is written
 

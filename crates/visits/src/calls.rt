@@ -68,7 +68,15 @@ use walk::state::literal_leaf;
 use walk::state::text_leaf;
 
 // visit_mut_expr on the expression in front.
-fn visit_expr<'a>(skip: &'a [u8], props: &'a [u8], s: &'a [u8], scratch: &mut [u8], templates: &mut [u8], page: &mut [u8], st: Walk) -> Walk
+fn visit_expr<'a>(
+    skip: &'a [u8],
+    props: &'a [u8],
+    s: &'a [u8],
+    scratch: &mut [u8],
+    templates: &mut [u8],
+    page: &mut [u8],
+    st: Walk,
+) -> Walk
     requires { ⌜ Room (now scratch) (now s) (see (expr-at (now skip) (now props) (now s)) (at (now templates) (now page) st)) ⌝ }
     ensures { λ r. ⌜ at (now (templates .exit)) (now (page .exit)) r ≡ see (expr-at (now (skip .entry)) (now (props .entry)) (now (s .entry))) (at (now (templates .entry)) (now (page .entry)) st) ⌝ }
 {
@@ -90,7 +98,15 @@ fn visit_expr<'a>(skip: &'a [u8], props: &'a [u8], s: &'a [u8], scratch: &mut [u
 }
 
 // The same of an expression in braces, where there is one.
-fn visit_held<'a>(skip: &'a [u8], props: &'a [u8], c: &'a [u8], scratch: &mut [u8], templates: &mut [u8], page: &mut [u8], st: Walk) -> Walk
+fn visit_held<'a>(
+    skip: &'a [u8],
+    props: &'a [u8],
+    c: &'a [u8],
+    scratch: &mut [u8],
+    templates: &mut [u8],
+    page: &mut [u8],
+    st: Walk,
+) -> Walk
     requires { ⌜ Room (now scratch) (now c) (see (held-at (now skip) (now props) (now c)) (at (now templates) (now page) st)) ⌝ }
     ensures { λ r. ⌜ at (now (templates .exit)) (now (page .exit)) r ≡ see (held-at (now (skip .entry)) (now (props .entry)) (now (c .entry))) (at (now (templates .entry)) (now (page .entry)) st) ⌝ }
 {
@@ -101,7 +117,15 @@ fn visit_held<'a>(skip: &'a [u8], props: &'a [u8], c: &'a [u8], scratch: &mut [u
 }
 
 // An array's elements.
-fn visit_items<'a>(skip: &'a [u8], props: &'a [u8], s: &'a [u8], scratch: &mut [u8], templates: &mut [u8], page: &mut [u8], st: Walk) -> Walk
+fn visit_items<'a>(
+    skip: &'a [u8],
+    props: &'a [u8],
+    s: &'a [u8],
+    scratch: &mut [u8],
+    templates: &mut [u8],
+    page: &mut [u8],
+    st: Walk,
+) -> Walk
     requires { ⌜ Room (now scratch) (now s) (see (items-at (now skip) (now props) (now s)) (at (now templates) (now page) st)) ⌝ }
     ensures { λ r. ⌜ at (now (templates .exit)) (now (page .exit)) r ≡ see (items-at (now (skip .entry)) (now (props .entry)) (now (s .entry))) (at (now (templates .entry)) (now (page .entry)) st) ⌝ }
 {
@@ -134,7 +158,15 @@ fn visit_items<'a>(skip: &'a [u8], props: &'a [u8], s: &'a [u8], scratch: &mut [
 }
 
 // Pieces of source and the tags between them.
-pub fn visit_pieces<'a>(skip: &'a [u8], props: &'a [u8], s: &'a [u8], scratch: &mut [u8], templates: &mut [u8], page: &mut [u8], st: Walk) -> Walk
+pub fn visit_pieces<'a>(
+    skip: &'a [u8],
+    props: &'a [u8],
+    s: &'a [u8],
+    scratch: &mut [u8],
+    templates: &mut [u8],
+    page: &mut [u8],
+    st: Walk,
+) -> Walk
     requires { ⌜ Room (now scratch) (now s) (see (pieces-at (now skip) (now props) (now s)) (at (now templates) (now page) st)) ⌝ }
     ensures { λ r. ⌜ at (now (templates .exit)) (now (page .exit)) r ≡ see (pieces-at (now (skip .entry)) (now (props .entry)) (now (s .entry))) (at (now (templates .entry)) (now (page .entry)) st) ⌝ }
 {
@@ -169,7 +201,15 @@ pub fn visit_pieces<'a>(skip: &'a [u8], props: &'a [u8], s: &'a [u8], scratch: &
 }
 
 // An element as an expression: its templates are recorded, and then both passes run with the numbers behind them.
-fn visit_element<'a>(skip: &'a [u8], props: &'a [u8], b: &'a [u8], scratch: &mut [u8], templates: &mut [u8], page: &mut [u8], st: Walk) -> Walk
+fn visit_element<'a>(
+    skip: &'a [u8],
+    props: &'a [u8],
+    b: &'a [u8],
+    scratch: &mut [u8],
+    templates: &mut [u8],
+    page: &mut [u8],
+    st: Walk,
+) -> Walk
     requires { ⌜ Room (now scratch) (now b) (see (element-mid (now skip) (now props) (now b)) (at (now templates) (now page) st)) ⌝ }
     ensures { λ r. ⌜ at (now (templates .exit)) (now (page .exit)) r ≡ see (element-mid (now (skip .entry)) (now (props .entry)) (now (b .entry))) (at (now (templates .entry)) (now (page .entry)) st) ⌝ }
 {
@@ -180,7 +220,15 @@ fn visit_element<'a>(skip: &'a [u8], props: &'a [u8], b: &'a [u8], scratch: &mut
 }
 
 // A fragment's children as a template.
-fn visit_template<'a>(skip: &'a [u8], props: &'a [u8], s: &'a [u8], scratch: &mut [u8], templates: &mut [u8], page: &mut [u8], st: Walk) -> Walk
+fn visit_template<'a>(
+    skip: &'a [u8],
+    props: &'a [u8],
+    s: &'a [u8],
+    scratch: &mut [u8],
+    templates: &mut [u8],
+    page: &mut [u8],
+    st: Walk,
+) -> Walk
     requires { ⌜ Room (now scratch) (now s) (see (raw (record { visited = visit-after (gen-template (children-to-string false (children-at (now skip) (now props) (read (now s))))); unimplemented-inside = false }) none) (at (now templates) (now page) st)) ⌝ }
     ensures { λ r. ⌜ at (now (templates .exit)) (now (page .exit)) r ≡ see (raw (record { visited = visit-after (gen-template (children-to-string false (children-at (now (skip .entry)) (now (props .entry)) (read (now (s .entry)))))); unimplemented-inside = false }) none) (at (now (templates .entry)) (now (page .entry)) st) ⌝ }
 {
@@ -194,7 +242,15 @@ fn visit_template<'a>(skip: &'a [u8], props: &'a [u8], s: &'a [u8], scratch: &mu
 }
 
 // A fragment as an expression.
-fn visit_fragment<'a>(skip: &'a [u8], props: &'a [u8], s: &'a [u8], scratch: &mut [u8], templates: &mut [u8], page: &mut [u8], st: Walk) -> Walk
+fn visit_fragment<'a>(
+    skip: &'a [u8],
+    props: &'a [u8],
+    s: &'a [u8],
+    scratch: &mut [u8],
+    templates: &mut [u8],
+    page: &mut [u8],
+    st: Walk,
+) -> Walk
     requires { ⌜ Room (now scratch) (now s) (see (fragment-mid (now skip) (now props) (now s)) (at (now templates) (now page) st)) ⌝ }
     ensures { λ r. ⌜ at (now (templates .exit)) (now (page .exit)) r ≡ see (fragment-mid (now (skip .entry)) (now (props .entry)) (now (s .entry))) (at (now (templates .entry)) (now (page .entry)) st) ⌝ }
 {
@@ -218,7 +274,15 @@ fn visit_fragment<'a>(skip: &'a [u8], props: &'a [u8], s: &'a [u8], scratch: &mu
 }
 
 // A fragment in a fragment, by its children: a tag that they give, or nothing, is left.
-fn visit_found<'a>(skip: &'a [u8], props: &'a [u8], s: &'a [u8], scratch: &mut [u8], templates: &mut [u8], page: &mut [u8], st: Walk) -> Walk
+fn visit_found<'a>(
+    skip: &'a [u8],
+    props: &'a [u8],
+    s: &'a [u8],
+    scratch: &mut [u8],
+    templates: &mut [u8],
+    page: &mut [u8],
+    st: Walk,
+) -> Walk
     requires { ⌜ Room (now scratch) (now s) (see (raw (record { visited = visit-found (children-reach-todo (children-at (now skip) (now props) (read (now s)))) (children-to-expr (children-at (now skip) (now props) (read (now s)))); unimplemented-inside = false }) none) (at (now templates) (now page) st)) ⌝ }
     ensures { λ r. ⌜ at (now (templates .exit)) (now (page .exit)) r ≡ see (raw (record { visited = visit-found (children-reach-todo (children-at (now (skip .entry)) (now (props .entry)) (read (now (s .entry))))) (children-to-expr (children-at (now (skip .entry)) (now (props .entry)) (read (now (s .entry))))); unimplemented-inside = false }) none) (at (now (templates .entry)) (now (page .entry)) st) ⌝ }
 {
@@ -242,18 +306,45 @@ fn visit_found<'a>(skip: &'a [u8], props: &'a [u8], s: &'a [u8], scratch: &mut [
 }
 
 // What the children give, where it is no tag.
-fn visit_given<'a>(skip: &'a [u8], props: &'a [u8], s: &'a [u8], f: Found, scratch: &mut [u8], templates: &mut [u8], page: &mut [u8], st: Walk) -> Walk
+fn visit_given<'a>(
+    skip: &'a [u8],
+    props: &'a [u8],
+    s: &'a [u8],
+    f: Found,
+    scratch: &mut [u8],
+    templates: &mut [u8],
+    page: &mut [u8],
+    st: Walk,
+) -> Walk
     requires { ⌜ (Given (now skip) (now props) (now s) f × Untagged (now skip) (now props) (now s) f) × Room (now scratch) (now s) (see (raw (record { visited = visit-after (found-pass (children-to-expr (children-at (now skip) (now props) (read (now s))))); unimplemented-inside = false }) none) (at (now templates) (now page) st)) ⌝ }
     ensures { λ r. ⌜ at (now (templates .exit)) (now (page .exit)) r ≡ see (raw (record { visited = visit-after (found-pass (children-to-expr (children-at (now (skip .entry)) (now (props .entry)) (read (now (s .entry)))))); unimplemented-inside = false }) none) (at (now (templates .entry)) (now (page .entry)) st) ⌝ }
 {
     let first = st.first;
     let k = record_found(skip, props, s, scratch, templates, records_of(st));
-    let w = page_found(skip, props, s, f, false, scratch, templates, page, recorded(st, k));
+    let w = page_found(
+        skip,
+        props,
+        s,
+        f,
+        false,
+        scratch,
+        templates,
+        page,
+        recorded(st, k),
+    );
     returned(w, first)
 }
 
 // serialize_jsx, with numbers of the first pass from `first` on.
-fn page_jsx<'a>(skip: &'a [u8], props: &'a [u8], b: &'a [u8], scratch: &mut [u8], templates: &mut [u8], page: &mut [u8], st: Walk) -> Walk
+fn page_jsx<'a>(
+    skip: &'a [u8],
+    props: &'a [u8],
+    b: &'a [u8],
+    scratch: &mut [u8],
+    templates: &mut [u8],
+    page: &mut [u8],
+    st: Walk,
+) -> Walk
     requires { ⌜ Room (now scratch) (now b) (act (serialize-jsx (element-at (now skip) (now props) (now b))) (at (now templates) (now page) st)) ⌝ }
     ensures { λ r. ⌜ at (now (templates .exit)) (now (page .exit)) r ≡ act (serialize-jsx (element-at (now (skip .entry)) (now (props .entry)) (now (b .entry)))) (at (now (templates .entry)) (now (page .entry)) st) ⌝ }
 {
@@ -267,7 +358,15 @@ fn page_jsx<'a>(skip: &'a [u8], props: &'a [u8], b: &'a [u8], scratch: &mut [u8]
 }
 
 // The gaps of an element in a template.
-fn page_element<'a>(skip: &'a [u8], props: &'a [u8], b: &'a [u8], scratch: &mut [u8], templates: &mut [u8], page: &mut [u8], st: Walk) -> Walk
+fn page_element<'a>(
+    skip: &'a [u8],
+    props: &'a [u8],
+    b: &'a [u8],
+    scratch: &mut [u8],
+    templates: &mut [u8],
+    page: &mut [u8],
+    st: Walk,
+) -> Walk
     requires { ⌜ Room (now scratch) (now b) (act (dynamic-exprs (element-at (now skip) (now props) (now b) .to-string-vec)) (at (now templates) (now page) st)) ⌝ }
     ensures { λ r. ⌜ at (now (templates .exit)) (now (page .exit)) r ≡ act (dynamic-exprs (element-at (now (skip .entry)) (now (props .entry)) (now (b .entry)) .to-string-vec)) (at (now (templates .entry)) (now (page .entry)) st) ⌝ }
 {
@@ -279,7 +378,15 @@ fn page_element<'a>(skip: &'a [u8], props: &'a [u8], b: &'a [u8], scratch: &mut 
 }
 
 // The gaps of attributes in an opening tag.
-fn page_attrs<'a>(skip: &'a [u8], props: &'a [u8], s: &'a [u8], scratch: &mut [u8], templates: &mut [u8], page: &mut [u8], st: Walk) -> Walk
+fn page_attrs<'a>(
+    skip: &'a [u8],
+    props: &'a [u8],
+    s: &'a [u8],
+    scratch: &mut [u8],
+    templates: &mut [u8],
+    page: &mut [u8],
+    st: Walk,
+) -> Walk
     requires { ⌜ Room (now scratch) (now s) (act (dynamic-exprs (attrs-parts (opts (now skip) (now props)) (attributes-at (now skip) (now props) (read (now s))))) (at (now templates) (now page) st)) ⌝ }
     ensures { λ r. ⌜ at (now (templates .exit)) (now (page .exit)) r ≡ act (dynamic-exprs (attrs-parts (opts (now (skip .entry)) (now (props .entry))) (attributes-at (now (skip .entry)) (now (props .entry)) (read (now (s .entry)))))) (at (now (templates .entry)) (now (page .entry)) st) ⌝ }
 {
@@ -309,7 +416,15 @@ fn page_attrs<'a>(skip: &'a [u8], props: &'a [u8], s: &'a [u8], scratch: &mut [u
 }
 
 // The gaps of children in a template.
-fn page_parts<'a>(skip: &'a [u8], props: &'a [u8], s: &'a [u8], scratch: &mut [u8], templates: &mut [u8], page: &mut [u8], st: Walk) -> Walk
+fn page_parts<'a>(
+    skip: &'a [u8],
+    props: &'a [u8],
+    s: &'a [u8],
+    scratch: &mut [u8],
+    templates: &mut [u8],
+    page: &mut [u8],
+    st: Walk,
+) -> Walk
     requires { ⌜ Room (now scratch) (now s) (act (dynamic-exprs (children-to-string false (children-at (now skip) (now props) (read (now s))))) (at (now templates) (now page) st)) ⌝ }
     ensures { λ r. ⌜ at (now (templates .exit)) (now (page .exit)) r ≡ act (dynamic-exprs (children-to-string false (children-at (now (skip .entry)) (now (props .entry)) (read (now (s .entry)))))) (at (now (templates .entry)) (now (page .entry)) st) ⌝ }
 {
@@ -349,7 +464,15 @@ fn page_parts<'a>(skip: &'a [u8], props: &'a [u8], s: &'a [u8], scratch: &mut [u
 }
 
 // serialize_jsx_to_call_expr
-fn page_call<'a>(skip: &'a [u8], props: &'a [u8], b: &'a [u8], scratch: &mut [u8], templates: &mut [u8], page: &mut [u8], st: Walk) -> Walk
+fn page_call<'a>(
+    skip: &'a [u8],
+    props: &'a [u8],
+    b: &'a [u8],
+    scratch: &mut [u8],
+    templates: &mut [u8],
+    page: &mut [u8],
+    st: Walk,
+) -> Walk
     requires { ⌜ Room (now scratch) (now b) (act (element-at (now skip) (now props) (now b) .to-call-expr) (at (now templates) (now page) st)) ⌝ }
     ensures { λ r. ⌜ at (now (templates .exit)) (now (page .exit)) r ≡ act (element-at (now (skip .entry)) (now (props .entry)) (now (b .entry)) .to-call-expr) (at (now (templates .entry)) (now (page .entry)) st) ⌝ }
 {
@@ -373,7 +496,16 @@ fn page_call<'a>(skip: &'a [u8], props: &'a [u8], b: &'a [u8], scratch: &mut [u8
 }
 
 // The properties of a call.
-fn page_props<'a>(skip: &'a [u8], props: &'a [u8], s: &'a [u8], norm: bool, scratch: &mut [u8], templates: &mut [u8], page: &mut [u8], st: Walk) -> Walk
+fn page_props<'a>(
+    skip: &'a [u8],
+    props: &'a [u8],
+    s: &'a [u8],
+    norm: bool,
+    scratch: &mut [u8],
+    templates: &mut [u8],
+    page: &mut [u8],
+    st: Walk,
+) -> Walk
     requires { ⌜ Room (now scratch) (now s) (see (props-of norm (attributes-at (now skip) (now props) (read (now s)))) (at (now templates) (now page) st)) ⌝ }
     ensures { λ r. ⌜ at (now (templates .exit)) (now (page .exit)) r ≡ see (props-of norm (attributes-at (now (skip .entry)) (now (props .entry)) (read (now (s .entry))))) (at (now (templates .entry)) (now (page .entry)) st) ⌝ }
 {
@@ -406,7 +538,17 @@ fn page_props<'a>(skip: &'a [u8], props: &'a [u8], s: &'a [u8], norm: bool, scra
 }
 
 // What the children of a call give: one expression, or, where it is spliced, the elements of an array.
-fn page_found<'a>(skip: &'a [u8], props: &'a [u8], s: &'a [u8], f: Found, splice: bool, scratch: &mut [u8], templates: &mut [u8], page: &mut [u8], st: Walk) -> Walk
+fn page_found<'a>(
+    skip: &'a [u8],
+    props: &'a [u8],
+    s: &'a [u8],
+    f: Found,
+    splice: bool,
+    scratch: &mut [u8],
+    templates: &mut [u8],
+    page: &mut [u8],
+    st: Walk,
+) -> Walk
     requires { ⌜ (Given (now skip) (now props) (now s) f) × Room (now scratch) (now s) (act (found-out splice (children-to-expr (children-at (now skip) (now props) (read (now s))))) (at (now templates) (now page) st)) ⌝ }
     ensures { λ r. ⌜ at (now (templates .exit)) (now (page .exit)) r ≡ act (found-out splice (children-to-expr (children-at (now (skip .entry)) (now (props .entry)) (read (now (s .entry)))))) (at (now (templates .entry)) (now (page .entry)) st) ⌝ }
 {
@@ -444,7 +586,15 @@ fn page_found<'a>(skip: &'a [u8], props: &'a [u8], s: &'a [u8], f: Found, splice
 }
 
 // The entries of merged children.
-fn page_entries<'a>(skip: &'a [u8], props: &'a [u8], s: &'a [u8], scratch: &mut [u8], templates: &mut [u8], page: &mut [u8], st: Walk) -> Walk
+fn page_entries<'a>(
+    skip: &'a [u8],
+    props: &'a [u8],
+    s: &'a [u8],
+    scratch: &mut [u8],
+    templates: &mut [u8],
+    page: &mut [u8],
+    st: Walk,
+) -> Walk
     requires { ⌜ Room (now scratch) (now s) (act (entries-pass (entries (merge false false [] (children-at (now skip) (now props) (read (now s)))))) (at (now templates) (now page) st)) ⌝ }
     ensures { λ r. ⌜ at (now (templates .exit)) (now (page .exit)) r ≡ act (entries-pass (entries (merge false false [] (children-at (now (skip .entry)) (now (props .entry)) (read (now (s .entry))))))) (at (now (templates .entry)) (now (page .entry)) st) ⌝ }
 {
@@ -483,7 +633,17 @@ fn page_entries<'a>(skip: &'a [u8], props: &'a [u8], s: &'a [u8], scratch: &mut 
                 let a = flush(page, cur, run);
                 run = 0;
                 let b = body(t);
-                cur = page_found(skip, props, b, found_of(skip, b), true, scratch, templates, page, a);
+                cur = page_found(
+                    skip,
+                    props,
+                    b,
+                    found_of(skip, b),
+                    true,
+                    scratch,
+                    templates,
+                    page,
+                    a,
+                );
                 let r = behind(t);
                 t = r;
             }
@@ -505,7 +665,15 @@ fn held_todo<'a>(skip: &'a [u8], props: &'a [u8], c: &'a [u8], scratch: &mut [u8
 {
     let mut none = [0u8; 1];
     let mut nothing = [0u8; 1];
-    let w = visit_held(skip, props, c, scratch, &mut none[..0], &mut nothing[..0], fresh());
+    let w = visit_held(
+        skip,
+        props,
+        c,
+        scratch,
+        &mut none[..0],
+        &mut nothing[..0],
+        fresh(),
+    );
     let s = w.seen;
     s.unimplemented
 }

@@ -167,46 +167,40 @@ fn container_gap<'a>(a: &'a [u8], c: &'a [u8]) -> Gap
 fn listed_gap(a: &[u8]) -> Gap
     ensures { λ r. ⌜ r ≡ listed-gap (value-in (read (now (a .entry)))) ⌝ }
 {
-    match value_at(a) {
-        Value::Absent => Gap::True(false),
-        Value::Field(tag) => {
-            if tag == 0x51 {
-                return Gap::String(false);
-            }
-            if tag == 0x52 {
-                return Gap::Todo;
-            }
-            Gap::Attr(false)
-        }
+    let Value::Field(tag) = value_at(a) else {
+        return Gap::True(false);
+    };
+    if tag == 0x51 {
+        return Gap::String(false);
     }
+    if tag == 0x52 {
+        return Gap::Todo;
+    }
+    Gap::Attr(false)
 }
 
 fn plain_gap(a: &[u8]) -> Gap
     ensures { λ r. ⌜ r ≡ plain-gap (get-attr-name (attr-name-in (read (now (a .entry)))) true) (value-in (read (now (a .entry)))) ⌝ }
 {
-    match value_at(a) {
-        Value::Absent => {
-            if is_boolean(a) {
-                return Gap::Nothing;
-            }
-            Gap::True(true)
+    let Value::Field(tag) = value_at(a) else {
+        if is_boolean(a) {
+            return Gap::Nothing;
         }
-        Value::Field(tag) => {
-            if tag == 0x51 {
-                if is_key(a, true) {
-                    return Gap::String(true);
-                }
-                if is_ref(a) {
-                    return Gap::String(true);
-                }
-                return Gap::Nothing;
-            }
-            if tag == 0x52 {
-                return container_gap(a, body(behind(a)));
-            }
-            Gap::Nothing
+        return Gap::True(true);
+    };
+    if tag == 0x51 {
+        if is_key(a, true) {
+            return Gap::String(true);
         }
+        if is_ref(a) {
+            return Gap::String(true);
+        }
+        return Gap::Nothing;
     }
+    if tag == 0x52 {
+        return container_gap(a, body(behind(a)));
+    }
+    Gap::Nothing
 }
 
 // In an opening tag.
@@ -223,24 +217,22 @@ pub fn attribute_gap<'a>(props: &'a [u8], a: &'a [u8]) -> Gap
 pub fn property_gap(a: &[u8], norm: bool) -> Gap
     ensures { λ r. ⌜ r ≡ prop-gap norm (attr-name-in (read (now (a .entry)))) (value-in (read (now (a .entry)))) ⌝ }
 {
-    match value_at(a) {
-        Value::Absent => Gap::True(norm),
-        Value::Field(tag) => {
-            if is_key(a, norm) {
-                return Gap::Nothing;
-            }
-            if tag == 0x51 {
-                return Gap::String(norm);
-            }
-            if tag == 0x52 {
-                if tag_at(body(behind(a))) == 256 {
-                    return Gap::Nothing;
-                }
-                return Gap::Attr(norm);
-            }
-            Gap::Nothing
-        }
+    let Value::Field(tag) = value_at(a) else {
+        return Gap::True(norm);
+    };
+    if is_key(a, norm) {
+        return Gap::Nothing;
     }
+    if tag == 0x51 {
+        return Gap::String(norm);
+    }
+    if tag == 0x52 {
+        if tag_at(body(behind(a))) == 256 {
+            return Gap::Nothing;
+        }
+        return Gap::Attr(norm);
+    }
+    Gap::Nothing
 }
 
 // All that stands before the expression, in an opening tag.
@@ -280,15 +272,13 @@ pub fn property_front(page: &mut [u8], st: Walk, a: &[u8], gap: Gap) -> Walk
 fn string_at(a: &[u8]) -> &[u8]
     ensures { λ r. ⌜ ((skip props : Bytes) → now r ≡ Plan.string-of (value (opts skip props) (value-in (read (now (a .entry)))))) ⌝ }
 {
-    match value_at(a) {
-        Value::Absent => &a[..0],
-        Value::Field(tag) => {
-            if tag == 0x51 {
-                return body(behind(a));
-            }
-            &a[..0]
-        }
+    let Value::Field(tag) = value_at(a) else {
+        return &a[..0];
+    };
+    if tag == 0x51 {
+        return body(behind(a));
     }
+    &a[..0]
 }
 
 // The expression, or nothing where the gap holds none.
@@ -308,19 +298,17 @@ pub fn held_at(a: &[u8], gap: Gap) -> &[u8]
 fn value_held(a: &[u8]) -> &[u8]
     ensures { λ r. ⌜ ((skip props : Bytes) → contained-mid (opts skip props) (contained-in (read (now r))) ≡ held-of (value (opts skip props) (value-in (read (now (a .entry)))))) × (length (now r) ≤ length (now (a .entry))) ⌝ }
 {
-    match value_at(a) {
-        Value::Absent => &a[..0],
-        Value::Field(tag) => {
-            let v = behind(a);
-            if tag == 0x52 {
-                return body(v);
-            }
-            if tag == 0x51 {
-                return &a[..0];
-            }
-            v
-        }
+    let Value::Field(tag) = value_at(a) else {
+        return &a[..0];
+    };
+    let v = behind(a);
+    if tag == 0x52 {
+        return body(v);
     }
+    if tag == 0x51 {
+        return &a[..0];
+    }
+    v
 }
 
 // All that stands behind it, and the head of the field at p with that tag.
@@ -375,10 +363,10 @@ pub fn key_at(s: &[u8], norm: bool) -> &[u8]
 fn sets_key(a: &[u8], norm: bool) -> bool
     ensures { λ r. ⌜ r ≡ Plan.sets-key norm (attr-name-in (read (now (a .entry)))) (value-in (read (now (a .entry)))) ⌝ }
 {
-    match value_at(a) {
-        Value::Absent => false,
-        Value::Field(_) => is_key(a, norm),
-    }
+    let Value::Field(_) = value_at(a) else {
+        return false;
+    };
+    is_key(a, norm)
 }
 
 // The key, where it is a string.
@@ -386,30 +374,26 @@ pub fn key_front(page: &mut [u8], st: Walk, a: &[u8]) -> Walk
     requires { ⌜ Low (see (key-string (value (opts [] []) (value-in (read (now a))))) (at [] (now page) st) .st) ⌝ }
     ensures { λ r. ⌜ at [] (now (page .exit)) r ≡ see (key-string (value (opts [] []) (value-in (read (now (a .entry)))))) (at [] (now (page .entry)) st) ⌝ }
 {
-    match value_at(a) {
-        Value::Absent => st,
-        Value::Field(tag) => {
-            if tag == 0x51 {
-                return attr_string_leaf(page, st, body(behind(a)));
-            }
-            st
-        }
+    let Value::Field(tag) = value_at(a) else {
+        return st;
+    };
+    if tag == 0x51 {
+        return attr_string_leaf(page, st, body(behind(a)));
     }
+    st
 }
 
 // The expression, where it holds one.
 pub fn key_held(a: &[u8]) -> &[u8]
     ensures { λ r. ⌜ ((skip props : Bytes) → contained-mid (opts skip props) (contained-in (read (now r))) ≡ Plan.key-held (value (opts skip props) (value-in (read (now (a .entry)))))) × (length (now r) ≤ length (now (a .entry))) ⌝ }
 {
-    match value_at(a) {
-        Value::Absent => &a[..0],
-        Value::Field(tag) => {
-            if tag == 0x52 {
-                return body(behind(a));
-            }
-            &a[..0]
-        }
+    let Value::Field(tag) = value_at(a) else {
+        return &a[..0];
+    };
+    if tag == 0x52 {
+        return body(behind(a));
     }
+    &a[..0]
 }
 
 // A child in a template: whether its expression is wrapped with jsxEscape.

@@ -53,11 +53,10 @@ loop-less : tie.Need-loop-less Inv-loop μ-loop
 loop-less c = behind-less _ _ (c .before .before .tag-at .ensures .0) (c .before .match .rest .1) (c .behind .ensures)
 
 loop-again : tie.Need-loop-again Inv-loop μ-loop
-loop-again c =
-    (
-      ap (λ x. children-in (read x)) (c .behind .ensures) ∙ sym (children-other _ _ (c .before .before .tag-at .ensures .0) (c .before .match .rest .1) (c .before .match .rest .0 .0 .0 .0 .0 .1) (c .before .match .rest .0 .0 .0 .0 .1) (c .before .match .rest .0 .0 .0 .1) (c .before .match .rest .0 .0 .1) (c .before .match .rest .0 .1)) ∙ c .before .before .before .loop .inv .0,
-      omega (arith, behind-less _ _ (c .before .before .tag-at .ensures .0) (c .before .match .rest .1) (c .behind .ensures), c .before .before .before .loop .inv .1)
-    )
+loop-again c = (
+  ap (λ x. children-in (read x)) (c .behind .ensures) ∙ sym (children-other _ _ (c .before .before .tag-at .ensures .0) (c .before .match .rest .1) (c .before .match .rest .0 .0 .0 .0 .0 .1) (c .before .match .rest .0 .0 .0 .0 .1) (c .before .match .rest .0 .0 .0 .1) (c .before .match .rest .0 .0 .1) (c .before .match .rest .0 .1)) ∙ c .before .before .before .loop .inv .0,
+  omega (arith, behind-less _ _ (c .before .before .tag-at .ensures .0) (c .before .match .rest .1) (c .behind .ensures), c .before .before .before .loop .inv .1),
+)
 
 pub children-at-spec : {M : Type 1} → statement M
 children-at-spec =

@@ -17,40 +17,40 @@ abbrev μ-loop : tie.MeasureT-loop
 loop-holds : tie.Need-loop-holds Inv-loop μ-loop
 loop-holds c = (omega arith, blank-start _ _)
 
-line-at-requires : tie.Need-line-at-requires Inv-loop μ-loop
-line-at-requires c κs = search needs
+read-line-requires : tie.Need-read-line-requires Inv-loop μ-loop
+read-line-requires c κs = search needs
 
 loop-less : tie.Need-loop-less Inv-loop μ-loop
 loop-less c =
     let args = c .before .before .before .before .before .args in
     let loop = c .before .before .before .loop in
-    omega (arith, line-cut (args .s .now) (loop .i) (c .before .before .loop-test .taken) (c .before .line-at .ensures))
+    omega (arith, line-cut (args .s .now) (loop .i) (c .before .before .loop-test .taken) (c .before .read-line .ensures))
 
 loop-again : tie.Need-loop-again Inv-loop μ-loop
 loop-again c =
     let args = c .before .before .before .before .before .args in
     let loop = c .before .before .before .loop in
-    let line-at′ = c .before .line-at in
-    let cut = line-cut (args .s .now) (loop .i) (c .before .before .loop-test .taken) (line-at′ .ensures) in
-    (cut .within, blank-skip (args .s .now) (args .last) (loop .i) (line-at′ .result .end) (line-at′ .result .next) cut (loop .inv .1) (c .if1 .taken))
+    let read-line′ = c .before .read-line in
+    let cut = line-cut (args .s .now) (loop .i) (c .before .before .loop-test .taken) (read-line′ .ensures) in
+    (cut .within, blank-skip (args .s .now) (args .last) (loop .i) (read-line′ .result .end) (read-line′ .result .next) cut (loop .inv .1) (c .if1 .taken))
 
 sub-trim-line : tie.Need-sub-trim-line Inv-loop μ-loop
 sub-trim-line c =
     let args = c .before .before .before .before .before .args in
     let loop = c .before .before .before .loop in
-    omega (arith, line-cut (args .s .now) (loop .i) (c .before .before .loop-test .taken) (c .before .line-at .ensures))
+    omega (arith, line-cut (args .s .now) (loop .i) (c .before .before .loop-test .taken) (c .before .read-line .ensures))
 
 part-trim-line-start : tie.Need-part-trim-line-start Inv-loop μ-loop
 part-trim-line-start c =
     let args = c .before .before .before .before .before .args in
     let loop = c .before .before .before .loop in
-    omega (arith, line-cut (args .s .now) (loop .i) (c .before .before .loop-test .taken) (c .before .line-at .ensures))
+    omega (arith, line-cut (args .s .now) (loop .i) (c .before .before .loop-test .taken) (c .before .read-line .ensures))
 
 part-trim-line-end : tie.Need-part-trim-line-end Inv-loop μ-loop
 part-trim-line-end c =
     let args = c .before .before .before .before .before .args in
     let loop = c .before .before .before .loop in
-    omega (arith, line-cut (args .s .now) (loop .i) (c .before .before .loop-test .taken) (c .before .line-at .ensures))
+    omega (arith, line-cut (args .s .now) (loop .i) (c .before .before .loop-test .taken) (c .before .read-line .ensures))
 
 trim-line-requires : tie.Need-trim-line-requires Inv-loop μ-loop
 trim-line-requires c κs = search needs
@@ -60,28 +60,28 @@ returns c =
     let args = c .before .before .before .before .before .before .before .before .args in
     let loop = c .before .before .before .before .before .before .loop in
     let test = c .before .before .before .before .before .loop-test in
-    let line-at′ = c .before .before .before .before .line-at in
+    let read-line′ = c .before .before .before .before .read-line in
     let trim-line′ = c .before .trim-line in
-    let cut = line-cut (args .s .now) (loop .i) (test .taken) (line-at′ .ensures) in
-    blank-line (args .s .now) (args .last) (loop .i) (line-at′ .result .end) (line-at′ .result .next) (trim-line′ .result .now) cut (trim-line′ .ensures) (loop .inv .1) (c .if2 .taken)
+    let cut = line-cut (args .s .now) (loop .i) (test .taken) (read-line′ .ensures) in
+    blank-line (args .s .now) (args .last) (loop .i) (read-line′ .result .end) (read-line′ .result .next) (trim-line′ .result .now) cut (trim-line′ .ensures) (loop .inv .1) (c .if2 .taken)
 
 loop-less-2 : tie.Need-loop-less-2 Inv-loop μ-loop
 loop-less-2 c =
     let args = c .before .before .before .before .before .before .before .before .args in
     let loop = c .before .before .before .before .before .before .loop in
     let test = c .before .before .before .before .before .loop-test in
-    let line-at′ = c .before .before .before .before .line-at in
-    omega (arith, line-cut (args .s .now) (loop .i) (test .taken) (line-at′ .ensures))
+    let read-line′ = c .before .before .before .before .read-line in
+    omega (arith, line-cut (args .s .now) (loop .i) (test .taken) (read-line′ .ensures))
 
 loop-again-2 : tie.Need-loop-again-2 Inv-loop μ-loop
 loop-again-2 c =
     let args = c .before .before .before .before .before .before .before .before .args in
     let loop = c .before .before .before .before .before .before .loop in
     let test = c .before .before .before .before .before .loop-test in
-    let line-at′ = c .before .before .before .before .line-at in
+    let read-line′ = c .before .before .before .before .read-line in
     let trim-line′ = c .before .trim-line in
-    let cut = line-cut (args .s .now) (loop .i) (test .taken) (line-at′ .ensures) in
-    (cut .within, blank-step (args .s .now) (args .last) (loop .i) (line-at′ .result .end) (line-at′ .result .next) (trim-line′ .result .now) cut (trim-line′ .ensures) (loop .inv .1) (c .if2 .left))
+    let cut = line-cut (args .s .now) (loop .i) (test .taken) (read-line′ .ensures) in
+    (cut .within, blank-step (args .s .now) (args .last) (loop .i) (read-line′ .result .end) (read-line′ .result .next) (trim-line′ .result .now) cut (trim-line′ .ensures) (loop .inv .1) (c .if2 .left))
 
 returns-2 : tie.Need-returns-2 Inv-loop μ-loop
 returns-2 c =
@@ -96,7 +96,7 @@ is-blank-spec =
     Inv-loop
     μ-loop
     loop-holds
-    line-at-requires
+    read-line-requires
     loop-less
     loop-again
     sub-trim-line

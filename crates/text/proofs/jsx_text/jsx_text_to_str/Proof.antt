@@ -19,40 +19,40 @@ abbrev μ-loop : tie.MeasureT-loop
 loop-holds : tie.Need-loop-holds Inv-loop μ-loop
 loop-holds c = (omega arith, joining-start _ _ _ _ _)
 
-line-at-requires : tie.Need-line-at-requires Inv-loop μ-loop
-line-at-requires c κs = search needs
+read-line-requires : tie.Need-read-line-requires Inv-loop μ-loop
+read-line-requires c κs = search needs
 
 loop-less : tie.Need-loop-less Inv-loop μ-loop
 loop-less c =
     let args = c .before .before .before .before .before .before .args in
     let loop = c .before .before .before .loop in
-    omega (arith, line-cut (args .s .now) (loop .i) (c .before .before .loop-test .taken) (c .before .line-at .ensures))
+    omega (arith, line-cut (args .s .now) (loop .i) (c .before .before .loop-test .taken) (c .before .read-line .ensures))
 
 loop-again : tie.Need-loop-again Inv-loop μ-loop
 loop-again c =
     let args = c .before .before .before .before .before .before .args in
     let loop = c .before .before .before .loop in
-    let line-at′ = c .before .line-at in
-    let cut = line-cut (args .s .now) (loop .i) (c .before .before .loop-test .taken) (line-at′ .ensures) in
-    (cut .within, joining-skip (line-at′ .result .end) (line-at′ .result .next) (loop .inv .1) cut (c .if1 .taken))
+    let read-line′ = c .before .read-line in
+    let cut = line-cut (args .s .now) (loop .i) (c .before .before .loop-test .taken) (read-line′ .ensures) in
+    (cut .within, joining-skip (read-line′ .result .end) (read-line′ .result .next) (loop .inv .1) cut (c .if1 .taken))
 
 sub-trim-line : tie.Need-sub-trim-line Inv-loop μ-loop
 sub-trim-line c =
     let args = c .before .before .before .before .before .before .args in
     let loop = c .before .before .before .loop in
-    omega (arith, line-cut (args .s .now) (loop .i) (c .before .before .loop-test .taken) (c .before .line-at .ensures))
+    omega (arith, line-cut (args .s .now) (loop .i) (c .before .before .loop-test .taken) (c .before .read-line .ensures))
 
 part-trim-line-start : tie.Need-part-trim-line-start Inv-loop μ-loop
 part-trim-line-start c =
     let args = c .before .before .before .before .before .before .args in
     let loop = c .before .before .before .loop in
-    omega (arith, line-cut (args .s .now) (loop .i) (c .before .before .loop-test .taken) (c .before .line-at .ensures))
+    omega (arith, line-cut (args .s .now) (loop .i) (c .before .before .loop-test .taken) (c .before .read-line .ensures))
 
 part-trim-line-end : tie.Need-part-trim-line-end Inv-loop μ-loop
 part-trim-line-end c =
     let args = c .before .before .before .before .before .before .args in
     let loop = c .before .before .before .loop in
-    omega (arith, line-cut (args .s .now) (loop .i) (c .before .before .loop-test .taken) (c .before .line-at .ensures))
+    omega (arith, line-cut (args .s .now) (loop .i) (c .before .before .loop-test .taken) (c .before .read-line .ensures))
 
 trim-line-requires : tie.Need-trim-line-requires Inv-loop μ-loop
 trim-line-requires c κs = search needs
@@ -62,29 +62,29 @@ put-kept-line-requires c κs =
     let args = c .before .before .before .before .before .before .before .before .before .args in
     let loop = c .before .before .before .before .before .before .loop in
     let test = c .before .before .before .before .before .loop-test in
-    let line-at′ = c .before .before .before .before .line-at in
+    let read-line′ = c .before .before .before .before .read-line in
     let trim-line′ = c .before .trim-line in
     let pre = c .before .before .before .before .before .before .before .before .before .pre in
-    let cut = line-cut (args .s .now) (loop .i) (test .taken) (line-at′ .ensures) in
-    joining-room (line-at′ .result .end) (line-at′ .result .next) (trim-line′ .result .now) (loop .inv .1) cut (trim-line′ .ensures) pre
+    let cut = line-cut (args .s .now) (loop .i) (test .taken) (read-line′ .ensures) in
+    joining-room (read-line′ .result .end) (read-line′ .result .next) (trim-line′ .result .now) (loop .inv .1) cut (trim-line′ .ensures) pre
 
 loop-less-2 : tie.Need-loop-less-2 Inv-loop μ-loop
 loop-less-2 c =
     let args = c .before .before .before .before .before .before .before .before .before .before .before .before .args in
     let loop = c .before .before .before .before .before .before .before .before .before .loop in
     let test = c .before .before .before .before .before .before .before .before .loop-test in
-    let line-at′ = c .before .before .before .before .before .before .before .line-at in
-    omega (arith, line-cut (args .s .now) (loop .i) (test .taken) (line-at′ .ensures))
+    let read-line′ = c .before .before .before .before .before .before .before .read-line in
+    omega (arith, line-cut (args .s .now) (loop .i) (test .taken) (read-line′ .ensures))
 
 loop-again-2 : tie.Need-loop-again-2 Inv-loop μ-loop
 loop-again-2 c =
     let args = c .before .before .before .before .before .before .before .before .before .before .before .before .args in
     let loop = c .before .before .before .before .before .before .before .before .before .loop in
     let test = c .before .before .before .before .before .before .before .before .loop-test in
-    let line-at′ = c .before .before .before .before .before .before .before .line-at in
+    let read-line′ = c .before .before .before .before .before .before .before .read-line in
     let trim-line′ = c .before .before .before .before .trim-line in
-    let cut = line-cut (args .s .now) (loop .i) (test .taken) (line-at′ .ensures) in
-    (cut .within, joining-step (line-at′ .result .end) (line-at′ .result .next) (trim-line′ .result .now) (loop .inv .1) cut (trim-line′ .ensures) (c .before .before .put-kept-line .ensures))
+    let cut = line-cut (args .s .now) (loop .i) (test .taken) (read-line′ .ensures) in
+    (cut .within, joining-step (read-line′ .result .end) (read-line′ .result .next) (trim-line′ .result .now) (loop .inv .1) cut (trim-line′ .ensures) (c .before .before .put-kept-line .ensures))
 
 same-length : tie.Need-same-length Inv-loop μ-loop
 same-length c = wrote-length (c .before .loop .inv .1 .wrote)
@@ -99,7 +99,7 @@ jsx-text-to-str-spec =
     Inv-loop
     μ-loop
     loop-holds
-    line-at-requires
+    read-line-requires
     loop-less
     loop-again
     sub-trim-line

@@ -20,23 +20,23 @@ abbrev μ-loop : tie.MeasureT-loop
 loop-holds : tie.Need-loop-holds Inv-loop μ-loop
 loop-holds c = (omega arith, spacing-start _ _ _)
 
-line-at-requires : tie.Need-line-at-requires Inv-loop μ-loop
-line-at-requires c κs = search needs
+read-line-requires : tie.Need-read-line-requires Inv-loop μ-loop
+read-line-requires c κs = search needs
 
 sub-trim-line : tie.Need-sub-trim-line Inv-loop μ-loop
 sub-trim-line c =
     let args = c .before .before .before .before .before .args in
-    omega (arith, line-cut (args .s .now) (c .before .before .loop .i) (c .before .loop-test .taken) (c .line-at .ensures))
+    omega (arith, line-cut (args .s .now) (c .before .before .loop .i) (c .before .loop-test .taken) (c .read-line .ensures))
 
 part-trim-line-start : tie.Need-part-trim-line-start Inv-loop μ-loop
 part-trim-line-start c =
     let args = c .before .before .before .before .before .args in
-    omega (arith, line-cut (args .s .now) (c .before .before .loop .i) (c .before .loop-test .taken) (c .line-at .ensures))
+    omega (arith, line-cut (args .s .now) (c .before .before .loop .i) (c .before .loop-test .taken) (c .read-line .ensures))
 
 part-trim-line-end : tie.Need-part-trim-line-end Inv-loop μ-loop
 part-trim-line-end c =
     let args = c .before .before .before .before .before .args in
-    omega (arith, line-cut (args .s .now) (c .before .before .loop .i) (c .before .loop-test .taken) (c .line-at .ensures))
+    omega (arith, line-cut (args .s .now) (c .before .before .loop .i) (c .before .loop-test .taken) (c .read-line .ensures))
 
 trim-line-requires : tie.Need-trim-line-requires Inv-loop μ-loop
 trim-line-requires c κs = search needs
@@ -47,19 +47,19 @@ put-spaced-line-requires c κs =
     let args = c .before .before .before .before .before .before .before .before .args in
     let loop = c .before .before .before .before .before .loop in
     let test = c .before .before .before .before .loop-test in
-    let line-at′ = c .before .before .before .line-at in
+    let read-line′ = c .before .before .before .read-line in
     let trim-line′ = c .before .trim-line in
     let pre = c .before .before .before .before .before .before .before .before .pre in
-    let cut = line-cut (args .s .now) (loop .i) (test .taken) (line-at′ .ensures) in
-    spacing-room (line-at′ .result .end) (line-at′ .result .next) (trim-line′ .result .now) (loop .inv .1) cut (trim-line′ .ensures) pre
+    let cut = line-cut (args .s .now) (loop .i) (test .taken) (read-line′ .ensures) in
+    spacing-room (read-line′ .result .end) (read-line′ .result .next) (trim-line′ .result .now) (loop .inv .1) cut (trim-line′ .ensures) pre
 
 loop-less : tie.Need-loop-less Inv-loop μ-loop
 loop-less c =
     let args = c .before .before .before .before .before .before .before .before .before .before .before .args in
     let loop = c .before .before .before .before .before .before .before .before .loop in
     let test = c .before .before .before .before .before .before .before .loop-test in
-    let line-at′ = c .before .before .before .before .before .before .line-at in
-    omega (arith, line-cut (args .s .now) (loop .i) (test .taken) (line-at′ .ensures))
+    let read-line′ = c .before .before .before .before .before .before .read-line in
+    omega (arith, line-cut (args .s .now) (loop .i) (test .taken) (read-line′ .ensures))
 
 loop-again : tie.Need-loop-again Inv-loop μ-loop
 unfolding trimmed
@@ -67,10 +67,10 @@ loop-again c =
     let args = c .before .before .before .before .before .before .before .before .before .before .before .args in
     let loop = c .before .before .before .before .before .before .before .before .loop in
     let test = c .before .before .before .before .before .before .before .loop-test in
-    let line-at′ = c .before .before .before .before .before .before .line-at in
+    let read-line′ = c .before .before .before .before .before .before .read-line in
     let trim-line′ = c .before .before .before .before .trim-line in
-    let cut = line-cut (args .s .now) (loop .i) (test .taken) (line-at′ .ensures) in
-    (cut .within, spacing-step (line-at′ .result .end) (line-at′ .result .next) (trim-line′ .result .now) (loop .inv .1) cut (trim-line′ .ensures) (c .before .before .put-spaced-line .ensures))
+    let cut = line-cut (args .s .now) (loop .i) (test .taken) (read-line′ .ensures) in
+    (cut .within, spacing-step (read-line′ .result .end) (read-line′ .result .next) (trim-line′ .result .now) (loop .inv .1) cut (trim-line′ .ensures) (c .before .before .put-spaced-line .ensures))
 
 same-length : tie.Need-same-length Inv-loop μ-loop
 same-length c = wrote-length (c .before .loop .inv .1 .wrote)
@@ -85,7 +85,7 @@ normalize-lit-str-spec =
     Inv-loop
     μ-loop
     loop-holds
-    line-at-requires
+    read-line-requires
     sub-trim-line
     part-trim-line-start
     part-trim-line-end

@@ -72,7 +72,6 @@ use Rattle.visits.proofs.calls.+attrs_todo+children_todo+held_todo+page
 use Rattle.visits.proofs.calls.+attrs_todo+children_todo+held_todo+page_attrs+page_call+page_element+page_entries+page_found+page_jsx+page_parts+page_props+tag_todo+visit_element+visit_expr+visit_found+visit_fragment+visit_given+visit_held+visit_items+visit_pieces+visit_template.Proof.VisitPieces.{visit-pieces-Inv-loop, visit-pieces-behind-requires, visit-pieces-behind-requires-2, visit-pieces-behind-requires-3, visit-pieces-behind-requires-4, visit-pieces-body-requires, visit-pieces-body-requires-2, visit-pieces-body-requires-3, visit-pieces-calls, visit-pieces-leaf-requires, visit-pieces-loop-again, visit-pieces-loop-again-2, visit-pieces-loop-again-3, visit-pieces-loop-again-4, visit-pieces-loop-holds, visit-pieces-loop-less, visit-pieces-loop-less-2, visit-pieces-loop-less-3, visit-pieces-loop-less-4, visit-pieces-returns, visit-pieces-same-length, visit-pieces-same-length-2, visit-pieces-same-length-3, visit-pieces-tag-at-requires, visit-pieces-visit-element-requires, visit-pieces-visit-fragment-requires, visit-pieces-μ-loop}
 use Rattle.visits.proofs.calls.+attrs_todo+children_todo+held_todo+page_attrs+page_call+page_element+page_entries+page_found+page_jsx+page_parts+page_props+tag_todo+visit_element+visit_expr+visit_found+visit_fragment+visit_given+visit_held+visit_items+visit_pieces+visit_template.Proof.VisitTemplate.{visit-template-begin-template-requires, visit-template-calls, visit-template-close-requires, visit-template-page-parts-requires, visit-template-record-fragment-requires, visit-template-recorded-requires, visit-template-records-of-requires, visit-template-returned-requires, visit-template-returns, visit-template-same-length, visit-template-same-length-2, visit-template-same-length-3}
 use Rattle.visits.proofs.calls.+attrs_todo+children_todo+held_todo+page_attrs+page_call+page_element+page_entries+page_found+page_jsx+page_parts+page_props+tag_todo+visit_element+visit_expr+visit_found+visit_fragment+visit_given+visit_held+visit_items+visit_pieces+visit_template.Proof.Cycle.{μ-attrs-todo, μ-children-todo, μ-held-todo, μ-page-attrs, μ-page-call, μ-page-element, μ-page-entries, μ-page-found, μ-page-jsx, μ-page-parts, μ-page-props, μ-tag-todo, μ-visit-element, μ-visit-expr, μ-visit-found, μ-visit-fragment, μ-visit-given, μ-visit-held, μ-visit-items, μ-visit-pieces, μ-visit-template, attrs-todo-at, children-todo-at, held-todo-at, page-attrs-at, page-call-at, page-element-at, page-entries-at, page-found-at, page-jsx-at, page-parts-at, page-props-at, tag-todo-at, visit-element-at, visit-expr-at, visit-found-at, visit-fragment-at, visit-given-at, visit-held-at, visit-items-at, visit-pieces-at, visit-template-at}
-
 mod Cycle
 mod AttrsTodo
 mod ChildrenTodo

@@ -28,12 +28,11 @@ returns : tie.Need-returns
 returns c =
     let v = c .before .before .before .before .before .value-at .ensures in
     let u = c .before .before .before .tag .given in
-    let w = c .before .if1 .came in
-    (
+    let w = c .before .if1 .came in (
       λ k p. value-tag k p _ _ (u .0 .0) (sym v ∙ u .1) (c .behind .ensures)
-      (λ z. ⊎-elim (λ x. omega (arith, z, x .taken)) (λ x. omega (arith, z, eqb-true (u .0 .0) 0x31 (x .1 .taken))) w)
-      (λ z. ⊎-elim (λ x. omega (arith, z, x .taken)) (λ x. omega (arith, z, eqb-true (u .0 .0) 0x31 (x .1 .taken))) w),
-      behind-shorter _ (c .behind .ensures)
+          (λ z. ⊎-elim (λ x. omega (arith, z, x .taken)) (λ x. omega (arith, z, eqb-true (u .0 .0) 0x31 (x .1 .taken))) w)
+          (λ z. ⊎-elim (λ x. omega (arith, z, x .taken)) (λ x. omega (arith, z, eqb-true (u .0 .0) 0x31 (x .1 .taken))) w),
+      behind-shorter _ (c .behind .ensures),
     )
 
 slice-aggregate-result-2 : tie.Need-slice-aggregate-result-2

@@ -14,11 +14,17 @@ use Rattle.walk.proofs.attribute.key_front.Tie as tie
 value-at-requires : tie.Need-value-at-requires
 value-at-requires c κs = search needs
 
+enum-known-tag : tie.Need-enum-known-tag
+enum-known-tag c = search needs
+
 enum-told : tie.Need-enum-told
 enum-told c = search needs
 
-enum-known-tag : tie.Need-enum-known-tag
-enum-known-tag c = search needs
+returns : tie.Need-returns
+returns c =
+    let a = c .before .before .before .before .before .args in
+    let w = at [] (a .page .now) (a .st) in
+    done-as w (key-none (opts [] []) (value-in (read (a .a .now))) (c .before .before .value-at .ensures) (absent-other (c .enum-told .given .1))) (sym (see-none w))
 
 behind-requires : tie.Need-behind-requires
 behind-requires c κs = search needs
@@ -35,16 +41,10 @@ attr-string-leaf-requires c κs =
 same-length : tie.Need-same-length
 same-length c = search needs
 
-returns : tie.Need-returns
-returns c =
-    let a = c .before .before .before .before .before .before .before .before .before .before .before .before .before .args in
-    done-as (at [] (a .page .now) (a .st)) (key-51 (opts [] []) (a .a .now) (c .before .before .before .before .before .before .before .before .before .before .value-at .ensures) (c .before .before .before .before .before .before .before .before .tag .given .1) (c .before .before .before .before .before .before .if1 .taken) (c .before .before .before .before .behind .ensures) (c .before .before .before .body .ensures)) (c .before .before .attr-string-leaf .ensures)
-
 returns-2 : tie.Need-returns-2
 returns-2 c =
-    let a = c .before .before .before .before .before .args in
-    let w = at [] (a .page .now) (a .st) in
-    done-as w (key-none (opts [] []) (value-in (read (a .a .now))) (c .before .before .value-at .ensures) (absent-other (c .enum-told .given .1))) (sym (see-none w))
+    let a = c .before .before .before .before .before .before .before .before .before .before .before .before .before .args in
+    done-as (at [] (a .page .now) (a .st)) (key-51 (opts [] []) (a .a .now) (c .before .before .before .before .before .before .before .before .before .before .value-at .ensures) (c .before .before .before .before .before .before .before .before .tag .given .1) (c .before .before .before .before .before .before .if1 .taken) (c .before .before .before .before .behind .ensures) (c .before .before .before .body .ensures)) (c .before .before .attr-string-leaf .ensures)
 
 returns-3 : tie.Need-returns-3
 returns-3 c =
@@ -57,12 +57,12 @@ key-front-spec =
     tie.close
     (tie.spec
     value-at-requires
-    enum-told
     enum-known-tag
+    enum-told
+    returns
     behind-requires
     body-requires
     attr-string-leaf-requires
     same-length
-    returns
     returns-2
     returns-3)

@@ -11,14 +11,17 @@ use Rattle.walk.proofs.attribute.key_held.Tie as tie
 value-at-requires : tie.Need-value-at-requires
 value-at-requires c κs = search needs
 
+enum-known-tag : tie.Need-enum-known-tag
+enum-known-tag c = search needs
+
 enum-told : tie.Need-enum-told
 enum-told c = search needs
 
 slice-aggregate-result : tie.Need-slice-aggregate-result
 slice-aggregate-result c = search needs
 
-enum-known-tag : tie.Need-enum-known-tag
-enum-known-tag c = search needs
+returns : tie.Need-returns
+returns c = (λ skip props. key-absent _ (c .before .before .before .value-at .ensures) (opts skip props) (c .before .enum-told .given .1), omega arith)
 
 behind-requires : tie.Need-behind-requires
 behind-requires c κs = search needs
@@ -26,14 +29,11 @@ behind-requires c κs = search needs
 body-requires : tie.Need-body-requires
 body-requires c κs = search needs
 
-returns : tie.Need-returns
-returns c = (λ skip props. key-container _ (c .before .before .before .before .before .before .value-at .ensures) (c .before .before .before .before .tag .given .1) (opts skip props) (c .before .before .if1 .taken) (c .body .ensures ∙ ap body-of (c .before .behind .ensures)), body-behind-le _ (c .before .behind .ensures) (c .body .ensures))
+returns-2 : tie.Need-returns-2
+returns-2 c = (λ skip props. key-container _ (c .before .before .before .before .before .before .value-at .ensures) (c .before .before .before .before .tag .given .1) (opts skip props) (c .before .before .if1 .taken) (c .body .ensures ∙ ap body-of (c .before .behind .ensures)), body-behind-le _ (c .before .behind .ensures) (c .body .ensures))
 
 slice-aggregate-result-2 : tie.Need-slice-aggregate-result-2
 slice-aggregate-result-2 c = search needs
-
-returns-2 : tie.Need-returns-2
-returns-2 c = (λ skip props. key-absent _ (c .before .before .before .value-at .ensures) (opts skip props) (c .before .enum-told .given .1), omega arith)
 
 returns-3 : tie.Need-returns-3
 returns-3 c = (λ skip props. key-other _ (c .before .before .before .before .before .value-at .ensures) (c .before .before .before .tag .given .1) (opts skip props) (c .before .if1 .left), omega arith)
@@ -43,12 +43,12 @@ key-held-spec =
     tie.close
     (tie.spec
     value-at-requires
+    enum-known-tag
     enum-told
     slice-aggregate-result
-    enum-known-tag
+    returns
     behind-requires
     body-requires
-    returns
-    slice-aggregate-result-2
     returns-2
+    slice-aggregate-result-2
     returns-3)

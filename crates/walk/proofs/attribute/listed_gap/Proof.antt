@@ -7,20 +7,20 @@ use Rattle.walk.proofs.attribute.listed_gap.Tie as tie
 value-at-requires : tie.Need-value-at-requires
 value-at-requires c κs = search needs
 
-enum-told : tie.Need-enum-told
-enum-told c = search needs
-
 enum-known-tag : tie.Need-enum-known-tag
 enum-known-tag c = search needs
 
+enum-told : tie.Need-enum-told
+enum-told c = search needs
+
 returns : tie.Need-returns
-returns c = listed-string _ (c .before .before .before .before .value-at .ensures) (c .before .before .tag .given .1) (c .if1 .taken)
+returns c = listed-absent _ (c .before .before .value-at .ensures) (c .enum-told .given .1)
 
 returns-2 : tie.Need-returns-2
-returns-2 c = listed-container _ (c .before .before .before .before .before .value-at .ensures) (c .before .before .before .tag .given .1) (c .if2 .taken)
+returns-2 c = listed-string _ (c .before .before .before .before .value-at .ensures) (c .before .before .tag .given .1) (c .if1 .taken)
 
 returns-3 : tie.Need-returns-3
-returns-3 c = listed-absent _ (c .before .before .value-at .ensures) (c .enum-told .given .1)
+returns-3 c = listed-container _ (c .before .before .before .before .before .value-at .ensures) (c .before .before .before .tag .given .1) (c .if2 .taken)
 
 returns-4 : tie.Need-returns-4
 returns-4 c = listed-tag _ (c .before .before .before .before .before .value-at .ensures) (c .before .before .before .tag .given .1) (c .before .if1 .left) (c .if2 .left)
@@ -28,4 +28,4 @@ returns-4 c = listed-tag _ (c .before .before .before .before .before .value-at 
 pub listed-gap-spec : {M : Type 1} → statement M
 listed-gap-spec =
     tie.close
-    (tie.spec value-at-requires enum-told enum-known-tag returns returns-2 returns-3 returns-4)
+    (tie.spec value-at-requires enum-known-tag enum-told returns returns-2 returns-3 returns-4)

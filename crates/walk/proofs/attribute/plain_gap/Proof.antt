@@ -9,6 +9,9 @@ use Rattle.walk.proofs.attribute.plain_gap.Tie as tie
 value-at-requires : tie.Need-value-at-requires
 value-at-requires c κs = search needs
 
+enum-known-tag : tie.Need-enum-known-tag
+enum-known-tag c = search needs
+
 enum-told : tie.Need-enum-told
 enum-told c = search needs
 
@@ -18,23 +21,23 @@ is-boolean-requires c κs = search needs
 returns : tie.Need-returns
 returns c = plain-boolean _ (c .before .before .before .before .value-at .ensures) _ (c .before .before .enum-told .given .1) (c .before .is-boolean .ensures) (c .if1 .taken)
 
-enum-known-tag : tie.Need-enum-known-tag
-enum-known-tag c = search needs
+returns-2 : tie.Need-returns-2
+returns-2 c = plain-true _ (c .before .before .before .before .value-at .ensures) _ (c .before .before .enum-told .given .1) (c .before .is-boolean .ensures) (c .if1 .left)
 
 is-key-requires : tie.Need-is-key-requires
 is-key-requires c κs = search needs
 
-returns-2 : tie.Need-returns-2
-returns-2 c = plain-key _ (c .before .before .before .before .before .before .value-at .ensures) (c .before .before .before .before .tag .given .1) _ (c .before .before .if2 .taken) (c .before .is-key .ensures) (c .if3 .taken)
+returns-3 : tie.Need-returns-3
+returns-3 c = plain-key _ (c .before .before .before .before .before .before .value-at .ensures) (c .before .before .before .before .tag .given .1) _ (c .before .before .if2 .taken) (c .before .is-key .ensures) (c .if3 .taken)
 
 is-ref-requires : tie.Need-is-ref-requires
 is-ref-requires c κs = search needs
 
-returns-3 : tie.Need-returns-3
-returns-3 c = plain-ref _ (c .before .before .before .before .before .before .before .before .value-at .ensures) (c .before .before .before .before .before .before .tag .given .1) _ (c .before .before .before .before .if2 .taken) (c .before .before .before .is-key .ensures) (c .before .before .if3 .left) (c .before .is-ref .ensures) (c .if4 .taken)
-
 returns-4 : tie.Need-returns-4
-returns-4 c = plain-string _ (c .before .before .before .before .before .before .before .before .value-at .ensures) (c .before .before .before .before .before .before .tag .given .1) _ (c .before .before .before .before .if2 .taken) (c .before .before .before .is-key .ensures) (c .before .before .if3 .left) (c .before .is-ref .ensures) (c .if4 .left)
+returns-4 c = plain-ref _ (c .before .before .before .before .before .before .before .before .value-at .ensures) (c .before .before .before .before .before .before .tag .given .1) _ (c .before .before .before .before .if2 .taken) (c .before .before .before .is-key .ensures) (c .before .before .if3 .left) (c .before .is-ref .ensures) (c .if4 .taken)
+
+returns-5 : tie.Need-returns-5
+returns-5 c = plain-string _ (c .before .before .before .before .before .before .before .before .value-at .ensures) (c .before .before .before .before .before .before .tag .given .1) _ (c .before .before .before .before .if2 .taken) (c .before .before .before .is-key .ensures) (c .before .before .if3 .left) (c .before .is-ref .ensures) (c .if4 .left)
 
 behind-requires : tie.Need-behind-requires
 behind-requires c κs = search needs
@@ -45,11 +48,8 @@ body-requires c κs = search needs
 container-gap-requires : tie.Need-container-gap-requires
 container-gap-requires c κs = search needs
 
-returns-5 : tie.Need-returns-5
-returns-5 c = c .container-gap .ensures ∙ plain-container _ (c .before .before .before .before .before .before .before .before .value-at .ensures) (c .before .before .before .before .before .before .tag .given .1) _ (c .before .before .before .if5 .taken) (c .before .body .ensures ∙ ap body-of (c .before .before .behind .ensures))
-
 returns-6 : tie.Need-returns-6
-returns-6 c = plain-true _ (c .before .before .before .before .value-at .ensures) _ (c .before .before .enum-told .given .1) (c .before .is-boolean .ensures) (c .if1 .left)
+returns-6 c = c .container-gap .ensures ∙ plain-container _ (c .before .before .before .before .before .before .before .before .value-at .ensures) (c .before .before .before .before .before .before .tag .given .1) _ (c .before .before .before .if5 .taken) (c .before .body .ensures ∙ ap body-of (c .before .before .behind .ensures))
 
 returns-7 : tie.Need-returns-7
 returns-7 c = plain-tag _ (c .before .before .before .before .before .value-at .ensures) (c .before .before .before .tag .given .1) _ (c .before .if2 .left) (c .if5 .left)
@@ -59,18 +59,18 @@ plain-gap-spec =
     tie.close
     (tie.spec
     value-at-requires
+    enum-known-tag
     enum-told
     is-boolean-requires
     returns
-    enum-known-tag
-    is-key-requires
     returns-2
-    is-ref-requires
+    is-key-requires
     returns-3
+    is-ref-requires
     returns-4
+    returns-5
     behind-requires
     body-requires
     container-gap-requires
-    returns-5
     returns-6
     returns-7)

@@ -9,20 +9,23 @@ use Rattle.walk.proofs.attribute.property_gap.Tie as tie
 value-at-requires : tie.Need-value-at-requires
 value-at-requires c κs = search needs
 
+enum-known-tag : tie.Need-enum-known-tag
+enum-known-tag c = search needs
+
 enum-told : tie.Need-enum-told
 enum-told c = search needs
 
-enum-known-tag : tie.Need-enum-known-tag
-enum-known-tag c = search needs
+returns : tie.Need-returns
+returns c = prop-absent _ (c .before .before .value-at .ensures) _ _ (c .enum-told .given .1)
 
 is-key-requires : tie.Need-is-key-requires
 is-key-requires c κs = search needs
 
-returns : tie.Need-returns
-returns c = prop-key _ (c .before .before .before .before .before .value-at .ensures) (c .before .before .before .tag .given .1) _ _ (c .before .is-key .ensures) (c .if1 .taken)
-
 returns-2 : tie.Need-returns-2
-returns-2 c = prop-string _ (c .before .before .before .before .before .before .value-at .ensures) (c .before .before .before .before .tag .given .1) _ _ (c .before .before .is-key .ensures) (c .before .if1 .left) (c .if2 .taken)
+returns-2 c = prop-key _ (c .before .before .before .before .before .value-at .ensures) (c .before .before .before .tag .given .1) _ _ (c .before .is-key .ensures) (c .if1 .taken)
+
+returns-3 : tie.Need-returns-3
+returns-3 c = prop-string _ (c .before .before .before .before .before .before .value-at .ensures) (c .before .before .before .before .tag .given .1) _ _ (c .before .before .is-key .ensures) (c .before .if1 .left) (c .if2 .taken)
 
 behind-requires : tie.Need-behind-requires
 behind-requires c κs = search needs
@@ -33,14 +36,11 @@ body-requires c κs = search needs
 tag-at-requires : tie.Need-tag-at-requires
 tag-at-requires c κs = search needs
 
-returns-3 : tie.Need-returns-3
-returns-3 c = prop-empty _ (c .before .before .before .before .before .before .before .before .before .before .before .value-at .ensures) (c .before .before .before .before .before .before .before .before .before .tag .given .1) _ _ (c .before .before .before .before .before .before .before .is-key .ensures) (c .before .before .before .before .if3 .taken) (c .before .before .body .ensures ∙ ap body-of (c .before .before .before .behind .ensures)) (c .before .tag-at .ensures .1 (c .if4 .taken))
-
 returns-4 : tie.Need-returns-4
-returns-4 c = prop-attr _ (c .before .before .before .before .before .before .before .before .before .before .before .value-at .ensures) (c .before .before .before .before .before .before .before .before .before .tag .given .1) _ _ (c .before .before .before .before .before .before .before .is-key .ensures) (c .before .before .before .before .if3 .taken) (c .before .before .body .ensures ∙ ap body-of (c .before .before .before .behind .ensures)) (c .before .before .before .before .before .before .if1 .left) (c .before .tag-at .ensures .0) (c .if4 .left)
+returns-4 c = prop-empty _ (c .before .before .before .before .before .before .before .before .before .before .before .value-at .ensures) (c .before .before .before .before .before .before .before .before .before .tag .given .1) _ _ (c .before .before .before .before .before .before .before .is-key .ensures) (c .before .before .before .before .if3 .taken) (c .before .before .body .ensures ∙ ap body-of (c .before .before .before .behind .ensures)) (c .before .tag-at .ensures .1 (c .if4 .taken))
 
 returns-5 : tie.Need-returns-5
-returns-5 c = prop-absent _ (c .before .before .value-at .ensures) _ _ (c .enum-told .given .1)
+returns-5 c = prop-attr _ (c .before .before .before .before .before .before .before .before .before .before .before .value-at .ensures) (c .before .before .before .before .before .before .before .before .before .tag .given .1) _ _ (c .before .before .before .before .before .before .before .is-key .ensures) (c .before .before .before .before .if3 .taken) (c .before .before .body .ensures ∙ ap body-of (c .before .before .before .behind .ensures)) (c .before .before .before .before .before .before .if1 .left) (c .before .tag-at .ensures .0) (c .if4 .left)
 
 returns-6 : tie.Need-returns-6
 returns-6 c = prop-tag _ (c .before .before .before .before .before .before .before .value-at .ensures) (c .before .before .before .before .before .tag .given .1) _ _ (c .before .if2 .left) (c .if3 .left)
@@ -50,15 +50,15 @@ property-gap-spec =
     tie.close
     (tie.spec
     value-at-requires
-    enum-told
     enum-known-tag
-    is-key-requires
+    enum-told
     returns
+    is-key-requires
     returns-2
+    returns-3
     behind-requires
     body-requires
     tag-at-requires
-    returns-3
     returns-4
     returns-5
     returns-6)

@@ -13,15 +13,15 @@ enum-told c = search needs
 enum-told-2 : tie.Need-enum-told-2
 enum-told-2 c = search needs
 
+returns : tie.Need-returns
+returns c = sets-absent _ (c .before .before .value-at .ensures) _ _ (c .enum-told2 .given .1)
+
 is-key-requires : tie.Need-is-key-requires
 is-key-requires c κs = search needs
 
-returns : tie.Need-returns
-returns c = sets-absent _ (c .before .before .value-at .ensures) _ _ (c .enum-told .given .1)
-
 returns-2 : tie.Need-returns-2
-returns-2 c = sets-field _ (c .before .before .before .value-at .ensures) (c .before .enum-told2 .given .1) _ _ (c .is-key .ensures)
+returns-2 c = sets-field _ (c .before .before .before .value-at .ensures) (c .before .enum-told .given .1) _ _ (c .is-key .ensures)
 
 pub sets-key-spec : {M : Type 1} → statement M
 sets-key-spec =
-    tie.close (tie.spec value-at-requires enum-told enum-told-2 is-key-requires returns returns-2)
+    tie.close (tie.spec value-at-requires enum-told enum-told-2 returns is-key-requires returns-2)

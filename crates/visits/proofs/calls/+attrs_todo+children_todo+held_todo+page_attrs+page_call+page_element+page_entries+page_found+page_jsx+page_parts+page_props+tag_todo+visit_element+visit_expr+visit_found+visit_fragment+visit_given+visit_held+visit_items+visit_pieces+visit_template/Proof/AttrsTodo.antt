@@ -110,13 +110,12 @@ attrs-todo-loop-again t c =
     let d = k .before in
     let i = d .before in
     let s = i .before .before .loop in
-    let a = i .before .before .before .before .before .before .before in
-    (
+    let a = i .before .before .before .before .before .before .before in (
       y .tag-todo .kept .1 .1 .1 .0 ∙ (h .held-todo .kept .1 .1 .1 .0 ∙ s .inv .0),
       (
         omega (arith, behind-less _ _ (i .before .tag-at .ensures .0) (λ q. omega (arith, i .match .keys1)) (c .behind .ensures), s .inv .1 .0),
-        value-front _ _ _ (i .before .tag-at .ensures .0) (c .behind .ensures) (i .match .keys1) (d .body .ensures) (k .key-held .ensures .0 (a .args .skip .now) (a .args .props .now)) (h .held-todo .ensures) (v .before .if1 .left) (y .tag-todo .ensures ∙ v .tag-value .ensures .0 (a .args .skip .now) (a .args .props .now)) .past (c .before .if2 .left) ∙ s .inv .1 .1
-      )
+        value-front _ _ _ (i .before .tag-at .ensures .0) (c .behind .ensures) (i .match .keys1) (d .body .ensures) (k .key-held .ensures .0 (a .args .skip .now) (a .args .props .now)) (h .held-todo .ensures) (v .before .if1 .left) (y .tag-todo .ensures ∙ v .tag-value .ensures .0 (a .args .skip .now) (a .args .props .now)) .past (c .before .if2 .left) ∙ s .inv .1 .1,
+      ),
     )
 
 pub attrs-todo-body-requires-2 : (t : ℕ) → attrs-todo-lts.Need-body-requires-2 (attrs-todo-calls t) (attrs-todo-at t) attrs-todo.Post attrs-todo-Inv-loop attrs-todo-μ-loop
@@ -154,13 +153,12 @@ attrs-todo-loop-again-2 t c =
     let h = c .before .before .before .before in
     let d = h .before .before in
     let i = d .before in
-    let s = i .before .before .loop in
-    (
+    let s = i .before .before .loop in (
       h .held-todo2 .kept .1 .1 .1 .0 ∙ s .inv .0,
       (
         omega (arith, behind-less _ _ (i .before .tag-at .ensures .0) (λ q. omega (arith, i .match .keys2)) (c .behind2 .ensures), s .inv .1 .0),
-        spread-front _ _ _ (i .before .tag-at .ensures .0) (c .behind2 .ensures) (i .match .keys2) (d .body2 .ensures) (h .held-todo2 .ensures) .past (c .before .if3 .left) ∙ s .inv .1 .1
-      )
+        spread-front _ _ _ (i .before .tag-at .ensures .0) (c .behind2 .ensures) (i .match .keys2) (d .body2 .ensures) (h .held-todo2 .ensures) .past (c .before .if3 .left) ∙ s .inv .1 .1,
+      ),
     )
 
 pub attrs-todo-same-length-4 : (t : ℕ) → attrs-todo-lts.Need-same-length-4 (attrs-todo-calls t) (attrs-todo-at t) attrs-todo.Post attrs-todo-Inv-loop attrs-todo-μ-loop

@@ -65,13 +65,12 @@ children-todo-loop-again t c =
     let h = c .before .before .before .before in
     let d = h .before .before in
     let i = d .before in
-    let s = i .before .before .loop in
-    (
+    let s = i .before .before .loop in (
       h .held-todo .kept .1 .1 .1 .0 ∙ s .inv .0,
       (
         omega (arith, behind-less _ _ (i .before .tag-at .ensures .0) (λ q. omega (arith, i .match .keys1)) (c .behind .ensures), s .inv .1 .0),
-        container-front _ _ _ (i .before .tag-at .ensures .0) (c .behind .ensures) (d .body .ensures) (h .held-todo .ensures) (i .match .keys1) .past (c .before .if1 .left) ∙ s .inv .1 .1
-      )
+        container-front _ _ _ (i .before .tag-at .ensures .0) (c .behind .ensures) (d .body .ensures) (h .held-todo .ensures) (i .match .keys1) .past (c .before .if1 .left) ∙ s .inv .1 .1,
+      ),
     )
 
 pub children-todo-body-requires-2 : (t : ℕ) → children-todo-lts.Need-body-requires-2 (children-todo-calls t) (children-todo-at t) children-todo.Post children-todo-Inv-loop children-todo-μ-loop
@@ -109,13 +108,12 @@ children-todo-loop-again-2 t c =
     let h = c .before .before .before .before in
     let d = h .before .before in
     let i = d .before in
-    let s = i .before .before .loop in
-    (
+    let s = i .before .before .loop in (
       h .held-todo2 .kept .1 .1 .1 .0 ∙ s .inv .0,
       (
         omega (arith, behind-less _ _ (i .before .tag-at .ensures .0) (λ q. omega (arith, i .match .keys2)) (c .behind2 .ensures), s .inv .1 .0),
-        spread-child-front _ _ _ (i .before .tag-at .ensures .0) (c .behind2 .ensures) (d .body2 .ensures) (h .held-todo2 .ensures) (i .match .keys2) .past (c .before .if2 .left) ∙ s .inv .1 .1
-      )
+        spread-child-front _ _ _ (i .before .tag-at .ensures .0) (c .behind2 .ensures) (d .body2 .ensures) (h .held-todo2 .ensures) (i .match .keys2) .past (c .before .if2 .left) ∙ s .inv .1 .1,
+      ),
     )
 
 pub children-todo-tag-todo-requires : (t : ℕ) → children-todo-lts.Need-tag-todo-requires (children-todo-calls t) (children-todo-at t) children-todo.Post children-todo-Inv-loop children-todo-μ-loop
@@ -146,13 +144,12 @@ pub children-todo-loop-again-3 : (t : ℕ) → children-todo-lts.Need-loop-again
 children-todo-loop-again-3 t c =
     let h = c .before .before .before .before in
     let i = h .before .before in
-    let s = i .before .before .loop in
-    (
+    let s = i .before .before .loop in (
       h .tag-todo .kept .1 .1 .1 .0 ∙ s .inv .0,
       (
         omega (arith, behind-less _ _ (i .before .tag-at .ensures .0) (λ q. omega (arith, i .match .keys3)) (c .behind3 .ensures), s .inv .1 .0),
-        element-front _ _ _ (i .before .tag-at .ensures .0) (c .behind3 .ensures) (h .tag-todo .ensures) (i .match .keys3) .past (c .before .if3 .left) ∙ s .inv .1 .1
-      )
+        element-front _ _ _ (i .before .tag-at .ensures .0) (c .behind3 .ensures) (h .tag-todo .ensures) (i .match .keys3) .past (c .before .if3 .left) ∙ s .inv .1 .1,
+      ),
     )
 
 pub children-todo-tag-todo-requires-2 : (t : ℕ) → children-todo-lts.Need-tag-todo-requires-2 (children-todo-calls t) (children-todo-at t) children-todo.Post children-todo-Inv-loop children-todo-μ-loop
@@ -183,13 +180,12 @@ pub children-todo-loop-again-4 : (t : ℕ) → children-todo-lts.Need-loop-again
 children-todo-loop-again-4 t c =
     let h = c .before .before .before .before in
     let i = h .before .before in
-    let s = i .before .before .loop in
-    (
+    let s = i .before .before .loop in (
       h .tag-todo2 .kept .1 .1 .1 .0 ∙ s .inv .0,
       (
         omega (arith, behind-less _ _ (i .before .tag-at .ensures .0) (λ q. omega (arith, i .match .keys4)) (c .behind4 .ensures), s .inv .1 .0),
-        fragment-front _ _ _ (i .before .tag-at .ensures .0) (c .behind4 .ensures) (h .tag-todo2 .ensures) (i .match .keys4) .past (c .before .if4 .left) ∙ s .inv .1 .1
-      )
+        fragment-front _ _ _ (i .before .tag-at .ensures .0) (c .behind4 .ensures) (h .tag-todo2 .ensures) (i .match .keys4) .past (c .before .if4 .left) ∙ s .inv .1 .1,
+      ),
     )
 
 pub children-todo-same-length-5 : (t : ℕ) → children-todo-lts.Need-same-length-5 (children-todo-calls t) (children-todo-at t) children-todo.Post children-todo-Inv-loop children-todo-μ-loop
@@ -210,11 +206,10 @@ pub children-todo-loop-again-5 : (t : ℕ) → children-todo-lts.Need-loop-again
 children-todo-loop-again-5 t c =
     let i = c .before in
     let s = i .before .before .loop in
-    let n = i .match .rest in
-    (
+    let n = i .match .rest in (
       s .inv .0,
       (
         omega (arith, behind-less _ _ (i .before .tag-at .ensures .0) (n .1) (c .behind5 .ensures), s .inv .1 .0),
-        past-child _ _ _ (i .before .tag-at .ensures .0) (c .behind5 .ensures) (n .1) (n .0 .0 .0 .0 .1) (n .0 .0 .0 .1) (n .0 .0 .1) (n .0 .1) ∙ s .inv .1 .1
-      )
+        past-child _ _ _ (i .before .tag-at .ensures .0) (c .behind5 .ensures) (n .1) (n .0 .0 .0 .0 .1) (n .0 .0 .0 .1) (n .0 .0 .1) (n .0 .1) ∙ s .inv .1 .1,
+      ),
     )

@@ -274,13 +274,14 @@ visited-past : (t : ℕ) (c : Visited t) → call-place t (found-behind t (keyed
 visited-past t c =
     let k = visited-keyed t c in
     let d = keyed-closed t k in
-    omega
-    (arith,
-    named-past t (looked-named t (found-looked t (closed-found t d))),
-    childed-past t (d .before .before .before .before),
-    closed-grew (props-place t (looked-named t (found-looked t (closed-found t d)))) _ _ (d .before .before .before .before .close-if .result) _ (d .close-props .ensures),
-    grew (see-grows _ _) (k .key-front .ensures),
-    grew (see-grows _ _) (c .visit-held .ensures))
+    omega (
+      arith,
+      named-past t (looked-named t (found-looked t (closed-found t d))),
+      childed-past t (d .before .before .before .before),
+      closed-grew (props-place t (looked-named t (found-looked t (closed-found t d)))) _ _ (d .before .before .before .before .close-if .result) _ (d .close-props .ensures),
+      grew (see-grows _ _) (k .key-front .ensures),
+      grew (see-grows _ _) (c .visit-held .ensures),
+    )
 
 -- ---- the needs
 
@@ -310,8 +311,7 @@ pub page-call-page-props-requires : (t : ℕ) → page-call-lts.Need-page-props-
 page-call-page-props-requires t c κs =
     let i = named-behind t (props-named t c) in
     let r = start t i .pre in
-    let n = rest-short t i in
-    (
+    let n = rest-short t i in (
       omega (arith, n, r .0),
       record {
         desk = r .1 .desk;
@@ -339,8 +339,7 @@ page-call-page-found-requires t c κs =
     let i = looked-behind t l in
     let r = start t i .pre in
     let n = rest-short t i in
-    let f = c .before .before .before .before .before .before .before .before .found-of .ensures in
-    (
+    let f = c .before .before .before .before .before .before .before .before .found-of .ensures in (
       omega (arith, n, r .0),
       (
         record { within = f .0; finds = f .1 (start t i .args .props .now) },
@@ -384,8 +383,7 @@ page-call-visit-held-requires t c κs =
     let r = start t i .pre in
     let n = rest-short t i in
     let h = c .before .before .before .key-held .ensures in
-    let d = c .before .before .before .before .before .before .before .before .key-at .ensures .1 in
-    (
+    let d = c .before .before .before .before .before .before .before .before .key-at .ensures .1 in (
       omega (arith, h .1, d, n, r .0),
       record {
         desk = omega (arith, f .page-found .kept .1 .1 .1 .1 .1 .0, looked-filled t (found-looked t f) .page-props .kept .1 .1 .1 .1 .0, r .1 .desk);
@@ -399,8 +397,7 @@ page-call-close-requires t c κs =
     let v = c .before .before .before .before .before .before .before in
     let k = visited-keyed t v in
     let i = found-behind t (keyed-found t k) in
-    let a = start t i .args in
-    (
+    let a = start t i .args in (
       visited-past t v,
       call-low _ _ _ (c .before .before .before .before .before .before .before .before .before .before .before .key-held .ensures .0 (a .skip .now) (a .props .now)) _ _ (key-begins t k) _ _ _ (v .visit-held .ensures) (low t i),
     )

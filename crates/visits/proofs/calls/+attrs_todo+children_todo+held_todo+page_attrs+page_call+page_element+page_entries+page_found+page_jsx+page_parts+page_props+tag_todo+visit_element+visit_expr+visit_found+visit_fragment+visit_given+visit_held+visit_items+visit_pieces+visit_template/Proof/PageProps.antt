@@ -60,8 +60,7 @@ pub page-props-visit-held-requires : (t : ℕ) → page-props-lts.Need-visit-hel
 page-props-visit-held-requires t c κs =
     let a = c .before .before .before .before .before .before .before .before .before .before .before .before .before .before .before .before .before .before .before in
     let i = c .before .before .before .before .before .before .before .before .before .before in
-    let n = body-less _ _ (i .before .tag-at .ensures .0) (λ z. omega (arith, i .match .keys1)) (c .before .before .before .before .before .before .before .before .before .body .ensures) in
-    (
+    let n = body-less _ _ (i .before .tag-at .ensures .0) (λ z. omega (arith, i .match .keys1)) (c .before .before .before .before .before .before .before .before .before .body .ensures) in (
       omega (arith, c .before .before .before .held-at .ensures .1, n, i .before .before .loop .inv .1, a .pre .0),
       record {
         desk = omega (arith, i .before .before .loop .inv .0, a .pre .1 .desk);
@@ -72,8 +71,7 @@ page-props-visit-held-requires t c κs =
 
 pub page-props-gap-back-requires : (t : ℕ) → page-props-lts.Need-gap-back-requires (page-props-calls t) (page-props-at t) page-props.Post page-props-Inv-loop page-props-μ-loop
 page-props-gap-back-requires t c κs =
-    let i = c .before .before .before .before .before .before .before .before .before .before .before .before .before .before .before .before .before .before in
-    (
+    let i = c .before .before .before .before .before .before .before .before .before .before .before .before .before .before .before .before .before .before in (
       prop-back-page _ _ _ _ _ (i .before .tag-at .ensures .0) _ (i .before .before .loop .inv .2) (i .match .keys1) (c .before .before .before .before .before .before .before .before .before .before .before .before .before .before .before .before .before .body .ensures) (c .before .before .before .before .before .before .before .before .before .before .before .before .before .before .before .before .property-gap .ensures) (c .before .before .before .before .before .before .before .before .before .before .before .before .before .before .property-front .ensures) (c .before .before .before .before .before .before .before .before .before .before .before .held-at .ensures .0 _ _) (c .before .before .before .before .before .before .before .visit-held .ensures),
       prop-back-room _ _ _ _ _ (i .before .tag-at .ensures .0) _ (i .before .before .loop .inv .2) (i .match .keys1) (c .before .before .before .before .before .before .before .before .before .before .before .before .before .before .before .before .before .body .ensures) (c .before .before .before .before .before .before .before .before .before .before .before .before .before .before .before .before .property-gap .ensures) (c .before .before .before .before .before .before .before .before .before .before .before .before .before .before .property-front .ensures) (c .before .before .before .before .before .before .before .before .before .before .before .held-at .ensures .0 _ _) (c .before .before .before .before .before .before .before .visit-held .ensures) (c .before .before .before .before .before .before .before .before .before .before .before .before .before .before .before .before .before .before .before .before .before .before .before .before .before .before .before .pre .1 .low),
     )
@@ -88,8 +86,7 @@ page-props-loop-less t c =
 
 pub page-props-loop-again : (t : ℕ) → page-props-lts.Need-loop-again (page-props-calls t) (page-props-at t) page-props.Post page-props-Inv-loop page-props-μ-loop
 page-props-loop-again t c =
-    let i = c .before .before .before .before .before .before .before .before .before .before .before .before .before .before .before .before .before .before .before .before .before .before in
-    (
+    let i = c .before .before .before .before .before .before .before .before .before .before .before .before .before .before .before .before .before .before .before .before .before .before in (
       c .before .before .before .before .before .before .before .before .before .before .before .visit-held .kept .1 .1 .1 .0 ∙ i .before .before .loop .inv .0,
       omega (arith, page-props-loop-less t c, i .before .before .loop .inv .1),
       prop-on _ _ _ _ _ (i .before .tag-at .ensures .0) _ (i .before .before .loop .inv .2) (i .match .keys1) (c .before .before .before .before .before .before .before .before .before .before .before .before .before .before .before .before .before .before .before .before .before .body .ensures) (c .before .before .before .before .before .before .before .before .before .before .before .before .before .before .before .before .before .before .before .before .property-gap .ensures) (c .before .before .before .before .before .before .before .before .before .before .before .before .before .before .before .before .before .before .property-front .ensures) (c .before .before .before .before .before .before .before .before .before .before .before .before .before .before .before .held-at .ensures .0 _ _) (c .before .before .before .before .before .before .before .before .before .before .before .visit-held .ensures) (c .behind .ensures) (c .before .before .before .gap-back .ensures),
@@ -107,8 +104,7 @@ pub page-props-visit-expr-requires : (t : ℕ) → page-props-lts.Need-visit-exp
 page-props-visit-expr-requires t c κs =
     let a = c .before .before .before .before .before .before .before .before .before .before .before .before .before .before in
     let i = c .before .before .before .before .before in
-    let n = body-less _ _ (i .before .tag-at .ensures .0) (λ z. omega (arith, i .match .keys2)) (c .before .before .before .before .body2 .ensures) in
-    (
+    let n = body-less _ _ (i .before .tag-at .ensures .0) (λ z. omega (arith, i .match .keys2)) (c .before .before .before .before .body2 .ensures) in (
       omega (arith, n, i .before .before .loop .inv .1, a .pre .0),
       record {
         desk = omega (arith, i .before .before .loop .inv .0, a .pre .1 .desk);
@@ -132,8 +128,7 @@ page-props-loop-less-2 t c =
 
 pub page-props-loop-again-2 : (t : ℕ) → page-props-lts.Need-loop-again-2 (page-props-calls t) (page-props-at t) page-props.Post page-props-Inv-loop page-props-μ-loop
 page-props-loop-again-2 t c =
-    let i = c .before .before .before .before .before .before .before .before .before .before .before .before .before .before .before .before .before in
-    (
+    let i = c .before .before .before .before .before .before .before .before .before .before .before .before .before .before .before .before .before in (
       c .before .before .before .before .before .before .before .before .before .before .before .visit-expr .kept .1 .1 .1 .0 ∙ i .before .before .loop .inv .0,
       omega (arith, page-props-loop-less-2 t c, i .before .before .loop .inv .1),
       spread-on _ _ _ _ _ (i .before .tag-at .ensures .0) _ (i .before .before .loop .inv .2) (i .match .keys2) (c .before .before .before .before .before .before .before .before .before .before .before .before .before .before .before .before .body2 .ensures) (c .before .before .before .before .before .before .before .before .before .before .before .before .begin .ensures) (c .before .before .before .before .before .before .before .before .before .before .before .visit-expr .ensures) (c .behind2 .ensures) (c .before .before .before .close .ensures),

@@ -41,12 +41,14 @@ visit-element-recorded-requires t c κs = tt
 pub visit-element-page-jsx-requires : (t : ℕ) → visit-element-lts.Need-page-jsx-requires (visit-element-calls t) (visit-element-at t) visit-element.Post
 visit-element-page-jsx-requires t c κs =
     let r = c .before .before .before .before .before .before .before .before in
-    let a = r .before .before .before .before .before .before .before .before .before .before in
-    (omega (arith, a .pre .0), record {
-      desk = omega (arith, a .pre .1 .desk, r .record-serialize .kept .1 .1 .1 .0);
-      short = a .pre .1 .short;
-      low = element-paged (a .args .skip .now) (a .args .props .now) (a .args .b .now) (a .args .templates .now) (a .args .page .now) (a .args .st) (r .before .records-of .ensures) (r .record-serialize .ensures) (c .recorded .ensures) (a .pre .1 .low);
-    })
+    let a = r .before .before .before .before .before .before .before .before .before .before in (
+      omega (arith, a .pre .0),
+      record {
+        desk = omega (arith, a .pre .1 .desk, r .record-serialize .kept .1 .1 .1 .0);
+        short = a .pre .1 .short;
+        low = element-paged (a .args .skip .now) (a .args .props .now) (a .args .b .now) (a .args .templates .now) (a .args .page .now) (a .args .st) (r .before .records-of .ensures) (r .record-serialize .ensures) (c .recorded .ensures) (a .pre .1 .low);
+      },
+    )
 
 pub visit-element-returned-requires : (t : ℕ) → visit-element-lts.Need-returned-requires (visit-element-calls t) (visit-element-at t) visit-element.Post
 visit-element-returned-requires t c κs = tt

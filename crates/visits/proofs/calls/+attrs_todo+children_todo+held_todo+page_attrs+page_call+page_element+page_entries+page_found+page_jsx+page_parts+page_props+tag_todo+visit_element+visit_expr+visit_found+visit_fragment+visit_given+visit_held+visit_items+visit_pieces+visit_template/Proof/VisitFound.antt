@@ -86,23 +86,33 @@ visit-found-visit-given-requires t c κs =
     let p = c .before .before .before .before .before in
     let f = p .before .before .before in
     let a = f .before .before .before .before .before .before .before in
-    let u = (expr-no-tag (a .args .skip .now) (a .args .props .now) (a .args .s .now) (f .found-of .result) (f .found-of .ensures .1 (a .args .props .now)) (at (a .args .templates .now) (a .args .page .now) (a .args .st)) (p .before .enum-told2 .given .1) (p .place .ensures) (c .before .before .before .before .is-tag .ensures) (c .before .before .before .if1 .left)) in
-    (omega (arith, a .pre .0), ((record { within = f .found-of .ensures .0; finds = f .found-of .ensures .1 (a .args .props .now) }, u), record {
-      desk = a .pre .1 .desk;
-      short = a .pre .1 .short;
-      low = low-is (sym (found-given (a .args .skip .now) (a .args .props .now) (a .args .s .now) (f .found-of .result) (f .found-of .ensures .1 (a .args .props .now)) (at (a .args .templates .now) (a .args .page .now) (a .args .st)) u)) (a .pre .1 .low);
-    }))
+    let u = (expr-no-tag (a .args .skip .now) (a .args .props .now) (a .args .s .now) (f .found-of .result) (f .found-of .ensures .1 (a .args .props .now)) (at (a .args .templates .now) (a .args .page .now) (a .args .st)) (p .before .enum-told2 .given .1) (p .place .ensures) (c .before .before .before .before .is-tag .ensures) (c .before .before .before .if1 .left)) in (
+      omega (arith, a .pre .0),
+      (
+        (record { within = f .found-of .ensures .0; finds = f .found-of .ensures .1 (a .args .props .now) }, u),
+        record {
+          desk = a .pre .1 .desk;
+          short = a .pre .1 .short;
+          low = low-is (sym (found-given (a .args .skip .now) (a .args .props .now) (a .args .s .now) (f .found-of .result) (f .found-of .ensures .1 (a .args .props .now)) (at (a .args .templates .now) (a .args .page .now) (a .args .st)) u)) (a .pre .1 .low);
+        },
+      ),
+    )
 
 pub visit-found-visit-given-requires-2 : (t : ℕ) → visit-found-lts.Need-visit-given-requires-2 (visit-found-calls t) (visit-found-at t) visit-found.Post
 visit-found-visit-given-requires-2 t c κs =
     let f = c .before .before .before .before in
     let a = f .before .before .before .before .before .before .before in
-    let u = (rest-untagged (f .found-of .result .kind) (part (a .args .s .now) (f .found-of .result)) (c .before .before .before .match .keys3)) in
-    (omega (arith, a .pre .0), ((record { within = f .found-of .ensures .0; finds = f .found-of .ensures .1 (a .args .props .now) }, u), record {
-      desk = a .pre .1 .desk;
-      short = a .pre .1 .short;
-      low = low-is (sym (found-given (a .args .skip .now) (a .args .props .now) (a .args .s .now) (f .found-of .result) (f .found-of .ensures .1 (a .args .props .now)) (at (a .args .templates .now) (a .args .page .now) (a .args .st)) u)) (a .pre .1 .low);
-    }))
+    let u = (rest-untagged (f .found-of .result .kind) (part (a .args .s .now) (f .found-of .result)) (c .before .before .before .match .keys3)) in (
+      omega (arith, a .pre .0),
+      (
+        (record { within = f .found-of .ensures .0; finds = f .found-of .ensures .1 (a .args .props .now) }, u),
+        record {
+          desk = a .pre .1 .desk;
+          short = a .pre .1 .short;
+          low = low-is (sym (found-given (a .args .skip .now) (a .args .props .now) (a .args .s .now) (f .found-of .result) (f .found-of .ensures .1 (a .args .props .now)) (at (a .args .templates .now) (a .args .page .now) (a .args .st)) u)) (a .pre .1 .low);
+        },
+      ),
+    )
 
 pub visit-found-same-length-3 : (t : ℕ) → visit-found-lts.Need-same-length-3 (visit-found-calls t) (visit-found-at t) visit-found.Post
 visit-found-same-length-3 t c = c .before .before .before .before .before .before .children-todo .kept .1 .1 .1 .0

@@ -50,24 +50,28 @@ visit-fragment-visit-element-requires t c κs =
     let b = c .before .before .before .before in
     let f = b .before .before in
     let a = f .before .before .before .before .before .before .before .before .before in
-    let l = body-less _ _ (b .tag-at .ensures .0) (λ z. omega (arith, c .before .before .before .match2 .keys1, z)) (b .before .body .ensures) in
-    (omega (arith, a .pre .0, l, f .children-at .ensures .1), record {
-      desk = a .pre .1 .desk;
-      short = omega (arith, a .pre .1 .short, l, f .children-at .ensures .1);
-      low = low-is (sym (fragment-element (a .args .skip .now) (a .args .props .now) (a .args .s .now) (at (a .args .templates .now) (a .args .page .now) (a .args .st)) (f .before .before .child-count .ensures) (f .before .match .keys2) (f .children-at .ensures .0) (b .tag-at .ensures .0) (b .before .body .ensures) (c .before .before .before .match2 .keys1))) (a .pre .1 .low);
-    })
+    let l = body-less _ _ (b .tag-at .ensures .0) (λ z. omega (arith, c .before .before .before .match2 .keys1, z)) (b .before .body .ensures) in (
+      omega (arith, a .pre .0, l, f .children-at .ensures .1),
+      record {
+        desk = a .pre .1 .desk;
+        short = omega (arith, a .pre .1 .short, l, f .children-at .ensures .1);
+        low = low-is (sym (fragment-element (a .args .skip .now) (a .args .props .now) (a .args .s .now) (at (a .args .templates .now) (a .args .page .now) (a .args .st)) (f .before .before .child-count .ensures) (f .before .match .keys2) (f .children-at .ensures .0) (b .tag-at .ensures .0) (b .before .body .ensures) (c .before .before .before .match2 .keys1))) (a .pre .1 .low);
+      },
+    )
 
 pub visit-fragment-visit-found-requires : (t : ℕ) → visit-fragment-lts.Need-visit-found-requires (visit-fragment-calls t) (visit-fragment-at t) visit-fragment.Post
 visit-fragment-visit-found-requires t c κs =
     let b = c .before .before .before .before in
     let f = b .before .before in
     let a = f .before .before .before .before .before .before .before .before .before in
-    let l = body-less _ _ (b .tag-at .ensures .0) (λ z. omega (arith, c .before .before .before .match2 .keys2, z)) (b .before .body .ensures) in
-    (omega (arith, a .pre .0, l, f .children-at .ensures .1), record {
-      desk = a .pre .1 .desk;
-      short = omega (arith, a .pre .1 .short, l, f .children-at .ensures .1);
-      low = low-is (sym (fragment-fragment (a .args .skip .now) (a .args .props .now) (a .args .s .now) (at (a .args .templates .now) (a .args .page .now) (a .args .st)) (f .before .before .child-count .ensures) (f .before .match .keys2) (f .children-at .ensures .0) (b .tag-at .ensures .0) (b .before .body .ensures) (c .before .before .before .match2 .keys2))) (a .pre .1 .low);
-    })
+    let l = body-less _ _ (b .tag-at .ensures .0) (λ z. omega (arith, c .before .before .before .match2 .keys2, z)) (b .before .body .ensures) in (
+      omega (arith, a .pre .0, l, f .children-at .ensures .1),
+      record {
+        desk = a .pre .1 .desk;
+        short = omega (arith, a .pre .1 .short, l, f .children-at .ensures .1);
+        low = low-is (sym (fragment-fragment (a .args .skip .now) (a .args .props .now) (a .args .s .now) (at (a .args .templates .now) (a .args .page .now) (a .args .st)) (f .before .before .child-count .ensures) (f .before .match .keys2) (f .children-at .ensures .0) (b .tag-at .ensures .0) (b .before .body .ensures) (c .before .before .before .match2 .keys2))) (a .pre .1 .low);
+      },
+    )
 
 pub visit-fragment-held-todo-requires : (t : ℕ) → visit-fragment-lts.Need-held-todo-requires (visit-fragment-calls t) (visit-fragment-at t) visit-fragment.Post
 visit-fragment-held-todo-requires t c κs =

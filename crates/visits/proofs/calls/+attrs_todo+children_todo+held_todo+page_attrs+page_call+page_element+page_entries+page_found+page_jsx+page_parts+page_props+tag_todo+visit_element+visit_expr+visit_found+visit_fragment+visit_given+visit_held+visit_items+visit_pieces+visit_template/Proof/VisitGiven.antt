@@ -29,12 +29,17 @@ visit-given-recorded-requires t c κs = tt
 pub visit-given-page-found-requires : (t : ℕ) → visit-given-lts.Need-page-found-requires (visit-given-calls t) (visit-given-at t) visit-given.Post
 visit-given-page-found-requires t c κs =
     let r = c .before .before .before .before .before .before .before .before in
-    let a = r .before .before .before .before .before .before .before .before .before .before in
-    (omega (arith, a .pre .0), (a .pre .1 .0 .0, record {
-      desk = omega (arith, a .pre .1 .1 .desk, r .record-found .kept .1 .1 .1 .0);
-      short = a .pre .1 .1 .short;
-      low = given-paged (a .args .skip .now) (a .args .props .now) (a .args .s .now) (a .args .f) (a .pre .1 .0 .0) (a .pre .1 .0 .1) (a .args .templates .now) (a .args .page .now) (a .args .st) (r .before .records-of .ensures) (r .record-found .ensures) (c .recorded .ensures) (a .pre .1 .1 .low);
-    }))
+    let a = r .before .before .before .before .before .before .before .before .before .before in (
+      omega (arith, a .pre .0),
+      (
+        a .pre .1 .0 .0,
+        record {
+          desk = omega (arith, a .pre .1 .1 .desk, r .record-found .kept .1 .1 .1 .0);
+          short = a .pre .1 .1 .short;
+          low = given-paged (a .args .skip .now) (a .args .props .now) (a .args .s .now) (a .args .f) (a .pre .1 .0 .0) (a .pre .1 .0 .1) (a .args .templates .now) (a .args .page .now) (a .args .st) (r .before .records-of .ensures) (r .record-found .ensures) (c .recorded .ensures) (a .pre .1 .1 .low);
+        },
+      ),
+    )
 
 pub visit-given-returned-requires : (t : ℕ) → visit-given-lts.Need-returned-requires (visit-given-calls t) (visit-given-at t) visit-given.Post
 visit-given-returned-requires t c κs = tt

@@ -54,12 +54,14 @@ pub visit-template-page-parts-requires : (t : ℕ) → visit-template-lts.Need-p
 visit-template-page-parts-requires t c κs =
     let b = c .before .before .before .before .before in
     let r = b .before .before .before .before .before .before .before in
-    let a = r .before .before .before .before .before .before .before .before .before .before in
-    (omega (arith, a .pre .0), record {
-      desk = omega (arith, a .pre .1 .desk, r .record-fragment .kept .1 .1 .1 .0);
-      short = a .pre .1 .short;
-      low = template-parts (a .args .skip .now) (a .args .props .now) (a .args .s .now) (a .args .templates .now) (a .args .page .now) (a .args .st) (r .before .records-of .ensures) (r .record-fragment .ensures) (b .before .recorded .ensures) (b .begin-template .ensures) (a .pre .1 .low);
-    })
+    let a = r .before .before .before .before .before .before .before .before .before .before in (
+      omega (arith, a .pre .0),
+      record {
+        desk = omega (arith, a .pre .1 .desk, r .record-fragment .kept .1 .1 .1 .0);
+        short = a .pre .1 .short;
+        low = template-parts (a .args .skip .now) (a .args .props .now) (a .args .s .now) (a .args .templates .now) (a .args .page .now) (a .args .st) (r .before .records-of .ensures) (r .record-fragment .ensures) (b .before .recorded .ensures) (b .begin-template .ensures) (a .pre .1 .low);
+      },
+    )
 
 pub visit-template-close-requires : (t : ℕ) → visit-template-lts.Need-close-requires (visit-template-calls t) (visit-template-at t) visit-template.Post
 visit-template-close-requires t c κs =

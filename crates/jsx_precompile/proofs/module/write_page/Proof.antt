@@ -1,0 +1,135 @@
+use lib.ListN.{length}
+-- `write_page` meets its contract: the items are written behind room for the import, and the import in front of them. Assumes nothing.
+use mathlib.Core.Path.{refl}
+use native.Mathlib.Omega.{arith}
+use Rattle.field.specs.Row.{inside}
+use Rattle.spec.proofs.Answers.{inputs-fine}
+use Rattle.jsx_precompile.proofs.PageLaws.{page-body, source-short, items-room, import-short, page-import, page-plain}
+use borrow.Author.Needs.{needs}
+use Rattle.jsx_precompile.proofs.module.write_page.Statement.{statement}
+use Rattle.jsx_precompile.proofs.module.write_page.Tie as tie
+use Rattle.jsx_precompile.proofs.module.write_page.Reads as reads
+use Rattle.jsx_precompile.proofs.module.write_page.Lts as lts
+use Rattle.field.proofs.reader.body.Reads as body-reads
+use Rattle.jsx_precompile.proofs.module.heads_before.Reads as heads-before-reads
+use Rattle.jsx_precompile.proofs.module.helper_sum.Reads as helper-sum-reads
+use Rattle.jsx_precompile.proofs.module.import_len.Reads as import-len-reads
+use Rattle.jsx_precompile.proofs.module.put_import.Reads as put-import-reads
+use Rattle.jsx_precompile.proofs.module.start.Reads as start-reads
+use Rattle.jsx_precompile.proofs.module.visit_items.Reads as visit-items-reads
+use Rattle.jsx_precompile.proofs.options.names_in.Reads as names-in-reads
+
+-- src/module.rt:291:9
+names-in-requires : tie.Need-names-in-requires
+names-in-requires c κs = search needs
+
+-- src/module.rt:292:9
+names-in-requires-2 : tie.Need-names-in-requires-2
+names-in-requires-2 c κs = search needs
+
+-- src/module.rt:293:9
+body-requires : tie.Need-body-requires
+body-requires c κs = search needs
+
+-- src/module.rt:294:9
+heads-before-requires : tie.Need-heads-before-requires
+heads-before-requires c κs =
+    let i = inputs-fine _ _ _ (c .before .before .before .before .before .before .before .before .before .pre) in
+    let b = page-body _ (i .page-fine) (c .before .body .ensures) in
+    (i .scratch-enough, omega (arith, b .body-short, i .page-short))
+
+-- src/module.rt:295:83
+import-len-requires : tie.Need-import-len-requires
+import-len-requires c κs =
+    let a = c .before .before .before .before .before .before .before .before .before .before .before .before .before .before .before in
+    omega (arith, source-short (a .args .options .now) (inputs-fine _ _ (length (a .args .scratch .now)) (a .pre) .options-short))
+
+-- src/module.rt:295:77
+start-requires : tie.Need-start-requires
+start-requires c κs = search needs
+
+-- src/module.rt:295:9
+visit-items-requires : tie.Need-visit-items-requires
+visit-items-requires c κs =
+    let i = inputs-fine _ _ _ (c .before .before .before .before .before .before .before .before .before .before .before .before .before .before .before .before .before .pre) in
+    let b = page-body _ (i .page-fine) (c .before .before .before .before .before .before .before .before .before .body .ensures) in
+    let l = import-short (c .before .before .before .before .before .before .before .heads-before .result .import) _ (c .before .import-len .ensures) (source-short _ (i .options-short)) in
+    record {
+      desk = omega (arith, i .scratch-enough, c .before .before .before .before .before .before .before .heads-before .kept .1 .1 .1 .0);
+      short = omega (arith, b .body-short, i .page-short);
+      low = items-room _ _ _ (omega (arith, b .body-short, i .page-short)) _ _ (c .before .before .before .before .before .before .before .heads-before .ensures) (c .start .ensures) l;
+    }
+
+-- src/module.rt:297:35
+helper-sum-requires : tie.Need-helper-sum-requires
+helper-sum-requires c κs = search needs
+
+-- src/module.rt:297:9
+put-import-requires : tie.Need-put-import-requires
+put-import-requires c κs =
+    let a = c .before .before .before .before .before .before .before .before .before .before .before .before .before .before .before .before .before .before .before .before .before .before .before .before .before .before .before in
+    omega (arith, source-short (a .args .options .now) (inputs-fine _ _ (length (a .args .scratch .now)) (a .pre) .options-short))
+
+-- src/module.rt:287:1
+same-length : tie.Need-same-length
+same-length c = search needs
+
+-- src/module.rt:287:1
+same-length-2 : tie.Need-same-length-2
+same-length-2 c = search needs
+
+-- src/module.rt:287:1
+same-length-3 : tie.Need-same-length-3
+same-length-3 c = search needs
+
+-- src/module.rt:287:1
+returns : tie.Need-returns
+unfolding inside
+returns c =
+    let a = c .before .before .before .before .before .before .before .before .before .before .before .before .before .before .before .before .before .before .before .before .before .before .before .before .before .before .before .before .before .before in
+    let i = inputs-fine _ _ _ (a .pre) in
+    let b = page-body _ (i .page-fine) (c .before .before .before .before .before .before .before .before .before .before .before .before .before .before .before .before .before .before .before .before .before .before .body .ensures) in
+    page-import _ _ _ (c .before .before .before .before .before .before .before .before .before .before .before .before .before .before .before .before .before .before .before .before .before .before .before .before .names-in .ensures .0 refl) (c .before .before .before .before .before .before .before .before .before .before .before .before .before .before .before .before .before .before .before .before .before .before .before .names-in2 .ensures .0 refl) _ (b .body-items) (c .before .before .before .before .before .before .before .before .before .before .before .before .before .before .before .before .before .before .before .before .heads-before .ensures) (c .before .before .before .before .before .before .before .before .before .before .before .before .before .before .import-len .ensures) (c .before .before .before .before .before .before .before .before .before .before .before .before .before .start .ensures) _ _ (c .before .before .before .before .before .before .before .before .before .before .before .before .visit-items .ensures) (c .before .before .before .before .before .if1 .taken) (c .before .before .before .helper-sum .ensures) (c .before .before .put-import .ensures)
+
+-- src/module.rt:287:1
+same-length-4 : tie.Need-same-length-4
+same-length-4 c = search needs
+
+-- src/module.rt:287:1
+same-length-5 : tie.Need-same-length-5
+same-length-5 c = search needs
+
+-- src/module.rt:287:1
+same-length-6 : tie.Need-same-length-6
+same-length-6 c = search needs
+
+-- src/module.rt:287:1
+returns-2 : tie.Need-returns-2
+unfolding inside
+returns-2 c =
+    let a = c .before .before .before .before .before .before .before .before .before .before .before .before .before .before .before .before .before .before .before .before .before .before .before .before .before in
+    let i = inputs-fine _ _ _ (a .pre) in
+    let b = page-body _ (i .page-fine) (c .before .before .before .before .before .before .before .before .before .before .before .before .before .before .before .before .before .body .ensures) in
+    page-plain _ _ _ (c .before .before .before .before .before .before .before .before .before .before .before .before .before .before .before .before .before .before .before .names-in .ensures .0 refl) (c .before .before .before .before .before .before .before .before .before .before .before .before .before .before .before .before .before .before .names-in2 .ensures .0 refl) _ (b .body-items) (c .before .before .before .before .before .before .before .before .before .before .before .before .before .before .before .heads-before .ensures) (c .before .before .before .before .before .before .before .before .before .import-len .ensures) (c .before .before .before .before .before .before .before .before .start .ensures) _ _ (c .before .before .before .before .before .before .before .visit-items .ensures) (c .if1 .left)
+
+pub write-page-spec : {M : Type 1} → statement M
+write-page-spec =
+    tie.close
+    (tie.spec
+    names-in-requires
+    names-in-requires-2
+    body-requires
+    heads-before-requires
+    import-len-requires
+    start-requires
+    visit-items-requires
+    helper-sum-requires
+    put-import-requires
+    same-length
+    same-length-2
+    same-length-3
+    returns
+    same-length-4
+    same-length-5
+    same-length-6
+    returns-2)
