@@ -3,7 +3,7 @@
 
   tools/vectors.py VECTORS FROM COUNT [MOST]
 
-Takes COUNT lines of VECTORS (oracle/vectors/judge.txt) from line FROM on, those of at most MOST characters (default 3000). Each becomes a
+Takes COUNT lines of VECTORS (crates/replay/stdin) from line FROM on, those of at most MOST characters (default 3000). Each becomes a
 theorem, proved by computing, in a copy of the crates in a temporary folder; nothing is written here. Exit status 0: all agree.
 """
 import os

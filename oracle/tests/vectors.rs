@@ -7,7 +7,8 @@ use oracle::vectors::Vector;
 use oracle::{arms, judge, marks};
 use std::collections::HashSet;
 
-const STORED: &str = include_str!("../vectors/judge.txt");
+const STORED: &str = include_str!("../../crates/replay/stdin");
+const REPLAYED: &str = include_str!("../../crates/replay/stdout");
 
 fn stored() -> Vec<Vector> {
     STORED.lines().map(|line| Vector::parse(line).expect("twelve words")).collect()
@@ -18,6 +19,11 @@ fn lines_read_back() {
     assert!(STORED.len() < 1_500_000);
     let again: String = stored().iter().map(Vector::line).collect();
     assert!(again == STORED);
+}
+
+#[test]
+fn the_replay_is_of_all_lines() {
+    assert_eq!(REPLAYED, format!("{} lines, 0 differences\n", stored().len()));
 }
 
 #[test]

@@ -2,14 +2,12 @@
 -- `accepted-outputs`, `later-one`. Assumes nothing.
 use mathlib.Core.Path.{_≡_, refl, sym, ap, ap₂, _∙_, subst}
 use mathlib.Core.Bool.{Bool, true, false, not}
-use Prim.Native.Nat.{ℕ, _+_, _-_, _≤_}
+use Prim.Native.Nat.{ℕ, _-_, _≤_}
 use native.Mathlib.Omega.{arith}
-use mathlib.Core.List.{List, []}
 use lib.Dec.{leb}
 use lib.ListN.{length, replicate}
 use Rattle.field.specs.Bytes.{Bytes}
 use Rattle.field.specs.Row.{Row, read, bytes}
-use Rattle.field.specs.Put.{put}
 use Rattle.page.specs.Page.{Options}
 use Rattle.page.specs.Tree.{page-in, options-in, source-in}
 use Rattle.page.specs.Refusal.{after, unless}

@@ -3,9 +3,7 @@
 use mathlib.Core.Path.{_≡_, refl, sym, ap, _∙_}
 use mathlib.Core.Bool.{Bool, true, false, _||_}
 use Prim.Native.Nat.{ℕ, _≤_, _<_}
-use native.Mathlib.Omega.{arith}
-use mathlib.Core.List.{List, [], _∷_}
-use lib.Dec.{eqb}
+use mathlib.Core.List.{[], _∷_}
 use lib.ListN.{length}
 use borrow.Author.Tests.{le-leb, lt-leb, eq-eqb, ne-eqb}
 use Rattle.field.specs.Bytes.{Bytes, ascii}
@@ -14,10 +12,9 @@ use Rattle.field.specs.Front.{tag-of, body-of, behind-of}
 use Rattle.field.proofs.RowLaws.{read-nil}
 use Rattle.field.proofs.FrontLaws.{read-nest, leaf-at, nest-at}
 use Rattle.page.specs.Page as P
-use Rattle.page.specs.Page.{Page}
-use Rattle.page.specs.Tree.{choose, texts-in, element-in, fragment-in, attributes-in, children-in, pieces-in, module-item-by, module-items-in, listed-in, source-in}
+use Rattle.page.specs.Tree.{choose, texts-in, element-in, attributes-in, children-in, pieces-in, module-item-by, module-items-in, listed-in, source-in}
 use Rattle.page.specs.Check.{check-page, check-options}
-use Rattle.page.specs.Refusal.{after, unless}
+use Rattle.page.specs.Refusal.{after}
 use Rattle.page.specs.declared.Refusal.{Refusal}
 use Rattle.page.specs.declared.Refusal.the-variants as R
 use Rattle.page.specs.declared.Verdict.{Verdict}

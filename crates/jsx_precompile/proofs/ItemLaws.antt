@@ -5,22 +5,20 @@ use mathlib.Core.Path.{_≡_, refl, sym, ap, _∙_, subst}
 use mathlib.Core.Bool.{Bool, true, false, _&&_, not}
 use Prim.Native.Nat.{ℕ, _+_, _-_, _≤_, _<_, _^_}
 use native.Mathlib.Omega.{arith}
-use mathlib.Core.List.{List, [], _∷_, _++_, append-nil}
-use lib.ListN.{length}
+use mathlib.Core.List.{[], _∷_, _++_, append-nil}
 use Rattle.field.specs.Bytes.{Bytes, ascii, pick}
 use Rattle.field.specs.Row.{read, Ended, field-bytes, bytes}
 use Rattle.field.specs.Front.{tag-of, body-of, behind-of}
 use Rattle.field.specs.Put.{Wrote, head}
 use Rattle.field.proofs.PutLaws.{wrote-then, wrote-is, wrote-behind}
 use Rattle.page.specs.Page.{Page}
-use Rattle.page.specs.Tree.{pieces-in, module-items-in}
-use Rattle.spec.specs.Pass.{Mid, none, node, _+++_}
+use Rattle.page.specs.Tree.{module-items-in}
+use Rattle.spec.specs.Pass.{Mid, _+++_}
 use Rattle.spec.specs.Output.{leaf}
 use Rattle.decisions.specs.At.{opts}
 use Rattle.walk.specs.declared.state.Walk.{Walk}
 use Rattle.walk.specs.See.{World, at, see, to-page, begun, wrap, Low}
-use Rattle.walk.proofs.SeeLaws.{plain, see-none, see-node, see-grows, lift, low-is}
-use Rattle.walk.proofs.ActLaws.{see-append}
+use Rattle.walk.proofs.SeeLaws.{plain, see-none, see-node, see-grows, lift}
 use Rattle.visits.specs.Visiting.{pieces-at}
 use Rattle.visits.proofs.FieldLaws.{turn-low, turn-on, page-low, field-begin, field-inner, field-close, field-done}
 use Rattle.jsx_precompile.specs.Run.{item-mid, place-mid, placed-before, module-mid, has-statement, items-mid, import-bytes}

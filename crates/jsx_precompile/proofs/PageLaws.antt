@@ -8,23 +8,22 @@ use mathlib.Core.List.{List, [], _∷_}
 use lib.Dec.{eqb, ltb}
 use lib.ListN.{length}
 use borrow.Author.Tests.{ne-eqb}
-use Rattle.field.specs.Bytes.{Bytes, ascii, pick}
+use Rattle.field.specs.Bytes.{Bytes, pick}
 use Rattle.field.specs.Row.{Row, end, loose, field, read, bytes, inside}
 use Rattle.field.specs.Front.{tag-of, body-of}
 use Rattle.field.specs.Put.{put, Wrote}
 use Rattle.field.proofs.RowLaws.{length-bytes}
 use Rattle.field.proofs.FrontLaws.{body-less, nest-at}
-use Rattle.page.specs.Page as P
-use Rattle.page.specs.Page.{Options, Page, ModuleItem}
+use Rattle.page.specs.Page.{Page, ModuleItem}
 use Rattle.page.specs.Encode.{pieces-row, module-items-row, page-row, encode}
 use Rattle.page.specs.Tree.{choose, texts-in, pieces-in, module-item-by, module-items-in, page-in, listed-in, source-in, options-in}
 use Rattle.page.specs.Check.{check-header, check-page}
 use Rattle.page.specs.Refusal.{after}
 use Rattle.page.specs.declared.Refusal.the-variants as R
-use Rattle.page.specs.declared.Verdict.the-variants.{Fine, Refused}
+use Rattle.page.specs.declared.Verdict.the-variants.{Fine}
 use Rattle.page.proofs.Verdicts.{refused}
 use Rattle.spec.specs.Pass.{Done, Template}
-use Rattle.spec.specs.Transform.{templates-row, with-templates, transform}
+use Rattle.spec.specs.Transform.{with-templates, transform}
 use Rattle.spec.proofs.PageOut.{templates-related}
 use Rattle.spec.proofs.Growth.{size, growth, taken-growth}
 use Rattle.spec.proofs.Lenient.{fits, length-read}

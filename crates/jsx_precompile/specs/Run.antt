@@ -1,11 +1,11 @@
 -- The export: the items with the place of the templates among them, the import, and the whole answer. Assumes nothing: these are definitions.
 use Prim.Native.Nat.{ℕ, _+_}
 use mathlib.Core.Bool.{Bool, true, false, _&&_, _||_, not}
-use mathlib.Core.List.{List, [], _∷_, _++_}
+use mathlib.Core.List.{[], _∷_, _++_}
 use mathlib.Core.Path.{_≡_}
 use lib.Dec.{eqb, leb, ltb}
 use lib.ListN.{length}
-use Rattle.field.specs.Bytes.{Bytes, ascii, pick, null?}
+use Rattle.field.specs.Bytes.{Bytes, ascii, pick}
 use Rattle.field.specs.Row.{Row, end, loose, field, bytes, long-body}
 use Rattle.field.specs.Put.{put}
 use Rattle.page.specs.Page as P
@@ -16,14 +16,10 @@ use Rattle.page.specs.declared.Refusal.the-variants as R
 use Rattle.page.specs.declared.Verdict.{Verdict}
 use Rattle.spec.specs.Pass.{Done, Mid, none, node}
 use Rattle.spec.specs.Output.{leaf}
-use Rattle.spec.specs.Merge as M
 use Rattle.spec.specs.Transform as T
-use Rattle.spec.specs.Transform.{pieces, module-items, templates-row, page-out-row, helper-sum, stands, transform}
-use Rattle.spec.specs.Visit.{visit-exprs}
+use Rattle.spec.specs.Transform.{pieces, templates-row, page-out-row, helper-sum, stands, transform}
 use Rattle.spec.specs.Answer.{Outcome, number, templates-bytes, page-bytes, templates, templates-left, page-left, scratch-left}
-use Rattle.decisions.specs.At.{opts}
 use Rattle.walk.specs.declared.state.Walk.{Walk}
-use Rattle.walk.specs.declared.state.Seen.{Seen}
 use Rattle.walk.specs.See.{World, at}
 use Rattle.jsx_precompile.specs.declared.module.Heads.{Heads}
 use Rattle.jsx_precompile.specs.declared.Answer.{Answer}

@@ -1,10 +1,7 @@
 // The export: a page and options in, templates and the page out. Everything is checked here; no caller is trusted to have looked first.
 ghost use mathlib.Core.Path.{_≡_};
-ghost use Prim.Native.Nat.{_≤_, _<_, _^_};
 ghost use lib.ListN.{length};
-ghost use Rattle.field.specs.Row.{read};
 ghost use Rattle.page.specs.Refusal.{refusal-number};
-ghost use Rattle.page.specs.Check.{check-page};
 ghost use Rattle.page.specs.declared.Verdict.the-variants.{Fine};
 ghost use Rattle.spec.specs.Answer.{outcome, refused, check-inputs, zeros, scratch-left};
 ghost use Rattle.jsx_precompile.specs.Run.{Answers, verdict-of};

@@ -1,12 +1,11 @@
 // visit_mut_module and inject_runtime: the items, where the templates go among them, and the import.
 ghost use mathlib.Core.Path.{_≡_};
 ghost use Prim.Native.Nat.{_+_, _≤_, _<_, _^_};
-ghost use mathlib.Core.Bool.{true, false};
 ghost use mathlib.Core.List.{[]};
 ghost use lib.ListN.{length};
-ghost use Rattle.field.specs.Bytes.{Bytes, pick};
+ghost use Rattle.field.specs.Bytes.{pick};
 ghost use Rattle.field.specs.Row.{read};
-ghost use Rattle.page.specs.Tree.{texts-in, pieces-in, module-items-in, page-in, options-in, source-in};
+ghost use Rattle.page.specs.Tree.{pieces-in, module-items-in, page-in, options-in, source-in};
 ghost use Rattle.page.specs.declared.Verdict.the-variants.{Fine};
 ghost use Rattle.spec.specs.Answer.{check-inputs};
 ghost use Rattle.spec.specs.Transform.{transform};

@@ -1,7 +1,6 @@
 // Options: the names of 02 and 03, the import's source.
 ghost use mathlib.Core.Path.{_≡_};
 ghost use Prim.Native.Nat.{_+_, _≤_, _<_, _^_};
-ghost use mathlib.Core.List.{_++_};
 ghost use lib.ListN.{length};
 ghost use Rattle.field.specs.Row.{read, fields-after, inside};
 ghost use Rattle.field.specs.Put.{Wrote};

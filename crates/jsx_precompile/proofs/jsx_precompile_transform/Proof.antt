@@ -4,61 +4,43 @@ use Rattle.jsx_precompile.proofs.AnswerLaws.{refused-inputs}
 use borrow.Author.Needs.{needs}
 use Rattle.jsx_precompile.proofs.jsx_precompile_transform.Statement.{statement}
 use Rattle.jsx_precompile.proofs.jsx_precompile_transform.Tie as tie
-use Rattle.jsx_precompile.proofs.jsx_precompile_transform.Reads as reads
-use Rattle.jsx_precompile.proofs.jsx_precompile_transform.Lts as lts
-use Rattle.jsx_precompile.proofs.check_inputs.Reads as check-inputs-reads
-use Rattle.jsx_precompile.proofs.refuse.Reads as refuse-reads
-use Rattle.jsx_precompile.proofs.transform.Reads as transform-reads
 
--- src/lib.rt:160:11
 check-inputs-requires : tie.Need-check-inputs-requires
 check-inputs-requires c κs = search needs
 
--- src/lib.rt:161:26
 enum-known-r : tie.Need-enum-known-r
 enum-known-r c = search needs
 
--- src/lib.rt:161:32
 refuse-requires : tie.Need-refuse-requires
 refuse-requires c κs = search needs
 
--- src/lib.rt:162:51
 enum-told : tie.Need-enum-told
 enum-told c = search needs
 
--- src/lib.rt:162:26
 transform-requires : tie.Need-transform-requires
 transform-requires c κs = sym (c .before .before .before .before .before .check-inputs .ensures) ∙ c .before .before .before .enum-told .given .1
 
--- src/lib.rt:156:1
 same-length : tie.Need-same-length
 same-length c = search needs
 
--- src/lib.rt:156:1
 same-length-2 : tie.Need-same-length-2
 same-length-2 c = search needs
 
--- src/lib.rt:156:1
 same-length-3 : tie.Need-same-length-3
 same-length-3 c = search needs
 
--- src/lib.rt:156:1
 returns : tie.Need-returns
 returns c = refused-inputs _ _ _ _ _ (c .before .before .before .before .before .before .before .before .before .before .before .before .before .check-inputs .ensures) (c .before .before .before .before .before .before .before .before .before .before .before .r .given .1) (c .before .before .before .before .before .before .refuse .ensures)
 
--- src/lib.rt:156:1
 same-length-4 : tie.Need-same-length-4
 same-length-4 c = search needs
 
--- src/lib.rt:156:1
 same-length-5 : tie.Need-same-length-5
 same-length-5 c = search needs
 
--- src/lib.rt:156:1
 same-length-6 : tie.Need-same-length-6
 same-length-6 c = search needs
 
--- src/lib.rt:156:1
 returns-2 : tie.Need-returns-2
 returns-2 c = search needs
 

@@ -1,5 +1,5 @@
 -- `number_of` meets its contract: by the refusal. Assumes nothing.
-use mathlib.Core.Path.{_≡_, sym, ap}
+use mathlib.Core.Path.{sym, ap}
 use Rattle.page.specs.Refusal.{refusal-number}
 use borrow.Author.Needs.{needs}
 use Rattle.jsx_precompile.proofs.number_of.Statement.{statement}

@@ -3,76 +3,55 @@ use Rattle.jsx_precompile.proofs.AnswerLaws.{later-one, refused-outputs
 use borrow.Author.Needs.{needs}
 use Rattle.jsx_precompile.proofs.transform.Statement.{statement}
 use Rattle.jsx_precompile.proofs.transform.Tie as tie
-use Rattle.jsx_precompile.proofs.transform.Reads as reads
-use Rattle.jsx_precompile.proofs.transform.Lts as lts
-use Rattle.jsx_precompile.proofs.check_outputs.Reads as check-outputs-reads
-use Rattle.jsx_precompile.proofs.clear.Reads as clear-reads
-use Rattle.jsx_precompile.proofs.module.write_page.Reads as write-page-reads
-use Rattle.jsx_precompile.proofs.refuse.Reads as refuse-reads
 
--- src/lib.rt:141:9
 write-page-requires : tie.Need-write-page-requires
 write-page-requires c κs = search needs
 
--- src/lib.rt:142:11
 check-outputs-requires : tie.Need-check-outputs-requires
 check-outputs-requires c κs = search needs
 
--- src/lib.rt:143:26
 enum-known-r : tie.Need-enum-known-r
 enum-known-r c = search needs
 
--- src/lib.rt:143:32
 refuse-requires : tie.Need-refuse-requires
 refuse-requires c κs = search needs
 
--- src/lib.rt:145:19
 enum-told : tie.Need-enum-told
 enum-told c = search needs
 
--- src/lib.rt:145:13
 clear-requires : tie.Need-clear-requires
 clear-requires c κs = search needs
 
--- src/lib.rt:150:28
 sub-t27 : tie.Need-sub-t27
 sub-t27 c =
     let a = c .before .before .before .before .before .before .before .before .before .before .before .before .before .before .before .before .before .before .before .before .before .before .before in
     let w = c .before .before .before .before .before .before .before .before .before .before .before .before .before .before .write-page in
     later-one _ _ (a .args .scratch .now) _ _ (a .pre) (w .ensures)
 
--- src/lib.rt:137:1
 same-length : tie.Need-same-length
 same-length c = search needs
 
--- src/lib.rt:137:1
 same-length-2 : tie.Need-same-length-2
 same-length-2 c = search needs
 
--- src/lib.rt:137:1
 same-length-3 : tie.Need-same-length-3
 same-length-3 c = search needs
 
--- src/lib.rt:137:1
 returns : tie.Need-returns
 returns c =
     let a = c .before .before .before .before .before .before .before .before .before .before .before .before .before .before .before .before .before .before .before .before .before .before .before .before .before .before .before .before .before in
     let w = c .before .before .before .before .before .before .before .before .before .before .before .before .before .before .before .before .before .before .before .before .write-page in
     refused-outputs _ _ _ _ _ (a .pre) (w .ensures) (w .kept .1 .1 .1 .0) (w .kept .1 .1 .1 .1 .0) (c .before .before .before .before .before .before .before .before .before .before .before .before .before .check-outputs .ensures) (c .before .before .before .before .before .before .before .before .before .before .before .r .given .1) (w .kept .1 .1 .0) (c .before .before .before .before .before .before .refuse .ensures)
 
--- src/lib.rt:137:1
 same-length-4 : tie.Need-same-length-4
 same-length-4 c = search needs
 
--- src/lib.rt:137:1
 same-length-5 : tie.Need-same-length-5
 same-length-5 c = search needs
 
--- src/lib.rt:137:1
 same-length-6 : tie.Need-same-length-6
 same-length-6 c = search needs
 
--- src/lib.rt:137:1
 returns-2 : tie.Need-returns-2
 returns-2 c =
     let a = c .before .before .before .before .before .before .before .before .before .before .before .before .before .before .before .before .before .before .before .before .before .before .before in

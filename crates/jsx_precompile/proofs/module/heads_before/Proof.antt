@@ -1,57 +1,39 @@
 -- `heads_before` meets its contract: an element shows both, or the walk that writes nothing tells. Assumes nothing.
-use native.Mathlib.Nat.{le-refl}
 use Rattle.jsx_precompile.proofs.PageLaws.{heads-shown, heads-told, module-room}
 use borrow.Author.Needs.{needs}
 use Rattle.jsx_precompile.proofs.module.heads_before.Statement.{statement}
 use Rattle.jsx_precompile.proofs.module.heads_before.Tie as tie
-use Rattle.jsx_precompile.proofs.module.heads_before.Reads as reads
-use Rattle.jsx_precompile.proofs.module.heads_before.Lts as lts
-use Rattle.jsx_precompile.proofs.module.has_html.Reads as has-html-reads
-use Rattle.jsx_precompile.proofs.module.helper_sum.Reads as helper-sum-reads
-use Rattle.jsx_precompile.proofs.module.start.Reads as start-reads
-use Rattle.jsx_precompile.proofs.module.visit_module.Reads as visit-module-reads
 
--- src/module.rt:246:8
 has-html-requires : tie.Need-has-html-requires
 has-html-requires c κs = search needs
 
--- src/module.rt:247:9
 returns : tie.Need-returns
 returns c = heads-shown _ _ _ (c .before .has-html .ensures) (c .if1 .taken)
 
--- src/module.rt:254:58
 array-borrow-prefix-none : tie.Need-array-borrow-prefix-none
 array-borrow-prefix-none c = search needs
 
--- src/module.rt:254:58
 slice-aggregate-visit-module : tie.Need-slice-aggregate-visit-module
 slice-aggregate-visit-module c = search needs
 
--- src/module.rt:254:74
 array-borrow-prefix-nothing : tie.Need-array-borrow-prefix-nothing
 array-borrow-prefix-nothing c = search needs
 
--- src/module.rt:254:74
 slice-aggregate-visit-module-2 : tie.Need-slice-aggregate-visit-module-2
 slice-aggregate-visit-module-2 c = search needs
 
--- src/module.rt:254:93
 start-requires : tie.Need-start-requires
 start-requires c κs = search needs
 
--- src/module.rt:254:9
 visit-module-requires : tie.Need-visit-module-requires
 visit-module-requires c κs = record { desk = c .before .before .before .before .before .before .before .before .before .before .pre .0; short = c .before .before .before .before .before .before .before .before .before .before .pre .1; low = module-room _ _ _ (c .before .before .before .before .before .before .before .before .before .before .pre .1) _ _ (c .start .ensures) }
 
--- src/module.rt:257:17
 helper-sum-requires : tie.Need-helper-sum-requires
 helper-sum-requires c κs = search needs
 
--- src/module.rt:242:1
 same-length : tie.Need-same-length
 same-length c = search needs
 
--- src/module.rt:242:1
 returns-2 : tie.Need-returns-2
 returns-2 c = heads-told _ _ _ _ _ (c .before .before .before .before .before .before .before .start .ensures) (c .before .before .before .before .before .before .visit-module .ensures) (c .helper-sum .ensures)
 

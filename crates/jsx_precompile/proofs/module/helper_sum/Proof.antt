@@ -5,39 +5,28 @@ use Rattle.jsx_precompile.proofs.ItemLaws.{bit-low}
 use borrow.Author.Needs.{needs}
 use Rattle.jsx_precompile.proofs.module.helper_sum.Statement.{statement}
 use Rattle.jsx_precompile.proofs.module.helper_sum.Tie as tie
-use Rattle.jsx_precompile.proofs.module.helper_sum.Reads as reads
-use Rattle.jsx_precompile.proofs.module.helper_sum.Lts as lts
-use Rattle.jsx_precompile.proofs.module.bit.Reads as bit-reads
 
--- src/module.rt:219:9
 bit-requires : tie.Need-bit-requires
 bit-requires c κs = search needs
 
--- src/module.rt:220:9
 bit-requires-2 : tie.Need-bit-requires-2
 bit-requires-2 c κs = search needs
 
--- src/module.rt:221:9
 bit-requires-3 : tie.Need-bit-requires-3
 bit-requires-3 c κs = search needs
 
--- src/module.rt:222:9
 bit-requires-4 : tie.Need-bit-requires-4
 bit-requires-4 c κs = search needs
 
--- src/module.rt:223:5
 add-result : tie.Need-add-result
 add-result c = omega (arith, bit-low (c .before .before .before .before .before .before .args .w .seen .jsx) 1 (c .before .before .before .before .bit .ensures), bit-low (ltb 1 (c .before .before .before .before .before .before .args .w .later)) 2 (c .before .before .bit2 .ensures))
 
--- src/module.rt:223:5
 add-result-2 : tie.Need-add-result-2
 add-result-2 c = omega (arith, bit-low (c .before .before .before .before .before .before .args .w .seen .jsx) 1 (c .before .before .before .before .bit .ensures), bit-low (ltb 1 (c .before .before .before .before .before .before .args .w .later)) 2 (c .before .before .bit2 .ensures), bit-low (c .before .before .before .before .before .before .args .w .seen .attr) 4 (c .before .bit3 .ensures))
 
--- src/module.rt:223:5
 add-result-3 : tie.Need-add-result-3
 add-result-3 c = omega (arith, bit-low (c .before .before .before .before .before .before .args .w .seen .jsx) 1 (c .before .before .before .before .bit .ensures), bit-low (ltb 1 (c .before .before .before .before .before .before .args .w .later)) 2 (c .before .before .bit2 .ensures), bit-low (c .before .before .before .before .before .before .args .w .seen .attr) 4 (c .before .bit3 .ensures), bit-low (c .before .before .before .before .before .before .args .w .seen .escape) 8 (c .bit4 .ensures))
 
--- src/module.rt:215:1
 returns : tie.Need-returns
 returns c = search needs
 

@@ -1,5 +1,5 @@
 -- `visit_items` meets its contract: the place goes before all items, or is due among them. Assumes nothing.
-use mathlib.Core.Path.{_≡_, refl, ap, _∙_}
+use mathlib.Core.Path.{refl, ap, _∙_}
 use mathlib.Core.Bool.{not}
 use mathlib.Core.Logic.{⊎-elim}
 use native.Mathlib.Nat.{le-refl}
@@ -8,41 +8,29 @@ use Rattle.jsx_precompile.proofs.ItemLaws.{and-taken, and-left, items-p
 use borrow.Author.Needs.{needs}
 use Rattle.jsx_precompile.proofs.module.visit_items.Statement.{statement}
 use Rattle.jsx_precompile.proofs.module.visit_items.Tie as tie
-use Rattle.jsx_precompile.proofs.module.visit_items.Reads as reads
-use Rattle.jsx_precompile.proofs.module.visit_items.Lts as lts
-use Rattle.jsx_precompile.proofs.module.has_statement.Reads as has-statement-reads
-use Rattle.jsx_precompile.proofs.module.put_place.Reads as put-place-reads
-use Rattle.jsx_precompile.proofs.module.visit_module.Reads as visit-module-reads
 
--- src/module.rt:125:9
 has-statement-requires : tie.Need-has-statement-requires
 has-statement-requires c κs = search needs
 
--- src/module.rt:126:9
 put-place-requires : tie.Need-put-place-requires
 put-place-requires c κs =
     let a = c .before .before .before .before .before .before .before .before .before .args in
     items-place (a .skip .now) (a .props .now) (a .s .now) (a .placed) (a .templates .now) (a .page .now) (a .st) (⊎-elim (λ w. and-taken _ (w .0 .taken) (w .1 ∙ ap not (c .before .before .has-statement .ensures))) (λ w. and-left _ (w .0 .left) (w .1)) (c .if1 .came)) (c .before .before .before .before .before .before .before .before .before .pre .low)
 
--- src/module.rt:127:5
 visit-module-requires : tie.Need-visit-module-requires
 visit-module-requires c κs =
     let a = c .before .before .before .before .before .before .before .before .before .before .before .before .before .before .before .before .args in
     room-is _ _ _ _ (c .before .before .before .before .before .before .before .before .before .before .before .before .before .before .before .before .pre) refl (le-refl _) (items-done (a .skip .now) (a .props .now) (a .s .now) (a .placed) (a .templates .now) (a .page .now) (a .st) (⊎-elim (λ w. and-taken _ (w .0 .taken) (w .1 ∙ ap not (c .before .before .before .before .before .before .before .before .before .has-statement .ensures))) (λ w. and-left _ (w .0 .left) (w .1)) (c .before .before .before .before .before .before .before .if1 .came)) (⊎-elim (λ w. and-taken _ (w .0 .taken) (w .1 ∙ c .before .before .before .before .before .before .before .before .before .has-statement .ensures)) (λ w. and-left _ (w .0 .left) (w .1)) (c .before .before .before .if2 .came)) (c .before .before .before .before .before .before .put-place .ensures))
 
--- src/module.rt:121:1
 same-length : tie.Need-same-length
 same-length c = search needs
 
--- src/module.rt:121:1
 same-length-2 : tie.Need-same-length-2
 same-length-2 c = search needs
 
--- src/module.rt:121:1
 same-length-3 : tie.Need-same-length-3
 same-length-3 c = search needs
 
--- src/module.rt:121:1
 returns : tie.Need-returns
 returns c =
     let a = c .before .before .before .before .before .before .before .before .before .before .before .before .before .before .before .before .before .before .before .before .before .before .before .args in

@@ -11,14 +11,6 @@ use Rattle.visits.proofs.FieldLaws.{kept-since, room-part}
 use Rattle.jsx_precompile.proofs.ItemLaws.{module-at, turn-10-place, turn-10-room, turn-10-on, turn-11-room, turn-11-on, turn-12-place, turn-12-room, turn-12-on, turn-13-room, turn-13-on, turn-end}
 use Rattle.jsx_precompile.proofs.module.visit_module.Statement.{statement}
 use Rattle.jsx_precompile.proofs.module.visit_module.Tie as tie
-use Rattle.jsx_precompile.proofs.module.visit_module.Reads as reads
-use Rattle.jsx_precompile.proofs.module.visit_module.Lts as lts
-use Rattle.field.proofs.reader.behind.Reads as behind-reads
-use Rattle.field.proofs.reader.body.Reads as body-reads
-use Rattle.field.proofs.reader.tag_at.Reads as tag-at-reads
-use Rattle.jsx_precompile.proofs.module.put_place.Reads as put-place-reads
-use Rattle.jsx_precompile.proofs.module.visit_item.Reads as visit-item-reads
-use Rattle.walk.proofs.state.leaf.Reads as leaf-reads
 
 abbrev Inv-loop : tie.InvT-loop
 Inv-loop skip props s first scratch₀ templates₀ page₀ t₀ cur₀ due₀ t18 scratch templates page t cur due =
@@ -27,15 +19,12 @@ Inv-loop skip props s first scratch₀ templates₀ page₀ t₀ cur₀ due₀ t
 abbrev μ-loop : tie.MeasureT-loop
 μ-loop skip props s first scratch₀ templates₀ page₀ t₀ cur₀ due₀ t18 scratch templates page t cur due = length t
 
--- src/module.rt:64:5
 loop-holds : tie.Need-loop-holds Inv-loop μ-loop
 loop-holds c = (refl, (le-refl _, refl))
 
--- src/module.rt:65:15
 tag-at-requires : tie.Need-tag-at-requires Inv-loop μ-loop
 tag-at-requires c κs = tt
 
--- src/module.rt:67:21
 put-place-requires : tie.Need-put-place-requires Inv-loop μ-loop
 put-place-requires c κs =
     let m = c .before in
@@ -43,11 +32,9 @@ put-place-requires c κs =
     let i = m .before .before .loop .inv in
     turn-10-place _ _ _ _ e _ _ _ _ (i .1 .1) (m .match .keys1) (c .before .before .before .before .before .before .before .before .before .before .pre .low)
 
--- src/module.rt:69:47
 body-requires : tie.Need-body-requires Inv-loop μ-loop
 body-requires c κs = tt
 
--- src/module.rt:69:17
 visit-item-requires : tie.Need-visit-item-requires Inv-loop μ-loop
 visit-item-requires c κs =
     let m = c .before .before .before .before .before .before .before .before in
@@ -56,17 +43,14 @@ visit-item-requires c κs =
     let l = body-less _ _ e (λ z. omega (arith, m .match .keys1)) (c .before .before .before .body .ensures) in
     room-part _ _ _ _ (c .before .before .before .before .before .before .before .before .before .before .before .before .before .before .before .before .before .pre) (i .0) (omega (arith, l, i .1 .0)) (turn-10-room _ _ _ _ e _ _ _ _ (i .1 .1) (c .before .before .before .body .ensures) (c .before .before .before .before .before .before .put-place .ensures) (m .match .keys1) (c .before .before .before .before .before .before .before .before .before .before .before .before .before .before .before .before .before .pre .low))
 
--- src/module.rt:70:21
 behind-requires : tie.Need-behind-requires Inv-loop μ-loop
 behind-requires c κs = tt
 
--- src/module.rt:64:5
 loop-less : tie.Need-loop-less Inv-loop μ-loop
 loop-less c =
     let m = c .before .before .before .before .before .before .before .before .before .before .before .before .before .before .before .before in
     behind-less _ _ (m .before .tag-at .ensures .0) (λ z. omega (arith, m .match .keys1)) (c .behind .ensures)
 
--- src/module.rt:64:5
 loop-again : tie.Need-loop-again Inv-loop μ-loop
 loop-again c =
     let m = c .before .before .before .before .before .before .before .before .before .before .before .before .before .before .before .before in
@@ -75,11 +59,9 @@ loop-again c =
     let l = behind-less _ _ e (λ z. omega (arith, m .match .keys1)) (c .behind .ensures) in
     (c .before .before .before .before .before .before .before .visit-item .kept .1 .1 .1 .1 .0 ∙ i .0, (omega (arith, l, i .1 .0), turn-10-on _ _ _ _ e _ _ _ _ (i .1 .1) (c .before .before .before .before .before .before .before .before .before .before .before .body .ensures) (c .before .before .before .before .before .before .before .before .before .before .before .before .before .before .put-place .ensures) (m .match .keys1) (c .behind .ensures) (c .before .before .before .before .before .before .before .visit-item .ensures)))
 
--- src/module.rt:74:47
 body-requires-2 : tie.Need-body-requires-2 Inv-loop μ-loop
 body-requires-2 c κs = tt
 
--- src/module.rt:74:17
 visit-item-requires-2 : tie.Need-visit-item-requires-2 Inv-loop μ-loop
 visit-item-requires-2 c κs =
     let m = c .before .before .before .before in
@@ -88,17 +70,14 @@ visit-item-requires-2 c κs =
     let l = body-less _ _ e (λ z. omega (arith, m .match .keys2)) (c .before .before .before .body2 .ensures) in
     room-part _ _ _ _ (c .before .before .before .before .before .before .before .before .before .before .before .before .before .pre) (i .0) (omega (arith, l, i .1 .0)) (turn-11-room _ _ _ _ e _ _ _ _ (i .1 .1) (c .before .before .before .body2 .ensures) (m .match .keys2) (c .before .before .before .before .before .before .before .before .before .before .before .before .before .pre .low))
 
--- src/module.rt:75:21
 behind-requires-2 : tie.Need-behind-requires-2 Inv-loop μ-loop
 behind-requires-2 c κs = tt
 
--- src/module.rt:64:5
 loop-less-2 : tie.Need-loop-less-2 Inv-loop μ-loop
 loop-less-2 c =
     let m = c .before .before .before .before .before .before .before .before .before .before .before .before in
     behind-less _ _ (m .before .tag-at .ensures .0) (λ z. omega (arith, m .match .keys2)) (c .behind2 .ensures)
 
--- src/module.rt:64:5
 loop-again-2 : tie.Need-loop-again-2 Inv-loop μ-loop
 loop-again-2 c =
     let m = c .before .before .before .before .before .before .before .before .before .before .before .before in
@@ -107,7 +86,6 @@ loop-again-2 c =
     let l = behind-less _ _ e (λ z. omega (arith, m .match .keys2)) (c .behind2 .ensures) in
     (c .before .before .before .before .before .before .before .visit-item2 .kept .1 .1 .1 .1 .0 ∙ i .0, (omega (arith, l, i .1 .0), turn-11-on _ _ _ _ e _ _ _ _ (i .1 .1) (c .before .before .before .before .before .before .before .before .before .before .before .body2 .ensures) (m .match .keys2) (c .behind2 .ensures) (c .before .before .before .before .before .before .before .visit-item2 .ensures)))
 
--- src/module.rt:79:21
 put-place-requires-2 : tie.Need-put-place-requires-2 Inv-loop μ-loop
 put-place-requires-2 c κs =
     let m = c .before in
@@ -115,11 +93,9 @@ put-place-requires-2 c κs =
     let i = m .before .before .loop .inv in
     turn-12-place _ _ _ _ e _ _ _ _ (i .1 .1) (m .match .keys3) (c .before .before .before .before .before .before .before .before .before .before .pre .low)
 
--- src/module.rt:81:47
 body-requires-3 : tie.Need-body-requires-3 Inv-loop μ-loop
 body-requires-3 c κs = tt
 
--- src/module.rt:81:17
 visit-item-requires-3 : tie.Need-visit-item-requires-3 Inv-loop μ-loop
 visit-item-requires-3 c κs =
     let m = c .before .before .before .before .before .before .before .before in
@@ -128,17 +104,14 @@ visit-item-requires-3 c κs =
     let l = body-less _ _ e (λ z. omega (arith, m .match .keys3)) (c .before .before .before .body3 .ensures) in
     room-part _ _ _ _ (c .before .before .before .before .before .before .before .before .before .before .before .before .before .before .before .before .before .pre) (i .0) (omega (arith, l, i .1 .0)) (turn-12-room _ _ _ _ e _ _ _ _ (i .1 .1) (c .before .before .before .body3 .ensures) (c .before .before .before .before .before .before .put-place2 .ensures) (m .match .keys3) (c .before .before .before .before .before .before .before .before .before .before .before .before .before .before .before .before .before .pre .low))
 
--- src/module.rt:82:21
 behind-requires-3 : tie.Need-behind-requires-3 Inv-loop μ-loop
 behind-requires-3 c κs = tt
 
--- src/module.rt:64:5
 loop-less-3 : tie.Need-loop-less-3 Inv-loop μ-loop
 loop-less-3 c =
     let m = c .before .before .before .before .before .before .before .before .before .before .before .before .before .before .before .before in
     behind-less _ _ (m .before .tag-at .ensures .0) (λ z. omega (arith, m .match .keys3)) (c .behind3 .ensures)
 
--- src/module.rt:64:5
 loop-again-3 : tie.Need-loop-again-3 Inv-loop μ-loop
 loop-again-3 c =
     let m = c .before .before .before .before .before .before .before .before .before .before .before .before .before .before .before .before in
@@ -147,41 +120,32 @@ loop-again-3 c =
     let l = behind-less _ _ e (λ z. omega (arith, m .match .keys3)) (c .behind3 .ensures) in
     (c .before .before .before .before .before .before .before .visit-item3 .kept .1 .1 .1 .1 .0 ∙ i .0, (omega (arith, l, i .1 .0), turn-12-on _ _ _ _ e _ _ _ _ (i .1 .1) (c .before .before .before .before .before .before .before .before .before .before .before .body3 .ensures) (c .before .before .before .before .before .before .before .before .before .before .before .before .before .before .put-place2 .ensures) (m .match .keys3) (c .behind3 .ensures) (c .before .before .before .before .before .before .before .visit-item3 .ensures)))
 
--- src/module.rt:86:17
 same-length : tie.Need-same-length Inv-loop μ-loop
 same-length c = c .before .before .loop .inv .0
 
--- src/module.rt:86:17
 same-length-2 : tie.Need-same-length-2 Inv-loop μ-loop
 same-length-2 c = kept-since _ _ _ _ _ _ _ _ (c .before .before .loop .inv .1 .1) .0
 
--- src/module.rt:86:17
 same-length-3 : tie.Need-same-length-3 Inv-loop μ-loop
 same-length-3 c = kept-since _ _ _ _ _ _ _ _ (c .before .before .loop .inv .1 .1) .1
 
--- src/module.rt:86:17
 returns : tie.Need-returns Inv-loop μ-loop
 returns c = turn-end _ _ _ _ (c .before .tag-at .ensures .0) _ _ _ _ (c .before .before .loop .inv .1 .1) (c .before .tag-at .ensures .1 (c .match .keys4))
 
--- src/module.rt:89:45
 slice-aggregate-leaf : tie.Need-slice-aggregate-leaf Inv-loop μ-loop
 slice-aggregate-leaf c = search needs
 
--- src/module.rt:89:17
 leaf-requires : tie.Need-leaf-requires Inv-loop μ-loop
 leaf-requires c κs =
     let n = c .before .before .match .rest in
     turn-13-room _ _ _ _ (c .before .before .before .tag-at .ensures .0) _ _ _ _ (c .before .before .before .before .loop .inv .1 .1) (n .1) (n .0 .0 .0 .1) (n .0 .0 .1) (n .0 .1) (c .before .before .before .before .before .before .before .before .before .before .before .pre .low)
 
--- src/module.rt:90:21
 behind-requires-4 : tie.Need-behind-requires-4 Inv-loop μ-loop
 behind-requires-4 c κs = tt
 
--- src/module.rt:64:5
 loop-less-4 : tie.Need-loop-less-4 Inv-loop μ-loop
 loop-less-4 c = behind-less _ _ (c .before .before .before .before .before .before .before .tag-at .ensures .0) (c .before .before .before .before .before .before .match .rest .1) (c .behind4 .ensures)
 
--- src/module.rt:64:5
 loop-again-4 : tie.Need-loop-again-4 Inv-loop μ-loop
 loop-again-4 c =
     let e = c .before .before .before .before .before .before .before .tag-at .ensures .0 in

@@ -1,5 +1,5 @@
-use lib.ListN.{length}
 -- `write_page` meets its contract: the items are written behind room for the import, and the import in front of them. Assumes nothing.
+use lib.ListN.{length}
 use mathlib.Core.Path.{refl}
 use native.Mathlib.Omega.{arith}
 use Rattle.field.specs.Row.{inside}
@@ -8,47 +8,30 @@ use Rattle.jsx_precompile.proofs.PageLaws.{page-body, source-short, ite
 use borrow.Author.Needs.{needs}
 use Rattle.jsx_precompile.proofs.module.write_page.Statement.{statement}
 use Rattle.jsx_precompile.proofs.module.write_page.Tie as tie
-use Rattle.jsx_precompile.proofs.module.write_page.Reads as reads
-use Rattle.jsx_precompile.proofs.module.write_page.Lts as lts
-use Rattle.field.proofs.reader.body.Reads as body-reads
-use Rattle.jsx_precompile.proofs.module.heads_before.Reads as heads-before-reads
-use Rattle.jsx_precompile.proofs.module.helper_sum.Reads as helper-sum-reads
-use Rattle.jsx_precompile.proofs.module.import_len.Reads as import-len-reads
-use Rattle.jsx_precompile.proofs.module.put_import.Reads as put-import-reads
-use Rattle.jsx_precompile.proofs.module.start.Reads as start-reads
-use Rattle.jsx_precompile.proofs.module.visit_items.Reads as visit-items-reads
-use Rattle.jsx_precompile.proofs.options.names_in.Reads as names-in-reads
 
--- src/module.rt:291:9
 names-in-requires : tie.Need-names-in-requires
 names-in-requires c κs = search needs
 
--- src/module.rt:292:9
 names-in-requires-2 : tie.Need-names-in-requires-2
 names-in-requires-2 c κs = search needs
 
--- src/module.rt:293:9
 body-requires : tie.Need-body-requires
 body-requires c κs = search needs
 
--- src/module.rt:294:9
 heads-before-requires : tie.Need-heads-before-requires
 heads-before-requires c κs =
     let i = inputs-fine _ _ _ (c .before .before .before .before .before .before .before .before .before .pre) in
     let b = page-body _ (i .page-fine) (c .before .body .ensures) in
     (i .scratch-enough, omega (arith, b .body-short, i .page-short))
 
--- src/module.rt:295:83
 import-len-requires : tie.Need-import-len-requires
 import-len-requires c κs =
     let a = c .before .before .before .before .before .before .before .before .before .before .before .before .before .before .before in
     omega (arith, source-short (a .args .options .now) (inputs-fine _ _ (length (a .args .scratch .now)) (a .pre) .options-short))
 
--- src/module.rt:295:77
 start-requires : tie.Need-start-requires
 start-requires c κs = search needs
 
--- src/module.rt:295:9
 visit-items-requires : tie.Need-visit-items-requires
 visit-items-requires c κs =
     let i = inputs-fine _ _ _ (c .before .before .before .before .before .before .before .before .before .before .before .before .before .before .before .before .before .pre) in
@@ -60,29 +43,23 @@ visit-items-requires c κs =
       low = items-room _ _ _ (omega (arith, b .body-short, i .page-short)) _ _ (c .before .before .before .before .before .before .before .heads-before .ensures) (c .start .ensures) l;
     }
 
--- src/module.rt:297:35
 helper-sum-requires : tie.Need-helper-sum-requires
 helper-sum-requires c κs = search needs
 
--- src/module.rt:297:9
 put-import-requires : tie.Need-put-import-requires
 put-import-requires c κs =
     let a = c .before .before .before .before .before .before .before .before .before .before .before .before .before .before .before .before .before .before .before .before .before .before .before .before .before .before .before in
     omega (arith, source-short (a .args .options .now) (inputs-fine _ _ (length (a .args .scratch .now)) (a .pre) .options-short))
 
--- src/module.rt:287:1
 same-length : tie.Need-same-length
 same-length c = search needs
 
--- src/module.rt:287:1
 same-length-2 : tie.Need-same-length-2
 same-length-2 c = search needs
 
--- src/module.rt:287:1
 same-length-3 : tie.Need-same-length-3
 same-length-3 c = search needs
 
--- src/module.rt:287:1
 returns : tie.Need-returns
 unfolding inside
 returns c =
@@ -91,19 +68,15 @@ returns c =
     let b = page-body _ (i .page-fine) (c .before .before .before .before .before .before .before .before .before .before .before .before .before .before .before .before .before .before .before .before .before .before .body .ensures) in
     page-import _ _ _ (c .before .before .before .before .before .before .before .before .before .before .before .before .before .before .before .before .before .before .before .before .before .before .before .before .names-in .ensures .0 refl) (c .before .before .before .before .before .before .before .before .before .before .before .before .before .before .before .before .before .before .before .before .before .before .before .names-in2 .ensures .0 refl) _ (b .body-items) (c .before .before .before .before .before .before .before .before .before .before .before .before .before .before .before .before .before .before .before .before .heads-before .ensures) (c .before .before .before .before .before .before .before .before .before .before .before .before .before .before .import-len .ensures) (c .before .before .before .before .before .before .before .before .before .before .before .before .before .start .ensures) _ _ (c .before .before .before .before .before .before .before .before .before .before .before .before .visit-items .ensures) (c .before .before .before .before .before .if1 .taken) (c .before .before .before .helper-sum .ensures) (c .before .before .put-import .ensures)
 
--- src/module.rt:287:1
 same-length-4 : tie.Need-same-length-4
 same-length-4 c = search needs
 
--- src/module.rt:287:1
 same-length-5 : tie.Need-same-length-5
 same-length-5 c = search needs
 
--- src/module.rt:287:1
 same-length-6 : tie.Need-same-length-6
 same-length-6 c = search needs
 
--- src/module.rt:287:1
 returns-2 : tie.Need-returns-2
 unfolding inside
 returns-2 c =

@@ -1,14 +1,12 @@
-use Rattle.jsx_precompile.proofs.ItemLaws.{source-written}
 -- `put_source` meets its contract: nothing is written before the source is found. Assumes nothing.
-use Prim.Native.Nat.{_+_, _<_, _^_}
-use mathlib.Core.Path.{_≡_, refl, sym, ap, _∙_}
+use Rattle.jsx_precompile.proofs.ItemLaws.{source-written}
+use mathlib.Core.Path.{_≡_, refl, ap, _∙_}
 use native.Mathlib.Omega.{arith}
 use borrow.Author.Needs.{needs}
 use lib.ListN.{length}
 use Rattle.field.specs.Row.{read}
-use Rattle.field.specs.Put.{Wrote}
 use Rattle.field.proofs.FrontLaws.{behind-less}
-use Rattle.field.proofs.PutLaws.{wrote-is, wrote-length}
+use Rattle.field.proofs.PutLaws.{wrote-length}
 use Rattle.page.specs.Tree.{source-in}
 use Rattle.jsx_precompile.proofs.ExportLaws.{source-none, source-here, source-past}
 use Rattle.jsx_precompile.proofs.options.put_source.Statement.{statement}

@@ -1,6 +1,5 @@
 -- `source_len` meets its contract: the source is that of what is left. Assumes nothing.
 use mathlib.Core.Path.{_≡_, refl, ap, _∙_}
-use native.Mathlib.Omega.{arith}
 use lib.ListN.{length}
 use Rattle.field.specs.Row.{read}
 use Rattle.field.proofs.FrontLaws.{behind-less}
