@@ -1,0 +1,259 @@
+//! The library's one function, and safe calls of it.
+
+use crate::limits::MIN_SCRATCH;
+use crate::options::Options;
+use crate::out::{PageOut, Templates};
+use crate::refusal::Refusal;
+
+unsafe extern "C" {
+    // A slice is a pointer and a length.
+    fn jsx_precompile_transform(
+        page: *const u8,
+        page_length: usize,
+        options: *const u8,
+        options_length: usize,
+        scratch: *mut u8,
+        scratch_length: usize,
+        templates_out: *mut u8,
+        templates_out_length: usize,
+        page_out: *mut u8,
+        page_out_length: usize,
+    ) -> Answer;
+}
+
+/// What a call answers, laid out as in C. A refusal has its number and zeros.
+///
+/// ```
+/// use jsx_precompile::{Answer, Refusal, transform_into};
+///
+/// let answer = transform_into(b"", &[], &mut vec![0; 65_536], &mut [], &mut []);
+/// assert_eq!(answer, Answer { number: 3, templates_bytes: 0, page_bytes: 0, templates: 0 });
+/// assert_eq!(answer.refusal(), Some(Refusal::Truncated));
+/// ```
+#[derive(Clone, Copy, Debug, PartialEq, Eq)]
+#[repr(C)]
+pub struct Answer {
+    /// 0 where the page was taken, else that of a [`Refusal`].
+    pub number: u32,
+    /// The bytes written to templates out.
+    pub templates_bytes: usize,
+    /// The bytes written to page out.
+    pub page_bytes: usize,
+    /// How many templates there are.
+    pub templates: usize,
+}
+
+impl Answer {
+    /// Why the call was refused; none where the page was taken.
+    ///
+    /// ```
+    /// use jsx_precompile::transform_into;
+    ///
+    /// assert_eq!(transform_into(&[1, 0, 0], &[], &mut vec![0; 65_536], &mut [], &mut []).refusal(), None);
+    /// ```
+    ///
+    /// # Panics
+    ///
+    /// Where the number is none of document 01's table, which no call of the library answers.
+    pub fn refusal(&self) -> Option<Refusal> {
+        match self.number {
+            0 => None,
+            number => Some(Refusal::from_number(number).unwrap_or_else(|| panic!("{number} is no answer"))),
+        }
+    }
+}
+
+/// The library's own call, on lent bytes: the page and the options as fields, at least 65,536 bytes of scratch, and
+/// room for both outputs.
+///
+/// Taken: the outputs stand at the front of theirs, and the bytes behind them are as before. Refused: both outs are
+/// all zero. The scratch is all zero afterwards, but for [`Refusal::ScratchTooSmall`], which leaves it.
+///
+/// ```
+/// use jsx_precompile::transform_into;
+///
+/// // <br/> as a statement
+/// let page = [0x01, 0, 11, 0x12, 0, 8, 0x30, 0, 5, 0x40, 0, 2, b'b', b'r'];
+/// let (mut scratch, mut templates, mut out) = (vec![0; 65_536], [0; 100], [0; 100]);
+/// let answer = transform_into(&page, &[], &mut scratch, &mut templates, &mut out);
+/// assert_eq!((answer.number, answer.templates), (0, 1));
+/// assert_eq!(templates[..answer.templates_bytes], *b"\x80\0\x09\0\x01\x81\0\x04<br>");
+/// ```
+pub fn transform_into(
+    page: &[u8],
+    options: &[u8],
+    scratch: &mut [u8],
+    templates_out: &mut [u8],
+    page_out: &mut [u8],
+) -> Answer {
+    // Safety: the five parts do not overlap, by their types. The function is proved to read the first two and to write
+    // the others within their lengths, at every input, and keeps none of them.
+    unsafe {
+        jsx_precompile_transform(
+            page.as_ptr(),
+            page.len(),
+            options.as_ptr(),
+            options.len(),
+            scratch.as_mut_ptr(),
+            scratch.len(),
+            templates_out.as_mut_ptr(),
+            templates_out.len(),
+            page_out.as_mut_ptr(),
+            page_out.len(),
+        )
+    }
+}
+
+/// Transforms one page. Room for the outputs grows as it is needed.
+///
+/// ```
+/// use jsx_precompile::{Options, page::{Element, Item, Page}, transform};
+///
+/// let page = Page::new([Item::statement([Element::new("br").into()])]).to_bytes()?;
+/// let forms = transform(&page, &Options::new())?;
+/// let template = forms.templates().next().unwrap();
+/// assert_eq!(template.number(), 1);
+/// assert_eq!(template.strings().collect::<Vec<_>>(), ["<br>"]);
+/// # Ok::<(), Box<dyn std::error::Error>>(())
+/// ```
+pub fn transform(page: &[u8], options: &Options) -> Result<Forms, Refusal> {
+    Transformer::new().transform(page, options)
+}
+
+/// Transforms one page after another in the same lent bytes.
+///
+/// ```
+/// use jsx_precompile::{Options, Transformer, page::{Element, Item, Page}};
+///
+/// let mut transformer = Transformer::new();
+/// for name in ["br", "hr"] {
+///     let page = Page::new([Item::statement([Element::new(name).into()])]).to_bytes()?;
+///     assert_eq!(transformer.transform(&page, &Options::new())?.count(), 1);
+/// }
+/// # Ok::<(), Box<dyn std::error::Error>>(())
+/// ```
+#[derive(Clone, Debug, Default)]
+pub struct Transformer {
+    scratch: Vec<u8>,
+    templates: Vec<u8>,
+    page: Vec<u8>,
+}
+
+impl Transformer {
+    /// Nothing is lent before the first call.
+    ///
+    /// ```
+    /// let transformer = jsx_precompile::Transformer::new();
+    /// ```
+    pub fn new() -> Transformer {
+        Transformer::default()
+    }
+
+    /// As [`transform`](crate::transform).
+    ///
+    /// ```
+    /// use jsx_precompile::{Options, Refusal, Transformer};
+    ///
+    /// assert_eq!(Transformer::new().transform(b"no page", &Options::new()), Err(Refusal::Truncated));
+    /// ```
+    pub fn transform(&mut self, page: &[u8], options: &Options) -> Result<Forms, Refusal> {
+        // Lengths that cannot be written are over the limit as well.
+        let options = options.encode().map_err(|_| Refusal::InputTooLong)?;
+        // Most outputs are shorter than their page.
+        let guess = page.len() + options.len() + 1_024;
+        let lent = [(&mut self.scratch, MIN_SCRATCH), (&mut self.templates, guess), (&mut self.page, guess)];
+        for (bytes, least) in lent {
+            bytes.resize(least.max(bytes.len()), 0);
+        }
+        loop {
+            let answer = transform_into(page, &options, &mut self.scratch, &mut self.templates, &mut self.page);
+            match answer.refusal() {
+                None => {
+                    return Ok(Forms {
+                        templates: self.templates[..answer.templates_bytes].to_vec(),
+                        page: self.page[..answer.page_bytes].to_vec(),
+                        count: answer.templates,
+                    });
+                }
+                Some(Refusal::TemplatesTooSmall) => double(&mut self.templates),
+                Some(Refusal::PageTooSmall) => double(&mut self.page),
+                Some(refusal) => return Err(refusal),
+            }
+        }
+    }
+}
+
+fn double(bytes: &mut Vec<u8>) {
+    bytes.resize(2 * bytes.len(), 0);
+}
+
+/// What a page gives: its templates, and the page with calls in place of its JSX.
+///
+/// ```
+/// use jsx_precompile::{Options, page::{Element, Item, Page}, transform};
+///
+/// let page = Page::new([Item::statement([Element::new("br").into()])]).to_bytes()?;
+/// let forms = transform(&page, &Options::new())?;
+/// assert_eq!(forms.count(), forms.templates().count());
+/// # Ok::<(), Box<dyn std::error::Error>>(())
+/// ```
+#[derive(Clone, Debug, PartialEq, Eq)]
+pub struct Forms {
+    templates: Vec<u8>,
+    page: Vec<u8>,
+    count: usize,
+}
+
+impl Forms {
+    /// How many templates there are.
+    ///
+    /// ```
+    /// assert_eq!(jsx_precompile::transform(&[1, 0, 0], &Default::default())?.count(), 0);
+    /// # Ok::<(), jsx_precompile::Refusal>(())
+    /// ```
+    pub fn count(&self) -> usize {
+        self.count
+    }
+
+    /// The templates, in the order in which they were recorded.
+    ///
+    /// ```
+    /// assert_eq!(jsx_precompile::transform(&[1, 0, 0], &Default::default())?.templates().next(), None);
+    /// # Ok::<(), jsx_precompile::Refusal>(())
+    /// ```
+    pub fn templates(&self) -> Templates<'_> {
+        Templates::of(&self.templates)
+    }
+
+    /// The page with its calls.
+    ///
+    /// ```
+    /// assert_eq!(jsx_precompile::transform(&[1, 0, 0], &Default::default())?.page().items().count(), 0);
+    /// # Ok::<(), jsx_precompile::Refusal>(())
+    /// ```
+    pub fn page(&self) -> PageOut<'_> {
+        PageOut::of(&self.page)
+    }
+
+    /// The bytes of templates out, as far as they were written.
+    ///
+    /// ```
+    /// assert_eq!(jsx_precompile::transform(&[1, 0, 0], &Default::default())?.templates_bytes(), []);
+    /// # Ok::<(), jsx_precompile::Refusal>(())
+    /// ```
+    pub fn templates_bytes(&self) -> &[u8] {
+        &self.templates
+    }
+
+    /// The bytes of page out, as far as they were written.
+    ///
+    /// ```
+    /// // a page of an empty statement
+    /// let forms = jsx_precompile::transform(&[1, 0, 3, 0x13, 0, 0], &Default::default())?;
+    /// assert_eq!(forms.page_bytes(), [0x13, 0, 0]);
+    /// # Ok::<(), jsx_precompile::Refusal>(())
+    /// ```
+    pub fn page_bytes(&self) -> &[u8] {
+        &self.page
+    }
+}

@@ -1,0 +1,43 @@
+//! JSX pages into templates and calls: safe Rust over libjsx_precompile.a, whose one function is proved to answer as
+//! document 01 says at every input.
+//!
+//! A page is written as a tree ([`page`]) or given as bytes; [`transform`] takes it apart; what comes out is read by
+//! [`out`]. `const a = <p class="t">Hi {n}</p>;` becomes a template and a call of it:
+//!
+//! ```
+//! use jsx_precompile::{Options, out::{Call, Helper}, page::{Element, Expression, Item, Page}, transform};
+//!
+//! let tag = Element::new("p").attribute("class", "t").text("Hi ").child(Expression::source("n"));
+//! let page = Page::new([Item::statement(["const a = ".into(), tag.into(), ";".into()])]);
+//! let forms = transform(&page.to_bytes()?, &Options::new())?;
+//!
+//! // const $$_tpl_1 = ["<p class=\"t\">Hi ", "</p>"];
+//! let template = forms.templates().next().unwrap();
+//! assert_eq!(template.number(), 1);
+//! assert_eq!(template.strings().collect::<Vec<_>>(), ["<p class=\"t\">Hi ", "</p>"]);
+//!
+//! // import { jsxTemplate as _jsxTemplate, jsxEscape as _jsxEscape } from "react/jsx-runtime";
+//! let import = forms.page().import().unwrap();
+//! assert_eq!(import.source, "react/jsx-runtime");
+//! assert_eq!(import.helpers().collect::<Vec<_>>(), [Helper::JsxTemplate, Helper::JsxEscape]);
+//!
+//! // const a = _jsxTemplate($$_tpl_1, _jsxEscape(n));
+//! let Some(Call::Template(call)) = forms.page().calls().next() else { panic!() };
+//! assert_eq!((call.number(), call.expressions().count()), (1, 1));
+//! # Ok::<(), Box<dyn std::error::Error>>(())
+//! ```
+
+mod call;
+mod check;
+pub mod field;
+pub mod limits;
+mod options;
+pub mod out;
+pub mod page;
+mod refusal;
+
+pub use call::{Answer, Forms, Transformer, transform, transform_into};
+pub use check::Fault;
+pub use options::Options;
+pub use page::write::WriteError;
+pub use refusal::Refusal;

@@ -1,0 +1,90 @@
+//! The limits of pages, options and outputs.
+//!
+//! ```
+//! use jsx_precompile::{Options, Refusal, limits::MAX_PAGE, transform};
+//!
+//! let longest = vec![0; MAX_PAGE];
+//! assert_ne!(transform(&longest, &Options::new()), Err(Refusal::InputTooLong));
+//! let longer = vec![0; MAX_PAGE + 1];
+//! assert_eq!(transform(&longer, &Options::new()), Err(Refusal::InputTooLong));
+//! ```
+
+/// The bytes of a page.
+///
+/// ```
+/// assert_eq!(jsx_precompile::limits::MAX_PAGE, 32_768);
+/// ```
+pub const MAX_PAGE: usize = 32_768;
+
+/// The bytes of the options.
+///
+/// ```
+/// assert_eq!(jsx_precompile::limits::MAX_OPTIONS, 4_096);
+/// ```
+pub const MAX_OPTIONS: usize = 4_096;
+
+/// How deep the fields of a page lie within each other; the page itself is 1.
+///
+/// ```
+/// use jsx_precompile::{WriteError, page::{Element, Item, Page}};
+///
+/// // The page and a statement lie around the elements, a name lies in the innermost.
+/// let nested = |count: usize| {
+///     let tag = (1..count).fold(Element::new("i"), |inner, _| Element::new("i").child(inner));
+///     Page::new([Item::statement([tag.into()])]).to_bytes()
+/// };
+/// assert!(nested(jsx_precompile::limits::MAX_DEPTH - 3).is_ok());
+/// assert_eq!(nested(jsx_precompile::limits::MAX_DEPTH - 2), Err(WriteError::TooDeep));
+/// ```
+pub const MAX_DEPTH: usize = 48;
+
+/// The bytes of a field's body, and of a merged run of text.
+///
+/// ```
+/// assert_eq!(jsx_precompile::limits::MAX_BODY, usize::from(u16::MAX));
+/// ```
+pub const MAX_BODY: usize = 65_535;
+
+/// The bytes of one name.
+///
+/// ```
+/// use jsx_precompile::{limits::MAX_NAME, page::{Element, Item, Page}};
+///
+/// let named = |name: String| Page::new([Item::statement([Element::new(&*name).into()])]).to_bytes();
+/// assert!(named("n".repeat(MAX_NAME)).is_ok());
+/// assert!(named("n".repeat(MAX_NAME + 1)).is_err());
+/// ```
+pub const MAX_NAME: usize = 128;
+
+/// The fewest names of a member such as `a.b`.
+///
+/// ```
+/// assert_eq!(jsx_precompile::limits::MIN_MEMBERS, "a.b".split('.').count());
+/// ```
+pub const MIN_MEMBERS: usize = 2;
+
+/// The most names of a member such as `a.b.c`.
+///
+/// ```
+/// assert_eq!(jsx_precompile::limits::MAX_MEMBERS, "a.b.c.d.e.f.g.h".split('.').count());
+/// ```
+pub const MAX_MEMBERS: usize = 8;
+
+/// The greatest whole number: up to here JavaScript's numbers are exact.
+///
+/// ```
+/// assert_eq!(jsx_precompile::limits::MAX_NUMBER, (1 << 53) - 1);
+/// ```
+pub const MAX_NUMBER: u64 = 9_007_199_254_740_991;
+
+/// The least bytes of lent scratch.
+///
+/// ```
+/// use jsx_precompile::{Refusal, limits::MIN_SCRATCH, transform_into};
+///
+/// let page = [1, 0, 0];
+/// assert_eq!(transform_into(&page, &[], &mut vec![0; MIN_SCRATCH], &mut [], &mut []).refusal(), None);
+/// let answer = transform_into(&page, &[], &mut vec![0; MIN_SCRATCH - 1], &mut [], &mut []);
+/// assert_eq!(answer.refusal(), Some(Refusal::ScratchTooSmall));
+/// ```
+pub const MIN_SCRATCH: usize = 65_536;

@@ -1,0 +1,123 @@
+//! The options of a call.
+
+use crate::check::{Fault, Kind, check};
+use crate::field::{Field, Fields};
+use crate::limits::MAX_OPTIONS;
+use crate::page::write::{WriteError, Writer};
+
+/// The options of a call: what is not serialized, and where the helpers are imported from.
+///
+/// ```
+/// use jsx_precompile::{Options, page::{Element, Item, Page}, transform};
+///
+/// let page = Page::new([Item::statement([Element::new("i").into()])]).to_bytes()?;
+/// let options = Options::new().skip_serialize(["i"]).import_source("preact");
+/// let forms = transform(&page, &options)?;
+/// assert_eq!(forms.count(), 0); // a call of jsx stands there instead
+/// assert_eq!(forms.page().import().unwrap().source, "preact/jsx-runtime");
+/// # Ok::<(), Box<dyn std::error::Error>>(())
+/// ```
+#[derive(Clone, Debug, Default, PartialEq, Eq)]
+pub struct Options {
+    skip_serialize: Vec<String>,
+    skip_prop_serialize: Vec<String>,
+    import_source: Option<String>,
+}
+
+impl Options {
+    /// Everything is serialized, and the helpers come from `react`.
+    ///
+    /// ```
+    /// assert_eq!(jsx_precompile::Options::new().to_bytes(), Ok(vec![]));
+    /// ```
+    pub fn new() -> Options {
+        Options::default()
+    }
+
+    /// With more elements that are not serialized, by name.
+    ///
+    /// ```
+    /// let options = jsx_precompile::Options::new().skip_serialize(["i"]);
+    /// assert_eq!(options.to_bytes(), Ok(vec![0x02, 0, 4, 0x20, 0, 1, b'i']));
+    /// ```
+    pub fn skip_serialize<T: Into<String>>(mut self, names: impl IntoIterator<Item = T>) -> Options {
+        self.skip_serialize.extend(names.into_iter().map(T::into));
+        self
+    }
+
+    /// With more attributes that are not serialized, by name.
+    ///
+    /// ```
+    /// let options = jsx_precompile::Options::new().skip_prop_serialize(["a"]);
+    /// assert_eq!(options.to_bytes(), Ok(vec![0x03, 0, 4, 0x20, 0, 1, b'a']));
+    /// ```
+    pub fn skip_prop_serialize<T: Into<String>>(mut self, names: impl IntoIterator<Item = T>) -> Options {
+        self.skip_prop_serialize.extend(names.into_iter().map(T::into));
+        self
+    }
+
+    /// With another import source than `react`; `/jsx-runtime` is put behind it.
+    ///
+    /// ```
+    /// let options = jsx_precompile::Options::new().import_source("h");
+    /// assert_eq!(options.to_bytes(), Ok(vec![0x04, 0, 1, b'h']));
+    /// ```
+    pub fn import_source(mut self, source: impl Into<String>) -> Options {
+        self.import_source = Some(source.into());
+        self
+    }
+
+    /// The options' fields; an error where there are none.
+    ///
+    /// ```
+    /// use jsx_precompile::{Options, WriteError};
+    ///
+    /// assert_eq!(Options::new().import_source("").to_bytes(), Err(WriteError::NoImportSource));
+    /// assert_eq!(Options::new().import_source("s".repeat(4_094)).to_bytes(), Err(WriteError::OptionsTooLong(4_097)));
+    /// ```
+    pub fn to_bytes(&self) -> Result<Vec<u8>, WriteError> {
+        if self.import_source.as_deref() == Some("") {
+            return Err(WriteError::NoImportSource);
+        }
+        match self.encode()? {
+            bytes if bytes.len() > MAX_OPTIONS => Err(WriteError::OptionsTooLong(bytes.len())),
+            bytes => Ok(bytes),
+        }
+    }
+
+    /// The options that these bytes are; where they are none, the place and the reason. An empty list is as none.
+    ///
+    /// ```
+    /// use jsx_precompile::{Options, Refusal};
+    ///
+    /// assert_eq!(Options::from_bytes(&[0x04, 0, 1, b'h']), Ok(Options::new().import_source("h")));
+    /// assert_eq!(Options::from_bytes(&[0x04, 0, 0]).unwrap_err().refusal, Refusal::Misplaced);
+    /// ```
+    pub fn from_bytes(bytes: &[u8]) -> Result<Options, Fault> {
+        check(Kind::Options, bytes)?;
+        let mut options = Options::new();
+        let names = |field: Field| field.inner().map(|name| name.text().to_string()).collect();
+        for field in Fields::new(bytes) {
+            match field.tag {
+                0x02 => options.skip_serialize = names(field),
+                0x03 => options.skip_prop_serialize = names(field),
+                _ => options.import_source = Some(field.text().to_string()),
+            }
+        }
+        Ok(options)
+    }
+
+    /// The fields, also where the library refuses them; an error only where a length cannot be written.
+    pub(crate) fn encode(&self) -> Result<Vec<u8>, WriteError> {
+        let mut writer = Writer::default();
+        for (tag, names) in [(0x02, &self.skip_serialize), (0x03, &self.skip_prop_serialize)] {
+            if !names.is_empty() {
+                writer.field(tag, |w| names.iter().try_for_each(|name| w.leaf(0x20, name.as_bytes())))?;
+            }
+        }
+        if let Some(source) = &self.import_source {
+            writer.leaf(0x04, source.as_bytes())?;
+        }
+        Ok(writer.out)
+    }
+}

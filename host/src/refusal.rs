@@ -1,0 +1,160 @@
+//! Why a call is refused.
+
+use std::fmt;
+
+/// Why a call is refused; document 01's number and word are given by [`number`](Refusal::number) and
+/// [`word`](Refusal::word).
+///
+/// ```
+/// use jsx_precompile::{Options, Refusal, transform};
+///
+/// let refusal = transform(b"", &Options::new()).unwrap_err();
+/// assert_eq!(refusal, Refusal::Truncated);
+/// assert!(refusal.to_string().starts_with("3 (torn): "));
+/// ```
+#[derive(Clone, Copy, Debug, PartialEq, Eq, PartialOrd, Ord, Hash)]
+#[repr(u32)]
+pub enum Refusal {
+    /// Short desk: fewer than 65,536 bytes of scratch were lent.
+    ScratchTooSmall = 1,
+    /// Thick: page or options are over their limit.
+    InputTooLong = 2,
+    /// Torn: a field is cut short, or bytes follow the page.
+    Truncated = 3,
+    /// Misplaced: a field stands where it may not, is missing, or has a body of a wrong form.
+    Misplaced = 4,
+    /// Bad name: an identifier is none.
+    BadName = 5,
+    /// Bad letters: a text is not UTF-8.
+    NotUtf8 = 6,
+    /// Big number: over 9,007,199,254,740,991.
+    NumberTooLarge = 7,
+    /// Too deep: fields lie more than 48 deep.
+    TooDeep = 8,
+    /// Unfinished: the ported Rust would reach `todo!`.
+    Unimplemented = 9,
+    /// Bare tag: an element or fragment would be left in the result.
+    TagLeft = 10,
+    /// Long: a merged run or an output body is over 65,535 bytes.
+    OutputTooLong = 11,
+    /// Small shelf: the templates do not fit the bytes lent for them.
+    TemplatesTooSmall = 12,
+    /// Small page: page out does not fit the bytes lent for it.
+    PageTooSmall = 13,
+}
+
+use Refusal::*;
+
+/// In the order of their numbers.
+const ALL: [Refusal; 13] = [
+    ScratchTooSmall,
+    InputTooLong,
+    Truncated,
+    Misplaced,
+    BadName,
+    NotUtf8,
+    NumberTooLarge,
+    TooDeep,
+    Unimplemented,
+    TagLeft,
+    OutputTooLong,
+    TemplatesTooSmall,
+    PageTooSmall,
+];
+
+impl Refusal {
+    /// The refusal of that number; none for 0 and for what is no number of the table.
+    ///
+    /// ```
+    /// use jsx_precompile::Refusal;
+    ///
+    /// assert_eq!(Refusal::from_number(5), Some(Refusal::BadName));
+    /// assert_eq!(Refusal::from_number(0), None);
+    /// assert_eq!(Refusal::from_number(14), None);
+    /// ```
+    pub fn from_number(number: u32) -> Option<Refusal> {
+        ALL.get((number as usize).checked_sub(1)?).copied()
+    }
+
+    /// Document 01's number, 1 to 13.
+    ///
+    /// ```
+    /// assert_eq!(jsx_precompile::Refusal::TooDeep.number(), 8);
+    /// ```
+    pub fn number(self) -> u32 {
+        self as u32
+    }
+
+    /// Document 01's word.
+    ///
+    /// ```
+    /// assert_eq!(jsx_precompile::Refusal::TagLeft.word(), "bare tag");
+    /// ```
+    pub fn word(self) -> &'static str {
+        match self {
+            ScratchTooSmall => "short desk",
+            InputTooLong => "thick",
+            Truncated => "torn",
+            Misplaced => "misplaced",
+            BadName => "bad name",
+            NotUtf8 => "bad letters",
+            NumberTooLarge => "big number",
+            TooDeep => "too deep",
+            Unimplemented => "unfinished",
+            TagLeft => "bare tag",
+            OutputTooLong => "long",
+            TemplatesTooSmall => "small shelf",
+            PageTooSmall => "small page",
+        }
+    }
+
+    /// What went wrong, in plain words.
+    ///
+    /// ```
+    /// assert_eq!(jsx_precompile::Refusal::NotUtf8.explanation(), "a text is not UTF-8");
+    /// ```
+    pub fn explanation(self) -> &'static str {
+        match self {
+            ScratchTooSmall => "fewer than 65,536 bytes of scratch were lent",
+            InputTooLong => "the page is over 32,768 bytes, or the options are over 4,096",
+            Truncated => {
+                "the page is empty, or a field is cut short or runs past the end of what holds it, or bytes follow the page"
+            }
+            Misplaced => "a field stands where it may not, is missing, or has a body of a wrong form",
+            BadName => {
+                "an identifier is not 1 to 128 ASCII letters, digits, `_`, `$` and `-` that begin with no digit or `-`, or has a `-` in a member"
+            }
+            NotUtf8 => "a text is not UTF-8",
+            NumberTooLarge => "a number is over 9,007,199,254,740,991",
+            TooDeep => "fields lie more than 48 deep within each other",
+            Unimplemented => {
+                "an attribute listed as not serialized has braces as its value, on an element that is serialized"
+            }
+            TagLeft => "an element or fragment would be left untransformed",
+            OutputTooLong => "a merged run of text, or a body of the outputs, is over 65,535 bytes",
+            TemplatesTooSmall => "the templates do not fit the bytes lent for them",
+            PageTooSmall => "page out does not fit the bytes lent for it",
+        }
+    }
+}
+
+impl fmt::Display for Refusal {
+    fn fmt(&self, f: &mut fmt::Formatter<'_>) -> fmt::Result {
+        write!(f, "{} ({}): {}", self.number(), self.word(), self.explanation())
+    }
+}
+
+impl std::error::Error for Refusal {}
+
+#[cfg(test)]
+mod tests {
+    use super::*;
+
+    #[test]
+    fn numbers_are_places() {
+        for (place, refusal) in ALL.iter().enumerate() {
+            assert_eq!(refusal.number() as usize, place + 1);
+            assert_eq!(Refusal::from_number(refusal.number()), Some(*refusal));
+        }
+    }
+}
