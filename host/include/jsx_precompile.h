@@ -1,0 +1,61 @@
+/* JSX pages into templates and calls: the one function of libjsx_precompile.a. */
+#ifndef JSX_PRECOMPILE_H
+#define JSX_PRECOMPILE_H
+
+#include <stddef.h>
+#include <stdint.h>
+
+#ifdef __cplusplus
+extern "C" {
+#endif
+
+/* Limits. */
+#define JSX_PRECOMPILE_MAX_PAGE 32768
+#define JSX_PRECOMPILE_MAX_OPTIONS 4096
+#define JSX_PRECOMPILE_MAX_DEPTH 48
+#define JSX_PRECOMPILE_MIN_SCRATCH 65536
+
+/* The numbers of an answer. */
+enum jsx_precompile_number {
+    JSX_PRECOMPILE_ACCEPTED = 0,
+    JSX_PRECOMPILE_SCRATCH_TOO_SMALL = 1,
+    JSX_PRECOMPILE_INPUT_TOO_LONG = 2,
+    JSX_PRECOMPILE_TRUNCATED = 3,
+    JSX_PRECOMPILE_MISPLACED = 4,
+    JSX_PRECOMPILE_BAD_NAME = 5,
+    JSX_PRECOMPILE_NOT_UTF8 = 6,
+    JSX_PRECOMPILE_NUMBER_TOO_LARGE = 7,
+    JSX_PRECOMPILE_TOO_DEEP = 8,
+    JSX_PRECOMPILE_UNIMPLEMENTED = 9,
+    JSX_PRECOMPILE_TAG_LEFT = 10,
+    JSX_PRECOMPILE_OUTPUT_TOO_LONG = 11,
+    JSX_PRECOMPILE_TEMPLATES_TOO_SMALL = 12,
+    JSX_PRECOMPILE_PAGE_TOO_SMALL = 13
+};
+
+/* A refusal has its number and zeros. */
+typedef struct jsx_precompile_answer {
+    uint32_t number;
+    size_t templates_bytes; /* written to templates_out */
+    size_t page_bytes;      /* written to page_out */
+    size_t templates;       /* how many there are */
+} jsx_precompile_answer;
+
+/* Takes the page apart into templates and calls of them. The page and the options are read, the other three are
+   written; none is kept. No pointer may be null, not even with a length of 0, and the five parts may not overlap.
+
+   Accepted: the outputs stand at the front of templates_out and page_out, the bytes behind them are as before.
+   Refused: both are all zero. The scratch is all zero after every call but SCRATCH_TOO_SMALL, which leaves it.
+   TEMPLATES_TOO_SMALL and PAGE_TOO_SMALL: lend more and call again. */
+jsx_precompile_answer jsx_precompile_transform(
+    const uint8_t *page, size_t page_length,
+    const uint8_t *options, size_t options_length,
+    uint8_t *scratch, size_t scratch_length,
+    uint8_t *templates_out, size_t templates_out_length,
+    uint8_t *page_out, size_t page_out_length);
+
+#ifdef __cplusplus
+}
+#endif
+
+#endif

@@ -1,0 +1,91 @@
+//! The C header: a C program with it is compiled, linked with the library, run, and answers as the Rust call does.
+
+use jsx_precompile::page::{Element, Expression, Item, Page};
+use jsx_precompile::{Options, transform};
+use std::path::Path;
+use std::process::Command;
+
+/// Whether the compiler is there.
+fn has(compiler: &str) -> bool {
+    let there = Command::new(compiler).arg("--version").output().is_ok_and(|output| output.status.success());
+    if !there {
+        println!("skipped: no {compiler} here");
+    }
+    there
+}
+
+fn hex(bytes: &[u8]) -> String {
+    bytes.iter().map(|byte| format!("{byte:02x}")).collect()
+}
+
+/// Compiles tests/header.c; without a word of warning.
+fn compile(compiler: &str, words: &[&str], program: &Path) {
+    let here = Path::new(env!("CARGO_MANIFEST_DIR"));
+    let output = Command::new(compiler)
+        .args(words)
+        .args(["-Wall", "-Wextra", "-Wpedantic", "-Werror", "-I"])
+        .arg(here.join("include"))
+        .arg(here.join("tests/header.c"))
+        .args(["-x", "none"])
+        .arg(Path::new(env!("JSX_PRECOMPILE_LIB")).join("libjsx_precompile.a"))
+        .arg("-o")
+        .arg(program)
+        .output()
+        .expect("the compiler runs");
+    assert!(output.status.success(), "{}", String::from_utf8_lossy(&output.stderr));
+}
+
+fn answers_alike(program: &Path) {
+    let tag = Element::new("p").attribute("class", "t").text("Hi ").child(Expression::source("n"));
+    let page = Page::new([Item::statement(["const a = ".into(), tag.into(), ";".into()])]).to_bytes().expect("a page");
+    let run = |page: &[u8]| Command::new(program).arg(hex(page)).output().expect("the program runs");
+    let forms = transform(&page, &Options::new()).expect("it is taken");
+    let expected = format!("0 1 {} {}\n", hex(forms.templates_bytes()), hex(forms.page_bytes()));
+    assert_eq!(String::from_utf8_lossy(&run(&page).stdout), expected);
+    assert_eq!(String::from_utf8_lossy(&run(&[0x02, 0, 0]).stdout), "4 0  \n");
+    assert_eq!(String::from_utf8_lossy(&run(&[]).stdout), "3 0  \n");
+}
+
+#[test]
+fn a_program_in_c() {
+    if !has("cc") {
+        return;
+    }
+    let program = Path::new(env!("CARGO_TARGET_TMPDIR")).join("header_c");
+    compile("cc", &["-std=c99", "-x", "c"], &program);
+    answers_alike(&program);
+    println!("header: compiled by cc, three answers alike");
+}
+
+#[test]
+fn a_program_in_cpp() {
+    if !has("c++") {
+        return;
+    }
+    let program = Path::new(env!("CARGO_TARGET_TMPDIR")).join("header_cpp");
+    compile("c++", &["-x", "c++"], &program);
+    answers_alike(&program);
+    println!("header: compiled by c++, three answers alike");
+}
+
+/// The header's limits and numbers are the crate's.
+#[test]
+fn constants() {
+    use jsx_precompile::{Refusal, limits::*};
+    let header = include_str!("../include/jsx_precompile.h");
+    for (name, limit) in
+        [("PAGE", MAX_PAGE), ("OPTIONS", MAX_OPTIONS), ("DEPTH", MAX_DEPTH)].map(|(n, l)| (format!("MAX_{n}"), l))
+    {
+        assert!(header.contains(&format!("#define JSX_PRECOMPILE_{name} {limit}\n")), "{name}");
+    }
+    assert!(header.contains(&format!("#define JSX_PRECOMPILE_MIN_SCRATCH {MIN_SCRATCH}\n")));
+    for refusal in (1..=13).filter_map(Refusal::from_number) {
+        // ScratchTooSmall: SCRATCH_TOO_SMALL
+        let name = format!("{refusal:?}").chars().fold(String::new(), |name, letter| {
+            let gap = if letter.is_uppercase() && !name.is_empty() { "_" } else { "" };
+            format!("{name}{gap}{}", letter.to_ascii_uppercase())
+        });
+        let line = format!("JSX_PRECOMPILE_{name} = {}", refusal.number());
+        assert!(header.contains(&line), "{line}");
+    }
+}

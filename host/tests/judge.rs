@@ -1,0 +1,191 @@
+//! The library against the judge: the number, the counts and every byte that is lent, call by call.
+
+use jsx_precompile::{Options, Refusal, Transformer, transform_into};
+use oracle::compare::{difference, first_difference};
+use oracle::generate::{self, Case, Room};
+use oracle::show::{hex, show};
+use oracle::vectors::Vector;
+use oracle::{Answer, exhaustive, marks, outcome};
+use std::io::Write;
+use std::time::Instant;
+
+/// The library as the judge's own call.
+fn library(page: &[u8], options: &[u8], scratch: &mut [u8], templates: &mut [u8], out: &mut [u8]) -> Answer {
+    let answer = transform_into(page, options, scratch, templates, out);
+    Answer {
+        number: answer.number,
+        templates_bytes: answer.templates_bytes,
+        page_bytes: answer.page_bytes,
+        templates: answer.templates,
+    }
+}
+
+/// Printed at once, also where the output of tests is held back.
+fn say(words: &str) {
+    let _ = writeln!(std::io::stderr(), "{words}");
+}
+
+fn no_judge() -> bool {
+    if !oracle::AVAILABLE {
+        say("skipped: the judge was built without jsx_precompile.rs");
+    }
+    !oracle::AVAILABLE
+}
+
+fn agree(case: &Case) {
+    if let Some(words) = difference(case, &library) {
+        let Case { page, options, .. } = case;
+        panic!("{words}\noptions {}\n{}page {}\n{}", hex(options), show(options), hex(page), show(page));
+    }
+}
+
+#[test]
+fn seeds() {
+    if no_judge() {
+        return;
+    }
+    let count: u64 = std::env::var("HOST_SEEDS").map_or(200_000, |word| word.parse().expect("HOST_SEEDS is a number"));
+    let start = Instant::now();
+    let step = (count / 10).clamp(1, 50_000);
+    for first in (0..count).step_by(step as usize) {
+        let some = step.min(count - first);
+        if let Some(words) = first_difference(first, some, &library) {
+            panic!("{words}");
+        }
+        say(&format!("seeds: {} of {count}, no difference, {} s", first + some, start.elapsed().as_secs()));
+    }
+}
+
+/// The marks of document 01: its table, each limit and one beyond it, the readings.
+#[test]
+fn limits_and_marks() {
+    if no_judge() {
+        return;
+    }
+    let marks = marks::all();
+    for mark in &marks {
+        agree(&mark.case);
+    }
+    say(&format!("marks: {}, no difference", marks.len()));
+}
+
+#[test]
+fn stored_answers() {
+    let stored = include_str!("../../oracle/vectors/judge.txt");
+    for line in stored.lines() {
+        let vector = Vector::parse(line).expect("twelve words");
+        let [mut scratch, mut templates, mut out] =
+            [vector.scratch, vector.templates_out, vector.page_out].map(|length| vec![9; length]);
+        let answer = library(&vector.page, &vector.options, &mut scratch, &mut templates, &mut out);
+        assert_eq!(answer, vector.answer, "{}", vector.name);
+        let left = if answer.number == 0 { 9 } else { 0 };
+        for (bytes, written) in [(&templates, &vector.templates_written), (&out, &vector.page_written)] {
+            assert_eq!(bytes[..written.len()], written[..], "{}", vector.name);
+            assert!(bytes[written.len()..].iter().all(|byte| *byte == left), "{}", vector.name);
+        }
+        let left = if answer.number == 1 { 9 } else { 0 };
+        assert!(scratch.iter().all(|byte| *byte == left), "{}", vector.name);
+    }
+    say(&format!("stored answers: {}, no difference", stored.lines().count()));
+}
+
+/// All byte strings of up to three bytes, as page and as options. Of scratch one byte is looked at, another each time;
+/// up to two bytes all are.
+#[test]
+fn all_short_byte_strings() {
+    if no_judge() {
+        return;
+    }
+    let mut scratch = vec![0; 65_536];
+    let mut calls = 0_usize;
+    exhaustive::byte_strings(3, &mut |bytes| {
+        for (page, options) in [(bytes, &[][..]), (&[1, 0, 0], bytes)] {
+            calls += 1;
+            let place = calls * 40_503 % scratch.len();
+            let all = bytes.len() < 3;
+            let marked = if all { &mut scratch[..] } else { &mut scratch[place..=place] };
+            marked.fill(7);
+            let (mut templates, mut out) = ([7; 9], [7; 9]);
+            let answer = library(page, options, &mut scratch, &mut templates, &mut out);
+            let (expected, left) = match outcome(page, options) {
+                Ok(_) => (Answer { number: 0, templates_bytes: 0, page_bytes: 0, templates: 0 }, 7),
+                Err(refusal) => (Answer::refused(refusal), 0),
+            };
+            let cleared = if all { scratch.iter().all(|byte| *byte == 0) } else { scratch[place] == 0 };
+            let same = answer == expected && templates == [left; 9] && out == [left; 9] && cleared;
+            assert!(same, "page {} options {}: {answer:?}, judge {expected:?}", hex(page), hex(options));
+        }
+    });
+    assert!(scratch.iter().all(|byte| *byte == 0));
+    say(&format!("byte strings: {calls} calls, no difference"));
+}
+
+/// All pages of up to seven fields with the leaves that the judge names, under four options.
+#[test]
+fn all_small_pages() {
+    use oracle::make::{attributes_listed, elements_listed};
+    if no_judge() {
+        return;
+    }
+    let lists = [
+        vec![],
+        elements_listed(&["i"]),
+        attributes_listed(&["a"]),
+        [elements_listed(&["br"]), attributes_listed(&["key", "a"])].concat(),
+    ];
+    let mut calls = 0;
+    for fields in 1..=7 {
+        exhaustive::small_pages(fields, &mut |page| {
+            for options in &lists {
+                calls += 1;
+                agree(&Case {
+                    page: page.to_vec(),
+                    options: options.clone(),
+                    scratch: 65_536,
+                    templates_room: Room::More(3),
+                    page_room: Room::More(3),
+                });
+            }
+        });
+        say(&format!("pages of up to {fields} fields: {calls} calls, no difference"));
+    }
+}
+
+/// The safe call, whose buffers grow: every answer but those to lent bytes that are too short.
+#[test]
+fn buffers_that_grow() {
+    if no_judge() {
+        return;
+    }
+    let mut transformer = Transformer::new();
+    let mut taken = 0;
+    let count = 20_000;
+    for seed in 0..count {
+        let Case { page, options, .. } = generate::case(seed);
+        let Ok(options) = Options::from_bytes(&options) else { continue };
+        let bytes = options.to_bytes().expect("they were read");
+        match (transformer.transform(&page, &options), outcome(&page, &bytes)) {
+            (Ok(forms), Ok(output)) => {
+                assert_eq!(forms.templates_bytes(), output.templates, "seed {seed}");
+                assert_eq!(forms.page_bytes(), output.page, "seed {seed}");
+                assert_eq!(forms.count(), output.count, "seed {seed}");
+                taken += 1;
+            }
+            (Err(refusal), Err(expected)) => assert_eq!(refusal.number(), expected as u32, "seed {seed}"),
+            (ours, theirs) => panic!("seed {seed}: {ours:?}, judge {theirs:?}"),
+        }
+    }
+    say(&format!("safe calls: {count} seeds, {taken} taken, no difference"));
+}
+
+#[test]
+fn outputs_longer_than_the_first_guess() {
+    use oracle::make::{element, page_of, text};
+    let page = page_of(element("p", &[text(&"\"".repeat(10_000))]));
+    let forms = jsx_precompile::transform(&page, &Options::new()).expect("it is taken");
+    assert_eq!(forms.templates_bytes().len(), 5 + 3 + "<p></p>".len() + 10_000 * "&quot;".len());
+    let long = Options::new().import_source("s".repeat(70_000));
+    assert_eq!(jsx_precompile::transform(&page, &long), Err(Refusal::InputTooLong));
+    let empty = Options::new().import_source("");
+    assert_eq!(jsx_precompile::transform(&page, &empty), Err(Refusal::Misplaced));
+}
