@@ -31,7 +31,7 @@ printf '%-34s %5s %7s %6s %6s %5s %13s %9s %7s  %s\n' set pages bytes tags attrs
     tee -a "$rates" |
     awk -F '\t' -v mean="$(awk -F '\t' '$1 == "mean" { print $7 / $3 }' "$rates")" '{
       rate = $7 / $3
-      printf "%-34s %5d %7d %6d %6d %5d %13d %9.1f %7.1f  %s\n", $1, $2, $3, $4, $5, $6, $7, rate, rate / (mean ? mean : rate), $8
+      printf "%-34s %5d %7d %6d %6d %5d %13s %9.1f %7.1f  %s\n", $1, $2, $3, $4, $5, $6, $7, rate, rate / (mean ? mean : rate), $8
     }'
 done
 

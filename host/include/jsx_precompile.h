@@ -42,7 +42,8 @@ typedef struct jsx_precompile_answer {
 } jsx_precompile_answer;
 
 /* Takes the page apart into templates and calls of them. The page and the options are read, the other three are
-   written; none is kept. No pointer may be null, not even with a length of 0, and the five parts may not overlap.
+   written; none is kept, and calls in several threads do not meet. No pointer may be null, not even with a length of
+   0, and the five parts may not overlap. Half a megabyte of stack is enough.
 
    Accepted: the outputs stand at the front of templates_out and page_out, the bytes behind them are as before.
    Refused: both are all zero. The scratch is all zero after every call but SCRATCH_TOO_SMALL, which leaves it.

@@ -67,7 +67,8 @@ impl Answer {
 /// room for both outputs.
 ///
 /// Taken: the outputs stand at the front of theirs, and the bytes behind them are as before. Refused: both outs are
-/// all zero. The scratch is all zero afterwards, but for [`Refusal::ScratchTooSmall`], which leaves it.
+/// all zero. The scratch is all zero afterwards, but for [`Refusal::ScratchTooSmall`], which leaves it. Half a megabyte
+/// of stack is enough (tests/stack.rs).
 ///
 /// ```
 /// use jsx_precompile::transform_into;

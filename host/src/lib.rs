@@ -41,3 +41,8 @@ pub use check::Fault;
 pub use options::Options;
 pub use page::write::WriteError;
 pub use refusal::Refusal;
+
+// The README's example runs with the others.
+#[cfg(doctest)]
+#[doc = include_str!("../README.md")]
+struct Readme;

@@ -61,7 +61,7 @@ impl Call<'_> {
 /// assert!(call.expressions().eq([Expression::Null]));
 /// # Ok::<(), jsx_precompile::Fault>(())
 /// ```
-#[derive(Clone, Copy, Debug, PartialEq, Eq)]
+#[derive(Clone, Copy, PartialEq, Eq)]
 pub struct TemplateCall<'a>(pub(super) Field<'a>);
 
 impl<'a> TemplateCall<'a> {
@@ -104,7 +104,7 @@ impl<'a> TemplateCall<'a> {
 /// assert_eq!((call.name(), call.value()), ("hidden", Expression::Boolean(true)));
 /// # Ok::<(), Box<dyn std::error::Error>>(())
 /// ```
-#[derive(Clone, Copy, Debug, PartialEq, Eq)]
+#[derive(Clone, Copy, PartialEq, Eq)]
 pub struct AttrCall<'a>(pub(super) Field<'a>);
 
 impl<'a> AttrCall<'a> {
@@ -145,7 +145,7 @@ impl<'a> AttrCall<'a> {
 /// assert_eq!(call.value(), Expression::Null);
 /// # Ok::<(), jsx_precompile::Fault>(())
 /// ```
-#[derive(Clone, Copy, Debug, PartialEq, Eq)]
+#[derive(Clone, Copy, PartialEq, Eq)]
 pub struct EscapeCall<'a>(pub(super) Field<'a>);
 
 impl<'a> EscapeCall<'a> {
@@ -175,7 +175,7 @@ impl<'a> EscapeCall<'a> {
 /// assert_eq!(choice.name(), "disabled");
 /// # Ok::<(), Box<dyn std::error::Error>>(())
 /// ```
-#[derive(Clone, Copy, Debug, PartialEq, Eq)]
+#[derive(Clone, Copy, PartialEq, Eq)]
 pub struct Choice<'a>(pub(super) Field<'a>);
 
 impl<'a> Choice<'a> {
@@ -220,7 +220,7 @@ impl<'a> Choice<'a> {
 /// assert_eq!(call.key(), Some(Expression::Number(2)));
 /// # Ok::<(), Box<dyn std::error::Error>>(())
 /// ```
-#[derive(Clone, Copy, Debug, PartialEq, Eq)]
+#[derive(Clone, Copy, PartialEq, Eq)]
 pub struct JsxCall<'a>(pub(super) Field<'a>);
 
 impl<'a> JsxCall<'a> {
@@ -315,4 +315,12 @@ fn prop(field: Field) -> Prop {
         0x96 => Prop::Named(text_at(field, 0), expression_at(field, 1)),
         _ => Prop::Spread(expression_at(field, 0)),
     }
+}
+
+debug! {
+    TemplateCall { number, expressions }
+    AttrCall { name, value }
+    EscapeCall { value }
+    Choice { condition, name }
+    JsxCall { name, props, key }
 }

@@ -12,6 +12,17 @@
 //! # Ok::<(), Box<dyn std::error::Error>>(())
 //! ```
 
+/// A view shows what its functions read, not the bytes.
+macro_rules! debug {
+    ($($view:ident { $($part:ident),+ })+) => {
+        $(impl std::fmt::Debug for $view<'_> {
+            fn fmt(&self, f: &mut std::fmt::Formatter<'_>) -> std::fmt::Result {
+                f.debug_struct(stringify!($view))$(.field(stringify!($part), &self.$part()))+.finish()
+            }
+        })+
+    };
+}
+
 mod calls;
 
 pub use calls::{AttrCall, Call, CalledName, Choice, EscapeCall, JsxCall, Prop, TemplateCall};
@@ -117,7 +128,7 @@ impl<'a> Iterator for Templates<'a> {
 /// assert_eq!((template.number(), template.strings().next()), (1, Some("<br>")));
 /// # Ok::<(), jsx_precompile::Fault>(())
 /// ```
-#[derive(Clone, Copy, Debug, PartialEq, Eq)]
+#[derive(Clone, Copy, PartialEq, Eq)]
 pub struct Template<'a>(Field<'a>);
 
 impl<'a> Template<'a> {
@@ -160,7 +171,7 @@ fn texts<'a>(field: Field<'a>) -> Series<'a, &'a str> {
 /// assert_eq!(page.items().collect::<Vec<_>>(), [Item::Empty]);
 /// # Ok::<(), jsx_precompile::Fault>(())
 /// ```
-#[derive(Clone, Copy, Debug, PartialEq, Eq)]
+#[derive(Clone, Copy, PartialEq, Eq)]
 pub struct PageOut<'a>(&'a [u8]);
 
 impl<'a> PageOut<'a> {
@@ -482,4 +493,9 @@ fn array_item(field: Field) -> ArrayItem {
         0x78 => ArrayItem::Hole,
         _ => ArrayItem::Expression(expression(field)),
     }
+}
+
+debug! {
+    Template { number, strings }
+    PageOut { items }
 }
