@@ -1,0 +1,2 @@
+-- The worked card of 01.
+pub mod Worked

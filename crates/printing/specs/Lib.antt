@@ -1,0 +1,2 @@
+-- What the card prints.
+pub mod Card
