@@ -62,7 +62,7 @@ module _ (skip props : Bytes) where
     unfolding is-empty
     enters-some es b K.Nothing h x = absurd x
     enters-some es b K.Empty h x = absurd (let z : _≡_ {A = ℕ} 0 1 = cc in omega arith)
-    enters-some es b K.Many h x = omega arith
+    enters-some es b K.Many h x = omega (arith, x .0)
     enters-some es b K.Run h x = some es b x
     enters-some es b K.Text h x = one es _ x
     enters-some es b K.Element h x = one es _ (x .0)
@@ -82,7 +82,7 @@ module _ (skip props : Bytes) where
           subst (λ (es : List Entry). Enters skip props R es (a .kind) (part s a))
           (sym (ap (λ (es : List Entry). xs ++ es) (enters-none ys (part s b) (b .kind) k y) ∙ append-nil xs)) x
       joined false false h k =
-          omega (arith, length-append xs ys, enters-some xs (part s a) (a .kind) h x, enters-some ys (part s b) (b .kind) k y)
+          (omega (arith, length-append xs ys, enters-some xs (part s a) (a .kind) h x, enters-some ys (part s b) (b .kind) k y), λ n. absurd (n refl))
 
       pub then-enters : {r : Found} → r ≡ then-found a b → Enters skip props R (xs ++ ys) (r .kind) (part s r)
       then-enters {r} e =

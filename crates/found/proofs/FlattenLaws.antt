@@ -1,5 +1,5 @@
 -- The only entry taken out of its array: what `flattened` returns. Main statements: `flat-77`, `flat-78`, `flat-other`, `flat-many`,
--- `flat-rest`. Assumes nothing.
+-- `flat-placed`, `flat-rest`. Assumes nothing.
 use mathlib.Core.Path.{_≡_, refl, sym, ap, _∙_, subst}
 use Prim.Native.Nat.{ℕ, _+_, _≤_}
 use native.Mathlib.Omega.{arith}
@@ -21,7 +21,7 @@ use Rattle.found.specs.declared.Kind.{Kind}
 use Rattle.found.specs.declared.Kind.the-variants as K
 use Rattle.found.specs.declared.Found.{Found}
 use Rattle.found.proofs.Kind.{the-type}
-use Rattle.found.proofs.Places.{Stands, stands-room, stands-part, stands-of, body-in}
+use Rattle.found.proofs.Places.{Stands, stands-room, stands-part, stands-of, length-part, body-in}
 use Rattle.found.proofs.ItemLaws.{item-77, item-78, item-other, sole-of}
 
 several : (es : List Entry) → 2 ≤ length es → C.flattened es ≡ array-found es
@@ -56,9 +56,22 @@ module _ (s : Bytes) (f : Found) (w : Within f s) where
         λ skip props x.
             let es : List Entry = entries-at skip props s in
             let e : take (length s) s ≡ s = take-all (length s) s (omega arith) in
-            let l : 2 ≤ length es = subst (λ (k : Kind). Enters skip props (Runs skip props) es k (part s f)) h x in
+            let l : 2 ≤ length es = subst (λ (k : Kind). Enters skip props (Runs skip props) es k (part s f)) h x .0 in
             subst (λ (b : Bytes). (C.flattened es ≡ array-found (entries-at skip props b)) × (2 ≤ length (entries-at skip props b))) (sym e) (several es l, l),
       )
+
+  -- one fragment alone gives them: its place stays
+  pub flat-placed : f .kind ≡ K.Many → (f .len ≡ 0 → ⊥) → Within f s × Flattened s f f
+  flat-placed h n = (
+    w,
+    λ skip props x.
+        let es : List Entry = entries-at skip props s in
+        let b : Bytes = part s f in
+        let m : (2 ≤ length es) × ((length b ≡ 0 → ⊥) → es ≡ entries-at skip props b) = subst (λ (k : Kind). Enters skip props (Runs skip props) es k b) h x in
+        let e : es ≡ entries-at skip props b = m .1 (λ z. n (sym (length-part s (f .from) (f .len) w) ∙ z)) in
+        subst (λ (k : Kind). Finds skip props (C.flattened es) k b) (sym h)
+        (several es (m .0) ∙ ap array-found e, subst (λ (z : List Entry). 2 ≤ length z) e (m .0)),
+  )
 
   module _ (h : f .kind ≡ K.Item) {t : Bytes} (q : t ≡ part s f) (u : ℕ) (e : u ≡ tag-of t) where
     item-alone : (skip props : Bytes) → Enters skip props (Runs skip props) (entries-at skip props s) (f .kind) (part s f) → C.flattened (entries-at skip props s) ≡ sole-mid (first-item skip props (read t))

@@ -1,6 +1,6 @@
 -- What a fragment adds to the entries of its parent: what `spliced` returns. Main statements: `splice-nothing`, `splice-none`, `splice-one`,
 -- `splice-more`, `splice-plain`, `splice-rest`. Assumes nothing.
-use mathlib.Core.Path.{_≡_, sym, ap, _∙_, subst}
+use mathlib.Core.Path.{_≡_, refl, sym, ap, _∙_, subst}
 use Prim.Native.Nat.{ℕ, _+_, _≤_}
 use native.Mathlib.Omega.{arith}
 use mathlib.Core.List.{List, [], _∷_}
@@ -28,7 +28,7 @@ kept : (skip props : Bytes) (x : M.Found) (k : Kind) (b : Bytes) → OneOf (1 �
 unfolding C.spliced
 kept skip props x K.Nothing b h z = absurd (miss (1 ∷ 2 ∷ 3 ∷ 4 ∷ 5 ∷ 6 ∷ 8 ∷ 9 ∷ []) 0 tt h)
 kept skip props x K.Empty b h z = ap C.spliced z
-kept skip props x K.Many b h z = subst (λ (y : M.Found). 2 ≤ length (C.spliced y)) (sym (z .0)) (z .1)
+kept skip props x K.Many b h z = (subst (λ (y : M.Found). 2 ≤ length (C.spliced y)) (sym (z .0)) (z .1), λ n. ap C.spliced (z .0))
 kept skip props x K.Run b h z = record { run = z .run; alone = ap C.spliced (z .found-is); among-all = z .among-all }
 kept skip props x K.Text b h z = ap C.spliced z
 kept skip props x K.Element b h z = (ap C.spliced (z .0), z .1)
@@ -84,7 +84,8 @@ module _ (s : Bytes) (f : Found) (w : Within f s) where
       splice-more o j {r} d =
           subst (λ (r : Found). Within r s × Spliced s f r) (sym d) (
             omega arith,
-            λ skip props x z.
-                subst (λ (es : List Entry). 2 ≤ length es) (sym (spliced-array skip props x z))
-                (stills-more skip props (read b) (λ y. o (c ∙ y)) (λ y. j (c ∙ y))),
+            λ skip props x z. (
+              subst (λ (es : List Entry). 2 ≤ length es) (sym (spliced-array skip props x z)) (stills-more skip props (read b) (λ y. o (c ∙ y)) (λ y. j (c ∙ y))),
+              λ m. absurd (m refl),
+            ),
           )

@@ -1,6 +1,6 @@
--- What the arms of `entries_of` leave, and the room that its places need. Main statements: `step-blank`, `step-text`, `step-joined`,
--- `step-more`, `step-expr`, `step-element`, `step-fragment`, `step-other`; `room-inside`. Assumes nothing.
-use mathlib.Core.Path.{_≡_, sym, ap, _∙_}
+-- What the arms of `entries_of` leave, and the room that its places need. Main statements: `step-blank`, `step-text`, `step-run`,
+-- `step-joined`, `step-more`, `step-expr`, `step-element`, `step-fragment`, `step-other`; `room-inside`. Assumes nothing.
+use mathlib.Core.Path.{_≡_, refl, sym, ap, _∙_, subst}
 use mathlib.Core.Bool.{Bool, true, false}
 use Prim.Native.Nat.{ℕ, _+_, _-_, _≤_}
 use native.Mathlib.Omega.{arith}
@@ -43,6 +43,14 @@ module _ (skip s t : Bytes) (run : Bool) (cur : Found) (k : Looked skip s t run 
 
     pub step-text : v ≡ false → Looked skip s r true cur
     step-text z = looked-more skip s t run cur k r (behind (λ y. omega arith)) λ props buf. left-text skip props t u e q buf h p (sym g ∙ z)
+
+  -- a text behind a run that has something: blank or not, it has still
+  pub step-run : u ≡ 0x60 → run ≡ true → Looked skip s r run cur
+  step-run h z = on (null? (jsx-text-to-str (body-of t) false false)) refl
+    where
+      on : (v : Bool) → v ≡ null? (jsx-text-to-str (body-of t) false false) → Looked skip s r run cur
+      on true g = step-blank h refl g refl
+      on false g = subst (λ (v : Bool). Looked skip s r v cur) (sym z) (step-text h refl g refl)
 
   -- a container
   module _ (h : u ≡ 0x52) {b : Bytes} (p : b ≡ body-of t) {j : Joined} (g : j ≡ joined-of (contained-in (read b))) where

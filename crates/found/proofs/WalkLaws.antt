@@ -13,7 +13,7 @@ use Rattle.found.specs.Finds.{Within, part, placed, entries-at, Runs, En
 use Rattle.found.specs.declared.Kind.{Kind}
 use Rattle.found.specs.declared.Kind.the-variants as K
 use Rattle.found.specs.declared.Found.{Found}
-use Rattle.found.proofs.Places.{Tail, tail-all}
+use Rattle.found.proofs.Places.{Tail, tail-all, length-part}
 use Rattle.found.proofs.MergeLaws.{run-entries, left-entries, Grows, left-end}
 use Rattle.found.proofs.EnterLaws.{Here, here-some, here-runs, enters-by, then-enters, then-within, run-enters, run-within}
 
@@ -104,15 +104,15 @@ module _ (skip s t : Bytes) (run : Bool) (cur : Found) (k : Looked skip s t run 
         }
 
   -- the rest does not matter
-  pub looked-many : cur .kind ≡ K.Many → Entered skip s cur
-  looked-many h = (
+  pub looked-many : cur .kind ≡ K.Many → cur .len ≡ 0 → Entered skip s cur
+  looked-many h z = (
     k .within,
     λ props.
         let l = k .found props in
         let rest : List Entry = left-entries skip props (l .buf) t in
-        let n : 2 ≤ length (l .so-far) = subst (λ (c : Kind). Enters skip props (Here skip props s) (l .so-far) c (part s cur)) h (l .enters) in
+        let n : 2 ≤ length (l .so-far) = subst (λ (c : Kind). Enters skip props (Here skip props s) (l .so-far) c (part s cur)) h (l .enters) .0 in
         subst (λ (c : Kind). Enters skip props (Runs skip props) (entries-at skip props s) c (part s cur)) (sym h)
-        (omega (arith, ap length (l .all-is), length-append (l .so-far) rest)),
+        (omega (arith, ap length (l .all-is), length-append (l .so-far) rest), λ m. absurd (m (length-part s (cur .from) (cur .len) (k .within) ∙ z))),
   )
 
   -- nothing is left

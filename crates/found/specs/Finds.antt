@@ -4,6 +4,7 @@ use mathlib.Core.Bool.{Bool, true, false}
 use mathlib.Core.List.{List, [], _∷_}
 use mathlib.Core.Option.{Option, none, some}
 use mathlib.Core.Path.{_≡_}
+use lib.Dec.{eqb}
 use lib.ListN.{length, take, drop}
 use Rattle.field.specs.Bytes.{Bytes, pick, null?}
 use Rattle.field.specs.Row.{Row, end, loose, field, read}
@@ -80,11 +81,11 @@ module _ (skip props : Bytes) where
     pub alone : es ≡ still (string-node run) ∷ []
     pub among-all : entries-at b ≡ still (string-node run) ∷ []
 
-  -- entries are what a kind and the bytes of its place say; a run by R
+  -- entries are what a kind and the bytes of its place say; a run by R; several are those of the children in the place, where it has bytes
   abbrev pub Enters : (R : List Entry → Bytes → Type 0) → List Entry → Kind → Bytes → Type 0
   Enters R es K.Nothing b = ⊥
   Enters R es K.Empty b = es ≡ []
-  Enters R es K.Many b = 2 ≤ length es
+  Enters R es K.Many b = (2 ≤ length es) × ((length b ≡ 0 → ⊥) → es ≡ entries-at b)
   Enters R es K.Run b = R es b
   Enters R es K.Text b = es ≡ text-entry b ∷ []
   Enters R es K.Element b = (es ≡ element-entry b ∷ []) × (tag-of b ≡ 0x30)
@@ -151,6 +152,19 @@ is-empty K.Hole = false
 -- entries, and others behind them
 abbrev pub then-found : Found → Found → Found
 then-found a b = pick (is-empty (a .kind)) b (pick (is-empty (b .kind)) a (placed K.Many 0 0))
+
+-- several, in a place of n bytes: none
+unfoldable pub is-settled : Kind → ℕ → Bool
+is-settled K.Nothing n = false
+is-settled K.Empty n = false
+is-settled K.Many n = eqb n 0
+is-settled K.Run n = false
+is-settled K.Text n = false
+is-settled K.Element n = false
+is-settled K.Template n = false
+is-settled K.Expr n = false
+is-settled K.Item n = false
+is-settled K.Hole n = false
 
 -- the run among n bytes of children, behind the entries
 abbrev pub run-found : Found → Bool → ℕ → Found

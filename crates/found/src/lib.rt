@@ -5,7 +5,7 @@ ghost use lib.ListN.{length};
 ghost use Rattle.field.specs.Bytes.{Bytes};
 ghost use Rattle.field.specs.Row.{read};
 ghost use Rattle.page.specs.Tree.{contained-in};
-ghost use Rattle.found.specs.Finds.{Within, part, placed, Runs, Enters, Finds, Flattened, Spliced, FirstAt, item-count, joined-of, then-found, run-found, entries-at, found-at};
+ghost use Rattle.found.specs.Finds.{Within, part, placed, Runs, Enters, Finds, Flattened, Spliced, FirstAt, item-count, joined-of, then-found, run-found, is-settled, entries-at, found-at};
 use decisions::children::becomes_template;
 use decisions::children::child_count;
 use decisions::expr::Shape;
@@ -20,7 +20,7 @@ pub enum Kind {
     Nothing,
     // an array of no elements
     Empty,
-    // an array of several
+    // an array of several, those of the children in the place
     Many,
     // a run of texts, among the children in the place
     Run,
@@ -154,7 +154,8 @@ fn inside(f: Found, at: usize) -> Found
     }
 }
 
-// The only entry, taken out of its array: a spread is dropped, a hole stays.
+// The only entry, taken out of its array: a spread is dropped, a hole stays. Several that one fragment alone gives keep its place, so that no
+// level above looks at them again.
 fn flattened(s: &[u8], f: Found) -> Found
     requires { ⌜ Within f (now s) ⌝ }
     ensures { λ r. ⌜ Within r (now (s .entry)) × Flattened (now (s .entry)) f r ⌝ }
@@ -183,7 +184,12 @@ fn flattened(s: &[u8], f: Found) -> Found
                 },
             }
         }
-        Kind::Many => whole(Kind::Many, s),
+        Kind::Many => {
+            if len == 0 {
+                return whole(Kind::Many, s);
+            }
+            f
+        }
         _ => f,
     }
 }
@@ -249,7 +255,17 @@ fn with_run(a: Found, run: bool, s: &[u8]) -> Found
     a
 }
 
-// The entries of merged children: none, one and where it stands, or several.
+// Several, and no place: what stands behind does not matter.
+fn is_settled(kind: Kind, len: usize) -> bool
+    ensures { λ r. ⌜ r ≡ is-settled kind len ⌝ }
+{
+    match kind {
+        Kind::Many => len == 0,
+        _ => false,
+    }
+}
+
+// The entries of merged children: none, one and where it stands, or several, with a place where one fragment alone gives them.
 fn entries_of(skip: &[u8], s: &[u8]) -> Found
     requires { ⌜ length (now s) < 2 ^ 62 ⌝ }
     ensures { λ r. ⌜ Within r (now (s .entry)) × ((props : Bytes) → Enters (now (skip .entry)) props (Runs (now (skip .entry)) props) (entries-at (now (skip .entry)) props (now (s .entry))) (r .kind) (part (now (s .entry)) r)) ⌝ }
@@ -259,76 +275,78 @@ fn entries_of(skip: &[u8], s: &[u8]) -> Found
     let mut cur = nowhere(Kind::Empty);
     loop {
         let kind = cur.kind;
-        match kind {
-            Kind::Many => {
-                return cur;
+        if is_settled(kind, cur.len) {
+            return cur;
+        }
+        match tag_at(t) {
+            0x60 => {
+                // a run that has something needs no test
+                if run {
+                    let r = behind(t);
+                    t = r;
+                } else if is_blank(body(t), false) {
+                    let r = behind(t);
+                    t = r;
+                } else {
+                    run = true;
+                    let r = behind(t);
+                    t = r;
+                }
             }
-            _ => match tag_at(t) {
-                0x60 => {
-                    if is_blank(body(t), false) {
+            0x52 => {
+                let c = body(t);
+                match joined_at(c) {
+                    Joined::Nothing => {
                         let r = behind(t);
                         t = r;
-                    } else {
+                    }
+                    Joined::Something => {
                         run = true;
                         let r = behind(t);
                         t = r;
                     }
-                }
-                0x52 => {
-                    let c = body(t);
-                    match joined_at(c) {
-                        Joined::Nothing => {
-                            let r = behind(t);
-                            t = r;
-                        }
-                        Joined::Something => {
-                            run = true;
-                            let r = behind(t);
-                            t = r;
-                        }
-                        Joined::Apart => {
-                            let at = s.len() - t.len();
-                            let x = Found {
-                                kind: Kind::Expr,
-                                from: at + 3,
-                                len: c.len(),
-                            };
-                            cur = then(with_run(cur, run, s), x);
-                            run = false;
-                            let r = behind(t);
-                            t = r;
-                        }
+                    Joined::Apart => {
+                        let at = s.len() - t.len();
+                        let x = Found {
+                            kind: Kind::Expr,
+                            from: at + 3,
+                            len: c.len(),
+                        };
+                        cur = then(with_run(cur, run, s), x);
+                        run = false;
+                        let r = behind(t);
+                        t = r;
                     }
                 }
-                0x30 => {
-                    let at = s.len() - t.len();
-                    let x = Found {
-                        kind: Kind::Element,
-                        from: at,
-                        len: t.len(),
-                    };
-                    cur = then(with_run(cur, run, s), x);
-                    run = false;
-                    let r = behind(t);
-                    t = r;
-                }
-                0x31 => {
-                    let at = s.len() - t.len();
-                    let b = body(t);
-                    let x = inside(spliced(b, found_of(skip, b)), at);
-                    cur = then(with_run(cur, run, s), x);
-                    run = false;
-                    let r = behind(t);
-                    t = r;
-                }
-                256 => {
-                    return with_run(cur, run, s);
-                }
-                _ => {
-                    let r = behind(t);
-                    t = r;
-                }
-            },
+            }
+            0x30 => {
+                let at = s.len() - t.len();
+                let x = Found {
+                    kind: Kind::Element,
+                    from: at,
+                    len: t.len(),
+                };
+                cur = then(with_run(cur, run, s), x);
+                run = false;
+                let r = behind(t);
+                t = r;
+            }
+            0x31 => {
+                let at = s.len() - t.len();
+                let b = body(t);
+                let x = inside(spliced(b, found_of(skip, b)), at);
+                cur = then(with_run(cur, run, s), x);
+                run = false;
+                let r = behind(t);
+                t = r;
+            }
+            256 => {
+                return with_run(cur, run, s);
+            }
+            _ => {
+                let r = behind(t);
+                t = r;
+            }
         }
     }
 }

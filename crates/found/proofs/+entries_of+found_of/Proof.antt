@@ -6,8 +6,9 @@ use native.Mathlib.Omega.{arith}
 use lib.ListN.{length}
 use Rattle.field.proofs.FrontLaws.{behind-less, body-less}
 use Rattle.found.proofs.Places.{tail-room, stands-room, stands-body}
+use Rattle.found.proofs.KindLaws.{settled}
 use Rattle.found.proofs.WalkLaws.{Looked, looked-start, looked-many, looked-end}
-use Rattle.found.proofs.StepLaws.{room-inside, step-blank, step-text, step-joined, step-more, step-expr, step-element, step-fragment, step-other}
+use Rattle.found.proofs.StepLaws.{room-inside, step-blank, step-text, step-run, step-joined, step-more, step-expr, step-element, step-fragment, step-other}
 use Rattle.found.proofs.FoundLaws.{stands-inside, found-none, found-60, found-52, found-empty, found-30, found-31, found-61, found-template, found-many}
 use Prim.Native.Nat.{ℕ, _+_, _*_, _<_}
 use borrow.Fn.Kinds.{In}
@@ -26,6 +27,7 @@ use Rattle.field.proofs.reader.tag_at.Reads as tag-at-reads
 use Rattle.found.proofs.first_child.Reads as first-child-reads
 use Rattle.found.proofs.flattened.Reads as flattened-reads
 use Rattle.found.proofs.inside.Reads as inside-reads
+use Rattle.found.proofs.is_settled.Reads as is-settled-reads
 use Rattle.found.proofs.joined_at.Reads as joined-at-reads
 use Rattle.found.proofs.nowhere.Reads as nowhere-reads
 use Rattle.found.proofs.spliced.Reads as spliced-reads
@@ -58,7 +60,7 @@ found-of-below t =
     and 2 found-of-kinds.ps (falls 2 found-of-kinds.ps _<_ μ-found-of t) found-of.Pre
 
 abbrev entries-of-calls : ℕ → entries-of-lts.Claims
-entries-of-calls t = (nowhere-reads.Asked, nowhere-reads.Learnt, tag-at-reads.Asked, tag-at-reads.Learnt, body-reads.Asked, body-reads.Learnt, is-blank-reads.Asked, is-blank-reads.Learnt, behind-reads.Asked, behind-reads.Learnt, joined-at-reads.Asked, joined-at-reads.Learnt, with-run-reads.Asked, with-run-reads.Learnt, then-reads.Asked, then-reads.Learnt, found-of-below t, found-of.Post, spliced-reads.Asked, spliced-reads.Learnt, inside-reads.Asked, inside-reads.Learnt)
+entries-of-calls t = (nowhere-reads.Asked, nowhere-reads.Learnt, is-settled-reads.Asked, is-settled-reads.Learnt, tag-at-reads.Asked, tag-at-reads.Learnt, behind-reads.Asked, behind-reads.Learnt, body-reads.Asked, body-reads.Learnt, is-blank-reads.Asked, is-blank-reads.Learnt, joined-at-reads.Asked, joined-at-reads.Learnt, with-run-reads.Asked, with-run-reads.Learnt, then-reads.Asked, then-reads.Learnt, found-of-below t, found-of.Post, spliced-reads.Asked, spliced-reads.Learnt, inside-reads.Asked, inside-reads.Learnt)
 
 abbrev entries-of-Inv-loop : entries-of-lts.InvT-loop
 entries-of-Inv-loop skip s t₀ run₀ cur₀ t run cur = Looked skip s t run cur
@@ -75,14 +77,25 @@ entries-of-nowhere-requires t c κs = tt
 entries-of-loop-holds : (t : ℕ) → entries-of-lts.Need-loop-holds (entries-of-calls t) (entries-of-at t) entries-of.Post entries-of-Inv-loop entries-of-μ-loop
 entries-of-loop-holds t c = looked-start _ _ (c .nowhere .ensures)
 
-entries-of-enum-told : (t : ℕ) → entries-of-lts.Need-enum-told (entries-of-calls t) (entries-of-at t) entries-of.Post entries-of-Inv-loop entries-of-μ-loop
-entries-of-enum-told t c = search needs
+entries-of-is-settled-requires : (t : ℕ) → entries-of-lts.Need-is-settled-requires (entries-of-calls t) (entries-of-at t) entries-of.Post entries-of-Inv-loop entries-of-μ-loop
+entries-of-is-settled-requires t c κs = tt
 
 entries-of-returns : (t : ℕ) → entries-of-lts.Need-returns (entries-of-calls t) (entries-of-at t) entries-of.Post entries-of-Inv-loop entries-of-μ-loop
-entries-of-returns t c = looked-many _ _ _ _ _ (c .before .before .loop .inv) (c .enum-told .given .1)
+entries-of-returns t c =
+    let d = settled _ _ (c .before .is-settled .ensures) (c .if1 .taken) in
+    looked-many _ _ _ _ _ (c .before .before .loop .inv) (d .0) (d .1)
 
 entries-of-tag-at-requires : (t : ℕ) → entries-of-lts.Need-tag-at-requires (entries-of-calls t) (entries-of-at t) entries-of.Post entries-of-Inv-loop entries-of-μ-loop
 entries-of-tag-at-requires t c κs = tt
+
+entries-of-behind-requires : (t : ℕ) → entries-of-lts.Need-behind-requires (entries-of-calls t) (entries-of-at t) entries-of.Post entries-of-Inv-loop entries-of-μ-loop
+entries-of-behind-requires t c κs = tt
+
+entries-of-loop-less : (t : ℕ) → entries-of-lts.Need-loop-less (entries-of-calls t) (entries-of-at t) entries-of.Post entries-of-Inv-loop entries-of-μ-loop
+entries-of-loop-less t c = behind-less _ _ (c .before .before .before .tag-at .ensures .0) (λ z. omega (arith, c .before .before .match .keys1)) (c .behind .ensures)
+
+entries-of-loop-again : (t : ℕ) → entries-of-lts.Need-loop-again (entries-of-calls t) (entries-of-at t) entries-of.Post entries-of-Inv-loop entries-of-μ-loop
+entries-of-loop-again t c = step-run _ _ _ _ _ (c .before .before .before .before .before .before .loop .inv) _ (c .before .before .before .tag-at .ensures .0) (c .behind .ensures) (c .before .before .match .keys1) (c .before .if2 .taken)
 
 entries-of-body-requires : (t : ℕ) → entries-of-lts.Need-body-requires (entries-of-calls t) (entries-of-at t) entries-of.Post entries-of-Inv-loop entries-of-μ-loop
 entries-of-body-requires t c κs = tt
@@ -90,23 +103,23 @@ entries-of-body-requires t c κs = tt
 entries-of-is-blank-requires : (t : ℕ) → entries-of-lts.Need-is-blank-requires (entries-of-calls t) (entries-of-at t) entries-of.Post entries-of-Inv-loop entries-of-μ-loop
 entries-of-is-blank-requires t c κs = tt
 
-entries-of-behind-requires : (t : ℕ) → entries-of-lts.Need-behind-requires (entries-of-calls t) (entries-of-at t) entries-of.Post entries-of-Inv-loop entries-of-μ-loop
-entries-of-behind-requires t c κs = tt
-
-entries-of-loop-less : (t : ℕ) → entries-of-lts.Need-loop-less (entries-of-calls t) (entries-of-at t) entries-of.Post entries-of-Inv-loop entries-of-μ-loop
-entries-of-loop-less t c = behind-less _ _ (c .before .before .before .before .before .tag-at .ensures .0) (λ z. omega (arith, c .before .before .before .before .match2 .keys1)) (c .behind .ensures)
-
-entries-of-loop-again : (t : ℕ) → entries-of-lts.Need-loop-again (entries-of-calls t) (entries-of-at t) entries-of.Post entries-of-Inv-loop entries-of-μ-loop
-entries-of-loop-again t c = step-blank _ _ _ _ _ (c .before .before .before .before .before .before .before .loop .inv) _ (c .before .before .before .before .before .tag-at .ensures .0) (c .behind .ensures) (c .before .before .before .before .match2 .keys1) (c .before .before .before .body .ensures) (c .before .before .is-blank .ensures) (c .before .if1 .taken)
-
 entries-of-behind-requires-2 : (t : ℕ) → entries-of-lts.Need-behind-requires-2 (entries-of-calls t) (entries-of-at t) entries-of.Post entries-of-Inv-loop entries-of-μ-loop
 entries-of-behind-requires-2 t c κs = tt
 
 entries-of-loop-less-2 : (t : ℕ) → entries-of-lts.Need-loop-less-2 (entries-of-calls t) (entries-of-at t) entries-of.Post entries-of-Inv-loop entries-of-μ-loop
-entries-of-loop-less-2 t c = behind-less _ _ (c .before .before .before .before .before .tag-at .ensures .0) (λ z. omega (arith, c .before .before .before .before .match2 .keys1)) (c .behind2 .ensures)
+entries-of-loop-less-2 t c = behind-less _ _ (c .before .before .before .before .before .before .tag-at .ensures .0) (λ z. omega (arith, c .before .before .before .before .before .match .keys1)) (c .behind2 .ensures)
 
 entries-of-loop-again-2 : (t : ℕ) → entries-of-lts.Need-loop-again-2 (entries-of-calls t) (entries-of-at t) entries-of.Post entries-of-Inv-loop entries-of-μ-loop
-entries-of-loop-again-2 t c = step-text _ _ _ _ _ (c .before .before .before .before .before .before .before .loop .inv) _ (c .before .before .before .before .before .tag-at .ensures .0) (c .behind2 .ensures) (c .before .before .before .before .match2 .keys1) (c .before .before .before .body .ensures) (c .before .before .is-blank .ensures) (c .before .if1 .left)
+entries-of-loop-again-2 t c = step-blank _ _ _ _ _ (c .before .before .before .before .before .before .before .before .before .loop .inv) _ (c .before .before .before .before .before .before .tag-at .ensures .0) (c .behind2 .ensures) (c .before .before .before .before .before .match .keys1) (c .before .before .before .body .ensures) (c .before .before .is-blank .ensures) (c .before .if3 .taken)
+
+entries-of-behind-requires-3 : (t : ℕ) → entries-of-lts.Need-behind-requires-3 (entries-of-calls t) (entries-of-at t) entries-of.Post entries-of-Inv-loop entries-of-μ-loop
+entries-of-behind-requires-3 t c κs = tt
+
+entries-of-loop-less-3 : (t : ℕ) → entries-of-lts.Need-loop-less-3 (entries-of-calls t) (entries-of-at t) entries-of.Post entries-of-Inv-loop entries-of-μ-loop
+entries-of-loop-less-3 t c = behind-less _ _ (c .before .before .before .before .before .before .tag-at .ensures .0) (λ z. omega (arith, c .before .before .before .before .before .match .keys1)) (c .behind3 .ensures)
+
+entries-of-loop-again-3 : (t : ℕ) → entries-of-lts.Need-loop-again-3 (entries-of-calls t) (entries-of-at t) entries-of.Post entries-of-Inv-loop entries-of-μ-loop
+entries-of-loop-again-3 t c = step-text _ _ _ _ _ (c .before .before .before .before .before .before .before .before .before .loop .inv) _ (c .before .before .before .before .before .before .tag-at .ensures .0) (c .behind3 .ensures) (c .before .before .before .before .before .match .keys1) (c .before .before .before .body .ensures) (c .before .before .is-blank .ensures) (c .before .if3 .left)
 
 entries-of-body-requires-2 : (t : ℕ) → entries-of-lts.Need-body-requires-2 (entries-of-calls t) (entries-of-at t) entries-of.Post entries-of-Inv-loop entries-of-μ-loop
 entries-of-body-requires-2 t c κs = tt
@@ -114,38 +127,38 @@ entries-of-body-requires-2 t c κs = tt
 entries-of-joined-at-requires : (t : ℕ) → entries-of-lts.Need-joined-at-requires (entries-of-calls t) (entries-of-at t) entries-of.Post entries-of-Inv-loop entries-of-μ-loop
 entries-of-joined-at-requires t c κs = tt
 
-entries-of-enum-told-2 : (t : ℕ) → entries-of-lts.Need-enum-told-2 (entries-of-calls t) (entries-of-at t) entries-of.Post entries-of-Inv-loop entries-of-μ-loop
-entries-of-enum-told-2 t c = search needs
-
-entries-of-behind-requires-3 : (t : ℕ) → entries-of-lts.Need-behind-requires-3 (entries-of-calls t) (entries-of-at t) entries-of.Post entries-of-Inv-loop entries-of-μ-loop
-entries-of-behind-requires-3 t c κs = tt
-
-entries-of-loop-less-3 : (t : ℕ) → entries-of-lts.Need-loop-less-3 (entries-of-calls t) (entries-of-at t) entries-of.Post entries-of-Inv-loop entries-of-μ-loop
-entries-of-loop-less-3 t c = behind-less _ _ (c .before .before .before .before .before .before .tag-at .ensures .0) (λ z. omega (arith, c .before .before .before .before .before .match2 .keys2)) (c .behind3 .ensures)
-
-entries-of-loop-again-3 : (t : ℕ) → entries-of-lts.Need-loop-again-3 (entries-of-calls t) (entries-of-at t) entries-of.Post entries-of-Inv-loop entries-of-μ-loop
-entries-of-loop-again-3 t c = step-joined _ _ _ _ _ (c .before .before .before .before .before .before .before .before .loop .inv) _ (c .before .before .before .before .before .before .tag-at .ensures .0) (c .behind3 .ensures) (c .before .before .before .before .before .match2 .keys2) (c .before .before .before .before .body2 .ensures) (c .before .before .before .joined-at .ensures) (c .before .enum-told2 .given .1)
-
-entries-of-enum-told-3 : (t : ℕ) → entries-of-lts.Need-enum-told-3 (entries-of-calls t) (entries-of-at t) entries-of.Post entries-of-Inv-loop entries-of-μ-loop
-entries-of-enum-told-3 t c = search needs
+entries-of-enum-told : (t : ℕ) → entries-of-lts.Need-enum-told (entries-of-calls t) (entries-of-at t) entries-of.Post entries-of-Inv-loop entries-of-μ-loop
+entries-of-enum-told t c = search needs
 
 entries-of-behind-requires-4 : (t : ℕ) → entries-of-lts.Need-behind-requires-4 (entries-of-calls t) (entries-of-at t) entries-of.Post entries-of-Inv-loop entries-of-μ-loop
 entries-of-behind-requires-4 t c κs = tt
 
 entries-of-loop-less-4 : (t : ℕ) → entries-of-lts.Need-loop-less-4 (entries-of-calls t) (entries-of-at t) entries-of.Post entries-of-Inv-loop entries-of-μ-loop
-entries-of-loop-less-4 t c = behind-less _ _ (c .before .before .before .before .before .before .tag-at .ensures .0) (λ z. omega (arith, c .before .before .before .before .before .match2 .keys2)) (c .behind4 .ensures)
+entries-of-loop-less-4 t c = behind-less _ _ (c .before .before .before .before .before .before .tag-at .ensures .0) (λ z. omega (arith, c .before .before .before .before .before .match .keys2)) (c .behind4 .ensures)
 
 entries-of-loop-again-4 : (t : ℕ) → entries-of-lts.Need-loop-again-4 (entries-of-calls t) (entries-of-at t) entries-of.Post entries-of-Inv-loop entries-of-μ-loop
-entries-of-loop-again-4 t c = step-more _ _ _ _ _ (c .before .before .before .before .before .before .before .before .loop .inv) _ (c .before .before .before .before .before .before .tag-at .ensures .0) (c .behind4 .ensures) (c .before .before .before .before .before .match2 .keys2) (c .before .before .before .before .body2 .ensures) (c .before .before .before .joined-at .ensures) (c .before .enum-told3 .given .1)
+entries-of-loop-again-4 t c = step-joined _ _ _ _ _ (c .before .before .before .before .before .before .before .before .before .loop .inv) _ (c .before .before .before .before .before .before .tag-at .ensures .0) (c .behind4 .ensures) (c .before .before .before .before .before .match .keys2) (c .before .before .before .before .body2 .ensures) (c .before .before .before .joined-at .ensures) (c .before .enum-told .given .1)
 
-entries-of-enum-told-4 : (t : ℕ) → entries-of-lts.Need-enum-told-4 (entries-of-calls t) (entries-of-at t) entries-of.Post entries-of-Inv-loop entries-of-μ-loop
-entries-of-enum-told-4 t c = search needs
+entries-of-enum-told-2 : (t : ℕ) → entries-of-lts.Need-enum-told-2 (entries-of-calls t) (entries-of-at t) entries-of.Post entries-of-Inv-loop entries-of-μ-loop
+entries-of-enum-told-2 t c = search needs
+
+entries-of-behind-requires-5 : (t : ℕ) → entries-of-lts.Need-behind-requires-5 (entries-of-calls t) (entries-of-at t) entries-of.Post entries-of-Inv-loop entries-of-μ-loop
+entries-of-behind-requires-5 t c κs = tt
+
+entries-of-loop-less-5 : (t : ℕ) → entries-of-lts.Need-loop-less-5 (entries-of-calls t) (entries-of-at t) entries-of.Post entries-of-Inv-loop entries-of-μ-loop
+entries-of-loop-less-5 t c = behind-less _ _ (c .before .before .before .before .before .before .tag-at .ensures .0) (λ z. omega (arith, c .before .before .before .before .before .match .keys2)) (c .behind5 .ensures)
+
+entries-of-loop-again-5 : (t : ℕ) → entries-of-lts.Need-loop-again-5 (entries-of-calls t) (entries-of-at t) entries-of.Post entries-of-Inv-loop entries-of-μ-loop
+entries-of-loop-again-5 t c = step-more _ _ _ _ _ (c .before .before .before .before .before .before .before .before .before .loop .inv) _ (c .before .before .before .before .before .before .tag-at .ensures .0) (c .behind5 .ensures) (c .before .before .before .before .before .match .keys2) (c .before .before .before .before .body2 .ensures) (c .before .before .before .joined-at .ensures) (c .before .enum-told2 .given .1)
+
+entries-of-enum-told-3 : (t : ℕ) → entries-of-lts.Need-enum-told-3 (entries-of-calls t) (entries-of-at t) entries-of.Post entries-of-Inv-loop entries-of-μ-loop
+entries-of-enum-told-3 t c = search needs
 
 entries-of-sub-at : (t : ℕ) → entries-of-lts.Need-sub-at (entries-of-calls t) (entries-of-at t) entries-of.Post entries-of-Inv-loop entries-of-μ-loop
-entries-of-sub-at t c = tail-room _ _ (c .before .before .before .before .before .before .before .loop .inv .tail)
+entries-of-sub-at t c = tail-room _ _ (c .before .before .before .before .before .before .before .before .loop .inv .tail)
 
-entries-of-add-t28 : (t : ℕ) → entries-of-lts.Need-add-t28 (entries-of-calls t) (entries-of-at t) entries-of.Post entries-of-Inv-loop entries-of-μ-loop
-entries-of-add-t28 t c = omega (arith, c .before .before .before .before .before .before .before .before .before .before .before .pre .1)
+entries-of-add-t31 : (t : ℕ) → entries-of-lts.Need-add-t31 (entries-of-calls t) (entries-of-at t) entries-of.Post entries-of-Inv-loop entries-of-μ-loop
+entries-of-add-t31 t c = omega (arith, c .before .before .before .before .before .before .before .before .before .before .before .before .pre .1)
 
 entries-of-with-run-requires : (t : ℕ) → entries-of-lts.Need-with-run-requires (entries-of-calls t) (entries-of-at t) entries-of.Post entries-of-Inv-loop entries-of-μ-loop
 entries-of-with-run-requires t c κs = tt
@@ -153,17 +166,17 @@ entries-of-with-run-requires t c κs = tt
 entries-of-then-requires : (t : ℕ) → entries-of-lts.Need-then-requires (entries-of-calls t) (entries-of-at t) entries-of.Post entries-of-Inv-loop entries-of-μ-loop
 entries-of-then-requires t c κs = tt
 
-entries-of-behind-requires-5 : (t : ℕ) → entries-of-lts.Need-behind-requires-5 (entries-of-calls t) (entries-of-at t) entries-of.Post entries-of-Inv-loop entries-of-μ-loop
-entries-of-behind-requires-5 t c κs = tt
+entries-of-behind-requires-6 : (t : ℕ) → entries-of-lts.Need-behind-requires-6 (entries-of-calls t) (entries-of-at t) entries-of.Post entries-of-Inv-loop entries-of-μ-loop
+entries-of-behind-requires-6 t c κs = tt
 
-entries-of-loop-less-5 : (t : ℕ) → entries-of-lts.Need-loop-less-5 (entries-of-calls t) (entries-of-at t) entries-of.Post entries-of-Inv-loop entries-of-μ-loop
-entries-of-loop-less-5 t c = behind-less _ _ (c .before .before .before .before .before .before .before .before .tag-at .ensures .0) (λ z. omega (arith, c .before .before .before .before .before .before .before .match2 .keys2)) (c .behind5 .ensures)
+entries-of-loop-less-6 : (t : ℕ) → entries-of-lts.Need-loop-less-6 (entries-of-calls t) (entries-of-at t) entries-of.Post entries-of-Inv-loop entries-of-μ-loop
+entries-of-loop-less-6 t c = behind-less _ _ (c .before .before .before .before .before .before .before .before .tag-at .ensures .0) (λ z. omega (arith, c .before .before .before .before .before .before .before .match .keys2)) (c .behind6 .ensures)
 
-entries-of-loop-again-5 : (t : ℕ) → entries-of-lts.Need-loop-again-5 (entries-of-calls t) (entries-of-at t) entries-of.Post entries-of-Inv-loop entries-of-μ-loop
-entries-of-loop-again-5 t c = step-expr _ _ _ _ _ (c .before .before .before .before .before .before .before .before .before .before .loop .inv) _ (c .before .before .before .before .before .before .before .before .tag-at .ensures .0) (c .behind5 .ensures) (c .before .before .before .before .before .before .before .match2 .keys2) (c .before .before .before .before .before .before .body2 .ensures) (c .before .before .before .before .before .joined-at .ensures) (c .before .before .before .enum-told4 .given .1) (c .before .before .with-run .ensures) (c .before .then .ensures)
+entries-of-loop-again-6 : (t : ℕ) → entries-of-lts.Need-loop-again-6 (entries-of-calls t) (entries-of-at t) entries-of.Post entries-of-Inv-loop entries-of-μ-loop
+entries-of-loop-again-6 t c = step-expr _ _ _ _ _ (c .before .before .before .before .before .before .before .before .before .before .before .loop .inv) _ (c .before .before .before .before .before .before .before .before .tag-at .ensures .0) (c .behind6 .ensures) (c .before .before .before .before .before .before .before .match .keys2) (c .before .before .before .before .before .before .body2 .ensures) (c .before .before .before .before .before .joined-at .ensures) (c .before .before .before .enum-told3 .given .1) (c .before .before .with-run .ensures) (c .before .then .ensures)
 
 entries-of-sub-at-2 : (t : ℕ) → entries-of-lts.Need-sub-at-2 (entries-of-calls t) (entries-of-at t) entries-of.Post entries-of-Inv-loop entries-of-μ-loop
-entries-of-sub-at-2 t c = tail-room _ _ (c .before .before .before .loop .inv .tail)
+entries-of-sub-at-2 t c = tail-room _ _ (c .before .before .before .before .loop .inv .tail)
 
 entries-of-with-run-requires-2 : (t : ℕ) → entries-of-lts.Need-with-run-requires-2 (entries-of-calls t) (entries-of-at t) entries-of.Post entries-of-Inv-loop entries-of-μ-loop
 entries-of-with-run-requires-2 t c κs = tt
@@ -171,29 +184,29 @@ entries-of-with-run-requires-2 t c κs = tt
 entries-of-then-requires-2 : (t : ℕ) → entries-of-lts.Need-then-requires-2 (entries-of-calls t) (entries-of-at t) entries-of.Post entries-of-Inv-loop entries-of-μ-loop
 entries-of-then-requires-2 t c κs = tt
 
-entries-of-behind-requires-6 : (t : ℕ) → entries-of-lts.Need-behind-requires-6 (entries-of-calls t) (entries-of-at t) entries-of.Post entries-of-Inv-loop entries-of-μ-loop
-entries-of-behind-requires-6 t c κs = tt
+entries-of-behind-requires-7 : (t : ℕ) → entries-of-lts.Need-behind-requires-7 (entries-of-calls t) (entries-of-at t) entries-of.Post entries-of-Inv-loop entries-of-μ-loop
+entries-of-behind-requires-7 t c κs = tt
 
-entries-of-loop-less-6 : (t : ℕ) → entries-of-lts.Need-loop-less-6 (entries-of-calls t) (entries-of-at t) entries-of.Post entries-of-Inv-loop entries-of-μ-loop
-entries-of-loop-less-6 t c = behind-less _ _ (c .before .before .before .before .tag-at .ensures .0) (λ z. omega (arith, c .before .before .before .match2 .keys3)) (c .behind6 .ensures)
+entries-of-loop-less-7 : (t : ℕ) → entries-of-lts.Need-loop-less-7 (entries-of-calls t) (entries-of-at t) entries-of.Post entries-of-Inv-loop entries-of-μ-loop
+entries-of-loop-less-7 t c = behind-less _ _ (c .before .before .before .before .tag-at .ensures .0) (λ z. omega (arith, c .before .before .before .match .keys3)) (c .behind7 .ensures)
 
-entries-of-loop-again-6 : (t : ℕ) → entries-of-lts.Need-loop-again-6 (entries-of-calls t) (entries-of-at t) entries-of.Post entries-of-Inv-loop entries-of-μ-loop
-entries-of-loop-again-6 t c = step-element _ _ _ _ _ (c .before .before .before .before .before .before .loop .inv) _ (c .before .before .before .before .tag-at .ensures .0) (c .behind6 .ensures) (c .before .before .before .match2 .keys3) (c .before .before .with-run2 .ensures) (c .before .then2 .ensures)
+entries-of-loop-again-7 : (t : ℕ) → entries-of-lts.Need-loop-again-7 (entries-of-calls t) (entries-of-at t) entries-of.Post entries-of-Inv-loop entries-of-μ-loop
+entries-of-loop-again-7 t c = step-element _ _ _ _ _ (c .before .before .before .before .before .before .before .loop .inv) _ (c .before .before .before .before .tag-at .ensures .0) (c .behind7 .ensures) (c .before .before .before .match .keys3) (c .before .before .with-run2 .ensures) (c .before .then2 .ensures)
 
 entries-of-sub-at-3 : (t : ℕ) → entries-of-lts.Need-sub-at-3 (entries-of-calls t) (entries-of-at t) entries-of.Post entries-of-Inv-loop entries-of-μ-loop
-entries-of-sub-at-3 t c = tail-room _ _ (c .before .before .before .loop .inv .tail)
+entries-of-sub-at-3 t c = tail-room _ _ (c .before .before .before .before .loop .inv .tail)
 
 entries-of-body-requires-3 : (t : ℕ) → entries-of-lts.Need-body-requires-3 (entries-of-calls t) (entries-of-at t) entries-of.Post entries-of-Inv-loop entries-of-μ-loop
 entries-of-body-requires-3 t c κs = tt
 
 entries-of-found-of-requires : (t : ℕ) → entries-of-lts.Need-found-of-requires (entries-of-calls t) (entries-of-at t) entries-of.Post entries-of-Inv-loop entries-of-μ-loop
-entries-of-found-of-requires t c κs = (omega (arith, c .before .before .before .before .before .before .before .before .pre .0, body-less _ _ (c .before .before .tag-at .ensures .0) (λ z. omega (arith, c .before .match2 .keys4)) (c .body3 .ensures), tail-room _ _ (c .before .before .before .before .loop .inv .tail)), omega (arith, c .before .before .before .before .before .before .before .before .pre .1, body-less _ _ (c .before .before .tag-at .ensures .0) (λ z. omega (arith, c .before .match2 .keys4)) (c .body3 .ensures), tail-room _ _ (c .before .before .before .before .loop .inv .tail)))
+entries-of-found-of-requires t c κs = (omega (arith, c .before .before .before .before .before .before .before .before .before .pre .0, body-less _ _ (c .before .before .tag-at .ensures .0) (λ z. omega (arith, c .before .match .keys4)) (c .body3 .ensures), tail-room _ _ (c .before .before .before .before .before .loop .inv .tail)), omega (arith, c .before .before .before .before .before .before .before .before .before .pre .1, body-less _ _ (c .before .before .tag-at .ensures .0) (λ z. omega (arith, c .before .match .keys4)) (c .body3 .ensures), tail-room _ _ (c .before .before .before .before .before .loop .inv .tail)))
 
 entries-of-spliced-requires : (t : ℕ) → entries-of-lts.Need-spliced-requires (entries-of-calls t) (entries-of-at t) entries-of.Post entries-of-Inv-loop entries-of-μ-loop
 entries-of-spliced-requires t c κs = c .found-of .ensures .0
 
 entries-of-inside-requires : (t : ℕ) → entries-of-lts.Need-inside-requires (entries-of-calls t) (entries-of-at t) entries-of.Post entries-of-Inv-loop entries-of-μ-loop
-entries-of-inside-requires t c κs = omega (arith, c .before .before .before .before .before .before .before .before .before .before .pre .1, room-inside _ _ _ (stands-body _ _ (c .before .before .before .before .before .before .loop .inv .tail) _ (c .before .before .before .before .tag-at .ensures .0) (λ z. omega (arith, c .before .before .before .match2 .keys4)) (c .before .before .body3 .ensures)) (c .spliced .result) (c .spliced .ensures .0))
+entries-of-inside-requires t c κs = omega (arith, c .before .before .before .before .before .before .before .before .before .before .before .pre .1, room-inside _ _ _ (stands-body _ _ (c .before .before .before .before .before .before .before .loop .inv .tail) _ (c .before .before .before .before .tag-at .ensures .0) (λ z. omega (arith, c .before .before .before .match .keys4)) (c .before .before .body3 .ensures)) (c .spliced .result) (c .spliced .ensures .0))
 
 entries-of-with-run-requires-3 : (t : ℕ) → entries-of-lts.Need-with-run-requires-3 (entries-of-calls t) (entries-of-at t) entries-of.Post entries-of-Inv-loop entries-of-μ-loop
 entries-of-with-run-requires-3 t c κs = tt
@@ -201,29 +214,29 @@ entries-of-with-run-requires-3 t c κs = tt
 entries-of-then-requires-3 : (t : ℕ) → entries-of-lts.Need-then-requires-3 (entries-of-calls t) (entries-of-at t) entries-of.Post entries-of-Inv-loop entries-of-μ-loop
 entries-of-then-requires-3 t c κs = tt
 
-entries-of-behind-requires-7 : (t : ℕ) → entries-of-lts.Need-behind-requires-7 (entries-of-calls t) (entries-of-at t) entries-of.Post entries-of-Inv-loop entries-of-μ-loop
-entries-of-behind-requires-7 t c κs = tt
+entries-of-behind-requires-8 : (t : ℕ) → entries-of-lts.Need-behind-requires-8 (entries-of-calls t) (entries-of-at t) entries-of.Post entries-of-Inv-loop entries-of-μ-loop
+entries-of-behind-requires-8 t c κs = tt
 
-entries-of-loop-less-7 : (t : ℕ) → entries-of-lts.Need-loop-less-7 (entries-of-calls t) (entries-of-at t) entries-of.Post entries-of-Inv-loop entries-of-μ-loop
-entries-of-loop-less-7 t c = behind-less _ _ (c .before .before .before .before .before .before .before .before .tag-at .ensures .0) (λ z. omega (arith, c .before .before .before .before .before .before .before .match2 .keys4)) (c .behind7 .ensures)
+entries-of-loop-less-8 : (t : ℕ) → entries-of-lts.Need-loop-less-8 (entries-of-calls t) (entries-of-at t) entries-of.Post entries-of-Inv-loop entries-of-μ-loop
+entries-of-loop-less-8 t c = behind-less _ _ (c .before .before .before .before .before .before .before .before .tag-at .ensures .0) (λ z. omega (arith, c .before .before .before .before .before .before .before .match .keys4)) (c .behind8 .ensures)
 
-entries-of-loop-again-7 : (t : ℕ) → entries-of-lts.Need-loop-again-7 (entries-of-calls t) (entries-of-at t) entries-of.Post entries-of-Inv-loop entries-of-μ-loop
-entries-of-loop-again-7 t c = step-fragment _ _ _ _ _ (c .before .before .before .before .before .before .before .before .before .before .loop .inv) _ (c .before .before .before .before .before .before .before .before .tag-at .ensures .0) (c .behind7 .ensures) (c .before .before .before .before .before .before .before .match2 .keys4) (c .before .before .before .before .before .before .body3 .ensures) (c .before .before .before .before .before .found-of .result) (c .before .before .before .before .before .found-of .ensures) (c .before .before .before .before .spliced .result) (c .before .before .before .before .spliced .ensures) (c .before .before .before .inside .result) (c .before .before .before .inside .ensures) (c .before .before .with-run3 .ensures) (c .before .then3 .ensures)
+entries-of-loop-again-8 : (t : ℕ) → entries-of-lts.Need-loop-again-8 (entries-of-calls t) (entries-of-at t) entries-of.Post entries-of-Inv-loop entries-of-μ-loop
+entries-of-loop-again-8 t c = step-fragment _ _ _ _ _ (c .before .before .before .before .before .before .before .before .before .before .before .loop .inv) _ (c .before .before .before .before .before .before .before .before .tag-at .ensures .0) (c .behind8 .ensures) (c .before .before .before .before .before .before .before .match .keys4) (c .before .before .before .before .before .before .body3 .ensures) (c .before .before .before .before .before .found-of .result) (c .before .before .before .before .before .found-of .ensures) (c .before .before .before .before .spliced .result) (c .before .before .before .before .spliced .ensures) (c .before .before .before .inside .result) (c .before .before .before .inside .ensures) (c .before .before .with-run3 .ensures) (c .before .then3 .ensures)
 
 entries-of-with-run-requires-4 : (t : ℕ) → entries-of-lts.Need-with-run-requires-4 (entries-of-calls t) (entries-of-at t) entries-of.Post entries-of-Inv-loop entries-of-μ-loop
 entries-of-with-run-requires-4 t c κs = tt
 
 entries-of-returns-2 : (t : ℕ) → entries-of-lts.Need-returns-2 (entries-of-calls t) (entries-of-at t) entries-of.Post entries-of-Inv-loop entries-of-μ-loop
-entries-of-returns-2 t c = looked-end _ _ _ _ _ (c .before .before .before .before .loop .inv) (c .before .before .tag-at .ensures .1 (c .before .match2 .keys5)) (c .with-run4 .ensures)
+entries-of-returns-2 t c = looked-end _ _ _ _ _ (c .before .before .before .before .before .loop .inv) (c .before .before .tag-at .ensures .1 (c .before .match .keys5)) (c .with-run4 .ensures)
 
-entries-of-behind-requires-8 : (t : ℕ) → entries-of-lts.Need-behind-requires-8 (entries-of-calls t) (entries-of-at t) entries-of.Post entries-of-Inv-loop entries-of-μ-loop
-entries-of-behind-requires-8 t c κs = tt
+entries-of-behind-requires-9 : (t : ℕ) → entries-of-lts.Need-behind-requires-9 (entries-of-calls t) (entries-of-at t) entries-of.Post entries-of-Inv-loop entries-of-μ-loop
+entries-of-behind-requires-9 t c κs = tt
 
-entries-of-loop-less-8 : (t : ℕ) → entries-of-lts.Need-loop-less-8 (entries-of-calls t) (entries-of-at t) entries-of.Post entries-of-Inv-loop entries-of-μ-loop
-entries-of-loop-less-8 t c = behind-less _ _ (c .before .before .tag-at .ensures .0) (c .before .match2 .rest .1) (c .behind8 .ensures)
+entries-of-loop-less-9 : (t : ℕ) → entries-of-lts.Need-loop-less-9 (entries-of-calls t) (entries-of-at t) entries-of.Post entries-of-Inv-loop entries-of-μ-loop
+entries-of-loop-less-9 t c = behind-less _ _ (c .before .before .tag-at .ensures .0) (c .before .match .rest .1) (c .behind9 .ensures)
 
-entries-of-loop-again-8 : (t : ℕ) → entries-of-lts.Need-loop-again-8 (entries-of-calls t) (entries-of-at t) entries-of.Post entries-of-Inv-loop entries-of-μ-loop
-entries-of-loop-again-8 t c = step-other _ _ _ _ _ (c .before .before .before .before .loop .inv) _ (c .before .before .tag-at .ensures .0) (c .behind8 .ensures) (c .before .match2 .rest .1) (c .before .match2 .rest .0 .0 .0 .0 .1) (c .before .match2 .rest .0 .0 .0 .1) (c .before .match2 .rest .0 .0 .1) (c .before .match2 .rest .0 .1)
+entries-of-loop-again-9 : (t : ℕ) → entries-of-lts.Need-loop-again-9 (entries-of-calls t) (entries-of-at t) entries-of.Post entries-of-Inv-loop entries-of-μ-loop
+entries-of-loop-again-9 t c = step-other _ _ _ _ _ (c .before .before .before .before .before .loop .inv) _ (c .before .before .tag-at .ensures .0) (c .behind9 .ensures) (c .before .match .rest .1) (c .before .match .rest .0 .0 .0 .0 .1) (c .before .match .rest .0 .0 .0 .1) (c .before .match .rest .0 .0 .1) (c .before .match .rest .0 .1)
 
 found-of-child-count-requires : (t : ℕ) → found-of-lts.Need-child-count-requires (found-of-calls t) (found-of-at t) found-of.Post
 found-of-child-count-requires t c κs = tt
@@ -314,41 +327,44 @@ pub +entries-of+found-of-spec : {M : Type 1} → statement M
     entries-of-μ-loop
     (entries-of-nowhere-requires t)
     (entries-of-loop-holds t)
-    (entries-of-enum-told t)
+    (entries-of-is-settled-requires t)
     (entries-of-returns t)
     (entries-of-tag-at-requires t)
-    (entries-of-body-requires t)
-    (entries-of-is-blank-requires t)
     (entries-of-behind-requires t)
     (entries-of-loop-less t)
     (entries-of-loop-again t)
+    (entries-of-body-requires t)
+    (entries-of-is-blank-requires t)
     (entries-of-behind-requires-2 t)
     (entries-of-loop-less-2 t)
     (entries-of-loop-again-2 t)
-    (entries-of-body-requires-2 t)
-    (entries-of-joined-at-requires t)
-    (entries-of-enum-told-2 t)
     (entries-of-behind-requires-3 t)
     (entries-of-loop-less-3 t)
     (entries-of-loop-again-3 t)
-    (entries-of-enum-told-3 t)
+    (entries-of-body-requires-2 t)
+    (entries-of-joined-at-requires t)
+    (entries-of-enum-told t)
     (entries-of-behind-requires-4 t)
     (entries-of-loop-less-4 t)
     (entries-of-loop-again-4 t)
-    (entries-of-enum-told-4 t)
-    (entries-of-sub-at t)
-    (entries-of-add-t28 t)
-    (entries-of-with-run-requires t)
-    (entries-of-then-requires t)
+    (entries-of-enum-told-2 t)
     (entries-of-behind-requires-5 t)
     (entries-of-loop-less-5 t)
     (entries-of-loop-again-5 t)
-    (entries-of-sub-at-2 t)
-    (entries-of-with-run-requires-2 t)
-    (entries-of-then-requires-2 t)
+    (entries-of-enum-told-3 t)
+    (entries-of-sub-at t)
+    (entries-of-add-t31 t)
+    (entries-of-with-run-requires t)
+    (entries-of-then-requires t)
     (entries-of-behind-requires-6 t)
     (entries-of-loop-less-6 t)
     (entries-of-loop-again-6 t)
+    (entries-of-sub-at-2 t)
+    (entries-of-with-run-requires-2 t)
+    (entries-of-then-requires-2 t)
+    (entries-of-behind-requires-7 t)
+    (entries-of-loop-less-7 t)
+    (entries-of-loop-again-7 t)
     (entries-of-sub-at-3 t)
     (entries-of-body-requires-3 t)
     (entries-of-found-of-requires t)
@@ -356,14 +372,14 @@ pub +entries-of+found-of-spec : {M : Type 1} → statement M
     (entries-of-inside-requires t)
     (entries-of-with-run-requires-3 t)
     (entries-of-then-requires-3 t)
-    (entries-of-behind-requires-7 t)
-    (entries-of-loop-less-7 t)
-    (entries-of-loop-again-7 t)
-    (entries-of-with-run-requires-4 t)
-    (entries-of-returns-2 t)
     (entries-of-behind-requires-8 t)
     (entries-of-loop-less-8 t)
-    (entries-of-loop-again-8 t))
+    (entries-of-loop-again-8 t)
+    (entries-of-with-run-requires-4 t)
+    (entries-of-returns-2 t)
+    (entries-of-behind-requires-9 t)
+    (entries-of-loop-less-9 t)
+    (entries-of-loop-again-9 t))
     λ t. found-of-lts.spec (found-of-calls t)
     (found-of-at t)
     found-of.Post
