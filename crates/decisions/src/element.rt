@@ -5,7 +5,7 @@ ghost use Rattle.page.specs.Tree.{attributes-in};
 ghost use Rattle.spec.specs.Attributes.{first-upper, is-component};
 ghost use Rattle.decisions.specs.At.{element-name, identifier-bytes, forbids, serializable};
 use crate::attribute::is_inner_html;
-use crate::attribute::lists;
+use crate::index::lists;
 use field::reader::behind;
 use field::reader::body;
 use field::reader::tag_at;
