@@ -1,18 +1,22 @@
 -- Laws of names held as a series or as an index. Main statements: `listed-plain`, `listed-indexed`; below them `among-append`,
--- `among-hashed`, `hash-low`, `among-gathered`. Assumes nothing.
+-- `among-hashed`, `hash-low`, `among-gathered`; for the loops of the code `hash-on`, `small-on`, `chain-here`, `chain-on` and the like.
+-- Assumes nothing.
 use mathlib.Core.Path.{_≡_, refl, sym, ap, _∙_}
 use mathlib.Core.Bool.{Bool, true, false, _&&_, _||_, and-false, or-false, or-assoc}
-use Prim.Native.Nat.{ℕ, zero, suc, _*_, _≤_, _<_}
+use Prim.Native.Nat.{ℕ, zero, suc, _+_, _-_, _*_, _%_, _≤_, _<_}
+use native.Mathlib.Numerals.{add-one}
 use native.Mathlib.Omega.{arith}
 use mathlib.Core.List.{List, [], _∷_, _++_}
 use lib.Dec.{eqb, ltb, leb·suc-zero}
-use lib.ListN.{length}
+use lib.ListN.{length, getD, drop, drop-of-length-le}
+use lib.Seq.{drop-cons}
 use borrow.Author.Tests.{ltb-true, ltb-false, eqb-true, eqb-false, lt-ltb, le-ltb, le-leb, lt-leb}
 use Rattle.field.specs.Bytes.{Bytes, pick, same, among}
 use Rattle.field.specs.Row.{read}
+use Rattle.names.specs.Names.{small-letter, small-letters}
 use Rattle.names.proofs.CompareLaws.{same-eq}
 use Rattle.page.specs.Tree.{texts-in}
-use Rattle.decisions.specs.Index.{hash-from, hash, two-at, chain, hashed, gathered, names-of}
+use Rattle.decisions.specs.Index.{hash-from, hash, two-at, name-at, chain, hashed, gathered, names-of}
 
 pub among-append : (n : Bytes) (xs ys : List Bytes) → among n (xs ++ ys) ≡ (among n xs || among n ys)
 unfolding among
@@ -65,3 +69,60 @@ listed-plain b h = rw (le-leb (length b) 4096 h)
 pub listed-indexed : (n b : Bytes) → 4096 < length b → among n (names-of b) ≡ among n (chain 1366 b (two-at b (2 * hash n)))
 unfolding names-of
 listed-indexed n b h = rw (lt-leb (length b) 4096 h, among-gathered n 1024 b, lt-ltb (hash n) 1024 (hash-low 0 n (omega arith)))
+
+-- ---- a hash, byte by byte: i bytes of s are passed
+
+module _ (x : ℕ) (s : Bytes) (i : ℕ) where
+  pub hash-on : i < length s → hash-from ((x * 31 + getD s i 0) % 1024) (drop (i + 1) s) ≡ hash-from x (drop i s)
+  unfolding hash-from
+  hash-on h = rw (add-one, drop-cons s i 0)
+
+  pub hash-end : length s ≤ i → hash-from x (drop i s) ≡ x
+  unfolding hash-from
+  hash-end h = rw (drop-of-length-le s h)
+
+  pub small-on : {c : ℕ} → c ≡ small-letter (getD s i 0) → i < length s → hash-from ((x * 31 + c) % 1024) (small-letters (drop (i + 1) s)) ≡ hash-from x (small-letters (drop i s))
+  unfolding hash-from small-letters
+  small-on {c} e h = rw (add-one, drop-cons s i 0, e)
+
+  pub small-end : length s ≤ i → hash-from x (small-letters (drop i s)) ≡ x
+  unfolding hash-from small-letters
+  small-end h = rw (drop-of-length-le s h)
+
+-- ---- a chain, entry by entry: k - 1 is the entry, f entries may be left
+
+chain-front : (f k : ℕ) (b : Bytes) → 0 < f → (k ≡ 0 → ⊥) → chain f b k ≡ name-at b (k - 1) ∷ chain (f - 1) b (two-at b (2044 + 4 * k))
+unfolding chain
+chain-front zero k b g z = absurd (omega arith)
+chain-front (suc f) zero b g z = absurd (z refl)
+chain-front (suc f) (suc k) b g z =
+    let l : suc f - 1 ≡ f = omega arith in
+    let e : suc k - 1 ≡ k = omega arith in
+    let p : 2044 + 4 * suc k ≡ 2048 + 4 * k = omega arith in
+    rw (l, e, p)
+
+chain-zero : (n b : Bytes) (f : ℕ) → false ≡ among n (chain f b 0)
+unfolding among chain
+chain-zero n b zero = refl
+chain-zero n b (suc f) = refl
+
+module _ (n b : Bytes) (f k : ℕ) where
+  pub chain-spent : f ≤ 0 → false ≡ among n (chain f b k)
+  unfolding among chain
+  chain-spent h =
+      let z : f ≡ 0 = omega arith in
+      rw z
+
+  pub chain-none : k ≡ 0 → false ≡ among n (chain f b k)
+  chain-none h = rw h (chain-zero n b f)
+
+  module _ (g : 0 < f) (z : k ≡ 0 → ⊥) {m : Bytes} (q : m ≡ name-at b (k - 1)) {v : Bool} (e : v ≡ same n m) where
+    in-front : among n (chain f b k) ≡ (v || among n (chain (f - 1) b (two-at b (2044 + 4 * k))))
+    unfolding among
+    in-front = ap (among n) (chain-front f k b g z) ∙ rw (e, q)
+
+    pub chain-here : v ≡ true → true ≡ among n (chain f b k)
+    chain-here h = sym (in-front ∙ rw h)
+
+    pub chain-on : v ≡ false → {p : ℕ} → p ≡ two-at b (2044 + 4 * k) → among n (chain (f - 1) b p) ≡ among n (chain f b k)
+    chain-on h {p} u = sym (in-front ∙ rw (h, u))

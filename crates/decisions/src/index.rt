@@ -141,7 +141,7 @@ fn name_at(b: &[u8], k: usize) -> &[u8]
 }
 
 // Whether an entry or one before it has the name.
-fn in_chain<'a>(b: &'a [u8], name: &'a [u8], last: usize) -> bool
+fn in_chain(b: &[u8], name: &[u8], last: usize) -> bool
     requires { ⌜ last < 65536 ⌝ }
     ensures { λ r. ⌜ r ≡ among (now (name .entry)) (chain 1366 (now (b .entry)) last) ⌝ }
 {
@@ -180,7 +180,7 @@ fn chain_has_namespaced<'a>(b: &'a [u8], ns: &'a [u8], name: &'a [u8], last: usi
     false
 }
 
-pub fn lists<'a>(list: &'a [u8], name: &'a [u8]) -> bool
+pub fn lists(list: &[u8], name: &[u8]) -> bool
     ensures { λ r. ⌜ r ≡ among (now (name .entry)) (names-of (now (list .entry))) ⌝ }
 {
     if list.len() <= 4096 {
