@@ -2,19 +2,22 @@
 -- `among-hashed`, `hash-low`, `among-gathered`; for the loops of the code `hash-on`, `small-on`, `chain-here`, `chain-on` and the like.
 -- Assumes nothing.
 use mathlib.Core.Path.{_≡_, refl, sym, ap, _∙_}
-use mathlib.Core.Bool.{Bool, true, false, _&&_, _||_, and-false, or-false, or-assoc}
+use mathlib.Core.Bool.{Bool, true, false, _&&_, _||_, false≢true, and-false, or-false, or-assoc}
 use Prim.Native.Nat.{ℕ, zero, suc, _+_, _-_, _*_, _%_, _≤_, _<_}
 use native.Mathlib.Numerals.{add-one}
 use native.Mathlib.Omega.{arith}
 use mathlib.Core.List.{List, [], _∷_, _++_}
 use lib.Dec.{eqb, ltb, leb·suc-zero}
-use lib.ListN.{length, getD, drop, drop-of-length-le}
-use lib.Seq.{drop-cons}
+use lib.ListN.{length, getD, take, drop, length-drop, drop-of-length-le}
+use lib.Seq.{take-all, drop-cons}
 use borrow.Author.Tests.{ltb-true, ltb-false, eqb-true, eqb-false, lt-ltb, le-ltb, le-leb, lt-leb}
-use Rattle.field.specs.Bytes.{Bytes, pick, same, among}
-use Rattle.field.specs.Row.{read}
-use Rattle.names.specs.Names.{small-letter, small-letters}
-use Rattle.names.proofs.CompareLaws.{same-eq}
+use Rattle.field.specs.Bytes.{Bytes, ascii, pick, same, among}
+use Rattle.field.specs.Row.{next-of, read}
+use Rattle.field.specs.Front.{body-of}
+use Rattle.names.specs.Names.{small-letter, small-letters, normalize-dom-attr-name}
+use Rattle.names.proofs.CompareLaws.{same-eq, same-refl, capital-below, capital-above, capital-within}
+use Rattle.names.proofs.ListLaws.{refuted}
+use Rattle.names.proofs.NamespacedLaws.{namespaced-xlink, namespaced-other}
 use Rattle.page.specs.Tree.{texts-in}
 use Rattle.decisions.specs.Index.{hash-from, hash, two-at, name-at, chain, hashed, gathered, names-of}
 
@@ -126,3 +129,63 @@ module _ (n b : Bytes) (f k : ℕ) where
 
     pub chain-on : v ≡ false → {p : ℕ} → p ≡ two-at b (2044 + 4 * k) → among n (chain (f - 1) b p) ≡ among n (chain f b k)
     chain-on h {p} u = sym (in-front ∙ rw (h, u))
+
+-- ---- one letter, and two bytes
+
+pub small-below : (c : ℕ) → c < 65 → c ≡ small-letter c
+unfolding small-letter
+small-below c h = rw (capital-below c h)
+
+pub small-above : (c : ℕ) → 90 < c → c ≡ small-letter c
+unfolding small-letter
+small-above c h = rw (capital-above c h)
+
+pub small-within : (c : ℕ) → 65 ≤ c → c ≤ 90 → c + 32 ≡ small-letter c
+unfolding small-letter
+small-within c h k = rw (capital-within c h k)
+
+module _ (b : Bytes) (i : ℕ) where
+  pub two-within : i + 1 < length b → getD b i 0 * 256 + getD b (i + 1) 0 ≡ two-at b i
+  unfolding two-at
+  two-within h = rw (lt-ltb (i + 1) (length b) h)
+
+  pub two-past : length b ≤ i + 1 → 0 ≡ two-at b i
+  unfolding two-at
+  two-past h = rw (le-ltb (i + 1) (length b) h)
+
+-- an entry's name, from its place on
+module _ (b : Bytes) (k : ℕ) {w : ℕ} (q : w ≡ two-at b (2050 + 4 * k)) where
+  pub name-within : {m : Bytes} → m ≡ body-of (take (length b - (7512 + w)) (drop (7512 + w) b)) → m ≡ name-at b k
+  unfolding name-at
+  name-within {m} e = e ∙ rw (take-all (length b - (7512 + w)) (drop (7512 + w) b) (omega (arith, length-drop (7512 + w) b)), q)
+
+  pub name-past : length b ≤ 7512 + w → [] ≡ name-at b k
+  unfolding name-at body-of next-of
+  name-past h = rw (← q, drop-of-length-le b h)
+
+-- ---- what the code finds
+
+pub hash-is : (m w : Bytes) {v : Bool} → v ≡ same m w → v ≡ true → {h : ℕ} → h ≡ hash w → h ≡ hash m
+hash-is m w e t q = q ∙ ap hash (sym (same-eq m w (sym e ∙ t)))
+
+hash-append : (h : ℕ) (a b : Bytes) → hash-from h (a ++ b) ≡ hash-from (hash-from h a) b
+unfolding hash-from
+hash-append h [] b = refl
+hash-append h (c ∷ a) b = hash-append _ a b
+
+-- namespaced and not `href`: small letters on both sides of the colon
+pub hash-other : (ns n : Bytes) {v : Bool} → v ≡ same (normalize-dom-attr-name (ns ++ (58 ∷ n))) (ascii "href") → v ≡ false →
+    {a : ℕ} → a ≡ hash (small-letters ns) → {b : ℕ} → b ≡ hash-from a (58 ∷ []) → {h : ℕ} → h ≡ hash-from b (small-letters n) → h ≡ hash (normalize-dom-attr-name (ns ++ (58 ∷ n)))
+unfolding hash-from
+hash-other ns n e f {a} p {b} q {h} r =
+    let x = same ns (ascii "xlink") && same n (ascii "href") in
+    let o : x ≡ false =
+    refuted x (λ t. false≢true (sym f ∙ e ∙ ap (λ (m : Bytes). same m (ascii "href")) (namespaced-xlink ns n t) ∙ same-refl (ascii "href"))) in
+    r ∙ rw (q, p) (sym (ap hash (namespaced-other ns n o) ∙ hash-append 0 (small-letters ns) (58 ∷ small-letters n)))
+
+module _ (n b : Bytes) where
+  pub listed-series : length b ≤ 4096 → {v : Bool} → v ≡ among n (texts-in 0x20 (read b)) → v ≡ among n (names-of b)
+  listed-series h e = e ∙ ap (among n) (sym (listed-plain b h))
+
+  pub listed-chain : 4096 < length b → {h : ℕ} → h ≡ hash n → {l : ℕ} → l ≡ two-at b (2 * h) → {v : Bool} → v ≡ among n (chain 1366 b l) → v ≡ among n (names-of b)
+  listed-chain g {h} p {l} q e = e ∙ rw (q, p) (sym (listed-indexed n b g))

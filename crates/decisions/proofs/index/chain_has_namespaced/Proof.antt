@@ -1,8 +1,7 @@
+-- The invariant: the name is in the chain where it is in what is left of it.
 use Prim.Native.Nat.{_<_}
 use borrow.Author.Needs.{needs}
-use mathlib.Core.Path.{_≡_, refl, sym, ap, _∙_}
-use native.Mathlib.Omega.{arith}
-use lib.ListN.{length}
+use mathlib.Core.Path.{_≡_, _∙_}
 use mathlib.Core.List.{_∷_, _++_}
 use Rattle.names.specs.Names.{normalize-dom-attr-name}
 use Rattle.field.specs.Bytes.{among}
@@ -10,11 +9,6 @@ use Rattle.decisions.specs.Index.{chain}
 use Rattle.decisions.proofs.IndexLaws.{chain-spent, chain-none, chain-here, chain-on}
 use Rattle.decisions.proofs.index.chain_has_namespaced.Statement.{statement}
 use Rattle.decisions.proofs.index.chain_has_namespaced.Tie as tie
-use Rattle.decisions.proofs.index.chain_has_namespaced.Reads as reads
-use Rattle.decisions.proofs.index.chain_has_namespaced.Lts as lts
-use Rattle.decisions.proofs.index.name_at.Reads as name-at-reads
-use Rattle.decisions.proofs.index.two_at.Reads as two-at-reads
-use Rattle.names.proofs.namespaced_is.Reads as namespaced-is-reads
 
 abbrev Inv-loop : tie.InvT-loop
 Inv-loop b ns name last k₀ left₀ k left = (k < 65536) × (among (normalize-dom-attr-name (ns ++ (58 ∷ name))) (chain left b k) ≡ among (normalize-dom-attr-name (ns ++ (58 ∷ name))) (chain 1366 b last))

@@ -1,14 +1,13 @@
+-- The invariant: the hash of all bytes is that of those left, behind what gave x.
 use Prim.Native.Nat.{_-_, _≤_, _<_}
 use borrow.Author.Needs.{needs}
-use mathlib.Core.Path.{_≡_, refl, sym, ap, _∙_}
+use mathlib.Core.Path.{_≡_, sym, _∙_}
 use native.Mathlib.Omega.{arith}
 use lib.ListN.{length, drop}
 use Rattle.decisions.specs.Index.{hash-from}
 use Rattle.decisions.proofs.IndexLaws.{hash-on, hash-end}
 use Rattle.decisions.proofs.index.hash_on.Statement.{statement}
 use Rattle.decisions.proofs.index.hash_on.Tie as tie
-use Rattle.decisions.proofs.index.hash_on.Reads as reads
-use Rattle.decisions.proofs.index.hash_on.Lts as lts
 
 abbrev Inv-loop : tie.InvT-loop
 Inv-loop h s x₀ i₀ x i = (i ≤ length s) × ((x < 1024) × (hash-from x (drop i s) ≡ hash-from h s))

@@ -1,6 +1,7 @@
+-- The invariant: the hash of all small letters is that of those left, behind what gave x.
 use Prim.Native.Nat.{_-_, _≤_, _<_}
 use borrow.Author.Needs.{needs}
-use mathlib.Core.Path.{_≡_, refl, sym, ap, _∙_}
+use mathlib.Core.Path.{_≡_, sym, _∙_}
 use native.Mathlib.Omega.{arith}
 use lib.ListN.{length, drop}
 use Rattle.names.specs.Names.{small-letters}
@@ -8,9 +9,6 @@ use Rattle.decisions.specs.Index.{hash-from}
 use Rattle.decisions.proofs.IndexLaws.{small-on, small-end}
 use Rattle.decisions.proofs.index.hash_small.Statement.{statement}
 use Rattle.decisions.proofs.index.hash_small.Tie as tie
-use Rattle.decisions.proofs.index.hash_small.Reads as reads
-use Rattle.decisions.proofs.index.hash_small.Lts as lts
-use Rattle.decisions.proofs.index.small.Reads as small-reads
 
 abbrev Inv-loop : tie.InvT-loop
 Inv-loop h s x₀ i₀ x i = (i ≤ length s) × ((x < 1024) × (hash-from x (small-letters (drop i s)) ≡ hash-from h (small-letters s)))

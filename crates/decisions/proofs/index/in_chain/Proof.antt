@@ -1,18 +1,12 @@
+-- The invariant: the name is in the chain where it is in what is left of it.
 use Prim.Native.Nat.{_<_}
 use borrow.Author.Needs.{needs}
-use mathlib.Core.Path.{_≡_, refl, sym, ap, _∙_}
-use native.Mathlib.Omega.{arith}
-use lib.ListN.{length}
+use mathlib.Core.Path.{_≡_, _∙_}
 use Rattle.field.specs.Bytes.{among}
 use Rattle.decisions.specs.Index.{chain}
 use Rattle.decisions.proofs.IndexLaws.{chain-spent, chain-none, chain-here, chain-on}
 use Rattle.decisions.proofs.index.in_chain.Statement.{statement}
 use Rattle.decisions.proofs.index.in_chain.Tie as tie
-use Rattle.decisions.proofs.index.in_chain.Reads as reads
-use Rattle.decisions.proofs.index.in_chain.Lts as lts
-use Rattle.decisions.proofs.index.name_at.Reads as name-at-reads
-use Rattle.decisions.proofs.index.two_at.Reads as two-at-reads
-use Rattle.names.proofs.same_bytes.Reads as same-bytes-reads
 
 abbrev Inv-loop : tie.InvT-loop
 Inv-loop b name last k₀ left₀ k left = (k < 65536) × (among name (chain left b k) ≡ among name (chain 1366 b last))
