@@ -1,10 +1,9 @@
 // An attribute by the fields of its 50: the name in front, the value behind it.
 ghost use mathlib.Core.Path.{_≡_};
 ghost use mathlib.Core.Bool.{true, false};
-ghost use mathlib.Core.List.{_∷_, _++_};
 ghost use Rattle.field.specs.Bytes.{ascii, same, among};
 ghost use Rattle.field.specs.Row.{read};
-ghost use Rattle.names.specs.Names.{get-attr-name, normalize-dom-attr-name, is-boolean-attr};
+ghost use Rattle.names.specs.Names.{get-attr-name, is-boolean-attr};
 ghost use Rattle.page.specs.Tree.{texts-in, first-in, second-in, attr-name-in, value-in};
 ghost use Rattle.decisions.specs.At.{value-of};
 ghost use Rattle.decisions.specs.Index.{names-of};

@@ -54,7 +54,7 @@ fn keeps_from_serializing(s: &[u8]) -> bool
     }
 }
 
-// skip is the series of 02.
+// skip has the names of 02.
 pub fn is_serializable(skip: &[u8], b: &[u8]) -> bool
     ensures { λ r. ⌜ r ≡ serializable (now (skip .entry)) (now (b .entry)) ⌝ }
 {
