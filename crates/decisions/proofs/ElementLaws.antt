@@ -13,8 +13,9 @@ use Rattle.field.specs.Row.{read}
 use Rattle.field.specs.Front.{tag-of, body-of, behind-of}
 use Rattle.names.specs.Names.{get-attr-name}
 use Rattle.page.specs.Page.{identifier}
-use Rattle.page.specs.Tree.{texts-in, attributes-in, attr-name-in}
+use Rattle.page.specs.Tree.{attributes-in, attr-name-in}
 use Rattle.spec.specs.Attributes.{first-upper, is-component}
+use Rattle.decisions.specs.Index.{names-of}
 use Rattle.decisions.specs.At.{element-name, identifier-bytes, forbids, serializable-by, serializable}
 use Rattle.decisions.proofs.Series.{tested, behind-name-at, name-40, name-41, name-42, name-other, attributes-50, attributes-53, attributes-other}
 
@@ -85,7 +86,7 @@ module _ (s : Bytes) (t : ℕ) (e : t ≡ tag-of s) where
   unfolding forbids
   forbids-other a b = sym (ap forbids (attributes-other s t e a b))
 
--- ---- is_serializable: k is the series of 02
+-- ---- is_serializable: k has the names of 02
 
 module _ (k s : Bytes) (t : ℕ) (e : t ≡ tag-of s) where
   pub serializable-41 : t ≡ 0x41 → false ≡ serializable k s
@@ -101,7 +102,7 @@ module _ (k s : Bytes) (t : ℕ) (e : t ≡ tag-of s) where
     unfolding serializable serializable-by
     serializable-upper h = rw (name-is-identifier s t e a b q, ← upper, h)
 
-    module _ (low : u ≡ false) {v : Bool} (listed : v ≡ among n (texts-in 0x20 (read k))) where
+    module _ (low : u ≡ false) {v : Bool} (listed : v ≡ among n (names-of k)) where
       pub serializable-listed : v ≡ true → false ≡ serializable k s
       unfolding serializable serializable-by
       serializable-listed h = rw (name-is-identifier s t e a b q, ← upper, low, ← listed, h)

@@ -5,4 +5,5 @@ pub mod AttributeLaws
 pub mod ExprLaws
 pub mod ElementLaws
 pub mod Laws
+pub mod IndexLaws
 pub mod ChildrenLaws

@@ -12,20 +12,21 @@ use Rattle.names.specs.Names.{get-attr-name}
 use Rattle.page.specs.Check.{is-child}
 use Rattle.page.specs.Page as P
 use Rattle.page.specs.Page.{Options, Name, identifier, member, namespaced}
-use Rattle.page.specs.Tree.{texts-in, name-by, attributes-in, children-in, Contained, nothing-contained, contained}
+use Rattle.page.specs.Tree.{name-by, attributes-in, children-in, Contained, nothing-contained, contained}
 use Rattle.spec.specs.Attributes as A
 use Rattle.spec.specs.Attributes.{first-upper}
 use Rattle.spec.specs.Merge as M
 use Rattle.spec.specs.Merge.{becomes-template}
 use Rattle.spec.specs.Transform.{element-of, attributes, children}
+use Rattle.decisions.specs.Index.{names-of}
 use Rattle.decisions.specs.declared.attribute.Value.{Value}
 use Rattle.decisions.specs.declared.attribute.Value.the-variants as Held
 use Rattle.decisions.specs.declared.expr.Shape.{Shape}
 use Rattle.decisions.specs.declared.expr.Shape.the-variants as Form
 
--- the options as the walks hold them: the series of 02 and that of 03
+-- the options as the walks hold them: the names of 02 and those of 03
 abbrev pub opts : Bytes → Bytes → Options
-opts skip props = record { skip-serialize = texts-in 0x20 (read skip); skip-prop-serialize = texts-in 0x20 (read props); import-source = [] }
+opts skip props = record { skip-serialize = names-of skip; skip-prop-serialize = names-of props; import-source = [] }
 
 -- ---- an element, by the fields of its 30
 
@@ -68,7 +69,7 @@ serializable-by skip (member ns) f = false
 serializable-by skip (namespaced n m) f = false
 
 unfoldable pub serializable : Bytes → Bytes → Bool
-serializable skip b = serializable-by (texts-in 0x20 (read skip)) (element-name (read b)) (forbids (attributes-in (behind-name (read b))))
+serializable skip b = serializable-by (names-of skip) (element-name (read b)) (forbids (attributes-in (behind-name (read b))))
 
 -- ---- values and expressions as the code's enums have them
 

@@ -1,16 +1,17 @@
 // An attribute by the fields of its 50: the name in front, the value behind it.
 ghost use mathlib.Core.Path.{_≡_};
 ghost use mathlib.Core.Bool.{true, false};
-ghost use mathlib.Core.List.{_∷_, _++_};
 ghost use Rattle.field.specs.Bytes.{ascii, same, among};
 ghost use Rattle.field.specs.Row.{read};
-ghost use Rattle.names.specs.Names.{get-attr-name, normalize-dom-attr-name, is-boolean-attr};
+ghost use Rattle.names.specs.Names.{get-attr-name, is-boolean-attr};
 ghost use Rattle.page.specs.Tree.{texts-in, first-in, second-in, attr-name-in, value-in};
 ghost use Rattle.decisions.specs.At.{value-of};
+ghost use Rattle.decisions.specs.Index.{names-of};
+use crate::index::lists;
+use crate::index::lists_namespaced;
 use field::reader::behind;
 use field::reader::body;
 use field::reader::tag_at;
-use names::namespaced_is;
 use names::normalizes_to_boolean;
 use names::normalizes_to_key;
 use names::normalizes_to_ref;
@@ -64,59 +65,9 @@ pub fn second_name(s: &[u8]) -> &[u8]
     }
 }
 
-// Whether a series of 20s lists the name.
-pub fn lists(list: &[u8], name: &[u8]) -> bool
-    ensures { λ r. ⌜ r ≡ among (now (name .entry)) (texts-in 0x20 (read (now (list .entry)))) ⌝ }
-{
-    let mut t = list;
-    loop {
-        match tag_at(t) {
-            0x20 => {
-                if same_bytes(name, body(t)) {
-                    return true;
-                }
-                let r = behind(t);
-                t = r;
-            }
-            256 => {
-                return false;
-            }
-            _ => {
-                let r = behind(t);
-                t = r;
-            }
-        }
-    }
-}
-
-// Whether it lists ns:name, normalised.
-pub fn lists_namespaced<'a>(list: &'a [u8], ns: &'a [u8], name: &'a [u8]) -> bool
-    ensures { λ r. ⌜ r ≡ among (normalize-dom-attr-name (now (ns .entry) ++ (58 ∷ now (name .entry)))) (texts-in 0x20 (read (now (list .entry)))) ⌝ }
-{
-    let mut t = list;
-    loop {
-        match tag_at(t) {
-            0x20 => {
-                if namespaced_is(ns, name, body(t)) {
-                    return true;
-                }
-                let r = behind(t);
-                t = r;
-            }
-            256 => {
-                return false;
-            }
-            _ => {
-                let r = behind(t);
-                t = r;
-            }
-        }
-    }
-}
-
 // Whether the attribute with these fields is listed in 03.
 pub fn is_listed<'a>(props: &'a [u8], a: &'a [u8]) -> bool
-    ensures { λ r. ⌜ r ≡ among (get-attr-name (attr-name-in (read (now (a .entry)))) false) (texts-in 0x20 (read (now (props .entry)))) ⌝ }
+    ensures { λ r. ⌜ r ≡ among (get-attr-name (attr-name-in (read (now (a .entry)))) false) (names-of (now (props .entry))) ⌝ }
 {
     match tag_at(a) {
         0x40 => lists(props, body(a)),

@@ -5,7 +5,7 @@ ghost use Rattle.page.specs.Tree.{attributes-in};
 ghost use Rattle.spec.specs.Attributes.{first-upper, is-component};
 ghost use Rattle.decisions.specs.At.{element-name, identifier-bytes, forbids, serializable};
 use crate::attribute::is_inner_html;
-use crate::attribute::lists;
+use crate::index::lists;
 use field::reader::behind;
 use field::reader::body;
 use field::reader::tag_at;
@@ -54,7 +54,7 @@ fn keeps_from_serializing(s: &[u8]) -> bool
     }
 }
 
-// skip is the series of 02.
+// skip has the names of 02.
 pub fn is_serializable(skip: &[u8], b: &[u8]) -> bool
     ensures { λ r. ⌜ r ≡ serializable (now (skip .entry)) (now (b .entry)) ⌝ }
 {

@@ -4,3 +4,4 @@ pub mod attribute;
 pub mod children;
 pub mod element;
 pub mod expr;
+pub mod index;

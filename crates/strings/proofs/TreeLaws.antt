@@ -25,6 +25,7 @@ use Rattle.spec.specs.Attributes as A
 use Rattle.spec.specs.Attributes.{attr-parts, attrs-parts}
 use Rattle.spec.specs.Children.{children-to-string, open-close, element-to-string-vec, to-call-expr}
 use Rattle.spec.specs.Transform.{value, attributes, children, child, expr, shape-of, element-of, fragment-of}
+use Rattle.decisions.specs.Index.{names-of}
 use Rattle.decisions.specs.At.{opts, element-name, behind-name, identifier-bytes, children-at, attributes-at, element-at, forbids, serializable-by, serializable, is-none, FirstChild}
 use Rattle.decisions.proofs.Series.{tested, behind-name-at, attr-name-40, attr-name-42, attr-name-other, attributes-50, attributes-53, attributes-other, children-60, children-52, children-30, children-31, children-61, children-other, children-none}
 use Rattle.decisions.proofs.Laws.{child-element, child-fragment, serializable-is}
@@ -200,7 +201,7 @@ module _ (skip props : Bytes) where
 
   vec-by : (n : Name) (as′ : P.Attributes) (cs : List Child) →
       element-to-string-vec (opts skip props) n (attributes (opts skip props) as′) cs
-      ≡ choose (serializable-by (texts-in 0x20 (read skip)) n (forbids as′))
+      ≡ choose (serializable-by (names-of skip) n (forbids as′))
       (λ _. open-close (opts skip props) (identifier-bytes n) (attributes (opts skip props) as′) cs)
       (λ _. gap (to-call-expr n (attributes (opts skip props) as′) cs) ∷ [])
   unfolding element-to-string-vec serializable-by choose

@@ -16,7 +16,7 @@ use Rattle.field.proofs.RowLaws.{read-nil}
 use Rattle.field.proofs.Actions.{Action, Lows, by, on, room, finish, low-now}
 use Rattle.names.specs.Names.{AttrName, is-void-element}
 use Rattle.page.specs.Page.{Name, identifier, member, namespaced, Options}
-use Rattle.page.specs.Tree.{choose, texts-in, attr-name-in, value-in, contained-in, Contained}
+use Rattle.page.specs.Tree.{choose, attr-name-in, value-in, contained-in, Contained}
 use Rattle.spec.specs.Pass as S
 use Rattle.spec.specs.Pass.{Done, Pass, pure, Mid, node, _+++_, Part, chars, gap}
 use Rattle.spec.specs.Output.{dynamic-exprs, gen-template}
@@ -25,6 +25,7 @@ use Rattle.spec.specs.Attributes as A
 use Rattle.spec.specs.Attributes.{Attribute, is-serializable}
 use Rattle.spec.specs.Children.{maybe-wrap, merged-parts, children-to-string, serialize-jsx, to-call-expr, element-to-string-vec}
 use Rattle.spec.specs.Transform.{value, element-of}
+use Rattle.decisions.specs.Index.{names-of}
 use Rattle.decisions.specs.At.{opts, element-name, behind-name, identifier-bytes, attributes-at, children-at, element-at, serializable}
 use Rattle.decisions.proofs.Laws.{element-serializable}
 use Rattle.decisions.proofs.Series.{tested}
@@ -377,7 +378,7 @@ module _ (p : Plan) (w : World) where
 -- ---- a turn over attributes: a is the fields of a 50, and u the gap that it leaves
 
 module _ (skip props s : Bytes) (n : ℕ) (e : n ≡ tag-of s) (w : World) {total : World} (g : act (dynamic-exprs (attrs-at skip props s)) w ≡ total) where
-  module _ (h : n ≡ 0x50) {a : Bytes} (p : a ≡ body-of s) {u : Gap} (k : u ≡ attr-gap (texts-in 0x20 (read props)) (attr-name-in (read a)) (value-in (read a))) where
+  module _ (h : n ≡ 0x50) {a : Bytes} (p : a ≡ body-of s) {u : Gap} (k : u ≡ attr-gap (names-of props) (attr-name-in (read a)) (value-in (read a))) where
     abbrev name : AttrName
     name = attr-name-in (read a)
 

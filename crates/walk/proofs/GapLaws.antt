@@ -6,13 +6,12 @@ use Prim.Native.Nat.{ℕ}
 use mathlib.Core.Bool.{Bool, true, false, _||_}
 use mathlib.Core.List.{[], _∷_}
 use Rattle.field.specs.Bytes.{Bytes, ascii, pick, same, among}
-use Rattle.field.specs.Row.{read}
 use Rattle.names.specs.Names.{AttrName, get-attr-name, is-boolean-attr}
 use Rattle.text.specs.Escape.{escape-html}
 use Rattle.text.specs.Text.{normalize-lit-str}
 use Rattle.page.specs.Page as P
 use Rattle.page.specs.Page.{Options}
-use Rattle.page.specs.Tree.{texts-in, Contained, nothing-contained, contained}
+use Rattle.page.specs.Tree.{Contained, nothing-contained, contained}
 use Rattle.spec.specs.Pass.{Done, pure, both, raise, Mid, none, node, raw, _+++_, chars, gap}
 use Rattle.spec.specs.Output.{string-node, true-node, attr-node, choice-node, prop-node, dynamic-exprs}
 use Rattle.spec.specs.Merge as M
@@ -21,6 +20,7 @@ use Rattle.spec.specs.Attributes as A
 use Rattle.spec.specs.Attributes.{serialize-attr, listed-attr, dynamic-attr, container-attr, plain-attr, attr-parts, prop-of, key-from}
 use Rattle.spec.specs.Children.{maybe-wrap}
 use Rattle.spec.specs.Transform.{shape-of, value, expr}
+use Rattle.decisions.specs.Index.{names-of}
 use Rattle.decisions.specs.At.{opts}
 use Rattle.strings.specs.Carve.{child-parts, contained-parts}
 use Rattle.walk.specs.declared.attribute.Gap.{Gap}
@@ -105,9 +105,9 @@ module _ (o : Options) (n : AttrName) (k : ℕ) where
 -- the first pass over an attribute takes no number and records nothing
 pub attr-parts-plan : (skip props : Bytes) (n : AttrName) (v : P.Value) (k : ℕ) →
     dynamic-exprs (attr-parts (opts skip props) (A.attribute n (value (opts skip props) v))) k
-    ≡ plan-done (plan-by 0x91 (λ b. b) (attr-gap (texts-in 0x20 (read props)) n v) n (value (opts skip props) v))
+    ≡ plan-done (plan-by 0x91 (λ b. b) (attr-gap (names-of props) n v) n (value (opts skip props) v))
 unfolding attr-parts attr-gap
-attr-parts-plan skip props n v k = on (among (get-attr-name n false) (texts-in 0x20 (read props)))
+attr-parts-plan skip props n v k = on (among (get-attr-name n false) (names-of props))
   where
     on : (b : Bool) →
         dynamic-exprs (pick b (listed-attr (get-attr-name n false) (value (opts skip props) v)) (plain-attr (get-attr-name n true) (value (opts skip props) v))) k

@@ -9,13 +9,14 @@ ghost use Rattle.field.specs.Bytes.{Bytes};
 ghost use Rattle.field.specs.Row.{read};
 ghost use Rattle.field.specs.Put.{Wrote};
 ghost use Rattle.names.specs.Names.{get-attr-name};
-ghost use Rattle.page.specs.Tree.{texts-in, attr-name-in, value-in, contained-in};
+ghost use Rattle.page.specs.Tree.{attr-name-in, value-in, contained-in};
 ghost use Rattle.spec.specs.Pass.{none, node};
 ghost use Rattle.spec.specs.Output as O;
 ghost use Rattle.spec.specs.Output.{true-node, string-node, null-node};
 ghost use Rattle.spec.specs.Attributes as Held;
 ghost use Rattle.spec.specs.Attributes.{key-of, key-from};
 ghost use Rattle.spec.specs.Transform.{value};
+ghost use Rattle.decisions.specs.Index.{names-of};
 ghost use Rattle.decisions.specs.At.{opts, attributes-at};
 ghost use Rattle.walk.specs.See.{at, see, begun, todo-if, Low};
 ghost use Rattle.walk.specs.Plan as Plan;
@@ -205,7 +206,7 @@ fn plain_gap(a: &[u8]) -> Gap
 
 // In an opening tag.
 pub fn attribute_gap<'a>(props: &'a [u8], a: &'a [u8]) -> Gap
-    ensures { λ r. ⌜ r ≡ attr-gap (texts-in 0x20 (read (now (props .entry)))) (attr-name-in (read (now (a .entry)))) (value-in (read (now (a .entry)))) ⌝ }
+    ensures { λ r. ⌜ r ≡ attr-gap (names-of (now (props .entry))) (attr-name-in (read (now (a .entry)))) (value-in (read (now (a .entry)))) ⌝ }
 {
     if is_listed(props, a) {
         return listed_gap(a);

@@ -10,8 +10,8 @@ use Rattle.names.specs.Names.{normalize-dom-attr-name}
 use Rattle.page.specs.Tree.{texts-in}
 use Rattle.decisions.proofs.Series.{texts-past}
 use Rattle.decisions.proofs.AttributeLaws.{listed-here, listed-on, listed-none}
-use Rattle.decisions.proofs.attribute.lists_namespaced.Statement.{statement}
-use Rattle.decisions.proofs.attribute.lists_namespaced.Tie as tie
+use Rattle.decisions.proofs.index.series_has_namespaced.Statement.{statement}
+use Rattle.decisions.proofs.index.series_has_namespaced.Tie as tie
 
 abbrev Inv-loop : tie.InvT-loop
 Inv-loop list ns name t₀ t = among (normalize-dom-attr-name (ns ++ (58 ∷ name))) (texts-in 0x20 (read t)) ≡ among (normalize-dom-attr-name (ns ++ (58 ∷ name))) (texts-in 0x20 (read list))
@@ -55,8 +55,8 @@ loop-less-2 c = behind-less _ _ (c .before .before .tag-at .ensures .0) (c .befo
 loop-again-2 : tie.Need-loop-again-2 Inv-loop μ-loop
 loop-again-2 c = ap (λ x. among (normalize-dom-attr-name (c .before .before .before .before .before .before .before .args .ns .now ++ (58 ∷ c .before .before .before .before .before .before .before .args .name .now))) (texts-in 0x20 (read x))) (c .behind2 .ensures) ∙ ap (among (normalize-dom-attr-name (c .before .before .before .before .before .before .before .args .ns .now ++ (58 ∷ c .before .before .before .before .before .before .before .args .name .now)))) (sym (texts-past _ _ (c .before .before .tag-at .ensures .0) 0x20 (c .before .match .rest .1) (c .before .match .rest .0 .1))) ∙ c .before .before .before .loop .inv
 
-pub lists-namespaced-spec : {M : Type 1} → statement M
-lists-namespaced-spec =
+pub series-has-namespaced-spec : {M : Type 1} → statement M
+series-has-namespaced-spec =
     tie.close
     (tie.spec
     Inv-loop

@@ -8,8 +8,8 @@ use Rattle.field.proofs.FrontLaws.{behind-less}
 use Rattle.page.specs.Tree.{texts-in}
 use Rattle.decisions.proofs.Series.{texts-past}
 use Rattle.decisions.proofs.AttributeLaws.{listed-here, listed-on, listed-none}
-use Rattle.decisions.proofs.attribute.lists.Statement.{statement}
-use Rattle.decisions.proofs.attribute.lists.Tie as tie
+use Rattle.decisions.proofs.index.in_series.Statement.{statement}
+use Rattle.decisions.proofs.index.in_series.Tie as tie
 
 abbrev Inv-loop : tie.InvT-loop
 Inv-loop list name t₀ t = among name (texts-in 0x20 (read t)) ≡ among name (texts-in 0x20 (read list))
@@ -53,8 +53,8 @@ loop-less-2 c = behind-less _ _ (c .before .before .tag-at .ensures .0) (c .befo
 loop-again-2 : tie.Need-loop-again-2 Inv-loop μ-loop
 loop-again-2 c = ap (λ x. among (c .before .before .before .before .before .before .args .name .now) (texts-in 0x20 (read x))) (c .behind2 .ensures) ∙ ap (among (c .before .before .before .before .before .before .args .name .now)) (sym (texts-past _ _ (c .before .before .tag-at .ensures .0) 0x20 (c .before .match .rest .1) (c .before .match .rest .0 .1))) ∙ c .before .before .before .loop .inv
 
-pub lists-spec : {M : Type 1} → statement M
-lists-spec =
+pub in-series-spec : {M : Type 1} → statement M
+in-series-spec =
     tie.close
     (tie.spec
     Inv-loop
