@@ -1,5 +1,5 @@
--- Two bytes written into an index, and what one more entry changes of it. Main statements: `two-other`, `two-same`, `links`.
--- Assumes nothing.
+-- Two bytes written into an index, and what one more entry changes of it. Main statements: `two-other`, `two-same`, `linked-is`,
+-- `links`. Assumes nothing.
 use mathlib.Core.Path.{_≡_, refl, sym, ap, _∙_}
 use Prim.Native.Nat.{ℕ, zero, suc, _+_, _*_, _/_, _%_, _≤_, _<_}
 use native.Mathlib.Nat.{not-suc-le-zero, le-of-suc-le-suc}
@@ -11,7 +11,7 @@ use lib.ListN.{length, drop, getD}
 use borrow.Author.Tests.{lt-ltb}
 use Rattle.field.specs.Bytes.{Bytes, pick}
 use Rattle.field.specs.Number.{big-endian}
-use Rattle.field.specs.Put.{put}
+use Rattle.field.specs.Put.{put, Wrote}
 use Rattle.field.proofs.PutLaws.{length-put, put-nil}
 use Rattle.field.proofs.NumberLaws.{length-big-endian}
 use Rattle.decisions.specs.Index.{two-at, linked}
@@ -73,6 +73,10 @@ two-same b i v h k =
 
 -- ---- one more entry
 
+-- the three numbers, as they are written
+pub linked-is : (h k p : ℕ) {o o₁ o₂ o₃ : Bytes} {v n₁ n₂ n₃ : ℕ} → v ≡ two-at o (2 * h) → Wrote o (2048 + 4 * k) (big-endian 2 v []) o₁ n₁ → Wrote o₁ (2050 + 4 * k) (big-endian 2 p []) o₂ n₂ → Wrote o₂ (2 * h) (big-endian 2 (k + 1) []) o₃ n₃ → o₃ ≡ linked o h k p
+linked-is h k p e u v w = w .out-is ∙ rw (v .out-is, u .out-is, e)
+
 -- o is b with entry k, of that hash, with the name at that place: what else is read of it is as it was
 pub record Links (b : Bytes) (h k place : ℕ) (o : Bytes) : Type 0 where
   pub size : length o ≡ length b
@@ -119,13 +123,13 @@ module _ (b : Bytes) (h k p : ℕ) (s : length b ≡ 11608) (i : h < 1024) (l : 
         head-new = two-same two-put (2 * h) (k + 1) (omega arith) (omega (arith, size-two));
         heads = λ g q r. else-kept (2 * g) (λ z. omega arith) (λ z. omega arith) (λ z. omega arith) (λ z. omega arith) (λ z. omega arith) (λ z. omega arith) (λ z. r (omega arith)) (λ z. omega arith) (λ z. omega arith);
         before-new =
-          two-other two-put (2 * h) (k + 1) (2048 + 4 * k) (λ z. omega arith) (λ z. omega arith) (λ z. omega arith) ∙
-          two-other one-put (2050 + 4 * k) p (2048 + 4 * k) (λ z. omega arith) (λ z. omega arith) (λ z. omega arith) ∙
-          two-same b (2048 + 4 * k) (two-at b (2 * h)) n (omega arith);
+            two-other two-put (2 * h) (k + 1) (2048 + 4 * k) (λ z. omega arith) (λ z. omega arith) (λ z. omega arith) ∙
+            two-other one-put (2050 + 4 * k) p (2048 + 4 * k) (λ z. omega arith) (λ z. omega arith) (λ z. omega arith) ∙
+            two-same b (2048 + 4 * k) (two-at b (2 * h)) n (omega arith);
         befores = λ j q. else-kept (2048 + 4 * j) (λ z. omega arith) (λ z. omega arith) (λ z. omega arith) (λ z. omega arith) (λ z. omega arith) (λ z. omega arith) (λ z. omega arith) (λ z. omega arith) (λ z. omega arith);
         place-new =
-          two-other two-put (2 * h) (k + 1) (2050 + 4 * k) (λ z. omega arith) (λ z. omega arith) (λ z. omega arith) ∙
-          two-same one-put (2050 + 4 * k) p m (omega (arith, size-one));
+            two-other two-put (2 * h) (k + 1) (2050 + 4 * k) (λ z. omega arith) (λ z. omega arith) (λ z. omega arith) ∙
+            two-same one-put (2050 + 4 * k) p m (omega (arith, size-one));
         places = λ j q. else-kept (2050 + 4 * j) (λ z. omega arith) (λ z. omega arith) (λ z. omega arith) (λ z. omega arith) (λ z. omega arith) (λ z. omega arith) (λ z. omega arith) (λ z. omega arith) (λ z. omega arith);
         series = series-kept;
       }

@@ -1,10 +1,7 @@
 use borrow.Author.Needs.{needs}
+use Rattle.decisions.proofs.LinkLaws.{linked-is}
 use Rattle.decisions.proofs.index.link.Statement.{statement}
 use Rattle.decisions.proofs.index.link.Tie as tie
-use Rattle.decisions.proofs.index.link.Reads as reads
-use Rattle.decisions.proofs.index.link.Lts as lts
-use Rattle.decisions.proofs.index.two_at.Reads as two-at-reads
-use Rattle.field.proofs.writer.put_two.Reads as put-two-reads
 
 mul-two-at : tie.Need-mul-two-at
 mul-two-at c = search needs
@@ -43,7 +40,9 @@ same-length : tie.Need-same-length
 same-length c = search needs
 
 returns : tie.Need-returns
-returns c = ?
+returns c =
+    let a = c .before .before .before .before .before .before .before .before .before .before .before .before .before .before .before .args in
+    linked-is (a .h) (a .k) (a .place) (c .before .before .before .before .before .before .before .before .before .before .before .before .two-at .ensures .0) (c .before .before .before .before .before .before .before .before .before .before .put-two .ensures) (c .before .before .before .before .before .before .put-two2 .ensures) (c .before .before .put-two3 .ensures)
 
 pub link-spec : {M : Type 1} → statement M
 link-spec =
