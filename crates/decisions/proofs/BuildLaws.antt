@@ -6,12 +6,12 @@ use Prim.Native.Nat.{ℕ, zero, suc, _+_, _-_, _*_, _≤_, _<_}
 use native.Mathlib.Numerals.{add-one}
 use native.Mathlib.Omega.{arith}
 use mathlib.Core.List.{List, [], _∷_, _++_, append-assoc}
-use lib.Dec.{eqb, ltb}
+use lib.Dec.{ltb}
 use lib.ListN.{length, take, drop, getD, length-append}
 use lib.Seq.{take-at, drop-at, drop-drop, length-take-le}
-use borrow.Author.Tests.{le-leb, eqb-true, eqb-false}
+use borrow.Author.Tests.{le-leb}
 use Rattle.field.specs.Bytes.{Bytes, pick, same, among}
-use Rattle.field.specs.Row.{read, Ended, Next, next, next-of}
+use Rattle.field.specs.Row.{read, Ended, next, next-of}
 use Rattle.field.specs.Front.{tag-of, body-of, behind-of, body-by}
 use Rattle.field.specs.Put.{put}
 use Rattle.field.proofs.PutLaws.{length-put, put-fits}
@@ -157,6 +157,10 @@ other-hash n m h = on (same n m) refl
     on true q = absurd (h (ap hash (same-eq n m q)))
     on false q = refl
 
+-- there is room for one entry more
+pub few : (b list : Bytes) (k : ℕ) (left : Bytes) → Built b list k left → (t : ℕ) → t ≡ tag-of left → (t ≡ 256 → ⊥) → k < 1366
+few b list k left u t e f = omega (arith, u .room, u .short, sizes left t e f)
+
 module _ (b list : Bytes) (k : ℕ) (left : Bytes) (u : Built b list k left) (t : ℕ) (e : t ≡ tag-of left) (f : t ≡ 256 → ⊥) {r : Bytes} (q : r ≡ behind-of left) where
   parts : Parts left t (body-of left) r
   parts = next-parts left t (body-of left) r (next-at left t e f ∙ ap (next t (body-of left)) (sym q))
@@ -191,11 +195,8 @@ module _ (b list : Bytes) (k : ℕ) (left : Bytes) (u : Built b list k left) (t 
     head-low : h < 1024
     head-low = subst (λ (x : ℕ). x < 1024) (sym d) (hash-low 0 (body-of left) (omega arith))
 
-    few : k < 1366
-    few = omega (arith, u .room, u .short, less)
-
     link-more : Links b h k (length list - length left) o
-    link-more = subst (Links b h k (length list - length left)) (sym w) (links b h k (length list - length left) (u .size) head-low few (omega (arith, u .short)) (omega (arith, u .heads h head-low, few)))
+    link-more = subst (Links b h k (length list - length left)) (sym w) (links b h k (length list - length left) (u .size) head-low (few b list k left u t e f) (omega (arith, u .short)) (omega (arith, u .heads h head-low, few b list k left u t e f)))
 
     name-new : name-at o k ≡ body-of left
     unfolding name-at
@@ -210,7 +211,7 @@ module _ (b list : Bytes) (k : ℕ) (left : Bytes) (u : Built b list k left) (t 
         ∙ body-followed left (u .rest) t e f
 
     chain-new : chain 1366 o (two-at o (2 * h)) ≡ body-of left ∷ chain 1366 b (two-at b (2 * h))
-    chain-new = chain-linked b k (u .falls) link-more 1365 (omega (arith, few)) (u .heads h head-low) ∙ ap (λ (x : Bytes). x ∷ chain 1366 b (two-at b (2 * h))) name-new
+    chain-new = chain-linked b k (u .falls) link-more 1365 (omega (arith, few b list k left u t e f)) (u .heads h head-low) ∙ ap (λ (x : Bytes). x ∷ chain 1366 b (two-at b (2 * h))) name-new
 
     chain-old : (g : ℕ) → g < 1024 → (g ≡ h → ⊥) → chain 1366 o (two-at o (2 * g)) ≡ chain 1366 b (two-at b (2 * g))
     chain-old g i n = ap (chain 1366 o) (link-more .heads g i n) ∙ chain-kept b k (u .falls) link-more 1366 (two-at b (2 * g)) (u .heads g i)

@@ -1,3 +1,4 @@
+-- Three numbers are written, of which the first was read before any.
 use borrow.Author.Needs.{needs}
 use Rattle.decisions.proofs.LinkLaws.{linked-is}
 use Rattle.decisions.proofs.index.link.Statement.{statement}
