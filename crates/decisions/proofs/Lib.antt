@@ -6,4 +6,6 @@ pub mod ExprLaws
 pub mod ElementLaws
 pub mod Laws
 pub mod IndexLaws
+pub mod LinkLaws
+pub mod BuildLaws
 pub mod ChildrenLaws
