@@ -8,7 +8,7 @@ use mathlib.Core.List.{List, [], _∷_}
 use lib.Dec.{eqb, ltb}
 use lib.ListN.{length}
 use borrow.Author.Tests.{ne-eqb}
-use Rattle.field.specs.Bytes.{Bytes, pick}
+use Rattle.field.specs.Bytes.{Bytes, pick, among}
 use Rattle.field.specs.Row.{Row, end, loose, field, read, bytes, inside}
 use Rattle.field.specs.Front.{tag-of, body-of}
 use Rattle.field.specs.Put.{put, Wrote}
@@ -150,7 +150,7 @@ heads-told k p s t g {x} e {y = y} d {n} q =
 
 -- ---- both outputs, written: b is the page's body, h what `heads_before` gives, q what `import_len` does, and y the state behind the walk
 
-module _ (k p : Bytes) (r : Row) (e : texts-in 0x20 (read k) ≡ listed-in 2 r) (f : texts-in 0x20 (read p) ≡ listed-in 3 r) (b : Bytes) {is : Page} (j : module-items-in (read b) ≡ is)
+module _ (k p : Bytes) (r : Row) (e : (n : Bytes) → among n (texts-in 0x20 (read k)) ≡ among n (listed-in 2 r)) (f : (n : Bytes) → among n (texts-in 0x20 (read p)) ≡ among n (listed-in 3 r)) (b : Bytes) {is : Page} (j : module-items-in (read b) ≡ is)
     {h : Heads} (m : h ≡ heads-of (opts k p) (module-items-in (read b))) {q : ℕ} (l : q ≡ pick (h .import) (19 + length (source-in r)) 0) {x : Walk} (s : x ≡ started q) (t g : Bytes)
     {t′ g′ : Bytes} {y : Walk} (v : at t′ g′ y ≡ see (items-mid (opts k p) (h .placed) (module-items-in (read b))) (at t g x)) where
   walked-from : at t′ g′ y ≡ see (items-mid (opts k p) (heads-of (opts k p) (module-items-in (read b)) .placed) (module-items-in (read b))) (at t g (started q))

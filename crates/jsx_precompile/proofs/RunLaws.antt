@@ -36,12 +36,12 @@ use Rattle.walk.specs.See.{World, at, see, wrote}
 use Rattle.jsx_precompile.specs.declared.module.Heads.{Heads}
 use Rattle.jsx_precompile.specs.Run.{placed-before, module-mid, has-statement, items-mid, tag-html, piece-html, has-html, started, sum-of, heads-of, import-bytes}
 
--- ---- the transform does not look at the import's source
+-- ---- the transform does not look at the import's source, and of the lists only at what stands among them
 
-module _ (o o′ : Options) (e : o .skip-serialize ≡ o′ .skip-serialize) (f : o .skip-prop-serialize ≡ o′ .skip-prop-serialize) where
+module _ (o o′ : Options) (e : (n : Bytes) → among n (o .skip-serialize) ≡ among n (o′ .skip-serialize)) (f : (n : Bytes) → among n (o .skip-prop-serialize) ≡ among n (o′ .skip-prop-serialize)) where
   attr-same : (a : A.Attribute) → attr-parts o a ≡ attr-parts o′ a
   unfolding attr-parts
-  attr-same (A.attribute n v) = ap (λ (l : List Bytes). pick (among (get-attr-name n false) l) (listed-attr (get-attr-name n false) v) (plain-attr (get-attr-name n true) v)) f
+  attr-same (A.attribute n v) = ap (λ (b : Bool). pick b (listed-attr (get-attr-name n false) v) (plain-attr (get-attr-name n true) v)) (f (get-attr-name n false))
   attr-same (A.spread m) = refl
 
   attrs-same : (as′ : List A.Attribute) → attrs-parts o as′ ≡ attrs-parts o′ as′
@@ -51,7 +51,7 @@ module _ (o o′ : Options) (e : o .skip-serialize ≡ o′ .skip-serialize) (f 
 
   serializable-same : (n : Name) (as′ : List A.Attribute) → is-serializable o n as′ ≡ is-serializable o′ n as′
   unfolding is-serializable
-  serializable-same (identifier n) as′ = ap (λ (l : List Bytes). not (first-upper n) && not (among n l) && not (keeps-from-serializing as′)) e
+  serializable-same (identifier n) as′ = ap (λ (b : Bool). not (first-upper n) && not b && not (keeps-from-serializing as′)) (e n)
   serializable-same (member ns) as′ = refl
   serializable-same (namespaced n m) as′ = refl
 
@@ -137,8 +137,9 @@ module _ (o o′ : Options) (e : o .skip-serialize ≡ o′ .skip-serialize) (f 
   module-same (P.statement-item ps ∷ is) = ap₂ (λ (i r : Mid). node 0x12 [] i r) (pieces-same ps) (module-same is)
   module-same (P.empty-item ∷ is) = ap (λ (r : Mid). node 0x13 [] none r) (module-same is)
 
--- by what 02 and 03 list alone
-pub import-free : (skip props : Bytes) (r : Row) (p : Page) → texts-in 0x20 (read skip) ≡ listed-in 2 r → texts-in 0x20 (read props) ≡ listed-in 3 r → transform (opts skip props) p ≡ transform (options-in r) p
+-- by what stands among the names of 02 and 03 alone
+pub import-free : (skip props : Bytes) (r : Row) (p : Page) →
+    ((n : Bytes) → among n (texts-in 0x20 (read skip)) ≡ among n (listed-in 2 r)) → ((n : Bytes) → among n (texts-in 0x20 (read props)) ≡ among n (listed-in 3 r)) → transform (opts skip props) p ≡ transform (options-in r) p
 unfolding transform options-in
 import-free skip props r p e f = ap (λ (m : Mid). visit-exprs m 1) (module-same (opts skip props) (options-in r) e f p)
 

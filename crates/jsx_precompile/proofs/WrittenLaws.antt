@@ -8,7 +8,7 @@ use mathlib.Core.List.{[], _∷_, _++_}
 use lib.Dec.{eqb, leb, ltb}
 use lib.ListN.{length, length-append}
 use borrow.Author.Tests.{le-ltb}
-use Rattle.field.specs.Bytes.{Bytes, ascii, pick}
+use Rattle.field.specs.Bytes.{Bytes, ascii, pick, among}
 use Rattle.field.specs.Row.{Row, end, loose, field, bytes, read, long-body}
 use Rattle.field.specs.Put.{put}
 use Rattle.field.proofs.RowLaws.{length-bytes}
@@ -50,7 +50,7 @@ no-yes false h = sym h
 
 -- ---- the options are those that 02 and 03 list; the last premises are `counted` and `called` of spec
 
-module _ (skip props : Bytes) (r : Row) (is : Page) (e : texts-in 0x20 (read skip) ≡ listed-in 2 r) (f : texts-in 0x20 (read props) ≡ listed-in 3 r)
+module _ (skip props : Bytes) (r : Row) (is : Page) (e : (n : Bytes) → among n (texts-in 0x20 (read skip)) ≡ among n (listed-in 2 r)) (f : (n : Bytes) → among n (texts-in 0x20 (read props)) ≡ among n (listed-in 3 r))
     (counted : length (transform (opts skip props) is .templates) ≡ transform (opts skip props) is .taken) (called : stands 0x90 (transform (opts skip props) is .value) ≡ ltb 0 (transform (opts skip props) is .taken)) where
   abbrev made : Done Row
   made = transform (opts skip props) is

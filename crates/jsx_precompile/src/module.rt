@@ -3,9 +3,9 @@ ghost use mathlib.Core.Path.{_≡_};
 ghost use Prim.Native.Nat.{_+_, _≤_, _<_, _^_};
 ghost use mathlib.Core.List.{[]};
 ghost use lib.ListN.{length};
-ghost use Rattle.field.specs.Bytes.{pick};
+ghost use Rattle.field.specs.Bytes.{Bytes, among, pick};
 ghost use Rattle.field.specs.Row.{read};
-ghost use Rattle.page.specs.Tree.{pieces-in, module-items-in, page-in, options-in, source-in};
+ghost use Rattle.page.specs.Tree.{texts-in, listed-in, pieces-in, module-items-in, page-in, options-in, source-in};
 ghost use Rattle.page.specs.declared.Verdict.the-variants.{Fine};
 ghost use Rattle.spec.specs.Answer.{check-inputs};
 ghost use Rattle.spec.specs.Transform.{transform};
@@ -329,8 +329,31 @@ pub fn write_page<'a>(
     requires { ⌜ check-inputs (now input) (now options) (length (now scratch)) ≡ Fine ⌝ }
     ensures { λ r. ⌜ at (now (templates .exit)) (now (page .exit)) r ≡ written-page (options-in (read (now (options .entry)))) (transform (options-in (read (now (options .entry)))) (page-in (read (now (input .entry))))) (now (templates .entry)) (now (page .entry)) ⌝ }
 {
-    let skip = names_in(options, 2);
-    let props = names_in(options, 3);
+    write_listed(
+        input,
+        options,
+        names_in(options, 2),
+        names_in(options, 3),
+        scratch,
+        templates,
+        page,
+    )
+}
+
+// By skip and props, which list what 02 and 03 do.
+fn write_listed<'a>(
+    input: &'a [u8],
+    options: &'a [u8],
+    skip: &'a [u8],
+    props: &'a [u8],
+    scratch: &mut [u8],
+    templates: &mut [u8],
+    page: &mut [u8],
+) -> Walk
+    requires { ⌜ check-inputs (now input) (now options) (length (now scratch)) ≡ Fine ⌝ }
+    requires { ⌜ ((n : Bytes) → among n (texts-in 0x20 (read (now skip))) ≡ among n (listed-in 2 (read (now options)))) × ((n : Bytes) → among n (texts-in 0x20 (read (now props))) ≡ among n (listed-in 3 (read (now options)))) ⌝ }
+    ensures { λ r. ⌜ at (now (templates .exit)) (now (page .exit)) r ≡ written-page (options-in (read (now (options .entry)))) (transform (options-in (read (now (options .entry)))) (page-in (read (now (input .entry))))) (now (templates .entry)) (now (page .entry)) ⌝ }
+{
     let s = body(input);
     let h = heads_before(skip, props, s, scratch);
     let w = visit_items(
