@@ -16,7 +16,7 @@ use Rattle.field.proofs.RowLaws.{length-bytes}
 use Rattle.field.proofs.FrontLaws.{body-less, nest-at}
 use Rattle.page.specs.Page.{Page, ModuleItem}
 use Rattle.page.specs.Encode.{pieces-row, module-items-row, page-row, encode}
-use Rattle.page.specs.Tree.{choose, texts-in, pieces-in, module-item-by, module-items-in, page-in, listed-in, source-in, options-in}
+use Rattle.page.specs.Tree.{choose, pieces-in, module-item-by, module-items-in, page-in, listed-in, source-in, options-in}
 use Rattle.page.specs.Check.{check-header, check-page}
 use Rattle.page.specs.Refusal.{after}
 use Rattle.page.specs.declared.Refusal.the-variants as R
@@ -29,6 +29,7 @@ use Rattle.spec.proofs.Growth.{size, growth, taken-growth}
 use Rattle.spec.proofs.Lenient.{fits, length-read}
 use Rattle.spec.proofs.Called.{counted, called}
 use Rattle.decisions.specs.At.{opts}
+use Rattle.decisions.specs.Index.{names-of}
 use Rattle.decisions.proofs.Series.{tested, any-front}
 use Rattle.walk.specs.declared.state.Walk.{Walk}
 use Rattle.walk.specs.See.{World, at, see, Low}
@@ -150,7 +151,7 @@ heads-told k p s t g {x} e {y = y} d {n} q =
 
 -- ---- both outputs, written: b is the page's body, h what `heads_before` gives, q what `import_len` does, and y the state behind the walk
 
-module _ (k p : Bytes) (r : Row) (e : (n : Bytes) → among n (texts-in 0x20 (read k)) ≡ among n (listed-in 2 r)) (f : (n : Bytes) → among n (texts-in 0x20 (read p)) ≡ among n (listed-in 3 r)) (b : Bytes) {is : Page} (j : module-items-in (read b) ≡ is)
+module _ (k p : Bytes) (r : Row) (e : (n : Bytes) → among n (names-of k) ≡ among n (listed-in 2 r)) (f : (n : Bytes) → among n (names-of p) ≡ among n (listed-in 3 r)) (b : Bytes) {is : Page} (j : module-items-in (read b) ≡ is)
     {h : Heads} (m : h ≡ heads-of (opts k p) (module-items-in (read b))) {q : ℕ} (l : q ≡ pick (h .import) (19 + length (source-in r)) 0) {x : Walk} (s : x ≡ started q) (t g : Bytes)
     {t′ g′ : Bytes} {y : Walk} (v : at t′ g′ y ≡ see (items-mid (opts k p) (h .placed) (module-items-in (read b))) (at t g x)) where
   walked-from : at t′ g′ y ≡ see (items-mid (opts k p) (heads-of (opts k p) (module-items-in (read b)) .placed) (module-items-in (read b))) (at t g (started q))

@@ -18,7 +18,7 @@ use Rattle.names.specs.Names.{get-attr-name, is-void-element}
 use Rattle.text.specs.Escape.{escape-html}
 use Rattle.page.specs.Page as P
 use Rattle.page.specs.Page.{Options, Page, Name, identifier, member, namespaced}
-use Rattle.page.specs.Tree.{choose, texts-in, listed-in, options-in}
+use Rattle.page.specs.Tree.{choose, listed-in, options-in}
 use Rattle.spec.specs.Pass.{Template, Done, pure, bind, both, Mid, none, node, raw, Part, chars, gap}
 use Rattle.spec.specs.Output.{gen-template}
 use Rattle.spec.specs.Merge as M
@@ -31,6 +31,7 @@ use Rattle.spec.specs.Transform.{bit, stands, helper-sum, with-import, with-tem
 use Rattle.spec.proofs.Ledger.{or-either, then, valued}
 use Rattle.spec.proofs.PageOut.{templates-related}
 use Rattle.decisions.specs.At.{opts}
+use Rattle.decisions.specs.Index.{names-of}
 use Rattle.walk.specs.declared.state.Walk.{Walk}
 use Rattle.walk.specs.See.{World, at, see, wrote}
 use Rattle.jsx_precompile.specs.declared.module.Heads.{Heads}
@@ -139,7 +140,7 @@ module _ (o o′ : Options) (e : (n : Bytes) → among n (o .skip-serialize) ≡
 
 -- by what stands among the names of 02 and 03 alone
 pub import-free : (skip props : Bytes) (r : Row) (p : Page) →
-    ((n : Bytes) → among n (texts-in 0x20 (read skip)) ≡ among n (listed-in 2 r)) → ((n : Bytes) → among n (texts-in 0x20 (read props)) ≡ among n (listed-in 3 r)) → transform (opts skip props) p ≡ transform (options-in r) p
+    ((n : Bytes) → among n (names-of skip) ≡ among n (listed-in 2 r)) → ((n : Bytes) → among n (names-of props) ≡ among n (listed-in 3 r)) → transform (opts skip props) p ≡ transform (options-in r) p
 unfolding transform options-in
 import-free skip props r p e f = ap (λ (m : Mid). visit-exprs m 1) (module-same (opts skip props) (options-in r) e f p)
 

@@ -15,12 +15,13 @@ use Rattle.field.proofs.RowLaws.{length-bytes}
 use Rattle.page.specs.Page.{Options, Page}
 use Rattle.page.specs.Refusal.{unless, after}
 use Rattle.page.specs.declared.Refusal.the-variants as R
-use Rattle.page.specs.Tree.{texts-in, listed-in, source-in, options-in}
+use Rattle.page.specs.Tree.{listed-in, source-in, options-in}
 use Rattle.spec.specs.Pass.{Done}
 use Rattle.spec.specs.Transform.{stands, helper-sum, with-import, with-templates, templates-row, page-out-row, transform}
 use Rattle.spec.specs.Answer.{check-outputs}
 use Rattle.spec.proofs.PageOut.{import-row, import-related}
 use Rattle.decisions.specs.At.{opts}
+use Rattle.decisions.specs.Index.{names-of}
 use Rattle.walk.specs.See.{World, at, see}
 use Rattle.jsx_precompile.specs.Run.{items-mid, started, sum-of, heads-of, import-bytes, written-page, verdict-of}
 use Rattle.jsx_precompile.proofs.RunLaws.{import-free, walked, items-walked, walked-sum, import-length, import-first, page-put, place-long}
@@ -50,7 +51,7 @@ no-yes false h = sym h
 
 -- ---- the options are those that 02 and 03 list; the last premises are `counted` and `called` of spec
 
-module _ (skip props : Bytes) (r : Row) (is : Page) (e : (n : Bytes) → among n (texts-in 0x20 (read skip)) ≡ among n (listed-in 2 r)) (f : (n : Bytes) → among n (texts-in 0x20 (read props)) ≡ among n (listed-in 3 r))
+module _ (skip props : Bytes) (r : Row) (is : Page) (e : (n : Bytes) → among n (names-of skip) ≡ among n (listed-in 2 r)) (f : (n : Bytes) → among n (names-of props) ≡ among n (listed-in 3 r))
     (counted : length (transform (opts skip props) is .templates) ≡ transform (opts skip props) is .taken) (called : stands 0x90 (transform (opts skip props) is .value) ≡ ltb 0 (transform (opts skip props) is .taken)) where
   abbrev made : Done Row
   made = transform (opts skip props) is

@@ -11,13 +11,16 @@ ghost use Rattle.spec.specs.Answer.{check-inputs};
 ghost use Rattle.spec.specs.Transform.{transform};
 ghost use Rattle.field.specs.Put.{Wrote};
 ghost use Rattle.decisions.specs.At.{opts};
+ghost use Rattle.decisions.specs.Index.{names-of};
 ghost use Rattle.walk.specs.See.{at, see, Low};
 ghost use Rattle.visits.specs.Visiting.{Room};
 ghost use Rattle.jsx_precompile.specs.Run.{item-mid, place-mid, module-mid, items-mid, has-statement, has-html, piece-html, started, import-bytes, sum-of, heads-of, written-page};
+use crate::options::index_room;
 use crate::options::names_in;
 use crate::options::put_source;
 use crate::options::source_len;
 use decisions::element::is_serializable;
+use decisions::index::index_names;
 use field::reader::behind;
 use field::reader::body;
 use field::reader::tag_at;
@@ -329,11 +332,38 @@ pub fn write_page<'a>(
     requires { ⌜ check-inputs (now input) (now options) (length (now scratch)) ≡ Fine ⌝ }
     ensures { λ r. ⌜ at (now (templates .exit)) (now (page .exit)) r ≡ written-page (options-in (read (now (options .entry)))) (transform (options-in (read (now (options .entry)))) (page-in (read (now (input .entry))))) (now (templates .entry)) (now (page .entry)) ⌝ }
 {
+    let skip = names_in(options, 2);
+    let props = names_in(options, 3);
+    if skip.len() <= 32 && props.len() <= 32 {
+        return write_listed(input, options, skip, props, scratch, templates, page);
+    }
+    write_indexed(input, options, skip, props, scratch, templates, page)
+}
+
+// By an index of each: where there are more than a few names, looking for one must not go through all of them.
+fn write_indexed<'a>(
+    input: &'a [u8],
+    options: &'a [u8],
+    skip: &'a [u8],
+    props: &'a [u8],
+    scratch: &mut [u8],
+    templates: &mut [u8],
+    page: &mut [u8],
+) -> Walk
+    requires { ⌜ check-inputs (now input) (now options) (length (now scratch)) ≡ Fine ⌝ }
+    requires { ⌜ (length (now skip) ≤ 4096) × (length (now props) ≤ 4096) ⌝ }
+    requires { ⌜ (texts-in 0x20 (read (now skip)) ≡ listed-in 2 (read (now options))) × (texts-in 0x20 (read (now props)) ≡ listed-in 3 (read (now options))) ⌝ }
+    ensures { λ r. ⌜ at (now (templates .exit)) (now (page .exit)) r ≡ written-page (options-in (read (now (options .entry)))) (transform (options-in (read (now (options .entry)))) (page-in (read (now (input .entry))))) (now (templates .entry)) (now (page .entry)) ⌝ }
+{
+    let mut elements = index_room();
+    index_names(skip, &mut elements);
+    let mut attributes = index_room();
+    index_names(props, &mut attributes);
     write_listed(
         input,
         options,
-        names_in(options, 2),
-        names_in(options, 3),
+        &elements,
+        &attributes,
         scratch,
         templates,
         page,
@@ -351,7 +381,7 @@ fn write_listed<'a>(
     page: &mut [u8],
 ) -> Walk
     requires { ⌜ check-inputs (now input) (now options) (length (now scratch)) ≡ Fine ⌝ }
-    requires { ⌜ ((n : Bytes) → among n (texts-in 0x20 (read (now skip))) ≡ among n (listed-in 2 (read (now options)))) × ((n : Bytes) → among n (texts-in 0x20 (read (now props))) ≡ among n (listed-in 3 (read (now options)))) ⌝ }
+    requires { ⌜ ((n : Bytes) → among n (names-of (now skip)) ≡ among n (listed-in 2 (read (now options)))) × ((n : Bytes) → among n (names-of (now props)) ≡ among n (listed-in 3 (read (now options)))) ⌝ }
     ensures { λ r. ⌜ at (now (templates .exit)) (now (page .exit)) r ≡ written-page (options-in (read (now (options .entry)))) (transform (options-in (read (now (options .entry)))) (page-in (read (now (input .entry))))) (now (templates .entry)) (now (page .entry)) ⌝ }
 {
     let s = body(input);

@@ -1,7 +1,7 @@
 // Options: the names of 02 and 03, the import's source.
 ghost use mathlib.Core.Path.{_≡_};
-ghost use Prim.Native.Nat.{_+_, _≤_, _<_, _^_};
-ghost use lib.ListN.{length};
+ghost use Prim.Native.Nat.{ℕ, _+_, _≤_, _<_, _^_};
+ghost use lib.ListN.{length, getD};
 ghost use Rattle.field.specs.Row.{read, fields-after, inside};
 ghost use Rattle.field.specs.Put.{Wrote};
 ghost use Rattle.page.specs.Tree.{texts-in, listed-in, source-in};
@@ -68,4 +68,11 @@ pub fn put_source(out: &mut [u8], at: usize, options: &[u8]) -> usize
             }
         }
     }
+}
+
+// Room for an index of names. What it holds is proved once, here: its callers need not go through it.
+pub fn index_room() -> [u8; 11608]
+    ensures { λ r. ⌜ (length r ≡ 11608) × ((i : ℕ) → getD r i 0 ≡ 0) ⌝ }
+{
+    [0; 11608]
 }
