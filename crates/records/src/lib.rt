@@ -145,7 +145,11 @@ pub fn record_serialize<'a>(
         return record_found(skip, props, rest, scratch, out, st);
     }
     let n = st.next;
-    let inner = record_element(skip, props, b, scratch, out, taken(st));
+    let a = taken(st);
+    if is_void_element(identifier(b)) {
+        return write_element(skip, props, b, out, n, a);
+    }
+    let inner = record_parts(skip, props, rest, scratch, out, a);
     write_element(skip, props, b, out, n, inner)
 }
 
