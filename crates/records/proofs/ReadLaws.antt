@@ -1,7 +1,6 @@
 -- Elements and series of children as they stand in bytes: what the walk does at each tag, and what it goes by at an element.
 -- Main statements: `within-30`, `called-30` and the like; `serialize-call`, `serialize-template`, `serialize-kids`, `inner-call`, `inner-void`,
--- `inner-kids`;
--- `found-0`, `found-1`, `found-2`, `found-merged`. Assumes nothing.
+-- `inner-kids`; `found-0`, `found-1`, `found-2`, `found-merged`. Assumes nothing.
 use mathlib.Core.Path.{_≡_, refl, sym, ap, _∙_, subst}
 use Prim.Native.Nat.{ℕ, _≤_}
 use native.Mathlib.Omega.{arith}
