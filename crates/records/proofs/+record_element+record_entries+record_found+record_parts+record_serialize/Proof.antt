@@ -485,7 +485,7 @@ record-serialize-write-element-requires t c κs =
     let v = c .before in
     let i = v .before .before .before .before in
     let a = i .before .before .before .before .before .before .before .before in
-    outer-low _ _ _ _ _ (serialize-template _ _ _ (i .before .before .behind .ensures) (i .before .is-serializable .ensures) (test-held (i .before .is-serializable .result) (i .if1 .left)) _) (v .before .before .before .taken .ensures) (sym (inner-void _ _ _ (i .before .before .behind .ensures) (i .before .is-serializable .ensures) (test-held (i .before .is-serializable .result) (i .if1 .left)) _ (v .before .before .identifier .ensures) (v .before .is-void-element .ensures) (v .if2 .taken))) (a .pre .1 .1 .1)
+    (sym (i .before .is-serializable .ensures) ∙ test-held (i .before .is-serializable .result) (i .if1 .left), outer-low _ _ _ _ _ (serialize-template _ _ _ (i .before .before .behind .ensures) (i .before .is-serializable .ensures) (test-held (i .before .is-serializable .result) (i .if1 .left)) _) (v .before .before .before .taken .ensures) (sym (inner-void _ _ _ (i .before .before .behind .ensures) (i .before .is-serializable .ensures) (test-held (i .before .is-serializable .result) (i .if1 .left)) _ (v .before .before .identifier .ensures) (v .before .is-void-element .ensures) (v .if2 .taken))) (a .pre .1 .1 .1))
 
 record-serialize-same-length-3 : (t : ℕ) → record-serialize-lts.Need-same-length-3 (record-serialize-calls t) (record-serialize-at t) record-serialize.Post
 record-serialize-same-length-3 t c = search needs
@@ -509,7 +509,7 @@ record-serialize-write-element-requires-2 t c κs =
     let v = c .before .before .before .before .before .before .before .before in
     let i = v .before .before .before .before in
     let a = i .before .before .before .before .before .before .before .before in
-    outer-low _ _ _ _ _ (serialize-kids _ _ _ (i .before .before .behind .ensures) (i .before .is-serializable .ensures) (test-held (i .before .is-serializable .result) (i .if1 .left)) _ (v .before .before .identifier .ensures) (v .before .is-void-element .ensures) (v .if2 .left)) (v .before .before .before .taken .ensures) (c .before .before .before .before .before .record-parts .ensures) (a .pre .1 .1 .1)
+    (sym (i .before .is-serializable .ensures) ∙ test-held (i .before .is-serializable .result) (i .if1 .left), outer-low _ _ _ _ _ (serialize-kids _ _ _ (i .before .before .behind .ensures) (i .before .is-serializable .ensures) (test-held (i .before .is-serializable .result) (i .if1 .left)) _ (v .before .before .identifier .ensures) (v .before .is-void-element .ensures) (v .if2 .left)) (v .before .before .before .taken .ensures) (c .before .before .before .before .before .record-parts .ensures) (a .pre .1 .1 .1))
 
 record-serialize-same-length-4 : (t : ℕ) → record-serialize-lts.Need-same-length-4 (record-serialize-calls t) (record-serialize-at t) record-serialize.Post
 record-serialize-same-length-4 t c = search needs
