@@ -1,6 +1,6 @@
 -- Elements and series of children as they stand in bytes: what the walk does at each tag, and what it goes by at an element.
--- Main statements: `within-30`, `called-30` and the like; `serialize-call`, `serialize-template`, `inner-call`, `inner-void`, `inner-kids`;
--- `found-0`, `found-1`, `found-2`, `found-merged`. Assumes nothing.
+-- Main statements: `within-30`, `called-30` and the like; `serialize-call`, `serialize-template`, `serialize-kids`, `inner-call`, `inner-void`,
+-- `inner-kids`; `found-0`, `found-1`, `found-2`, `found-merged`. Assumes nothing.
 use mathlib.Core.Path.{_≡_, refl, sym, ap, _∙_, subst}
 use Prim.Native.Nat.{ℕ, _≤_}
 use native.Mathlib.Omega.{arith}
@@ -179,6 +179,11 @@ module _ (k p b : Bytes) {r : Bytes} (q : r ≡ behind-of b) where
 
         pub inner-kids : v ≡ false → keep (dynamic-exprs (element-at k p b .to-string-vec)) w ≡ keep (dynamic-exprs (children-to-string false (children-at k p (read r)))) w
         inner-kids g = inner ∙ rw (is-void g)
+
+    -- so the template of one that is not void stands behind what its children record
+    pub serialize-kids : z ≡ true → (w : Kept) {n : Bytes} → n ≡ identifier-bytes (element-name (read b)) → {v : Bool} → v ≡ is-void-element n → v ≡ false → keep (serialize-jsx (element-at k p b)) w
+        ≡ write (w .st .next) false (element-at k p b .to-string-vec) (keep (dynamic-exprs (children-to-string false (children-at k p (read r)))) (at (w .out) (bumped (w .st))))
+    serialize-kids h w i u g = serialize-template h w ∙ ap (write (w .st .next) false (element-at k p b .to-string-vec)) (inner-kids h (at (w .out) (bumped (w .st))) i u g)
 
 -- ---- children of a call
 

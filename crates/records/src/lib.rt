@@ -8,7 +8,7 @@ ghost use Rattle.field.specs.Row.{read};
 ghost use Rattle.spec.specs.Merge.{merge, long-run, short-runs};
 ghost use Rattle.spec.specs.Output.{dynamic-exprs, gen-template};
 ghost use Rattle.spec.specs.Children.{children-to-string, children-to-expr, serialize-jsx, entries, entries-pass, found-pass};
-ghost use Rattle.decisions.specs.At.{element-at, children-at};
+ghost use Rattle.decisions.specs.At.{element-at, children-at, serializable};
 ghost use Rattle.strings.specs.Carve as C;
 ghost use Rattle.records.specs.Keep.{at, keep, write, begin, end-at, bumped, Low};
 use decisions::children::becomes_template;
@@ -24,8 +24,8 @@ use names::is_void_element;
 use strings::Open;
 use strings::children_strings;
 use strings::cut;
-use strings::element_strings;
 use strings::merged_children_strings;
+use strings::tag_strings;
 
 // The next number, the place behind what was written, and whether some body, or a run, was over 65,535 bytes.
 pub struct Records {
@@ -68,6 +68,7 @@ fn closed(out: &mut [u8], st: Records, open: Open) -> Records
     }
 }
 
+// Of an element that is HTML.
 fn write_element<'a>(
     skip: &[u8],
     props: &'a [u8],
@@ -76,11 +77,11 @@ fn write_element<'a>(
     n: usize,
     st: Records,
 ) -> Records
-    requires { ⌜ Low (write n false (element-at (now skip) (now props) (now b) .to-string-vec) (at (now out) st)) ⌝ }
+    requires { ⌜ (serializable (now skip) (now b) ≡ true) × Low (write n false (element-at (now skip) (now props) (now b) .to-string-vec) (at (now out) st)) ⌝ }
     ensures { λ r. ⌜ at (now (out .exit)) r ≡ write n false (element-at (now (skip .entry)) (now (props .entry)) (now (b .entry)) .to-string-vec) (at (now (out .entry)) st) ⌝ }
 {
     let a = opened(out, n, st);
-    let c = element_strings(skip, props, b, out, a);
+    let c = tag_strings(skip, props, b, out, a);
     closed(out, st, c)
 }
 
@@ -145,7 +146,11 @@ pub fn record_serialize<'a>(
         return record_found(skip, props, rest, scratch, out, st);
     }
     let n = st.next;
-    let inner = record_element(skip, props, b, scratch, out, taken(st));
+    let a = taken(st);
+    if is_void_element(identifier(b)) {
+        return write_element(skip, props, b, out, n, a);
+    }
+    let inner = record_parts(skip, props, rest, scratch, out, a);
     write_element(skip, props, b, out, n, inner)
 }
 

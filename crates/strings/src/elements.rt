@@ -8,7 +8,7 @@ ghost use Rattle.text.specs.Escape.{escape-html};
 ghost use Rattle.page.specs.Tree.{children-in, contained-in};
 ghost use Rattle.spec.specs.Pass.{chars};
 ghost use Rattle.spec.specs.Children.{children-to-string};
-ghost use Rattle.decisions.specs.At.{opts, children-at, element-at, is-none};
+ghost use Rattle.decisions.specs.At.{opts, children-at, element-at, serializable, is-none};
 ghost use Rattle.strings.specs.Carve.{at, carve, contained-parts, Low};
 use crate::attributes::attributes_strings;
 use crate::writer::Open;
@@ -97,6 +97,14 @@ pub fn element_strings<'a>(
     if !is_serializable(skip, b) {
         return cut(out, st);
     }
+    tag_strings(skip, props, b, out, st)
+}
+
+// One that is known to be HTML: its tags, and what stands between them.
+pub fn tag_strings<'a>(skip: &[u8], props: &'a [u8], b: &'a [u8], out: &mut [u8], st: Open) -> Open
+    requires { ⌜ (serializable (now skip) (now b) ≡ true) × Low (carve (element-at (now skip) (now props) (now b) .to-string-vec) (at (now out) st)) ⌝ }
+    ensures { λ r. ⌜ at (now (out .exit)) r ≡ carve (element-at (now (skip .entry)) (now (props .entry)) (now (b .entry)) .to-string-vec) (at (now (out .entry)) st) ⌝ }
+{
     let n = identifier(b);
     let rest = behind(b);
     let p = put_open(out, st, n);

@@ -8,7 +8,7 @@ mod writer;
 
 pub use attributes::put_name;
 pub use elements::children_strings;
-pub use elements::element_strings;
+pub use elements::tag_strings;
 pub use merged::joins;
 pub use merged::merged_children_strings;
 pub use merged::put_joined;

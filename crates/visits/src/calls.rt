@@ -351,8 +351,9 @@ fn page_jsx<'a>(
     if is_serializable(skip, b) {
         let p = st.page;
         let a = begin_template(page, st);
-        let c = page_element(skip, props, b, scratch, templates, page, a);
-        return close(page, c, p, 0x90);
+        let c = page_attrs(skip, props, behind(b), scratch, templates, page, a);
+        let d = page_parts(skip, props, inner_children(b), scratch, templates, page, c);
+        return close(page, d, p, 0x90);
     }
     page_call(skip, props, b, scratch, templates, page, st)
 }

@@ -16,7 +16,7 @@ use Rattle.field.proofs.FrontLaws.{body-less, behind-less}
 use Rattle.records.specs.Keep.{at, keep, Low}
 use Rattle.records.proofs.KeepLaws.{keep-low, length-kept, inner-low, outer-low, outer-is}
 use Rattle.records.proofs.ChildLaws.{within, called, parts-within, merged-called}
-use Rattle.records.proofs.ReadLaws.{behind-shorter, serialize-call, serialize-template, inner-call, inner-void, inner-kids, found-0, found-1, found-2, found-merged}
+use Rattle.records.proofs.ReadLaws.{behind-shorter, serialize-call, serialize-template, serialize-kids, inner-call, inner-void, inner-kids, found-0, found-1, found-2, found-merged}
 use Rattle.records.proofs.WalkLaws.{test-failed, test-held, element-room, element-on, kids-room, kids-on, parts-past, parts-end, serialize-room, serialize-on, found-room, found-on, entries-past, entries-end}
 use borrow.Author.Needs.{needs}
 use borrow.Fn.Kinds.{In}
@@ -148,7 +148,7 @@ abbrev record-found-calls : ℕ → record-found-lts.Claims
 record-found-calls t = (child-count-reads.Asked, child-count-reads.Learnt, record-entries-below t, record-entries.Post, becomes-template-reads.Asked, becomes-template-reads.Learnt, taken-reads.Asked, taken-reads.Learnt, record-parts-below t, record-parts.Post, write-merged-reads.Asked, write-merged-reads.Learnt)
 
 abbrev record-serialize-calls : ℕ → record-serialize-lts.Claims
-record-serialize-calls t = (behind-reads.Asked, behind-reads.Learnt, is-serializable-reads.Asked, is-serializable-reads.Learnt, record-found-below t, record-found.Post, taken-reads.Asked, taken-reads.Learnt, record-element-below t, record-element.Post, write-element-reads.Asked, write-element-reads.Learnt)
+record-serialize-calls t = (behind-reads.Asked, behind-reads.Learnt, is-serializable-reads.Asked, is-serializable-reads.Learnt, record-found-below t, record-found.Post, taken-reads.Asked, taken-reads.Learnt, identifier-reads.Asked, identifier-reads.Learnt, is-void-element-reads.Asked, is-void-element-reads.Learnt, write-element-reads.Asked, write-element-reads.Learnt, record-parts-below t, record-parts.Post)
 
 -- ---- an element in a template
 
@@ -471,33 +471,57 @@ record-serialize-returns t c =
 
 record-serialize-taken-requires : (t : ℕ) → record-serialize-lts.Need-taken-requires (record-serialize-calls t) (record-serialize-at t) record-serialize.Post
 record-serialize-taken-requires t c κs =
-    let a = c .before .before .before .before .before .before .before .before .before .before in
+    let a = c .before .before .before .before .before .before .before .before in
     keep-low _ (at (a .args .out .now) (a .args .st)) (a .pre .1 .1 .1) .low-next
 
-record-serialize-record-element-requires : (t : ℕ) → record-serialize-lts.Need-record-element-requires (record-serialize-calls t) (record-serialize-at t) record-serialize.Post
-record-serialize-record-element-requires t c κs =
-    let a = c .before .before .before .before .before .before .before .before .before .before .before in
-    let i = c .before .before .before in
-    (omega (arith, a .pre .0), (a .pre .1 .0, (a .pre .1 .1 .0, inner-low _ _ _ _ _ (serialize-template _ _ _ (i .before .before .behind .ensures) (i .before .is-serializable .ensures) (test-held (i .before .is-serializable .result) (i .if1 .left)) _) (c .taken .ensures) (a .pre .1 .1 .1))))
+record-serialize-identifier-requires : (t : ℕ) → record-serialize-lts.Need-identifier-requires (record-serialize-calls t) (record-serialize-at t) record-serialize.Post
+record-serialize-identifier-requires t c κs = tt
+
+record-serialize-is-void-element-requires : (t : ℕ) → record-serialize-lts.Need-is-void-element-requires (record-serialize-calls t) (record-serialize-at t) record-serialize.Post
+record-serialize-is-void-element-requires t c κs = tt
 
 record-serialize-write-element-requires : (t : ℕ) → record-serialize-lts.Need-write-element-requires (record-serialize-calls t) (record-serialize-at t) record-serialize.Post
 record-serialize-write-element-requires t c κs =
-    let a = c .before .before .before .before .before .before .before .before .before .before .before .before .before .before .before .before .before in
-    let i = c .before .before .before .before .before .before .before .before .before in
-    let m = c .before .before .before .before .before in
-    outer-low _ _ _ _ _ (serialize-template _ _ _ (i .before .before .behind .ensures) (i .before .is-serializable .ensures) (test-held (i .before .is-serializable .result) (i .if1 .left)) _) (m .before .taken .ensures) (m .record-element .ensures) (a .pre .1 .1 .1)
+    let v = c .before in
+    let i = v .before .before .before .before in
+    let a = i .before .before .before .before .before .before .before .before in
+    (sym (i .before .is-serializable .ensures) ∙ test-held (i .before .is-serializable .result) (i .if1 .left), outer-low _ _ _ _ _ (serialize-template _ _ _ (i .before .before .behind .ensures) (i .before .is-serializable .ensures) (test-held (i .before .is-serializable .result) (i .if1 .left)) _) (v .before .before .before .taken .ensures) (sym (inner-void _ _ _ (i .before .before .behind .ensures) (i .before .is-serializable .ensures) (test-held (i .before .is-serializable .result) (i .if1 .left)) _ (v .before .before .identifier .ensures) (v .before .is-void-element .ensures) (v .if2 .taken))) (a .pre .1 .1 .1))
 
 record-serialize-same-length-3 : (t : ℕ) → record-serialize-lts.Need-same-length-3 (record-serialize-calls t) (record-serialize-at t) record-serialize.Post
 record-serialize-same-length-3 t c = search needs
 
+record-serialize-returns-2 : (t : ℕ) → record-serialize-lts.Need-returns-2 (record-serialize-calls t) (record-serialize-at t) record-serialize.Post
+record-serialize-returns-2 t c =
+    let v = c .before .before .before .before in
+    let i = v .before .before .before .before in
+    outer-is _ _ _ _ _ (serialize-template _ _ _ (i .before .before .behind .ensures) (i .before .is-serializable .ensures) (test-held (i .before .is-serializable .result) (i .if1 .left)) _) (v .before .before .before .taken .ensures) (sym (inner-void _ _ _ (i .before .before .behind .ensures) (i .before .is-serializable .ensures) (test-held (i .before .is-serializable .result) (i .if1 .left)) _ (v .before .before .identifier .ensures) (v .before .is-void-element .ensures) (v .if2 .taken))) (c .before .before .write-element .ensures)
+
+record-serialize-record-parts-requires : (t : ℕ) → record-serialize-lts.Need-record-parts-requires (record-serialize-calls t) (record-serialize-at t) record-serialize.Post
+record-serialize-record-parts-requires t c κs =
+    let v = c .before .before in
+    let i = v .before .before .before .before in
+    let a = i .before .before .before .before .before .before .before .before in
+    let l = behind-shorter _ (i .before .before .behind .ensures) in
+    (omega (arith, l, a .pre .0), (a .pre .1 .0, (omega (arith, l, a .pre .1 .1 .0), inner-low _ _ _ _ _ (serialize-kids _ _ _ (i .before .before .behind .ensures) (i .before .is-serializable .ensures) (test-held (i .before .is-serializable .result) (i .if1 .left)) _ (v .before .before .identifier .ensures) (v .before .is-void-element .ensures) (v .if2 .left)) (v .before .before .before .taken .ensures) (a .pre .1 .1 .1))))
+
+record-serialize-write-element-requires-2 : (t : ℕ) → record-serialize-lts.Need-write-element-requires-2 (record-serialize-calls t) (record-serialize-at t) record-serialize.Post
+record-serialize-write-element-requires-2 t c κs =
+    let v = c .before .before .before .before .before .before .before .before in
+    let i = v .before .before .before .before in
+    let a = i .before .before .before .before .before .before .before .before in
+    (sym (i .before .is-serializable .ensures) ∙ test-held (i .before .is-serializable .result) (i .if1 .left), outer-low _ _ _ _ _ (serialize-kids _ _ _ (i .before .before .behind .ensures) (i .before .is-serializable .ensures) (test-held (i .before .is-serializable .result) (i .if1 .left)) _ (v .before .before .identifier .ensures) (v .before .is-void-element .ensures) (v .if2 .left)) (v .before .before .before .taken .ensures) (c .before .before .before .before .before .record-parts .ensures) (a .pre .1 .1 .1))
+
 record-serialize-same-length-4 : (t : ℕ) → record-serialize-lts.Need-same-length-4 (record-serialize-calls t) (record-serialize-at t) record-serialize.Post
 record-serialize-same-length-4 t c = search needs
 
-record-serialize-returns-2 : (t : ℕ) → record-serialize-lts.Need-returns-2 (record-serialize-calls t) (record-serialize-at t) record-serialize.Post
-record-serialize-returns-2 t c =
-    let i = c .before .before .before .before .before .before .before .before .before .before .before .before in
-    let m = c .before .before .before .before .before .before .before .before in
-    outer-is _ _ _ _ _ (serialize-template _ _ _ (i .before .before .behind .ensures) (i .before .is-serializable .ensures) (test-held (i .before .is-serializable .result) (i .if1 .left)) _) (m .before .taken .ensures) (m .record-element .ensures) (c .before .before .write-element .ensures)
+record-serialize-same-length-5 : (t : ℕ) → record-serialize-lts.Need-same-length-5 (record-serialize-calls t) (record-serialize-at t) record-serialize.Post
+record-serialize-same-length-5 t c = search needs
+
+record-serialize-returns-3 : (t : ℕ) → record-serialize-lts.Need-returns-3 (record-serialize-calls t) (record-serialize-at t) record-serialize.Post
+record-serialize-returns-3 t c =
+    let v = c .before .before .before .before .before .before .before .before .before .before .before in
+    let i = v .before .before .before .before in
+    outer-is _ _ _ _ _ (serialize-kids _ _ _ (i .before .before .behind .ensures) (i .before .is-serializable .ensures) (test-held (i .before .is-serializable .result) (i .if1 .left)) _ (v .before .before .identifier .ensures) (v .before .is-void-element .ensures) (v .if2 .left)) (v .before .before .before .taken .ensures) (c .before .before .before .before .before .before .before .before .record-parts .ensures) (c .before .before .write-element2 .ensures)
 
 pub +record-element+record-entries+record-found+record-parts+record-serialize-spec :
     {M : Type 1} → statement M
@@ -600,8 +624,13 @@ pub +record-element+record-entries+record-found+record-parts+record-serialize-sp
     (record-serialize-same-length-2 t)
     (record-serialize-returns t)
     (record-serialize-taken-requires t)
-    (record-serialize-record-element-requires t)
+    (record-serialize-identifier-requires t)
+    (record-serialize-is-void-element-requires t)
     (record-serialize-write-element-requires t)
     (record-serialize-same-length-3 t)
-    (record-serialize-same-length-4 t)
     (record-serialize-returns-2 t)
+    (record-serialize-record-parts-requires t)
+    (record-serialize-write-element-requires-2 t)
+    (record-serialize-same-length-4 t)
+    (record-serialize-same-length-5 t)
+    (record-serialize-returns-3 t)

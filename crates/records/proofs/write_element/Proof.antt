@@ -10,13 +10,13 @@ opened-requires : tie.Need-opened-requires
 opened-requires c κs =
     let a = c .before .before .before .before .before in
     let ps = element-at (a .args .skip .now) (a .args .props .now) (a .args .b .now) .to-string-vec in
-    begin-low (a .args .n) false ps (a .args .out .now) (a .args .st) (a .pre)
+    begin-low (a .args .n) false ps (a .args .out .now) (a .args .st) (a .pre .1)
 
-element-strings-requires : tie.Need-element-strings-requires
-element-strings-requires c κs =
+tag-strings-requires : tie.Need-tag-strings-requires
+tag-strings-requires c κs =
     let a = c .before .before .before .before .before .before .before .before .before in
     let ps = element-at (a .args .skip .now) (a .args .props .now) (a .args .b .now) .to-string-vec in
-    carve-low (a .args .n) false ps (a .args .out .now) (a .args .st) (c .before .before .before .opened .ensures) (a .pre)
+    (a .pre .0, carve-low (a .args .n) false ps (a .args .out .now) (a .args .st) (c .before .before .before .opened .ensures) (a .pre .1))
 
 closed-requires : tie.Need-closed-requires
 closed-requires c κs =
@@ -24,7 +24,7 @@ closed-requires c κs =
     let ps = element-at (a .args .skip .now) (a .args .props .now) (a .args .b .now) .to-string-vec in
     let i = c .before .before .before in
     let o = i .before .before .before .before in
-    (plain-behind (a .args .n) ps (a .args .out .now) (a .args .st) (o .opened .ensures) (i .element-strings .ensures), plain-low (a .args .n) ps (a .args .out .now) (a .args .st) (o .opened .ensures) (i .element-strings .ensures) (a .pre))
+    (plain-behind (a .args .n) ps (a .args .out .now) (a .args .st) (o .opened .ensures) (i .tag-strings .ensures), plain-low (a .args .n) ps (a .args .out .now) (a .args .st) (o .opened .ensures) (i .tag-strings .ensures) (a .pre .1))
 
 same-length : tie.Need-same-length
 same-length c = search needs
@@ -35,9 +35,9 @@ returns c =
     let ps = element-at (a .args .skip .now) (a .args .props .now) (a .args .b .now) .to-string-vec in
     let i = c .before .before .before .before .before .before in
     let o = i .before .before .before .before in
-    plain-written (a .args .n) ps (a .args .out .now) (a .args .st) (o .opened .ensures) (i .element-strings .ensures) (c .before .before .closed .ensures)
+    plain-written (a .args .n) ps (a .args .out .now) (a .args .st) (o .opened .ensures) (i .tag-strings .ensures) (c .before .before .closed .ensures)
 
 pub write-element-spec : {M : Type 1} → statement M
 write-element-spec =
     tie.close
-    (tie.spec opened-requires element-strings-requires closed-requires same-length returns)
+    (tie.spec opened-requires tag-strings-requires closed-requires same-length returns)

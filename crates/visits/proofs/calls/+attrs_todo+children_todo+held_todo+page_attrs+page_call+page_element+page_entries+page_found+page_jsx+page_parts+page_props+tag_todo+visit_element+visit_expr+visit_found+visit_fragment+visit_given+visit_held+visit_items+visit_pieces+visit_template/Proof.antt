@@ -58,7 +58,7 @@ use Rattle.visits.proofs.calls.+attrs_todo+children_todo+held_todo+page
 use Rattle.visits.proofs.calls.+attrs_todo+children_todo+held_todo+page_attrs+page_call+page_element+page_entries+page_found+page_jsx+page_parts+page_props+tag_todo+visit_element+visit_expr+visit_found+visit_fragment+visit_given+visit_held+visit_items+visit_pieces+visit_template.Proof.PageElement.{page-element-behind-requires, page-element-calls, page-element-inner-children-requires, page-element-is-serializable-requires, page-element-page-attrs-requires, page-element-page-call-requires, page-element-page-parts-requires, page-element-returns, page-element-returns-2, page-element-same-length, page-element-same-length-2, page-element-same-length-3, page-element-same-length-4, page-element-same-length-5, page-element-same-length-6}
 use Rattle.visits.proofs.calls.+attrs_todo+children_todo+held_todo+page_attrs+page_call+page_element+page_entries+page_found+page_jsx+page_parts+page_props+tag_todo+visit_element+visit_expr+visit_found+visit_fragment+visit_given+visit_held+visit_items+visit_pieces+visit_template.Proof.PageEntries.{page-entries-Inv-loop, page-entries-behind-requires, page-entries-behind-requires-2, page-entries-behind-requires-3, page-entries-behind-requires-4, page-entries-behind-requires-5, page-entries-behind-requires-6, page-entries-body-requires, page-entries-body-requires-2, page-entries-body-requires-3, page-entries-body-requires-4, page-entries-calls, page-entries-flush-requires, page-entries-flush-requires-2, page-entries-flush-requires-3, page-entries-flush-requires-4, page-entries-found-of-requires, page-entries-join-container-requires, page-entries-join-text-requires, page-entries-joins-requires, page-entries-loop-again, page-entries-loop-again-2, page-entries-loop-again-3, page-entries-loop-again-4, page-entries-loop-again-5, page-entries-loop-again-6, page-entries-loop-holds, page-entries-loop-less, page-entries-loop-less-2, page-entries-loop-less-3, page-entries-loop-less-4, page-entries-loop-less-5, page-entries-loop-less-6, page-entries-page-found-requires, page-entries-page-jsx-requires, page-entries-returns, page-entries-same-length, page-entries-same-length-2, page-entries-same-length-3, page-entries-tag-at-requires, page-entries-visit-expr-requires, page-entries-μ-loop}
 use Rattle.visits.proofs.calls.+attrs_todo+children_todo+held_todo+page_attrs+page_call+page_element+page_entries+page_found+page_jsx+page_parts+page_props+tag_todo+visit_element+visit_expr+visit_found+visit_fragment+visit_given+visit_held+visit_items+visit_pieces+visit_template.Proof.PageFound.{page-found-begin-if-requires, page-found-begin-if-requires-2, page-found-begin-template-requires, page-found-body-requires, page-found-body-requires-2, page-found-body-requires-3, page-found-calls, page-found-close-if-requires, page-found-close-if-requires-2, page-found-close-requires, page-found-enum-told, page-found-enum-told-10, page-found-enum-told-2, page-found-enum-told-3, page-found-enum-told-4, page-found-enum-told-5, page-found-enum-told-6, page-found-enum-told-7, page-found-enum-told-8, page-found-enum-told-9, page-found-hole-leaf-requires, page-found-page-entries-requires, page-found-page-entries-requires-2, page-found-page-jsx-requires, page-found-page-parts-requires, page-found-place-requires, page-found-returns, page-found-returns-10, page-found-returns-11, page-found-returns-2, page-found-returns-3, page-found-returns-4, page-found-returns-5, page-found-returns-6, page-found-returns-7, page-found-returns-8, page-found-returns-9, page-found-same-length, page-found-same-length-10, page-found-same-length-11, page-found-same-length-12, page-found-same-length-13, page-found-same-length-14, page-found-same-length-15, page-found-same-length-16, page-found-same-length-17, page-found-same-length-18, page-found-same-length-19, page-found-same-length-2, page-found-same-length-20, page-found-same-length-21, page-found-same-length-3, page-found-same-length-4, page-found-same-length-5, page-found-same-length-6, page-found-same-length-7, page-found-same-length-8, page-found-same-length-9, page-found-tag-at-requires, page-found-text-leaf-requires, page-found-visit-expr-requires, page-found-visit-items-requires}
-use Rattle.visits.proofs.calls.+attrs_todo+children_todo+held_todo+page_attrs+page_call+page_element+page_entries+page_found+page_jsx+page_parts+page_props+tag_todo+visit_element+visit_expr+visit_found+visit_fragment+visit_given+visit_held+visit_items+visit_pieces+visit_template.Proof.PageJsx.{page-jsx-begin-template-requires, page-jsx-calls, page-jsx-close-requires, page-jsx-is-serializable-requires, page-jsx-page-call-requires, page-jsx-page-element-requires, page-jsx-returns, page-jsx-returns-2, page-jsx-same-length, page-jsx-same-length-2, page-jsx-same-length-3, page-jsx-same-length-4, page-jsx-same-length-5, page-jsx-same-length-6}
+use Rattle.visits.proofs.calls.+attrs_todo+children_todo+held_todo+page_attrs+page_call+page_element+page_entries+page_found+page_jsx+page_parts+page_props+tag_todo+visit_element+visit_expr+visit_found+visit_fragment+visit_given+visit_held+visit_items+visit_pieces+visit_template.Proof.PageJsx.{page-jsx-begin-template-requires, page-jsx-behind-requires, page-jsx-calls, page-jsx-close-requires, page-jsx-inner-children-requires, page-jsx-is-serializable-requires, page-jsx-page-attrs-requires, page-jsx-page-call-requires, page-jsx-page-parts-requires, page-jsx-returns, page-jsx-returns-2, page-jsx-same-length, page-jsx-same-length-2, page-jsx-same-length-3, page-jsx-same-length-4, page-jsx-same-length-5, page-jsx-same-length-6}
 use Rattle.visits.proofs.calls.+attrs_todo+children_todo+held_todo+page_attrs+page_call+page_element+page_entries+page_found+page_jsx+page_parts+page_props+tag_todo+visit_element+visit_expr+visit_found+visit_fragment+visit_given+visit_held+visit_items+visit_pieces+visit_template.Proof.PageParts.{page-parts-Inv-loop, page-parts-begin-if-requires, page-parts-behind-requires, page-parts-behind-requires-2, page-parts-behind-requires-3, page-parts-behind-requires-4, page-parts-body-requires, page-parts-body-requires-2, page-parts-body-requires-3, page-parts-calls, page-parts-close-if-requires, page-parts-gap-held-requires, page-parts-is-wrapped-requires, page-parts-loop-again, page-parts-loop-again-2, page-parts-loop-again-3, page-parts-loop-again-4, page-parts-loop-holds, page-parts-loop-less, page-parts-loop-less-2, page-parts-loop-less-3, page-parts-loop-less-4, page-parts-page-element-requires, page-parts-page-parts-requires, page-parts-returns, page-parts-same-length, page-parts-same-length-2, page-parts-same-length-3, page-parts-tag-at-requires, page-parts-visit-held-requires, page-parts-μ-loop}
 use Rattle.visits.proofs.calls.+attrs_todo+children_todo+held_todo+page_attrs+page_call+page_element+page_entries+page_found+page_jsx+page_parts+page_props+tag_todo+visit_element+visit_expr+visit_found+visit_fragment+visit_given+visit_held+visit_items+visit_pieces+visit_template.Proof.PageProps.{page-props-Inv-loop, page-props-begin-requires, page-props-behind-requires, page-props-behind-requires-2, page-props-body-requires, page-props-body-requires-2, page-props-calls, page-props-close-requires, page-props-gap-back-requires, page-props-held-at-requires, page-props-loop-again, page-props-loop-again-2, page-props-loop-holds, page-props-loop-less, page-props-loop-less-2, page-props-property-front-requires, page-props-property-gap-requires, page-props-returns, page-props-same-length, page-props-same-length-2, page-props-same-length-3, page-props-tag-at-requires, page-props-visit-expr-requires, page-props-visit-held-requires, page-props-μ-loop}
 use Rattle.visits.proofs.calls.+attrs_todo+children_todo+held_todo+page_attrs+page_call+page_element+page_entries+page_found+page_jsx+page_parts+page_props+tag_todo+visit_element+visit_expr+visit_found+visit_fragment+visit_given+visit_held+visit_items+visit_pieces+visit_template.Proof.TagTodo.{tag-todo-attrs-todo-requires, tag-todo-behind-requires, tag-todo-body-requires, tag-todo-calls, tag-todo-children-todo-requires, tag-todo-children-todo-requires-2, tag-todo-returns, tag-todo-returns-2, tag-todo-returns-3, tag-todo-returns-4, tag-todo-same-length, tag-todo-same-length-2, tag-todo-same-length-3, tag-todo-tag-at-requires}
@@ -374,7 +374,10 @@ pub +attrs-todo+children-todo+held-todo+page-attrs+page-call+page-element+page-e
     page-jsx.Post
     (page-jsx-is-serializable-requires t)
     (page-jsx-begin-template-requires t)
-    (page-jsx-page-element-requires t)
+    (page-jsx-behind-requires t)
+    (page-jsx-page-attrs-requires t)
+    (page-jsx-inner-children-requires t)
+    (page-jsx-page-parts-requires t)
     (page-jsx-close-requires t)
     (page-jsx-same-length t)
     (page-jsx-same-length-2 t)

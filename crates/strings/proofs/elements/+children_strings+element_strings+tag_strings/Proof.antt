@@ -1,4 +1,5 @@
--- The two functions meet their contracts by one induction: the bytes left fall, eight a byte, and an element stands one above its series.
+-- The three functions meet their contracts by one induction: the bytes left fall, eight a byte, and within one slice an element stands above
+-- its tags, and they above the series.
 -- The loop keeps that what is left of the series, written from here on, gives what the whole gives from the start. Assumes nothing.
 use borrow.Author.Tests.{not-true, not-false}
 use Rattle.field.proofs.Actions.{kept}
@@ -6,7 +7,7 @@ use Rattle.field.proofs.FrontLaws.{behind-less}
 use Rattle.strings.proofs.CarveLaws.{same-size}
 use Rattle.strings.proofs.FrontSizes.{behind-le}
 use borrow.Author.Needs.{needs}
-use mathlib.Core.Path.{refl}
+use mathlib.Core.Path.{refl, sym, _∙_}
 use Prim.Native.Nat.{ℕ, _+_, _*_, _<_}
 use native.Mathlib.Omega.{arith}
 use lib.ListN.{length}
@@ -16,10 +17,13 @@ use borrow.Fn.Kinds.{In}
 use borrow.Fn.PlainCycle.{Measures, is, falls, and}
 use Rattle.strings.proofs.elements.children_strings.Reads as children-strings
 use Rattle.strings.proofs.elements.children_strings.Kinds as children-strings-kinds
-use Rattle.strings.proofs.elements.+children_strings+element_strings.Lts-children_strings as children-strings-lts
+use Rattle.strings.proofs.elements.+children_strings+element_strings+tag_strings.Lts-children_strings as children-strings-lts
 use Rattle.strings.proofs.elements.element_strings.Reads as element-strings
 use Rattle.strings.proofs.elements.element_strings.Kinds as element-strings-kinds
-use Rattle.strings.proofs.elements.+children_strings+element_strings.Lts-element_strings as element-strings-lts
+use Rattle.strings.proofs.elements.+children_strings+element_strings+tag_strings.Lts-element_strings as element-strings-lts
+use Rattle.strings.proofs.elements.tag_strings.Reads as tag-strings
+use Rattle.strings.proofs.elements.tag_strings.Kinds as tag-strings-kinds
+use Rattle.strings.proofs.elements.+children_strings+element_strings+tag_strings.Lts-tag_strings as tag-strings-lts
 use Rattle.decisions.proofs.element.identifier.Reads as identifier-reads
 use Rattle.decisions.proofs.element.is_serializable.Reads as is-serializable-reads
 use Rattle.field.proofs.reader.behind.Reads as behind-reads
@@ -34,14 +38,17 @@ use Rattle.strings.proofs.elements.put_open.Reads as put-open-reads
 use Rattle.strings.proofs.writer.cut.Reads as cut-reads
 use Rattle.strings.proofs.writer.put_chars.Reads as put-chars-reads
 use Rattle.strings.proofs.writer.put_text.Reads as put-text-reads
-use Rattle.strings.proofs.elements.+children_strings+element_strings.{statement}
-use Rattle.strings.proofs.elements.+children_strings+element_strings.Tie.{close}
+use Rattle.strings.proofs.elements.+children_strings+element_strings+tag_strings.{statement}
+use Rattle.strings.proofs.elements.+children_strings+element_strings+tag_strings.Tie.{close}
 
 abbrev μ-children-strings : Measures 3 children-strings-kinds.ps ℕ
 μ-children-strings κs a = 8 * length (a .1 .1 .0 .now)
 
 abbrev μ-element-strings : Measures 3 element-strings-kinds.ps ℕ
-μ-element-strings κs a = 8 * length (a .1 .1 .0 .now) + 1
+μ-element-strings κs a = 8 * length (a .1 .1 .0 .now) + 2
+
+abbrev μ-tag-strings : Measures 3 tag-strings-kinds.ps ℕ
+μ-tag-strings κs a = 8 * length (a .1 .1 .0 .now) + 1
 
 abbrev children-strings-at : ℕ → In 3 children-strings-kinds.ps
 children-strings-at t =
@@ -74,6 +81,22 @@ element-strings-below t =
     element-strings-kinds.ps
     (falls 3 element-strings-kinds.ps _<_ μ-element-strings t)
     element-strings.Pre
+
+abbrev tag-strings-at : ℕ → In 3 tag-strings-kinds.ps
+tag-strings-at t =
+    and
+    3
+    tag-strings-kinds.ps
+    (is 3 tag-strings-kinds.ps μ-tag-strings t)
+    tag-strings.Pre
+
+abbrev tag-strings-below : ℕ → In 3 tag-strings-kinds.ps
+tag-strings-below t =
+    and
+    3
+    tag-strings-kinds.ps
+    (falls 3 tag-strings-kinds.ps _<_ μ-tag-strings t)
+    tag-strings.Pre
 
 abbrev children-strings-calls : ℕ → children-strings-lts.Claims
 children-strings-calls t = (tag-at-reads.Asked, tag-at-reads.Learnt, behind-reads.Asked, behind-reads.Learnt, is-last-reads.Asked, is-last-reads.Learnt, body-reads.Asked, body-reads.Learnt, put-text-reads.Asked, put-text-reads.Learnt, container-child-reads.Asked, container-child-reads.Learnt, element-strings-below t, element-strings.Post, children-strings-below t, children-strings.Post)
@@ -203,7 +226,7 @@ children-strings-loop-again-5 : (t : ℕ) → children-strings-lts.Need-loop-aga
 children-strings-loop-again-5 t c = other-on (c .before .before .before .loop .inv) (c .before .before .tag-at .ensures .0) (c .behind5 .ensures) (c .before .match .rest .1) (c .before .match .rest .0 .0 .0 .0 .1) (c .before .match .rest .0 .0 .0 .1) (c .before .match .rest .0 .0 .1) (c .before .match .rest .0 .1)
 
 abbrev element-strings-calls : ℕ → element-strings-lts.Claims
-element-strings-calls t = (is-serializable-reads.Asked, is-serializable-reads.Learnt, cut-reads.Asked, cut-reads.Learnt, identifier-reads.Asked, identifier-reads.Learnt, behind-reads.Asked, behind-reads.Learnt, put-open-reads.Asked, put-open-reads.Learnt, attributes-strings-reads.Asked, attributes-strings-reads.Learnt, put-chars-reads.Asked, put-chars-reads.Learnt, is-void-element-reads.Asked, is-void-element-reads.Learnt, children-strings-below t, children-strings.Post, put-close-reads.Asked, put-close-reads.Learnt)
+element-strings-calls t = (is-serializable-reads.Asked, is-serializable-reads.Learnt, cut-reads.Asked, cut-reads.Learnt, tag-strings-below t, tag-strings.Post)
 
 element-strings-is-serializable-requires : (t : ℕ) → element-strings-lts.Need-is-serializable-requires (element-strings-calls t) (element-strings-at t) element-strings.Post
 element-strings-is-serializable-requires t c κs = tt
@@ -224,111 +247,124 @@ element-strings-returns t c =
     let a = start .args in
     gap-end (a .skip .now) (a .props .now) (a .b .now) (at (a .out .now) (a .st)) (p .before .is-serializable .ensures) (not-true _ (p .if1 .taken)) (c .before .before .cut .ensures)
 
-element-strings-identifier-requires : (t : ℕ) → element-strings-lts.Need-identifier-requires (element-strings-calls t) (element-strings-at t) element-strings.Post
-element-strings-identifier-requires t c κs = tt
+element-strings-tag-strings-requires : (t : ℕ) → element-strings-lts.Need-tag-strings-requires (element-strings-calls t) (element-strings-at t) element-strings.Post
+element-strings-tag-strings-requires t c κs =
+    let start = c .before .before .before .before .before .before .before in
+    (omega (arith, start .pre .0), (sym (c .before .before .is-serializable .ensures) ∙ not-false _ (c .before .if1 .left), start .pre .1))
 
-element-strings-behind-requires : (t : ℕ) → element-strings-lts.Need-behind-requires (element-strings-calls t) (element-strings-at t) element-strings.Post
-element-strings-behind-requires t c κs = tt
+element-strings-same-length-2 : (t : ℕ) → element-strings-lts.Need-same-length-2 (element-strings-calls t) (element-strings-at t) element-strings.Post
+element-strings-same-length-2 t c = c .before .before .tag-strings .kept .1 .1 .1 .0
 
-element-strings-put-open-requires : (t : ℕ) → element-strings-lts.Need-put-open-requires (element-strings-calls t) (element-strings-at t) element-strings.Post
-element-strings-put-open-requires t c κs =
-    let p = c .before .before .before in
-    let start = p .before .before .before .before .before .before in
+element-strings-returns-2 : (t : ℕ) → element-strings-lts.Need-returns-2 (element-strings-calls t) (element-strings-at t) element-strings.Post
+element-strings-returns-2 t c = c .before .before .tag-strings .ensures
+
+abbrev tag-strings-calls : ℕ → tag-strings-lts.Claims
+tag-strings-calls t = (identifier-reads.Asked, identifier-reads.Learnt, behind-reads.Asked, behind-reads.Learnt, put-open-reads.Asked, put-open-reads.Learnt, attributes-strings-reads.Asked, attributes-strings-reads.Learnt, put-chars-reads.Asked, put-chars-reads.Learnt, is-void-element-reads.Asked, is-void-element-reads.Learnt, children-strings-below t, children-strings.Post, put-close-reads.Asked, put-close-reads.Learnt)
+
+tag-strings-identifier-requires : (t : ℕ) → tag-strings-lts.Need-identifier-requires (tag-strings-calls t) (tag-strings-at t) tag-strings.Post
+tag-strings-identifier-requires t c κs = tt
+
+tag-strings-behind-requires : (t : ℕ) → tag-strings-lts.Need-behind-requires (tag-strings-calls t) (tag-strings-at t) tag-strings.Post
+tag-strings-behind-requires t c κs = tt
+
+tag-strings-put-open-requires : (t : ℕ) → tag-strings-lts.Need-put-open-requires (tag-strings-calls t) (tag-strings-at t) tag-strings.Post
+tag-strings-put-open-requires t c κs =
+    let start = c .before .before .before .before .before .before .before in
     let a = start .args in
-    open-room (a .skip .now) (a .props .now) (a .b .now) (at (a .out .now) (a .st)) (p .before .is-serializable .ensures) (not-false _ (p .if1 .left)) (c .before .before .identifier .ensures) (c .before .behind .ensures) (start .pre .1)
+    open-room (a .skip .now) (a .props .now) (a .b .now) (at (a .out .now) (a .st)) refl (start .pre .1 .0) (c .before .before .identifier .ensures) (c .before .behind .ensures) (start .pre .1 .1)
 
-element-strings-attributes-strings-requires : (t : ℕ) → element-strings-lts.Need-attributes-strings-requires (element-strings-calls t) (element-strings-at t) element-strings.Post
-element-strings-attributes-strings-requires t c κs =
+tag-strings-attributes-strings-requires : (t : ℕ) → tag-strings-lts.Need-attributes-strings-requires (tag-strings-calls t) (tag-strings-at t) tag-strings.Post
+tag-strings-attributes-strings-requires t c κs =
     let p₁ = c .before .before .before in
     let p₂ = p₁ .before .before .before in
-    let start = p₂ .before .before .before .before .before .before .before in
+    let start = p₂ .before .before .before .before .before in
     let a = start .args in
-    attrs-room (a .skip .now) (a .props .now) (a .b .now) (at (a .out .now) (a .st)) (p₂ .before .before .is-serializable .ensures) (not-false _ (p₂ .before .if1 .left)) (p₂ .identifier .ensures) (p₁ .before .before .behind .ensures) (p₁ .put-open .ensures) (start .pre .1)
+    attrs-room (a .skip .now) (a .props .now) (a .b .now) (at (a .out .now) (a .st)) refl (start .pre .1 .0) (p₂ .identifier .ensures) (p₁ .before .before .behind .ensures) (p₁ .put-open .ensures) (start .pre .1 .1)
 
-element-strings-slice-aggregate-put-chars : (t : ℕ) → element-strings-lts.Need-slice-aggregate-put-chars (element-strings-calls t) (element-strings-at t) element-strings.Post
-element-strings-slice-aggregate-put-chars t c = search needs
+tag-strings-slice-aggregate-put-chars : (t : ℕ) → tag-strings-lts.Need-slice-aggregate-put-chars (tag-strings-calls t) (tag-strings-at t) tag-strings.Post
+tag-strings-slice-aggregate-put-chars t c = search needs
 
-element-strings-put-chars-requires : (t : ℕ) → element-strings-lts.Need-put-chars-requires (element-strings-calls t) (element-strings-at t) element-strings.Post
-element-strings-put-chars-requires t c κs =
+tag-strings-put-chars-requires : (t : ℕ) → tag-strings-lts.Need-put-chars-requires (tag-strings-calls t) (tag-strings-at t) tag-strings.Post
+tag-strings-put-chars-requires t c κs =
     let p₁ = c .before .before .before .before in
     let p₂ = p₁ .before .before .before .before in
     let p₃ = p₂ .before .before .before in
-    let start = p₃ .before .before .before .before .before .before .before in
+    let start = p₃ .before .before .before .before .before in
     let a = start .args in
-    end-room (a .skip .now) (a .props .now) (a .b .now) (at (a .out .now) (a .st)) (p₃ .before .before .is-serializable .ensures) (not-false _ (p₃ .before .if1 .left)) (p₃ .identifier .ensures) (p₂ .before .before .behind .ensures) (p₂ .put-open .ensures) (p₁ .attributes-strings .ensures) (start .pre .1)
+    end-room (a .skip .now) (a .props .now) (a .b .now) (at (a .out .now) (a .st)) refl (start .pre .1 .0) (p₃ .identifier .ensures) (p₂ .before .before .behind .ensures) (p₂ .put-open .ensures) (p₁ .attributes-strings .ensures) (start .pre .1 .1)
 
-element-strings-is-void-element-requires : (t : ℕ) → element-strings-lts.Need-is-void-element-requires (element-strings-calls t) (element-strings-at t) element-strings.Post
-element-strings-is-void-element-requires t c κs = tt
+tag-strings-is-void-element-requires : (t : ℕ) → tag-strings-lts.Need-is-void-element-requires (tag-strings-calls t) (tag-strings-at t) tag-strings.Post
+tag-strings-is-void-element-requires t c κs = tt
 
-element-strings-same-length-2 : (t : ℕ) → element-strings-lts.Need-same-length-2 (element-strings-calls t) (element-strings-at t) element-strings.Post
-element-strings-same-length-2 t c =
+tag-strings-same-length : (t : ℕ) → tag-strings-lts.Need-same-length (tag-strings-calls t) (tag-strings-at t) tag-strings.Post
+tag-strings-same-length t c =
     let p₁ = c .before .before .before .before in
     let p₂ = p₁ .before .before .before .before .before in
     let p₃ = p₂ .before .before .before .before in
     let p₄ = p₃ .before .before .before in
-    let start = p₄ .before .before .before .before .before .before .before in
+    let start = p₄ .before .before .before .before .before in
     let a = start .args in
-    kept same-size (void-end (a .skip .now) (a .props .now) (a .b .now) (at (a .out .now) (a .st)) (p₄ .before .before .is-serializable .ensures) (not-false _ (p₄ .before .if1 .left)) (p₄ .identifier .ensures) (p₃ .before .before .behind .ensures) (p₃ .put-open .ensures) (p₂ .attributes-strings .ensures) (p₁ .put-chars .ensures) (c .before .is-void-element .ensures) (c .if2 .taken))
+    kept same-size (void-end (a .skip .now) (a .props .now) (a .b .now) (at (a .out .now) (a .st)) refl (start .pre .1 .0) (p₄ .identifier .ensures) (p₃ .before .before .behind .ensures) (p₃ .put-open .ensures) (p₂ .attributes-strings .ensures) (p₁ .put-chars .ensures) (c .before .is-void-element .ensures) (c .if1 .taken))
 
-element-strings-returns-2 : (t : ℕ) → element-strings-lts.Need-returns-2 (element-strings-calls t) (element-strings-at t) element-strings.Post
-element-strings-returns-2 t c =
+tag-strings-returns : (t : ℕ) → tag-strings-lts.Need-returns (tag-strings-calls t) (tag-strings-at t) tag-strings.Post
+tag-strings-returns t c =
     let p₁ = c .before .before .before .before in
     let p₂ = p₁ .before .before .before .before .before in
     let p₃ = p₂ .before .before .before .before in
     let p₄ = p₃ .before .before .before in
-    let start = p₄ .before .before .before .before .before .before .before in
+    let start = p₄ .before .before .before .before .before in
     let a = start .args in
-    void-end (a .skip .now) (a .props .now) (a .b .now) (at (a .out .now) (a .st)) (p₄ .before .before .is-serializable .ensures) (not-false _ (p₄ .before .if1 .left)) (p₄ .identifier .ensures) (p₃ .before .before .behind .ensures) (p₃ .put-open .ensures) (p₂ .attributes-strings .ensures) (p₁ .put-chars .ensures) (c .before .is-void-element .ensures) (c .if2 .taken)
+    void-end (a .skip .now) (a .props .now) (a .b .now) (at (a .out .now) (a .st)) refl (start .pre .1 .0) (p₄ .identifier .ensures) (p₃ .before .before .behind .ensures) (p₃ .put-open .ensures) (p₂ .attributes-strings .ensures) (p₁ .put-chars .ensures) (c .before .is-void-element .ensures) (c .if1 .taken)
 
-element-strings-children-strings-requires : (t : ℕ) → element-strings-lts.Need-children-strings-requires (element-strings-calls t) (element-strings-at t) element-strings.Post
-element-strings-children-strings-requires t c κs =
+tag-strings-children-strings-requires : (t : ℕ) → tag-strings-lts.Need-children-strings-requires (tag-strings-calls t) (tag-strings-at t) tag-strings.Post
+tag-strings-children-strings-requires t c κs =
     let p₁ = c .before .before .before .before .before in
     let p₂ = p₁ .before .before .before .before .before in
     let p₃ = p₂ .before .before .before .before in
     let p₄ = p₃ .before .before .before in
-    let start = p₄ .before .before .before .before .before .before .before in
+    let start = p₄ .before .before .before .before .before in
     let a = start .args in
-    (omega (arith, behind-le (a .b .now) (p₃ .before .before .behind .ensures), start .pre .0), kids-room (a .skip .now) (a .props .now) (a .b .now) (at (a .out .now) (a .st)) (p₄ .before .before .is-serializable .ensures) (not-false _ (p₄ .before .if1 .left)) (p₄ .identifier .ensures) (p₃ .before .before .behind .ensures) (p₃ .put-open .ensures) (p₂ .attributes-strings .ensures) (p₁ .put-chars .ensures) (c .before .before .is-void-element .ensures) (c .before .if2 .left) (start .pre .1))
+    (omega (arith, behind-le (a .b .now) (p₃ .before .before .behind .ensures), start .pre .0), kids-room (a .skip .now) (a .props .now) (a .b .now) (at (a .out .now) (a .st)) refl (start .pre .1 .0) (p₄ .identifier .ensures) (p₃ .before .before .behind .ensures) (p₃ .put-open .ensures) (p₂ .attributes-strings .ensures) (p₁ .put-chars .ensures) (c .before .before .is-void-element .ensures) (c .before .if1 .left) (start .pre .1 .1))
 
-element-strings-put-close-requires : (t : ℕ) → element-strings-lts.Need-put-close-requires (element-strings-calls t) (element-strings-at t) element-strings.Post
-element-strings-put-close-requires t c κs =
+tag-strings-put-close-requires : (t : ℕ) → tag-strings-lts.Need-put-close-requires (tag-strings-calls t) (tag-strings-at t) tag-strings.Post
+tag-strings-put-close-requires t c κs =
     let p₁ = c .before .before .before in
     let p₂ = p₁ .before .before .before in
     let p₃ = p₂ .before .before .before in
     let p₄ = p₃ .before .before .before .before .before in
     let p₅ = p₄ .before .before .before .before in
     let p₆ = p₅ .before .before .before in
-    let start = p₆ .before .before .before .before .before .before .before in
+    let start = p₆ .before .before .before .before .before in
     let a = start .args in
-    close-room (a .skip .now) (a .props .now) (a .b .now) (at (a .out .now) (a .st)) (p₆ .before .before .is-serializable .ensures) (not-false _ (p₆ .before .if1 .left)) (p₆ .identifier .ensures) (p₅ .before .before .behind .ensures) (p₅ .put-open .ensures) (p₄ .attributes-strings .ensures) (p₃ .put-chars .ensures) (p₂ .is-void-element .ensures) (p₁ .before .before .if2 .left) (p₁ .children-strings .ensures) (start .pre .1)
+    close-room (a .skip .now) (a .props .now) (a .b .now) (at (a .out .now) (a .st)) refl (start .pre .1 .0) (p₆ .identifier .ensures) (p₅ .before .before .behind .ensures) (p₅ .put-open .ensures) (p₄ .attributes-strings .ensures) (p₃ .put-chars .ensures) (p₂ .is-void-element .ensures) (p₁ .before .before .if1 .left) (p₁ .children-strings .ensures) (start .pre .1 .1)
 
-element-strings-same-length-3 : (t : ℕ) → element-strings-lts.Need-same-length-3 (element-strings-calls t) (element-strings-at t) element-strings.Post
-element-strings-same-length-3 t c =
+tag-strings-same-length-2 : (t : ℕ) → tag-strings-lts.Need-same-length-2 (tag-strings-calls t) (tag-strings-at t) tag-strings.Post
+tag-strings-same-length-2 t c =
     let p₁ = c .before .before .before .before .before .before in
     let p₂ = p₁ .before .before .before in
     let p₃ = p₂ .before .before .before in
     let p₄ = p₃ .before .before .before .before .before in
     let p₅ = p₄ .before .before .before .before in
     let p₆ = p₅ .before .before .before in
-    let start = p₆ .before .before .before .before .before .before .before in
+    let start = p₆ .before .before .before .before .before in
     let a = start .args in
-    kept same-size (close-end (a .skip .now) (a .props .now) (a .b .now) (at (a .out .now) (a .st)) (p₆ .before .before .is-serializable .ensures) (not-false _ (p₆ .before .if1 .left)) (p₆ .identifier .ensures) (p₅ .before .before .behind .ensures) (p₅ .put-open .ensures) (p₄ .attributes-strings .ensures) (p₃ .put-chars .ensures) (p₂ .is-void-element .ensures) (p₁ .before .before .if2 .left) (p₁ .children-strings .ensures) (c .before .before .put-close .ensures))
+    kept same-size (close-end (a .skip .now) (a .props .now) (a .b .now) (at (a .out .now) (a .st)) refl (start .pre .1 .0) (p₆ .identifier .ensures) (p₅ .before .before .behind .ensures) (p₅ .put-open .ensures) (p₄ .attributes-strings .ensures) (p₃ .put-chars .ensures) (p₂ .is-void-element .ensures) (p₁ .before .before .if1 .left) (p₁ .children-strings .ensures) (c .before .before .put-close .ensures))
 
-element-strings-returns-3 : (t : ℕ) → element-strings-lts.Need-returns-3 (element-strings-calls t) (element-strings-at t) element-strings.Post
-element-strings-returns-3 t c =
+tag-strings-returns-2 : (t : ℕ) → tag-strings-lts.Need-returns-2 (tag-strings-calls t) (tag-strings-at t) tag-strings.Post
+tag-strings-returns-2 t c =
     let p₁ = c .before .before .before .before .before .before in
     let p₂ = p₁ .before .before .before in
     let p₃ = p₂ .before .before .before in
     let p₄ = p₃ .before .before .before .before .before in
     let p₅ = p₄ .before .before .before .before in
     let p₆ = p₅ .before .before .before in
-    let start = p₆ .before .before .before .before .before .before .before in
+    let start = p₆ .before .before .before .before .before in
     let a = start .args in
-    close-end (a .skip .now) (a .props .now) (a .b .now) (at (a .out .now) (a .st)) (p₆ .before .before .is-serializable .ensures) (not-false _ (p₆ .before .if1 .left)) (p₆ .identifier .ensures) (p₅ .before .before .behind .ensures) (p₅ .put-open .ensures) (p₄ .attributes-strings .ensures) (p₃ .put-chars .ensures) (p₂ .is-void-element .ensures) (p₁ .before .before .if2 .left) (p₁ .children-strings .ensures) (c .before .before .put-close .ensures)
+    close-end (a .skip .now) (a .props .now) (a .b .now) (at (a .out .now) (a .st)) refl (start .pre .1 .0) (p₆ .identifier .ensures) (p₅ .before .before .behind .ensures) (p₅ .put-open .ensures) (p₄ .attributes-strings .ensures) (p₃ .put-chars .ensures) (p₂ .is-void-element .ensures) (p₁ .before .before .if1 .left) (p₁ .children-strings .ensures) (c .before .before .put-close .ensures)
 
-pub +children-strings+element-strings-spec : {M : Type 1} → statement M
-+children-strings+element-strings-spec =
-    close μ-children-strings μ-element-strings (λ t. children-strings-lts.spec (children-strings-calls t)
+pub +children-strings+element-strings+tag-strings-spec : {M : Type 1} → statement M
++children-strings+element-strings+tag-strings-spec =
+    close μ-children-strings μ-element-strings μ-tag-strings (λ t. children-strings-lts.spec (children-strings-calls t)
     (children-strings-at t)
     children-strings.Post
     children-strings-Inv-loop
@@ -361,23 +397,29 @@ pub +children-strings+element-strings-spec : {M : Type 1} → statement M
     (children-strings-behind-requires-5 t)
     (children-strings-loop-less-5 t)
     (children-strings-loop-again-5 t))
-    λ t. element-strings-lts.spec (element-strings-calls t)
+    (λ t. element-strings-lts.spec (element-strings-calls t)
     (element-strings-at t)
     element-strings.Post
     (element-strings-is-serializable-requires t)
     (element-strings-cut-requires t)
     (element-strings-same-length t)
     (element-strings-returns t)
-    (element-strings-identifier-requires t)
-    (element-strings-behind-requires t)
-    (element-strings-put-open-requires t)
-    (element-strings-attributes-strings-requires t)
-    (element-strings-slice-aggregate-put-chars t)
-    (element-strings-put-chars-requires t)
-    (element-strings-is-void-element-requires t)
+    (element-strings-tag-strings-requires t)
     (element-strings-same-length-2 t)
-    (element-strings-returns-2 t)
-    (element-strings-children-strings-requires t)
-    (element-strings-put-close-requires t)
-    (element-strings-same-length-3 t)
-    (element-strings-returns-3 t)
+    (element-strings-returns-2 t))
+    λ t. tag-strings-lts.spec (tag-strings-calls t)
+    (tag-strings-at t)
+    tag-strings.Post
+    (tag-strings-identifier-requires t)
+    (tag-strings-behind-requires t)
+    (tag-strings-put-open-requires t)
+    (tag-strings-attributes-strings-requires t)
+    (tag-strings-slice-aggregate-put-chars t)
+    (tag-strings-put-chars-requires t)
+    (tag-strings-is-void-element-requires t)
+    (tag-strings-same-length t)
+    (tag-strings-returns t)
+    (tag-strings-children-strings-requires t)
+    (tag-strings-put-close-requires t)
+    (tag-strings-same-length-2 t)
+    (tag-strings-returns-2 t)
