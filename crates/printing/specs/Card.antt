@@ -71,7 +71,7 @@ pointed (loose b) = []
 pointed (field t f i r) = f ++ pointed-more r
 
 abbrev pub template-name : Bytes → Bytes
-template-name f = ascii "$$_tpl_" ++ decimal (number-of f)
+template-name f = ascii "$$_tpl_" ++ decimal (number-of (take 2 f))
 
 -- ---- expressions
 
@@ -144,10 +144,10 @@ helpers-text n =
     (helper-text (odd (n / 4)) (odd n || odd (n / 2)) (ascii "jsxAttr") ++
     helper-text (odd (n / 8)) (odd n || (odd (n / 2) || odd (n / 4))) (ascii "jsxEscape")))
 
--- the sum stands behind the source
+-- the sum stands behind the source, in one byte
 abbrev pub sum-behind : Row → ℕ
 sum-behind end = 0
-sum-behind (loose b) = number-of b
+sum-behind (loose b) = number-of (take 1 b)
 sum-behind (field t f i r) = 0
 
 abbrev pub sum-in : Row → ℕ

@@ -1,2 +1,3 @@
--- What the card prints.
+-- What the card prints, and a field's front.
+pub mod Front
 pub mod Card
