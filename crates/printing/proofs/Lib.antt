@@ -1,2 +1,3 @@
--- The worked card of 01.
+-- How long the text is, and the worked card of 01.
+pub mod TextLength
 pub mod Worked
