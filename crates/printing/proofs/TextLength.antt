@@ -15,7 +15,8 @@ use Rattle.field.specs.Row.{Row, end, loose, field, bytes}
 use Rattle.field.proofs.RowLaws.{length-bytes}
 use Rattle.text.specs.Decimal.{decimal}
 use Rattle.text.proofs.DecimalLaws.{length-decimal}
-use Rattle.printing.specs.Card.{hex-digit, quoted-byte, quoted-bytes, quoted, is-identifier, prop-name, first-front, pointed-more, pointed, template-name}
+use Rattle.page.specs.Tree.{choose, boolean-in}
+use Rattle.printing.specs.Card.{quoted-byte, quoted-bytes, quoted, is-identifier, prop-name, first-front, second-front, pointed-more, pointed, template-name, text-by, all-text, parted-text, behind-text, first-text, second-text}
 
 -- ---- strings and names
 
@@ -63,3 +64,89 @@ pub length-first-front : (r : Row) → length (first-front r) ≤ length (bytes 
 length-first-front end = omega arith
 length-first-front (loose b) = omega arith
 length-first-front (field t f i r) = omega (arith, length-bytes t f i r)
+
+-- ---- expressions
+
+choose-length : (b : Bool) (x y : Unit {0} → Bytes) (n : ℕ) → length (x tt) ≤ n → length (y tt) ≤ n → length (choose b x y) ≤ n
+unfolding choose
+choose-length true x y n h k = h
+choose-length false x y n h k = k
+
+-- the texts of a row; the front that a 93 or a 96 prints beside one of them is paid for by the same row
+record Lengths (r : Row) : Type 0 where
+  all : length (all-text r) ≤ 16 * length (bytes r)
+  parted : length (parted-text r) ≤ 16 * length (bytes r)
+  behind : length (behind-text r) ≤ 16 * length (bytes r)
+  first : length (first-text r) ≤ 16 * length (bytes r)
+  choice : length (first-text r) + length (quoted (second-front r)) ≤ 2 + 16 * length (bytes r)
+  prop : length (prop-name (first-front r)) + length (second-text r) ≤ 2 + 16 * length (bytes r)
+
+-- what a field prints, and how long it is at most: a template's call has the most bytes of its own, 41
+abbrev field-text : ℕ → Bytes → Row → Bytes
+field-text t f i = text-by t f i (λ _. all-text i) (λ _. parted-text i) (λ _. behind-text i) (λ _. first-text i) (λ _. second-text i)
+
+abbrev room : Bytes → Row → ℕ
+room f i = 41 + 4 * length f + 16 * length (bytes i)
+
+module _ (t : ℕ) (f : Bytes) (i : Row) (l : Lengths i) where
+  template-fits : length (ascii "_jsxTemplate(" ++ (template-name f ++ (behind-text i ++ (41 ∷ [])))) ≤ room f i
+  template-fits = omega (arith, length-append (template-name f) (behind-text i ++ (41 ∷ [])), length-append (behind-text i) (41 ∷ []), length-template-name f)
+
+  choice-fits : length (first-text i ++ (ascii " ? " ++ (quoted (second-front i) ++ ascii " : \"\""))) ≤ room f i
+  choice-fits =
+      omega (arith, length-append (first-text i) (ascii " ? " ++ (quoted (second-front i) ++ ascii " : \"\"")), length-append (quoted (second-front i)) (ascii " : \"\""))
+
+  prop-fits : length (prop-name (first-front i) ++ (ascii ": " ++ second-text i)) ≤ room f i
+  prop-fits = omega (arith, length-append (prop-name (first-front i)) (ascii ": " ++ second-text i))
+
+  fits : length (field-text t f i) ≤ room f i
+  unfolding text-by
+  fits =
+      let n = room f i in
+      let e = length-append (parted-text i) (41 ∷ []) in
+      choose-length (eqb t 0x20 || (eqb t 0x40 || eqb t 0x74)) _ _ n (omega arith)
+      (choose-length (eqb t 0x41) _ _ n (omega (arith, length-pointed i))
+      (choose-length (eqb t 0x70 || eqb t 0x81) _ _ n (omega (arith, length-quoted f))
+      (choose-length (eqb t 0x71) _ _ n (omega (arith, length-decimal (number-of (take 8 f))))
+      (choose-length (eqb t 0x72) _ _ n (pick-length (boolean-in f) (ascii "true") (ascii "false") n (omega arith) (omega arith))
+      (choose-length (eqb t 0x73) _ _ n (omega arith)
+      (choose-length (eqb t 0x75) _ _ n (omega (arith, length-decimal (number-of (take 8 f))))
+      (choose-length (eqb t 0x76) _ _ n (omega (arith, length-append (parted-text i) (93 ∷ [])))
+      (choose-length (eqb t 0x53 || eqb t 0x77) _ _ n (omega arith)
+      (choose-length (eqb t 0x79) _ _ n (omega arith)
+      (choose-length (eqb t 0x90) _ _ n template-fits
+      (choose-length (eqb t 0x91) _ _ n (omega arith)
+      (choose-length (eqb t 0x92) _ _ n (omega arith)
+      (choose-length (eqb t 0x93) _ _ n choice-fits
+      (choose-length (eqb t 0x94) _ _ n (omega arith)
+      (choose-length (eqb t 0x95) _ _ n (omega (arith, length-append (parted-text i) (ascii " }")))
+      (choose-length (eqb t 0x96) _ _ n prop-fits (omega arith)))))))))))))))))
+
+text-lengths : (r : Row) → Lengths r
+unfolding all-text parted-text behind-text first-text second-text
+text-lengths end = record { all = omega arith; parted = omega arith; behind = omega arith; first = omega arith; choice = omega (arith, length-quoted []); prop = omega (arith, length-prop-name []) }
+text-lengths (loose b) = record { all = omega arith; parted = omega arith; behind = omega arith; first = omega arith; choice = omega (arith, length-quoted []); prop = omega (arith, length-prop-name []) }
+text-lengths (field t f i r) =
+    let n = length-bytes t f i r in
+    let x = fits t f i (text-lengths i) in
+    let s = text-lengths r in
+    record {
+      all = omega (arith, length-append (field-text t f i) (all-text r));
+      parted = omega (arith, length-append (field-text t f i) (behind-text r));
+      behind = omega (arith, length-append (field-text t f i) (behind-text r));
+      first = omega arith;
+      choice = omega (arith, length-quoted (first-front r), length-first-front r);
+      prop = omega (arith, length-prop-name f);
+    }
+
+pub all-length : (r : Row) → length (all-text r) ≤ 16 * length (bytes r)
+all-length r = text-lengths r .all
+
+pub parted-length : (r : Row) → length (parted-text r) ≤ 16 * length (bytes r)
+parted-length r = text-lengths r .parted
+
+pub behind-length : (r : Row) → length (behind-text r) ≤ 16 * length (bytes r)
+behind-length r = text-lengths r .behind
+
+pub first-length : (r : Row) → length (first-text r) ≤ 16 * length (bytes r)
+first-length r = text-lengths r .first
