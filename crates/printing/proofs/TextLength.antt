@@ -1,22 +1,22 @@
 -- How long the printed text is: a string at most four times its bytes and two quotes, an expression at most 16 times its field, and what a
 -- page prints far below 2 ^ 63.
--- Main statements: `length-quoted`, `length-prop-name`, `length-pointed`, `length-template-name`.
+-- Main statements: `length-quoted`, `length-prop-name`, `length-pointed`, `length-template-name`; `all-length` and its four; `import-length`,
+-- `templates-length`, `page-length`; `page-text-low`, of slices.
 -- Assumes nothing.
-use mathlib.Core.Path.{_≡_}
 use mathlib.Core.Bool.{Bool, true, false, _||_}
-use Prim.Native.Nat.{ℕ, zero, suc, _+_, _*_, _/_, _%_, _^_, _≤_, _<_}
+use Prim.Native.Nat.{ℕ, _+_, _*_, _/_, _^_, _≤_, _<_}
+use native.Mathlib.Nat.{mul-le-mul}
 use native.Mathlib.Omega.{arith}
 use mathlib.Core.List.{[], _∷_, _++_}
 use lib.Dec.{eqb, ltb}
 use lib.ListN.{length, take, length-append}
-use Rattle.field.specs.Bytes.{Bytes, ascii, pick}
+use Rattle.field.specs.Bytes.{Bytes, AllBytes, ascii, pick}
 use Rattle.field.specs.Number.{number-of}
-use Rattle.field.specs.Row.{Row, end, loose, field, bytes}
-use Rattle.field.proofs.RowLaws.{length-bytes}
-use Rattle.text.specs.Decimal.{decimal}
+use Rattle.field.specs.Row.{Row, end, loose, field, bytes, read}
+use Rattle.field.proofs.RowLaws.{bytes-read, length-bytes}
 use Rattle.text.proofs.DecimalLaws.{length-decimal}
 use Rattle.page.specs.Tree.{choose, boolean-in}
-use Rattle.printing.specs.Card.{quoted-byte, quoted-bytes, quoted, is-identifier, prop-name, first-front, second-front, pointed-more, pointed, template-name, text-by, all-text, parted-text, behind-text, first-text, second-text}
+use Rattle.printing.specs.Card.{quoted-byte, quoted-bytes, quoted, is-identifier, prop-name, first-front, second-front, pointed-more, pointed, template-name, text-by, all-text, parted-text, behind-text, first-text, second-text, helper-text, odd, helpers-text, sum-in, import-text, templates-text, page-text}
 
 -- ---- strings and names
 
@@ -150,3 +150,77 @@ behind-length r = text-lengths r .behind
 
 pub first-length : (r : Row) → length (first-text r) ≤ 16 * length (bytes r)
 first-length r = text-lengths r .first
+
+pub second-length : (r : Row) → length (second-text r) ≤ 16 * length (bytes r)
+unfolding second-text
+second-length end = omega arith
+second-length (loose b) = omega arith
+second-length (field t f i r) = omega (arith, length-bytes t f i r, first-length r)
+
+-- ---- lines
+
+length-helper : (stands later : Bool) (n : Bytes) → length (helper-text stands later n) ≤ 7 + 2 * length n
+unfolding helper-text
+length-helper true true n = omega (arith, length-append n (ascii " as _" ++ n))
+length-helper true false n = omega (arith, length-append n (ascii " as _" ++ n))
+length-helper false true n = omega arith
+length-helper false false n = omega arith
+
+-- four helpers of 30 letters together
+length-helpers : (n : ℕ) → length (helpers-text n) ≤ 88
+unfolding helpers-text
+length-helpers n =
+    let a = helper-text (odd n) false (ascii "jsx") in
+    let b = helper-text (odd (n / 2)) (odd n) (ascii "jsxTemplate") in
+    let c = helper-text (odd (n / 4)) (odd n || odd (n / 2)) (ascii "jsxAttr") in
+    let d = helper-text (odd (n / 8)) (odd n || (odd (n / 2) || odd (n / 4))) (ascii "jsxEscape") in
+    omega
+    (arith, length-append a (b ++ (c ++ d)), length-append b (c ++ d), length-append c d, length-helper (odd n) false (ascii "jsx"), length-helper (odd (n / 2)) (odd n) (ascii "jsxTemplate"), length-helper (odd (n / 4)) (odd n || odd (n / 2)) (ascii "jsxAttr"), length-helper (odd (n / 8)) (odd n || (odd (n / 2) || odd (n / 4))) (ascii "jsxEscape"))
+
+pub import-length : (i : Row) → length (import-text i) ≤ 109 + 4 * length (bytes i)
+unfolding import-text
+import-length i =
+    let h = helpers-text (sum-in i) in
+    let q = quoted (first-front i) in
+    omega
+    (arith, length-append h (ascii " } from " ++ (q ++ (59 ∷ 10 ∷ []))), length-append q (59 ∷ 10 ∷ []), length-helpers (sum-in i), length-quoted (first-front i), length-first-front i)
+
+pub templates-length : (r : Row) → length (templates-text r) ≤ 16 * length (bytes r)
+unfolding templates-text
+templates-length end = omega arith
+templates-length (loose b) = omega arith
+templates-length (field t f i r) =
+    let n = template-name f in
+    let p = parted-text i in
+    let line = ascii "const " ++ (n ++ (ascii " = [" ++ (p ++ ascii "];"))) in
+    omega
+    (arith, length-append line (10 ∷ templates-text r), length-append n (ascii " = [" ++ (p ++ ascii "];")), length-append p (ascii "];"), length-template-name f, parted-length i, length-bytes t f i r, templates-length r)
+
+-- what an item prints, by its tag
+abbrev line-text : Row → ℕ → Row → Bytes
+line-text ts t i =
+    choose (eqb t 0x82) (λ _. import-text i) λ _.
+    choose (eqb t 0x83) (λ _. templates-text ts) λ _.
+    choose (eqb t 0x13) (λ _. 59 ∷ 10 ∷ []) λ _. all-text i ++ (10 ∷ [])
+
+line-length : (ts : Row) (t : ℕ) (i : Row) → length (line-text ts t i) ≤ 109 + 16 * length (bytes ts) + 16 * length (bytes i)
+line-length ts t i =
+    let n = 109 + 16 * length (bytes ts) + 16 * length (bytes i) in
+    choose-length (eqb t 0x82) _ _ n (omega (arith, import-length i))
+    (choose-length (eqb t 0x83) _ _ n (omega (arith, templates-length ts))
+    (choose-length (eqb t 0x13) _ _ n (omega arith) (omega (arith, length-append (all-text i) (10 ∷ []), all-length i))))
+
+-- each item may be an 83, which prints all the templates
+pub page-length : (ts r : Row) → length (page-text ts r) ≤ (64 + 16 * length (bytes ts)) * length (bytes r)
+unfolding page-text
+page-length ts end = omega arith
+page-length ts (loose b) = omega arith
+page-length ts (field t f i r) = rw length-bytes (omega (arith, length-append (line-text ts t i) (page-text ts r), line-length ts t i, page-length ts r))
+
+-- two outputs of up to 32 MiB each print a text whose length no sum of `usize` overflows
+pub page-text-low : (t p : Bytes) → AllBytes t → AllBytes p → length t ≤ 2 ^ 25 → length p ≤ 2 ^ 25 → length (page-text (read t) (read p)) < 2 ^ 63
+page-text-low t p a b h k =
+    let g : 64 + 16 * length t ≤ 64 + 16 * 2 ^ 25 = omega arith in
+    let m : (64 + 16 * length t) * length p ≤ (64 + 16 * 2 ^ 25) * 2 ^ 25 = mul-le-mul g k in
+    let l : length (page-text (read t) (read p)) ≤ (64 + 16 * length t) * length p = rw (bytes-read t a, bytes-read p b) at (page-length (read t) (read p)) in
+    omega arith
