@@ -217,7 +217,7 @@ page-length ts end = omega arith
 page-length ts (loose b) = omega arith
 page-length ts (field t f i r) = rw length-bytes (omega (arith, length-append (line-text ts t i) (page-text ts r), line-length ts t i, page-length ts r))
 
--- two outputs of up to 32 MiB each print a text whose length no sum of `usize` overflows
+-- outputs of up to 32 MiB each print a text as short as `print_page` requires
 pub page-text-low : (t p : Bytes) → AllBytes t → AllBytes p → length t ≤ 2 ^ 25 → length p ≤ 2 ^ 25 → length (page-text (read t) (read p)) < 2 ^ 63
 page-text-low t p a b h k =
     let g : 64 + 16 * length t ≤ 64 + 16 * 2 ^ 25 = omega arith in
