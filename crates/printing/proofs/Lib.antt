@@ -1,2 +1,3 @@
--- The worked card of 01.
+-- The worked card of 01, and laws of a field's front.
+pub mod FrontLaws
 pub mod Worked
