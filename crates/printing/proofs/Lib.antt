@@ -1,3 +1,4 @@
--- The worked card of 01, and laws of a field's front.
+-- The worked card of 01, and laws of a field's front and of quotes.
 pub mod FrontLaws
+pub mod QuotedLaws
 pub mod Worked

@@ -1,4 +1,4 @@
-// Strings and names in quotes.
+// Strings and names in quotes. The tests are joined by `|` and `&`, without a branch: each is then the definition's own.
 ghost use mathlib.Core.Path.{_≡_};
 ghost use Prim.Native.Nat.{_+_, _<_, _^_};
 ghost use lib.ListN.{length};
