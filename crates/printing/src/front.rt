@@ -7,39 +7,32 @@ ghost use Rattle.printing.specs.Front.{front-of, inner-of, front-length}
 use field::reader::body;
 use field::reader::tag_at;
 
-// How many bytes of a body of n bytes stand before its fields.
+// How many bytes of a body of n bytes stand before its fields: the tests of `inside`, in its order.
 fn front_len(tag: usize, n: usize) -> usize
     ensures { λ r. ⌜ r ≡ front-length (inside tag) n ⌝ }
 {
-    match tag {
-        0x80 => two(n),
-        0x90 => two(n),
-        0x01 => 0,
-        0x02 => 0,
-        0x03 => 0,
-        0x10 => 0,
-        0x11 => 0,
-        0x12 => 0,
-        0x30 => 0,
-        0x31 => 0,
-        0x41 => 0,
-        0x42 => 0,
-        0x50 => 0,
-        0x52 => 0,
-        0x53 => 0,
-        0x61 => 0,
-        0x76 => 0,
-        0x77 => 0,
-        0x79 => 0,
-        0x82 => 0,
-        0x91 => 0,
-        0x92 => 0,
-        0x93 => 0,
-        0x94 => 0,
-        0x95 => 0,
-        0x96 => 0,
-        _ => n,
+    if (tag == 0x80) | (tag == 0x90) {
+        return two(n);
     }
+    if ((0x01 <= tag) & (tag <= 0x03))
+        | ((0x10 <= tag) & (tag <= 0x12))
+        | (tag == 0x30)
+        | (tag == 0x31)
+        | (tag == 0x41)
+        | (tag == 0x42)
+        | (tag == 0x50)
+        | (tag == 0x52)
+        | (tag == 0x53)
+        | (tag == 0x61)
+        | (tag == 0x76)
+        | (tag == 0x77)
+        | (tag == 0x79)
+        | (tag == 0x82)
+        | ((0x91 <= tag) & (tag <= 0x96))
+    {
+        return 0;
+    }
+    n
 }
 
 fn two(n: usize) -> usize

@@ -1,4 +1,4 @@
-// Strings and names in quotes.
+// Strings and names in quotes. The tests are joined by `|` and `&`, without a branch: each is then the definition's own.
 ghost use mathlib.Core.Path.{_≡_};
 ghost use Prim.Native.Nat.{_+_, _<_, _^_};
 ghost use lib.ListN.{length};
@@ -22,7 +22,7 @@ fn put_quoted_byte(out: &mut [u8], at: usize, c: u8) -> usize
     requires { ⌜ at + length (quoted-byte c) < 2 ^ 63 ⌝ }
     ensures { λ r. ⌜ Wrote (now (out .entry)) at (quoted-byte c) (now (out .exit)) r ⌝ }
 {
-    if c == 34 || c == 92 {
+    if (c == 34) | (c == 92) {
         return put_bytes(out, at, &[92, c]);
     }
     if c == 10 {
@@ -31,7 +31,7 @@ fn put_quoted_byte(out: &mut [u8], at: usize, c: u8) -> usize
     if c == 13 {
         return put_bytes(out, at, &[92, 114]);
     }
-    if c < 32 || c == 127 {
+    if (c < 32) | (c == 127) {
         return put_bytes(out, at, &[92, 120, hex_digit(c / 16), hex_digit(c % 16)]);
     }
     put_byte(out, at, c)
@@ -62,7 +62,7 @@ pub fn put_quoted(out: &mut [u8], at: usize, s: &[u8]) -> usize
 fn starts_name(c: u8) -> bool
     ensures { λ r. ⌜ r ≡ starts-name c ⌝ }
 {
-    (97 <= c && c <= 122) || ((65 <= c && c <= 90) || (c == 95 || c == 36))
+    ((97 <= c) & (c <= 122)) | (((65 <= c) & (c <= 90)) | ((c == 95) | (c == 36)))
 }
 
 // is_text_valid_identifier
@@ -78,7 +78,7 @@ fn is_identifier(s: &[u8]) -> bool
     let mut i: usize = 1;
     while i < s.len() {
         let c = s[i];
-        if !(starts_name(c) || (48 <= c && c <= 57)) {
+        if !(starts_name(c) | ((48 <= c) & (c <= 57))) {
             return false;
         }
         i += 1;

@@ -1,4 +1,20 @@
+-- `printing::quoted::hex_digit` meets its contract: the code tests what the definition tests. Assumes nothing.
+use borrow.Author.Tests.{lt-ltb, le-ltb}
+use borrow.Author.Needs.{needs}
 use Rattle.printing.proofs.quoted.hex_digit.Statement.{statement}
+use Rattle.printing.proofs.quoted.hex_digit.Tie as tie
+
+add-result : tie.Need-add-result
+add-result c = search needs
+
+returns : tie.Need-returns
+returns c = rw (lt-ltb (c .before .args .n) 10 (c .if1 .taken))
+
+add-result-2 : tie.Need-add-result-2
+add-result-2 c = search needs
+
+returns-2 : tie.Need-returns-2
+returns-2 c = rw (le-ltb (c .before .args .n) 10 (c .if1 .left))
 
 pub hex-digit-spec : {M : Type 1} → statement M
-hex-digit-spec = ?
+hex-digit-spec = tie.close (tie.spec add-result returns add-result-2 returns-2)

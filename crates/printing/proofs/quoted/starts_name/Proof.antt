@@ -1,4 +1,0 @@
-use Rattle.printing.proofs.quoted.starts_name.Statement.{statement}
-
-pub starts-name-spec : {M : Type 1} → statement M
-starts-name-spec = ?
