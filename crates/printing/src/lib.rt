@@ -1,6 +1,5 @@
 // The card's text: what the program `card` prints of both outputs of a page (specs/Card.antt). It is written into a lent buffer, as far
 // as it fits, and the place behind it is answered.
-pub mod card;
 pub mod expression;
 mod front;
 pub mod lines;

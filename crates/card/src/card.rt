@@ -3,10 +3,10 @@ ghost use mathlib.Core.List.{[]};
 ghost use lib.ListN.{length};
 ghost use Rattle.field.specs.Put.{Wrote};
 ghost use Rattle.spec.specs.Answer.{outcome};
 ghost use Rattle.printing.specs.Card.{card-text};
-use crate::lines::print_page;
 use field::writer::put_byte;
 use jsx_precompile::jsx_precompile_transform;
+use printing::lines::print_page;
 use text::decimal::put_decimal;
 
 pub fn print_card(

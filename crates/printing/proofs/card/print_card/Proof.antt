@@ -1,4 +1,0 @@
-use Rattle.printing.proofs.card.print_card.Statement.{statement}
-
-pub print-card-spec : {M : Type 1} → statement M
-print-card-spec = ?
