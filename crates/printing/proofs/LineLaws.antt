@@ -6,7 +6,6 @@ use mathlib.Core.Bool.{Bool, true, false, _||_}
 use Prim.Native.Nat.{ℕ, _+_, _/_, _<_, _^_}
 use native.Mathlib.Omega.{arith}
 use mathlib.Core.List.{[], _∷_, _++_, append-assoc}
-use lib.Dec.{eqb}
 use lib.ListN.{length, take, getD, length-append}
 use borrow.Author.Tests.{ne-eqb}
 use Rattle.field.specs.Bytes.{Bytes, ascii}

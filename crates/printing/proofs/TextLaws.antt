@@ -2,21 +2,20 @@
 -- fields that writes their texts.
 -- Main statements: `room-first`, `room-next`, `read-field`, `first-front-is`, `printed-start`, `printed-room`, `printed-on`, `printed-end`.
 -- Assumes nothing.
-use mathlib.Core.Path.{_≡_, refl, sym, ap, _∙_, subst}
+use mathlib.Core.Path.{_≡_, refl, sym, ap, _∙_}
 use Prim.Native.Nat.{ℕ, _+_, _<_, _^_}
 use native.Mathlib.Omega.{arith}
 use mathlib.Core.List.{[], _++_, append-assoc, append-nil}
 use lib.ListN.{length, length-append}
 use Rattle.field.specs.Bytes.{Bytes}
-use Rattle.field.specs.Row.{Row, field, Inside, only-bytes, fields-after, inside, Next, nothing, no-field, next, next-of, opened, built, read, Ended}
+use Rattle.field.specs.Row.{Row, field, Inside, only-bytes, fields-after, inside, Next, nothing, no-field, next, next-of, opened, built, read}
 use Rattle.field.specs.Front.{tag-of, body-of, behind-of, tag-by, body-by}
 use Rattle.field.specs.Put.{Wrote}
-use Rattle.field.proofs.FrontLaws.{read-at}
 use Rattle.field.proofs.RowLaws.{read-step}
 use Rattle.field.proofs.PutLaws.{wrote-none, wrote-then, wrote-is, wrote-length}
 use Rattle.printing.specs.Front.{front-by, front-of, inner-of}
 use Rattle.printing.specs.Card.{first-front}
-use Rattle.printing.proofs.FrontLaws.{read-front}
+use Rattle.printing.proofs.FrontLaws.{read-front-at}
 
 -- ---- room
 
@@ -30,12 +29,7 @@ room-next {a = a} b w h = omega (arith, w .end-is, length-append a b)
 -- ---- the row at the front
 
 pub read-field : (s : Bytes) (t : ℕ) → t ≡ tag-of s → (t ≡ 256 → ⊥) → {w i r : Bytes} → w ≡ front-of s → i ≡ inner-of s → r ≡ behind-of s → read s ≡ field t w (read i) (read r)
-unfolding opened
-read-field s t e h {w} {i} {r} ew ei er = read-front s (λ x. on (inside t) (subst Ended (read-at s t e h) x)) ∙ rw (e, ew, ei, er)
-  where
-    on : (c : Inside) → Ended (opened c read t (body-of s) (behind-of s)) → ⊥
-    on only-bytes x = x
-    on (fields-after n) x = x
+read-field s t e h ew ei er = read-front-at s (λ z. h (e ∙ z)) ∙ rw (e, ew, ei, er)
 
 first-opened : (c : Inside) (t : ℕ) (w r : Bytes) → first-front (opened c read t w r) ≡ front-by c w
 unfolding opened

@@ -71,7 +71,13 @@ fn put_helpers(out: &mut [u8], at: usize, n: u8) -> usize
     let a = put_helper(out, at, jsx, false, b"jsx");
     let b = put_helper(out, a, template, jsx, b"jsxTemplate");
     let c = put_helper(out, b, attr, either(jsx, template), b"jsxAttr");
-    put_helper(out, c, escape, either(jsx, either(template, attr)), b"jsxEscape")
+    put_helper(
+        out,
+        c,
+        escape,
+        either(jsx, either(template, attr)),
+        b"jsxEscape",
+    )
 }
 
 // The sum in an import's body.

@@ -1,30 +1,23 @@
+-- `print_item` meets its contract.
 use native.Mathlib.Omega.{arith}
 use mathlib.Core.List.{[], _∷_}
+use borrow.Author.Needs.{needs}
 use Rattle.field.specs.Row.{read}
 use Rattle.field.proofs.PutLaws.{wrote-then}
 use Rattle.printing.specs.Card.{all-text}
 use Rattle.printing.proofs.TextLaws.{room-first, room-next}
-use borrow.Author.Needs.{needs}
 use Rattle.printing.proofs.lines.print_item.Statement.{statement}
 use Rattle.printing.proofs.lines.print_item.Tie as tie
-use Rattle.printing.proofs.lines.print_item.Reads as reads
-use Rattle.printing.proofs.lines.print_item.Lts as lts
-use Rattle.field.proofs.writer.put_byte.Reads as put-byte-reads
-use Rattle.printing.proofs.expression.print_all.Reads as print-all-reads
 
--- src/lines.rt:108:9
 print-all-requires : tie.Need-print-all-requires
 print-all-requires c κs = let a = c .before .before .before .args in room-first (a .at) (all-text (read (a .s .now))) (10 ∷ []) (c .before .before .before .pre)
 
--- src/lines.rt:109:5
 put-byte-requires : tie.Need-put-byte-requires
 put-byte-requires c κs = omega (arith, room-next (10 ∷ []) (c .before .before .before .print-all .ensures) (c .before .before .before .before .before .before .before .pre))
 
--- src/lines.rt:104:1
 same-length : tie.Need-same-length
 same-length c = search needs
 
--- src/lines.rt:104:1
 returns : tie.Need-returns
 returns c = wrote-then (c .before .before .before .before .before .before .print-all .ensures) (c .before .before .put-byte .ensures)
 
