@@ -3,6 +3,8 @@ ghost use mathlib.Core.Path.{_≡_};
 ghost use Prim.Native.Nat.{_+_, _<_, _^_};
 ghost use lib.ListN.{length};
 ghost use Rattle.field.specs.Put.{Wrote};
+ghost use mathlib.Core.Bool.{_||_};
+ghost use Rattle.field.specs.Bytes.{ascii};
 ghost use Rattle.field.specs.Row.{read};
 ghost use Rattle.printing.specs.Card.{odd, helper-text, helpers-text, sum-in, import-text, templates-text, page-text, all-text};
 ghost use mathlib.Core.List.{_++_, _∷_, []};
@@ -17,6 +19,16 @@ use field::reader::tag_at;
 use field::writer::put_byte;
 use field::writer::put_bytes;
 
+// A helper by its own name and the name that the page calls it by.
+fn put_renamed(out: &mut [u8], at: usize, name: &[u8]) -> usize
+    requires { ⌜ at + length (now name ++ (ascii " as _" ++ now name)) < 2 ^ 63 ⌝ }
+    ensures { λ r. ⌜ Wrote (now (out .entry)) at (now (name .entry) ++ (ascii " as _" ++ now (name .entry))) (now (out .exit)) r ⌝ }
+{
+    let a = put_bytes(out, at, name);
+    let b = put_bytes(out, a, b" as _");
+    put_bytes(out, b, name)
+}
+
 // A helper of the import, where it stands; `, ` before it where it is not the first.
 fn put_helper(out: &mut [u8], at: usize, stands: bool, later: bool, name: &[u8]) -> usize
     requires { ⌜ at + length (helper-text stands later (now name)) < 2 ^ 63 ⌝ }
@@ -25,19 +37,26 @@ fn put_helper(out: &mut [u8], at: usize, stands: bool, later: bool, name: &[u8])
     if !stands {
         return at;
     }
-    let mut a = at;
     if later {
-        a = put_bytes(out, at, b", ");
+        let a = put_bytes(out, at, b", ");
+        return put_renamed(out, a, name);
     }
-    let b = put_bytes(out, a, name);
-    let c = put_bytes(out, b, b" as _");
-    put_bytes(out, c, name)
+    put_renamed(out, at, name)
 }
 
 fn odd(n: u8) -> bool
     ensures { λ r. ⌜ r ≡ odd n ⌝ }
 {
     n % 2 == 1
+}
+
+fn either(a: bool, b: bool) -> bool
+    ensures { λ r. ⌜ r ≡ (a || b) ⌝ }
+{
+    if a {
+        return true;
+    }
+    b
 }
 
 // The helpers of a sum.
@@ -51,8 +70,14 @@ fn put_helpers(out: &mut [u8], at: usize, n: u8) -> usize
     let escape = odd(n / 8);
     let a = put_helper(out, at, jsx, false, b"jsx");
     let b = put_helper(out, a, template, jsx, b"jsxTemplate");
-    let c = put_helper(out, b, attr, jsx || template, b"jsxAttr");
-    put_helper(out, c, escape, jsx || (template || attr), b"jsxEscape")
+    let c = put_helper(out, b, attr, either(jsx, template), b"jsxAttr");
+    put_helper(
+        out,
+        c,
+        escape,
+        either(jsx, either(template, attr)),
+        b"jsxEscape",
+    )
 }
 
 // The sum in an import's body.
