@@ -39,6 +39,7 @@ first-by s = on (read s) refl
   where
     none : Ended (read s) → [] ≡ text-of (tag-of s) (front-of s) (read (inner-of s))
     none i = ap (λ (t : ℕ). text-of t (front-of s) (read (inner-of s))) (sym (tag-ended s i))
+
     on : (x : Row) → read s ≡ x → first-text (read s) ≡ text-of (tag-of s) (front-of s) (read (inner-of s))
     on end q = ap first-text q ∙ none (subst Ended (sym q) tt)
     on (loose b) q = ap first-text q ∙ none (subst Ended (sym q) tt)
