@@ -7,7 +7,8 @@ use native.Mathlib.Nat.{le-refl}
 use native.Mathlib.Omega.{arith}
 use mathlib.Core.Bool.{Bool, true, false}
 use mathlib.Core.List.{[], _∷_, _++_}
-use lib.Dec.{eqb}
+use mathlib.Core.Logic.{_⊎_, inl, inr, ⊎-elim}
+use lib.Dec.{T, eqb, ltb, ltb→lt}
 use lib.ListN.{length}
 use borrow.Author.Tests.{eqb-true, eqb-false, ne-eqb}
 use Rattle.field.specs.Bytes.{Bytes, ascii}
@@ -15,9 +16,9 @@ use Rattle.field.specs.Row.{Row, end, loose, field, Inside, only-bytes, fields-
 use Rattle.field.specs.Front.{tag-of, body-of, behind-of, tag-by, body-by, behind-by}
 use Rattle.field.proofs.RowLaws.{next-sizes, read-step, read-nil}
 use Rattle.page.specs.Tree.{choose}
-use Rattle.printing.specs.Card.{first-front, second-front, text-by, all-text, parted-text, behind-text, first-text, second-text}
+use Rattle.printing.specs.Card.{quoted, first-front, second-front, text-by, all-text, parted-text, behind-text, first-text, second-text}
 use Rattle.printing.specs.Front.{front-by, front-of, inner-of}
-use Rattle.printing.proofs.FrontLaws.{read-front, read-front-at, not-ended}
+use Rattle.printing.proofs.FrontLaws.{read-front, read-front-at, not-ended, inner-less}
 
 -- ---- the first expression
 
@@ -49,18 +50,39 @@ module _ (s : Bytes) (t : ℕ) (e : t ≡ tag-of s) where
   first-is : first-text (read s) ≡ text-of t (front-of s) (read (inner-of s))
   first-is = first-by s ∙ ap (λ (x : ℕ). text-of x (front-of s) (read (inner-of s))) (sym e)
 
-  -- the parts as the readers hand them back; g is a numeral, at which the right side computes
-  pub first-at : (g : ℕ) → t ≡ g → {f i : Bytes} → f ≡ front-of s → i ≡ inner-of s → first-text (read s) ≡ text-of g f (read i)
-  first-at g k {f} {i} p q =
-      first-is
-      ∙ ap (λ (x : ℕ). text-of x (front-of s) (read (inner-of s))) k
-      ∙ ap (λ (x : Bytes). text-of g x (read (inner-of s))) (sym p)
-      ∙ ap (λ (x : Bytes). text-of g f (read x)) (sym q)
+  -- the parts as the readers hand them back
+  module _ {f i : Bytes} (p : f ≡ front-of s) (q : i ≡ inner-of s) where
+    -- g is a numeral, at which the right side computes
+    pub first-at : (g : ℕ) → t ≡ g → first-text (read s) ≡ text-of g f (read i)
+    first-at g k =
+        first-is
+        ∙ ap (λ (x : ℕ). text-of x (front-of s) (read (inner-of s))) k
+        ∙ ap (λ (x : Bytes). text-of g x (read (inner-of s))) (sym p)
+        ∙ ap (λ (x : Bytes). text-of g f (read x)) (sym q)
+
+    pub first-bytes : (t ≡ 0x20) ⊎ ((t ≡ 0x40) ⊎ (t ≡ 0x74)) → first-text (read s) ≡ f
+    unfolding text-by choose
+    first-bytes = ⊎-elim (first-at 0x20) (⊎-elim (first-at 0x40) (first-at 0x74))
+
+    pub first-quoted : (t ≡ 0x70) ⊎ (t ≡ 0x81) → first-text (read s) ≡ quoted f
+    unfolding text-by choose
+    first-quoted = ⊎-elim (first-at 0x70) (first-at 0x81)
+
+    pub first-spread : (t ≡ 0x53) ⊎ (t ≡ 0x77) → first-text (read s) ≡ ascii "..." ++ first-text (read i)
+    unfolding text-by choose
+    first-spread = ⊎-elim (first-at 0x53) (first-at 0x77)
+
+    -- g is a numeral below 256, so that the second premise is `tt`
+    pub inner-at : (g : ℕ) → T (ltb g 256) → t ≡ g → length i < length s
+    inner-at g l k = inner-less s (λ z. omega (arith, ltb→lt g 256 l)) q
+
+    pub inner-spread : (t ≡ 0x53) ⊎ (t ≡ 0x77) → length i < length s
+    inner-spread = ⊎-elim (inner-at 0x53 tt) (inner-at 0x77 tt)
 
   -- any other tag, and none: nothing
-  pub first-other : (t ≡ 0x20 → ⊥) → (t ≡ 0x40 → ⊥) → (t ≡ 0x74 → ⊥) → (t ≡ 0x41 → ⊥) → (t ≡ 0x70 → ⊥) → (t ≡ 0x81 → ⊥) → (t ≡ 0x71 → ⊥) → (t ≡ 0x72 → ⊥) → (t ≡ 0x73 → ⊥) → (t ≡ 0x75 → ⊥) → (t ≡ 0x76 → ⊥) → (t ≡ 0x53 → ⊥) → (t ≡ 0x77 → ⊥) → (t ≡ 0x79 → ⊥) → (t ≡ 0x90 → ⊥) → (t ≡ 0x91 → ⊥) → (t ≡ 0x92 → ⊥) → (t ≡ 0x93 → ⊥) → (t ≡ 0x94 → ⊥) → (t ≡ 0x95 → ⊥) → (t ≡ 0x96 → ⊥) → first-text (read s) ≡ []
+  pub first-other : ((t ≡ 0x20) ⊎ ((t ≡ 0x40) ⊎ (t ≡ 0x74)) → ⊥) → (t ≡ 0x41 → ⊥) → ((t ≡ 0x70) ⊎ (t ≡ 0x81) → ⊥) → (t ≡ 0x71 → ⊥) → (t ≡ 0x72 → ⊥) → (t ≡ 0x73 → ⊥) → (t ≡ 0x75 → ⊥) → (t ≡ 0x76 → ⊥) → ((t ≡ 0x53) ⊎ (t ≡ 0x77) → ⊥) → (t ≡ 0x79 → ⊥) → (t ≡ 0x90 → ⊥) → (t ≡ 0x91 → ⊥) → (t ≡ 0x92 → ⊥) → (t ≡ 0x93 → ⊥) → (t ≡ 0x94 → ⊥) → (t ≡ 0x95 → ⊥) → (t ≡ 0x96 → ⊥) → first-text (read s) ≡ []
   unfolding text-by choose
-  first-other n20 n40 n74 n41 n70 n81 n71 n72 n73 n75 n76 n53 n77 n79 n90 n91 n92 n93 n94 n95 n96 = first-is ∙ rw (ne-eqb t 0x20 n20, ne-eqb t 0x40 n40, ne-eqb t 0x74 n74, ne-eqb t 0x41 n41, ne-eqb t 0x70 n70, ne-eqb t 0x81 n81, ne-eqb t 0x71 n71, ne-eqb t 0x72 n72, ne-eqb t 0x73 n73, ne-eqb t 0x75 n75, ne-eqb t 0x76 n76, ne-eqb t 0x53 n53, ne-eqb t 0x77 n77, ne-eqb t 0x79 n79, ne-eqb t 0x90 n90, ne-eqb t 0x91 n91, ne-eqb t 0x92 n92, ne-eqb t 0x93 n93, ne-eqb t 0x94 n94, ne-eqb t 0x95 n95, ne-eqb t 0x96 n96) refl
+  first-other n20 n41 n70 n71 n72 n73 n75 n76 n53 n79 n90 n91 n92 n93 n94 n95 n96 = first-is ∙ rw (ne-eqb t 0x20 (λ z. n20 (inl z)), ne-eqb t 0x40 (λ z. n20 (inr (inl z))), ne-eqb t 0x74 (λ z. n20 (inr (inr z))), ne-eqb t 0x41 n41, ne-eqb t 0x70 (λ z. n70 (inl z)), ne-eqb t 0x81 (λ z. n70 (inr z)), ne-eqb t 0x71 n71, ne-eqb t 0x72 n72, ne-eqb t 0x73 n73, ne-eqb t 0x75 n75, ne-eqb t 0x76 n76, ne-eqb t 0x53 (λ z. n53 (inl z)), ne-eqb t 0x77 (λ z. n53 (inr z)), ne-eqb t 0x79 n79, ne-eqb t 0x90 n90, ne-eqb t 0x91 n91, ne-eqb t 0x92 n92, ne-eqb t 0x93 n93, ne-eqb t 0x94 n94, ne-eqb t 0x95 n95, ne-eqb t 0x96 n96) refl
 
 -- ---- the front of the first field and of the second
 

@@ -18,7 +18,6 @@ use crate::name::put_template_name;
 use crate::quoted::put_prop_name;
 use crate::quoted::put_quoted;
 use field::reader::behind;
-use field::reader::body;
 use field::reader::tag_at;
 use field::writer::put_byte;
 use field::writer::put_bytes;
@@ -31,19 +30,15 @@ fn print_first(out: &mut [u8], at: usize, s: &[u8]) -> usize
     let f = front(s);
     let i = inner(s);
     match tag_at(s) {
-        0x20 => put_bytes(out, at, f),
-        0x40 => put_bytes(out, at, f),
-        0x74 => put_bytes(out, at, f),
+        0x20 | 0x40 | 0x74 => put_bytes(out, at, f),
         0x41 => put_pointed(out, at, i),
-        0x70 => put_quoted(out, at, f),
-        0x81 => put_quoted(out, at, f),
+        0x70 | 0x81 => put_quoted(out, at, f),
         0x71 => put_number(out, at, f),
         0x72 => put_boolean(out, at, f),
         0x73 => put_bytes(out, at, b"null"),
         0x75 => put_minus(out, at, f),
         0x76 => print_between(out, at, b"[", i, b"]"),
-        0x53 => print_spread(out, at, i),
-        0x77 => print_spread(out, at, i),
+        0x53 | 0x77 => print_spread(out, at, i),
         0x79 => print_all(out, at, i),
         0x90 => print_template(out, at, s),
         0x91 => print_between(out, at, b"_jsxAttr(", i, b")"),

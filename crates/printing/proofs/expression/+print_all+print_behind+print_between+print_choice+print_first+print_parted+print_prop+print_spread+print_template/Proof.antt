@@ -23,7 +23,7 @@ use Rattle.printing.proofs.expression.+print_all+print_behind+print_bet
 use Rattle.printing.proofs.expression.+print_all+print_behind+print_between+print_choice+print_first+print_parted+print_prop+print_spread+print_template.Proof.PrintBehind.{print-behind-Inv-loop, print-behind-behind-requires, print-behind-calls, print-behind-loop-again, print-behind-loop-holds, print-behind-loop-less, print-behind-print-first-requires, print-behind-put-bytes-requires, print-behind-returns, print-behind-same-length, print-behind-slice-aggregate-put-bytes, print-behind-tag-at-requires, print-behind-μ-loop}
 use Rattle.printing.proofs.expression.+print_all+print_behind+print_between+print_choice+print_first+print_parted+print_prop+print_spread+print_template.Proof.PrintBetween.{print-between-calls, print-between-print-parted-requires, print-between-put-bytes-requires, print-between-put-bytes-requires-2, print-between-returns, print-between-same-length}
 use Rattle.printing.proofs.expression.+print_all+print_behind+print_between+print_choice+print_first+print_parted+print_prop+print_spread+print_template.Proof.PrintChoice.{print-choice-behind-requires, print-choice-calls, print-choice-front-requires, print-choice-print-first-requires, print-choice-put-bytes-requires, print-choice-put-bytes-requires-2, print-choice-put-quoted-requires, print-choice-returns, print-choice-same-length, print-choice-slice-aggregate-put-bytes, print-choice-slice-aggregate-put-bytes-2}
-use Rattle.printing.proofs.expression.+print_all+print_behind+print_between+print_choice+print_first+print_parted+print_prop+print_spread+print_template.Proof.PrintFirst.{print-first-calls, print-first-front-requires, print-first-inner-requires, print-first-print-all-requires, print-first-print-between-requires, print-first-print-between-requires-2, print-first-print-between-requires-3, print-first-print-between-requires-4, print-first-print-between-requires-5, print-first-print-choice-requires, print-first-print-prop-requires, print-first-print-spread-requires, print-first-print-spread-requires-2, print-first-print-template-requires, print-first-put-boolean-requires, print-first-put-bytes-requires, print-first-put-bytes-requires-2, print-first-put-bytes-requires-3, print-first-put-bytes-requires-4, print-first-put-minus-requires, print-first-put-number-requires, print-first-put-pointed-requires, print-first-put-quoted-requires, print-first-put-quoted-requires-2, print-first-returns, print-first-returns-10, print-first-returns-11, print-first-returns-12, print-first-returns-13, print-first-returns-14, print-first-returns-15, print-first-returns-16, print-first-returns-17, print-first-returns-18, print-first-returns-19, print-first-returns-2, print-first-returns-20, print-first-returns-21, print-first-returns-22, print-first-returns-3, print-first-returns-4, print-first-returns-5, print-first-returns-6, print-first-returns-7, print-first-returns-8, print-first-returns-9, print-first-same-length, print-first-same-length-10, print-first-same-length-11, print-first-same-length-12, print-first-same-length-13, print-first-same-length-14, print-first-same-length-15, print-first-same-length-16, print-first-same-length-17, print-first-same-length-18, print-first-same-length-19, print-first-same-length-2, print-first-same-length-20, print-first-same-length-21, print-first-same-length-3, print-first-same-length-4, print-first-same-length-5, print-first-same-length-6, print-first-same-length-7, print-first-same-length-8, print-first-same-length-9, print-first-slice-aggregate-print-between, print-first-slice-aggregate-print-between-10, print-first-slice-aggregate-print-between-2, print-first-slice-aggregate-print-between-3, print-first-slice-aggregate-print-between-4, print-first-slice-aggregate-print-between-5, print-first-slice-aggregate-print-between-6, print-first-slice-aggregate-print-between-7, print-first-slice-aggregate-print-between-8, print-first-slice-aggregate-print-between-9, print-first-slice-aggregate-put-bytes, print-first-tag-at-requires}
+use Rattle.printing.proofs.expression.+print_all+print_behind+print_between+print_choice+print_first+print_parted+print_prop+print_spread+print_template.Proof.PrintFirst.{print-first-calls, print-first-front-requires, print-first-inner-requires, print-first-print-all-requires, print-first-print-between-requires, print-first-print-between-requires-2, print-first-print-between-requires-3, print-first-print-between-requires-4, print-first-print-between-requires-5, print-first-print-choice-requires, print-first-print-prop-requires, print-first-print-spread-requires, print-first-print-template-requires, print-first-put-boolean-requires, print-first-put-bytes-requires, print-first-put-bytes-requires-2, print-first-put-minus-requires, print-first-put-number-requires, print-first-put-pointed-requires, print-first-put-quoted-requires, print-first-returns, print-first-returns-10, print-first-returns-11, print-first-returns-12, print-first-returns-13, print-first-returns-14, print-first-returns-15, print-first-returns-16, print-first-returns-17, print-first-returns-18, print-first-returns-2, print-first-returns-3, print-first-returns-4, print-first-returns-5, print-first-returns-6, print-first-returns-7, print-first-returns-8, print-first-returns-9, print-first-same-length, print-first-same-length-10, print-first-same-length-11, print-first-same-length-12, print-first-same-length-13, print-first-same-length-14, print-first-same-length-15, print-first-same-length-16, print-first-same-length-17, print-first-same-length-2, print-first-same-length-3, print-first-same-length-4, print-first-same-length-5, print-first-same-length-6, print-first-same-length-7, print-first-same-length-8, print-first-same-length-9, print-first-slice-aggregate-print-between, print-first-slice-aggregate-print-between-10, print-first-slice-aggregate-print-between-2, print-first-slice-aggregate-print-between-3, print-first-slice-aggregate-print-between-4, print-first-slice-aggregate-print-between-5, print-first-slice-aggregate-print-between-6, print-first-slice-aggregate-print-between-7, print-first-slice-aggregate-print-between-8, print-first-slice-aggregate-print-between-9, print-first-slice-aggregate-put-bytes, print-first-tag-at-requires}
 use Rattle.printing.proofs.expression.+print_all+print_behind+print_between+print_choice+print_first+print_parted+print_prop+print_spread+print_template.Proof.PrintParted.{print-parted-behind-requires, print-parted-calls, print-parted-print-behind-requires, print-parted-print-first-requires, print-parted-returns, print-parted-returns-2, print-parted-same-length, print-parted-tag-at-requires}
 use Rattle.printing.proofs.expression.+print_all+print_behind+print_between+print_choice+print_first+print_parted+print_prop+print_spread+print_template.Proof.PrintProp.{print-prop-behind-requires, print-prop-calls, print-prop-front-requires, print-prop-print-first-requires, print-prop-put-bytes-requires, print-prop-put-prop-name-requires, print-prop-returns, print-prop-same-length, print-prop-slice-aggregate-put-bytes}
 use Rattle.printing.proofs.expression.+print_all+print_behind+print_between+print_choice+print_first+print_parted+print_prop+print_spread+print_template.Proof.PrintSpread.{print-spread-calls, print-spread-print-first-requires, print-spread-put-bytes-requires, print-spread-returns, print-spread-same-length, print-spread-slice-aggregate-put-bytes}
@@ -108,21 +108,17 @@ pub +print-all+print-behind+print-between+print-choice+print-first+print-parted+
     (print-first-inner-requires t)
     (print-first-tag-at-requires t)
     (print-first-put-bytes-requires t)
-    (print-first-put-bytes-requires-2 t)
-    (print-first-put-bytes-requires-3 t)
     (print-first-put-pointed-requires t)
     (print-first-put-quoted-requires t)
-    (print-first-put-quoted-requires-2 t)
     (print-first-put-number-requires t)
     (print-first-put-boolean-requires t)
     (print-first-slice-aggregate-put-bytes t)
-    (print-first-put-bytes-requires-4 t)
+    (print-first-put-bytes-requires-2 t)
     (print-first-put-minus-requires t)
     (print-first-slice-aggregate-print-between t)
     (print-first-slice-aggregate-print-between-2 t)
     (print-first-print-between-requires t)
     (print-first-print-spread-requires t)
-    (print-first-print-spread-requires-2 t)
     (print-first-print-all-requires t)
     (print-first-print-template-requires t)
     (print-first-slice-aggregate-print-between-3 t)
@@ -173,15 +169,7 @@ pub +print-all+print-behind+print-between+print-choice+print-first+print-parted+
     (print-first-returns-16 t)
     (print-first-same-length-17 t)
     (print-first-returns-17 t)
-    (print-first-same-length-18 t)
-    (print-first-returns-18 t)
-    (print-first-same-length-19 t)
-    (print-first-returns-19 t)
-    (print-first-same-length-20 t)
-    (print-first-returns-20 t)
-    (print-first-same-length-21 t)
-    (print-first-returns-21 t)
-    (print-first-returns-22 t))
+    (print-first-returns-18 t))
     (λ t. print-parted-lts.spec (print-parted-calls t)
     (print-parted-at t)
     print-parted.Post
