@@ -1,12 +1,11 @@
 -- The texts of the row that bytes read as, by what the readers hand back: its first expression by the tag, and the others one by one.
--- Main statements: `first-by`, `first-at`, `first-other`, `front-first`, `front-second`, `text-second`, `all-on`, `parted-on`, `behind-on`.
+-- Main statements: `first-at`, `first-other`, `front-first`, `front-second`, `text-second`, `all-on`, `parted-on`, `behind-on`, `inner-at`, `behind-within`.
 -- Assumes nothing.
 use mathlib.Core.Path.{_≡_, refl, sym, ap, _∙_, subst}
 use Prim.Native.Nat.{ℕ, _≤_, _<_}
-use native.Mathlib.Nat.{le-refl}
 use native.Mathlib.Omega.{arith}
 use mathlib.Core.Bool.{Bool, true, false}
-use mathlib.Core.List.{[], _∷_, _++_}
+use mathlib.Core.List.{[], _++_}
 use mathlib.Core.Logic.{_⊎_, inl, inr, ⊎-elim}
 use lib.Dec.{T, eqb, ltb, ltb→lt}
 use lib.ListN.{length}

@@ -1,7 +1,7 @@
 -- What is left to write of a text that is written part by part, as the invariants of the loops have it: it fits below 2 ^ 63, and once it
 -- is written, so is the text.
 -- Main statements: `room-is`, `left-begin`, `left-room`, `left-on`, `left-done`. Assumes nothing.
-use mathlib.Core.Path.{_≡_, sym, ap, _∙_}
+use mathlib.Core.Path.{_≡_, sym, ap}
 use Prim.Native.Nat.{ℕ, _+_, _<_, _^_}
 use native.Mathlib.Omega.{arith}
 use mathlib.Core.List.{[], _++_}
