@@ -18,7 +18,6 @@ use crate::name::put_template_name;
 use crate::quoted::put_prop_name;
 use crate::quoted::put_quoted;
 use field::reader::behind;
-use field::reader::body;
 use field::reader::tag_at;
 use field::writer::put_byte;
 use field::writer::put_bytes;
@@ -28,28 +27,26 @@ fn print_first(out: &mut [u8], at: usize, s: &[u8]) -> usize
     requires { ⌜ at + length (first-text (read (now s))) < 2 ^ 63 ⌝ }
     ensures { λ r. ⌜ Wrote (now (out .entry)) at (first-text (read (now (s .entry)))) (now (out .exit)) r ⌝ }
 {
+    let f = front(s);
+    let i = inner(s);
     match tag_at(s) {
-        0x20 => put_bytes(out, at, front(s)),
-        0x40 => put_bytes(out, at, front(s)),
-        0x74 => put_bytes(out, at, front(s)),
-        0x41 => put_pointed(out, at, inner(s)),
-        0x70 => put_quoted(out, at, front(s)),
-        0x81 => put_quoted(out, at, front(s)),
-        0x71 => put_number(out, at, front(s)),
-        0x72 => put_boolean(out, at, front(s)),
+        0x20 | 0x40 | 0x74 => put_bytes(out, at, f),
+        0x41 => put_pointed(out, at, i),
+        0x70 | 0x81 => put_quoted(out, at, f),
+        0x71 => put_number(out, at, f),
+        0x72 => put_boolean(out, at, f),
         0x73 => put_bytes(out, at, b"null"),
-        0x75 => put_minus(out, at, front(s)),
-        0x76 => print_between(out, at, b"[", inner(s), b"]"),
-        0x53 => print_spread(out, at, inner(s)),
-        0x77 => print_spread(out, at, inner(s)),
-        0x79 => print_all(out, at, inner(s)),
+        0x75 => put_minus(out, at, f),
+        0x76 => print_between(out, at, b"[", i, b"]"),
+        0x53 | 0x77 => print_spread(out, at, i),
+        0x79 => print_all(out, at, i),
         0x90 => print_template(out, at, s),
-        0x91 => print_between(out, at, b"_jsxAttr(", inner(s), b")"),
-        0x92 => print_between(out, at, b"_jsxEscape(", inner(s), b")"),
-        0x93 => print_choice(out, at, inner(s)),
-        0x94 => print_between(out, at, b"_jsx(", inner(s), b")"),
-        0x95 => print_between(out, at, b"{ ", inner(s), b" }"),
-        0x96 => print_prop(out, at, inner(s)),
+        0x91 => print_between(out, at, b"_jsxAttr(", i, b")"),
+        0x92 => print_between(out, at, b"_jsxEscape(", i, b")"),
+        0x93 => print_choice(out, at, i),
+        0x94 => print_between(out, at, b"_jsx(", i, b")"),
+        0x95 => print_between(out, at, b"{ ", i, b" }"),
+        0x96 => print_prop(out, at, i),
         _ => at,
     }
 }

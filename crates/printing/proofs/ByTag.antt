@@ -1,0 +1,175 @@
+-- The texts of the row that bytes read as, by what the readers hand back: its first expression by the tag, and the others one by one.
+-- Main statements: `first-at`, `first-other`, `front-first`, `front-second`, `text-second`, `all-on`, `parted-on`, `behind-on`, `inner-at`, `behind-within`.
+-- Assumes nothing.
+use mathlib.Core.Path.{_≡_, refl, sym, ap, _∙_, subst}
+use Prim.Native.Nat.{ℕ, _≤_, _<_}
+use native.Mathlib.Omega.{arith}
+use mathlib.Core.Bool.{Bool, true, false}
+use mathlib.Core.List.{[], _++_}
+use mathlib.Core.Logic.{_⊎_, inl, inr, ⊎-elim}
+use lib.Dec.{T, eqb, ltb, ltb→lt}
+use lib.ListN.{length}
+use borrow.Author.Tests.{eqb-true, eqb-false, ne-eqb}
+use Rattle.field.specs.Bytes.{Bytes, ascii}
+use Rattle.field.specs.Row.{Row, end, loose, field, Inside, only-bytes, fields-after, inside, Next, nothing, no-field, next, next-of, opened, built, read, Ended}
+use Rattle.field.specs.Front.{tag-of, body-of, behind-of, tag-by, body-by, behind-by}
+use Rattle.field.proofs.RowLaws.{next-sizes, read-step, read-nil}
+use Rattle.page.specs.Tree.{choose}
+use Rattle.printing.specs.Card.{quoted, first-front, second-front, text-by, all-text, parted-text, behind-text, first-text, second-text}
+use Rattle.printing.specs.Front.{front-by, front-of, inner-of}
+use Rattle.printing.proofs.FrontLaws.{read-front, read-front-at, not-ended, inner-less}
+
+-- ---- the first expression
+
+-- the text of a field by its tag and its two parts
+abbrev pub text-of : ℕ → Bytes → Row → Bytes
+text-of t f i = text-by t f i (λ _. all-text i) (λ _. parted-text i) (λ _. behind-text i) (λ _. first-text i) (λ _. second-text i)
+
+tag-ended : (s : Bytes) → Ended (read s) → tag-of s ≡ 256
+tag-ended s i = on (eqb (tag-of s) 256) refl
+  where
+    on : (b : Bool) → eqb (tag-of s) 256 ≡ b → tag-of s ≡ 256
+    on true q = eqb-true (tag-of s) 256 q
+    on false q = absurd (not-ended s (eqb-false (tag-of s) 256 q) i)
+
+-- 256 prints nothing, so this holds whatever the bytes
+pub first-by : (s : Bytes) → first-text (read s) ≡ text-of (tag-of s) (front-of s) (read (inner-of s))
+unfolding first-text text-by choose
+first-by s = on (read s) refl
+  where
+    none : Ended (read s) → [] ≡ text-of (tag-of s) (front-of s) (read (inner-of s))
+    none i = ap (λ (t : ℕ). text-of t (front-of s) (read (inner-of s))) (sym (tag-ended s i))
+
+    on : (x : Row) → read s ≡ x → first-text (read s) ≡ text-of (tag-of s) (front-of s) (read (inner-of s))
+    on end q = ap first-text q ∙ none (subst Ended (sym q) tt)
+    on (loose b) q = ap first-text q ∙ none (subst Ended (sym q) tt)
+    on (field t f i r) q = ap first-text (read-front s (λ z. subst Ended q z))
+
+module _ (s : Bytes) (t : ℕ) (e : t ≡ tag-of s) where
+  first-is : first-text (read s) ≡ text-of t (front-of s) (read (inner-of s))
+  first-is = first-by s ∙ ap (λ (x : ℕ). text-of x (front-of s) (read (inner-of s))) (sym e)
+
+  -- the parts as the readers hand them back
+  module _ {f i : Bytes} (p : f ≡ front-of s) (q : i ≡ inner-of s) where
+    -- g is a numeral, at which the right side computes
+    pub first-at : (g : ℕ) → t ≡ g → first-text (read s) ≡ text-of g f (read i)
+    first-at g k =
+        first-is
+        ∙ ap (λ (x : ℕ). text-of x (front-of s) (read (inner-of s))) k
+        ∙ ap (λ (x : Bytes). text-of g x (read (inner-of s))) (sym p)
+        ∙ ap (λ (x : Bytes). text-of g f (read x)) (sym q)
+
+    pub first-bytes : (t ≡ 0x20) ⊎ ((t ≡ 0x40) ⊎ (t ≡ 0x74)) → first-text (read s) ≡ f
+    unfolding text-by choose
+    first-bytes = ⊎-elim (first-at 0x20) (⊎-elim (first-at 0x40) (first-at 0x74))
+
+    pub first-quoted : (t ≡ 0x70) ⊎ (t ≡ 0x81) → first-text (read s) ≡ quoted f
+    unfolding text-by choose
+    first-quoted = ⊎-elim (first-at 0x70) (first-at 0x81)
+
+    pub first-spread : (t ≡ 0x53) ⊎ (t ≡ 0x77) → first-text (read s) ≡ ascii "..." ++ first-text (read i)
+    unfolding text-by choose
+    first-spread = ⊎-elim (first-at 0x53) (first-at 0x77)
+
+    -- g is a numeral below 256, so that the second premise is `tt`
+    pub inner-at : (g : ℕ) → T (ltb g 256) → t ≡ g → length i < length s
+    inner-at g l k = inner-less s (λ z. omega (arith, ltb→lt g 256 l)) q
+
+    pub inner-spread : (t ≡ 0x53) ⊎ (t ≡ 0x77) → length i < length s
+    inner-spread = ⊎-elim (inner-at 0x53 tt) (inner-at 0x77 tt)
+
+  -- any other tag, and none: nothing
+  pub first-other : ((t ≡ 0x20) ⊎ ((t ≡ 0x40) ⊎ (t ≡ 0x74)) → ⊥) → (t ≡ 0x41 → ⊥) → ((t ≡ 0x70) ⊎ (t ≡ 0x81) → ⊥) → (t ≡ 0x71 → ⊥) → (t ≡ 0x72 → ⊥) → (t ≡ 0x73 → ⊥) → (t ≡ 0x75 → ⊥) → (t ≡ 0x76 → ⊥) → ((t ≡ 0x53) ⊎ (t ≡ 0x77) → ⊥) → (t ≡ 0x79 → ⊥) → (t ≡ 0x90 → ⊥) → (t ≡ 0x91 → ⊥) → (t ≡ 0x92 → ⊥) → (t ≡ 0x93 → ⊥) → (t ≡ 0x94 → ⊥) → (t ≡ 0x95 → ⊥) → (t ≡ 0x96 → ⊥) → first-text (read s) ≡ []
+  unfolding text-by choose
+  first-other n20 n41 n70 n71 n72 n73 n75 n76 n53 n79 n90 n91 n92 n93 n94 n95 n96 = first-is ∙ rw (ne-eqb t 0x20 (λ z. n20 (inl z)), ne-eqb t 0x40 (λ z. n20 (inr (inl z))), ne-eqb t 0x74 (λ z. n20 (inr (inr z))), ne-eqb t 0x41 n41, ne-eqb t 0x70 (λ z. n70 (inl z)), ne-eqb t 0x81 (λ z. n70 (inr z)), ne-eqb t 0x71 n71, ne-eqb t 0x72 n72, ne-eqb t 0x73 n73, ne-eqb t 0x75 n75, ne-eqb t 0x76 n76, ne-eqb t 0x53 (λ z. n53 (inl z)), ne-eqb t 0x77 (λ z. n53 (inr z)), ne-eqb t 0x79 n79, ne-eqb t 0x90 n90, ne-eqb t 0x91 n91, ne-eqb t 0x92 n92, ne-eqb t 0x93 n93, ne-eqb t 0x94 n94, ne-eqb t 0x95 n95, ne-eqb t 0x96 n96) refl
+
+-- ---- the front of the first field and of the second
+
+front-next : (s : Bytes) (n : Next) → first-front (built read s n) ≡ front-by (inside (tag-by n)) (body-by n)
+unfolding built opened inside
+front-next s nothing = refl
+front-next s no-field = refl
+front-next s (next t w r) = on (inside t)
+  where
+    on : (c : Inside) → first-front (opened c read t w r) ≡ front-by c w
+    on only-bytes = refl
+    on (fields-after n) = refl
+
+pub front-first : (s : Bytes) → first-front (read s) ≡ front-of s
+unfolding front-of tag-of body-of
+front-first s = ap first-front (read-step s) ∙ front-next s (next-of s)
+
+second-next : (s : Bytes) (n : Next) → second-front (built read s n) ≡ first-front (read (behind-by n))
+unfolding built opened
+second-next s nothing = ap first-front (sym read-nil)
+second-next s no-field = ap first-front (sym read-nil)
+second-next s (next t w r) = on (inside t)
+  where
+    on : (c : Inside) → second-front (opened c read t w r) ≡ first-front (read r)
+    on only-bytes = refl
+    on (fields-after n) = refl
+
+pub front-second : (s : Bytes) → second-front (read s) ≡ front-of (behind-of s)
+unfolding behind-of
+front-second s = ap second-front (read-step s) ∙ second-next s (next-of s) ∙ front-first (behind-of s)
+
+text-next : (s : Bytes) (n : Next) → second-text (built read s n) ≡ first-text (read (behind-by n))
+unfolding built opened first-text second-text
+text-next s nothing = ap first-text (sym read-nil)
+text-next s no-field = ap first-text (sym read-nil)
+text-next s (next t w r) = on (inside t)
+  where
+    on : (c : Inside) → second-text (opened c read t w r) ≡ first-text (read r)
+    on only-bytes = refl
+    on (fields-after n) = refl
+
+pub text-second : (s : Bytes) → second-text (read s) ≡ first-text (read (behind-of s))
+unfolding behind-of
+text-second s = ap second-text (read-step s) ∙ text-next s (next-of s)
+
+-- ---- the expressions one by one
+
+module _ (s : Bytes) (t : ℕ) (e : t ≡ tag-of s) (h : t ≡ 256 → ⊥) {r : Bytes} (q : r ≡ behind-of s) where
+  row-is : read s ≡ field (tag-of s) (front-of s) (read (inner-of s)) (read r)
+  row-is = read-front-at s (λ z. h (e ∙ z)) ∙ ap (λ (x : Bytes). field (tag-of s) (front-of s) (read (inner-of s)) (read x)) (sym q)
+
+  pub all-on : all-text (read s) ≡ first-text (read s) ++ all-text (read r)
+  unfolding all-text first-text
+  all-on = subst (λ (x : Row). all-text x ≡ first-text x ++ all-text (read r)) (sym row-is) refl
+
+  pub parted-on : parted-text (read s) ≡ first-text (read s) ++ behind-text (read r)
+  unfolding parted-text first-text
+  parted-on = subst (λ (x : Row). parted-text x ≡ first-text x ++ behind-text (read r)) (sym row-is) refl
+
+  pub behind-on : behind-text (read s) ≡ ascii ", " ++ (first-text (read s) ++ behind-text (read r))
+  unfolding behind-text first-text
+  behind-on = subst (λ (x : Row). behind-text x ≡ ascii ", " ++ (first-text x ++ behind-text (read r))) (sym row-is) refl
+
+pub all-ended : (x : Row) → Ended x → all-text x ≡ []
+unfolding all-text
+all-ended end i = refl
+all-ended (loose b) i = refl
+all-ended (field t f j r) i = absurd i
+
+pub parted-ended : (x : Row) → Ended x → parted-text x ≡ []
+unfolding parted-text
+parted-ended end i = refl
+parted-ended (loose b) i = refl
+parted-ended (field t f j r) i = absurd i
+
+pub behind-ended : (x : Row) → Ended x → behind-text x ≡ []
+unfolding behind-text
+behind-ended end i = refl
+behind-ended (loose b) i = refl
+behind-ended (field t f j r) i = absurd i
+
+-- ---- what lies behind is no longer
+
+within-next : (s : Bytes) (n : Next) → next-of s ≡ n → length (behind-by n) ≤ length s
+within-next s nothing q = omega arith
+within-next s no-field q = omega arith
+within-next s (next t w r) q = omega (arith, next-sizes s t w r q)
+
+pub behind-within : (s : Bytes) → {b : Bytes} → b ≡ behind-of s → length b ≤ length s
+unfolding behind-of
+behind-within s {b} q = omega (arith, ap length q, within-next s (next-of s) refl)
