@@ -5,15 +5,12 @@
 use mathlib.Core.Path.{_≡_, refl, sym, ap, _∙_, subst}
 use mathlib.Core.Bool.{Bool, true, false}
 use Prim.Native.Nat.{ℕ, _-_, _≤_, _<_}
--- Main statements: `read-front`, `read-front-at`, `not-ended`, `inner-less`, `front-length-within`, `front-cut`, `inner-cut`.
-use Prim.Native.Nat.{ℕ, _≤_, _<_}
 use native.Mathlib.Nat.{le-refl}
 use native.Mathlib.Omega.{arith}
 use mathlib.Core.List.{[]}
 use lib.Dec.{leb}
 use lib.ListN.{length, take, drop, length-drop, drop-of-length-le}
 use lib.Seq.{take-all, take-length, drop-length}
-use lib.Seq.{take-all}
 use borrow.Author.Tests.{leb-true, leb-false}
 use Rattle.field.specs.Bytes.{Bytes, pick}
 use Rattle.field.specs.Row.{Row, field, Inside, only-bytes, fields-after, inside, Next, nothing, no-field, next, next-of, opened, built, read, Ended}
@@ -77,6 +74,7 @@ front-length-within (fields-after k) n = on (leb k n) refl
     on false e = le-refl n
 
 -- ---- the two parts as the code cuts them: n is the front's length
+
 front-cut : (c : Inside) (w : Bytes) → take (front-length c (length w)) w ≡ front-by c w
 front-cut only-bytes w = take-length w
 front-cut (fields-after k) w = on (leb k (length w)) refl
@@ -84,19 +82,25 @@ front-cut (fields-after k) w = on (leb k (length w)) refl
     on : (b : Bool) → leb k (length w) ≡ b → take (pick b k (length w)) w ≡ take k w
     on true e = refl
     on false e = take-length w ∙ sym (take-all k w (omega (arith, leb-false k (length w) e)))
+
 inner-cut : (c : Inside) (w : Bytes) → drop (front-length c (length w)) w ≡ inner-by c w
 inner-cut only-bytes w = drop-length w
 inner-cut (fields-after k) w = on (leb k (length w)) refl
+  where
     on : (b : Bool) → leb k (length w) ≡ b → drop (pick b k (length w)) w ≡ drop k w
+    on true e = refl
     on false e =
         let l : length w ≤ k = omega (arith, leb-false k (length w) e) in
         drop-length w ∙ sym (drop-of-length-le w l)
+
 module _ (s b : Bytes) (t n : ℕ) (eb : b ≡ body-of s) (et : t ≡ tag-of s) (en : n ≡ front-length (inside t) (length b)) where
   pub front-fits : n ≤ length b
   front-fits = rw en (front-length-within (inside t) (length b))
+
   pub front-is : take n b ≡ front-of s
   unfolding front-of
   front-is = ap (λ (k : ℕ). take k b) en ∙ front-cut (inside t) b ∙ rw (et, eb)
+
   pub inner-is : take (length b - n) (drop n b) ≡ inner-of s
   unfolding inner-of
   inner-is = take-all (length b - n) (drop n b) (omega (arith, length-drop n b)) ∙ ap (λ (k : ℕ). drop k b) en ∙ inner-cut (inside t) b ∙ rw (et, eb)
