@@ -1,12 +1,14 @@
 //! The library against the judge: the number, the counts and every byte that is lent, call by call.
 
+mod common;
+
+use common::{no_judge, say};
 use jsx_precompile::{Options, Refusal, Transformer, transform_into};
 use oracle::compare::{difference, first_difference};
 use oracle::generate::{self, Case, Room};
 use oracle::show::{hex, show};
 use oracle::vectors::Vector;
 use oracle::{Answer, exhaustive, marks, outcome};
-use std::io::Write;
 use std::time::Instant;
 
 /// The library as the judge's own call.
@@ -18,18 +20,6 @@ fn library(page: &[u8], options: &[u8], scratch: &mut [u8], templates: &mut [u8]
         page_bytes: answer.page_bytes,
         templates: answer.templates,
     }
-}
-
-/// Printed at once, also where the output of tests is held back.
-fn say(words: &str) {
-    let _ = writeln!(std::io::stderr(), "{words}");
-}
-
-fn no_judge() -> bool {
-    if !oracle::AVAILABLE {
-        say("skipped: the judge was built without jsx_precompile.rs");
-    }
-    !oracle::AVAILABLE
 }
 
 fn agree(case: &Case) {

@@ -1,0 +1,1 @@
+const a = <p class="t">Hi {n}</p>;

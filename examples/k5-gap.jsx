@@ -1,0 +1,1 @@
+const a = <b key="7"/>;

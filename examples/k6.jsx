@@ -1,0 +1,1 @@
+const a = <div><Foo><i/></Foo></div>;

@@ -1,0 +1,1 @@
+const a = <Foo>a{"<"}<i/></Foo>;

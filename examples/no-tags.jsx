@@ -1,0 +1,2 @@
+const seats = 412;
+;

@@ -1,0 +1,176 @@
+//! The pages of examples/: each .page is what the tree here is written as, each .jsx the source of that tree, each
+//! .card what the judge prints of the page and what the program `card` prints. With EXAMPLES_WRITE=1 the files are
+//! written, the cards by the judge; without it they are only compared.
+
+mod common;
+mod jsx;
+mod program;
+mod trees;
+
+use common::{no_judge, say};
+use jsx_precompile::page::Page;
+use oracle::marks;
+use program::{Card, parting};
+use std::collections::BTreeSet;
+use std::fs;
+use std::path::{Path, PathBuf};
+use std::sync::Once;
+use trees::Example;
+
+const VARIABLE: &str = "EXAMPLES_WRITE";
+
+/// A file of the repository, by its name seen from the root.
+fn at(name: &str) -> PathBuf {
+    Path::new(env!("CARGO_MANIFEST_DIR")).with_file_name("").join(name)
+}
+
+fn stored(name: &str) -> Vec<u8> {
+    fs::read(at(name)).unwrap_or_else(|error| panic!("{name}: {error}"))
+}
+
+fn file(example: &Example, end: &str) -> String {
+    format!("examples/{}.{end}", example.name)
+}
+
+/// All examples; the files are written before, where that is asked.
+fn examples() -> Vec<Example> {
+    static WRITTEN: Once = Once::new();
+    let examples = trees::all();
+    if std::env::var(VARIABLE).is_ok_and(|word| word == "1") {
+        WRITTEN.call_once(|| write(&examples));
+    }
+    examples
+}
+
+fn write(examples: &[Example]) {
+    if !oracle::AVAILABLE {
+        panic!("{VARIABLE}: the cards are the judge's, and it was built without jsx_precompile.rs");
+    }
+    for example in examples {
+        let files = [
+            ("jsx", jsx::page(&example.tree).into_bytes()),
+            ("page", example.page.clone()),
+            ("card", oracle::card(&example.page)),
+        ];
+        for (end, bytes) in files {
+            let name = file(example, end);
+            fs::write(at(&name), bytes).unwrap_or_else(|error| panic!("{name}: {error}"));
+        }
+    }
+    say(&format!("examples: {} written", examples.len()));
+}
+
+/// A stored text is what another text says it is.
+fn holds(name: &str, other: &str, text: &[u8]) {
+    if let Some(words) = parting([name, other], [&stored(name), text]) {
+        panic!("{words}");
+    }
+}
+
+#[test]
+fn pages_and_sources() {
+    let examples = examples();
+    for example in &examples {
+        let Example { name, tree, page } = example;
+        let bytes = stored(&file(example, "page"));
+        if bytes != *page {
+            let place = bytes.iter().zip(page).take_while(|(one, other)| one == other).count();
+            let lengths = (bytes.len(), page.len());
+            panic!("examples/{name}.page parts from the tree's bytes at byte {place}; their lengths are {lengths:?}");
+        }
+        match (*name, Page::from_bytes(&bytes)) {
+            ("damaged", Err(fault)) => assert_eq!((fault.at, fault.refusal.number()), (26, 3), "{fault}"),
+            (_, read) => assert_eq!(read.as_ref(), Ok(tree), "examples/{name}.page"),
+        }
+        holds(&file(example, "jsx"), "the tree", jsx::page(tree).as_bytes());
+    }
+    say(&format!("examples: {} pages and their sources as stored", examples.len()));
+}
+
+#[test]
+fn cards_of_the_judge() {
+    let examples = examples();
+    if no_judge() {
+        return;
+    }
+    for example in &examples {
+        holds(&file(example, "card"), "the judge", &oracle::card(&example.page));
+    }
+    say(&format!("examples: {} cards as the judge prints them", examples.len()));
+}
+
+#[test]
+fn cards_of_the_program() {
+    let examples = examples();
+    let card = Card::found();
+    for example in &examples {
+        let page = stored(&file(example, "page"));
+        let printed = card.prints(&[&page]).unwrap_or_else(|words| panic!("{}: {words}", file(example, "page")));
+        holds(&file(example, "card"), "the program", &printed);
+    }
+    say(&format!("examples: {} cards as the program prints them", examples.len()));
+}
+
+/// The texts that document 01 fixes, as the marks have them: there the tag is all of the statement.
+#[test]
+fn cards_of_the_paper() {
+    let marks = marks::all();
+    let all = examples();
+    let of_the_table = all.iter().filter(|example| example.name.starts_with('k') || example.name == "worked");
+    let mut count = 0;
+    for example in of_the_table {
+        let mark = match example.name {
+            "worked" => "card",
+            "k5-gap" => "k5-string",
+            "k7-left" => "k7-nested",
+            name => name,
+        };
+        let mark = marks.iter().find(|one| one.name == mark).unwrap_or_else(|| panic!("no mark {mark}"));
+        let text = match &mark.printed {
+            None => format!("{}\n", mark.number),
+            Some(text) if example.name == "worked" => text.clone(),
+            Some(text) => {
+                let start = text.trim_end().rfind('\n').map_or(0, |end| end + 1);
+                format!("{}const a = {};\n", &text[..start], text[start..].trim_end())
+            }
+        };
+        holds(&file(example, "card"), &format!("the mark {}", mark.name), text.as_bytes());
+        count += 1;
+    }
+    assert_eq!(count, 12, "the worked example, K1 to K9, and the second of K5 and of K7");
+    say(&format!("examples: {count} cards as document 01 has them"));
+}
+
+/// The program's own run in `rt check` is the worked example.
+#[test]
+fn files_of_the_program() {
+    examples();
+    for (own, example) in [("crates/card/stdin", "worked.page"), ("crates/card/stdout", "worked.card")] {
+        let example = format!("examples/{example}");
+        assert!(stored(own) == stored(&example), "{own} is not a copy of {example}");
+    }
+}
+
+/// No file is left over, and both READMEs tell what the files have.
+#[test]
+fn folder_and_readmes() {
+    let examples = examples();
+    let files = examples.iter().flat_map(|example| ["card", "jsx", "page"].map(|end| file(example, end)));
+    let expected: BTreeSet<String> = files.chain(["examples/README.md".to_string()]).collect();
+    let folder = fs::read_dir(at("examples")).unwrap_or_else(|error| panic!("examples: {error}"));
+    for file in folder {
+        let name = format!("examples/{}", file.expect("it is there").file_name().display());
+        assert!(expected.contains(&name), "{name} is the file of no example");
+    }
+
+    let list = String::from_utf8(stored("examples/README.md")).expect("text");
+    for example in &examples {
+        let name = example.name;
+        assert!(list.contains(&format!("\n| `{name}` |")), "examples/README.md has no line for {name}");
+    }
+    let readme = String::from_utf8(stored("README.md")).expect("text");
+    for name in ["examples/worked.jsx", "examples/worked.card"] {
+        let text = String::from_utf8(stored(name)).expect("text");
+        assert!(readme.contains(&text), "README.md does not show {name} as it is");
+    }
+}
