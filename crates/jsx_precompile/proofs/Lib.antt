@@ -6,3 +6,4 @@ pub mod ExportLaws
 pub mod ItemLaws
 pub mod PageLaws
 pub mod AnswerLaws
+pub mod MoveLaws

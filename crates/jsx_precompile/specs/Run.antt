@@ -54,6 +54,22 @@ has-statement (P.declaration-item ps ∷ is) = has-statement is
 has-statement (P.statement-item ps ∷ is) = true
 has-statement (P.empty-item ∷ is) = has-statement is
 
+-- the items before the first 10 or 12
+unfoldable pub items-before : Page → Page
+items-before [] = []
+items-before (P.export-item ps ∷ is) = []
+items-before (P.declaration-item ps ∷ is) = P.declaration-item ps ∷ items-before is
+items-before (P.statement-item ps ∷ is) = []
+items-before (P.empty-item ∷ is) = P.empty-item ∷ items-before is
+
+-- that one and what follows
+unfoldable pub items-from : Page → Page
+items-from [] = []
+items-from (P.export-item ps ∷ is) = P.export-item ps ∷ is
+items-from (P.declaration-item ps ∷ is) = items-from is
+items-from (P.statement-item ps ∷ is) = P.statement-item ps ∷ is
+items-from (P.empty-item ∷ is) = items-from is
+
 -- with the place of the templates or without
 abbrev pub items-mid : Options → (placed : Bool) → Page → Mid
 items-mid o placed is = placed-before (placed && not (has-statement is)) (module-mid o (placed && has-statement is) is)

@@ -1,6 +1,7 @@
 // visit_mut_module and inject_runtime: the items, where the templates go among them, and the import.
 ghost use mathlib.Core.Path.{_≡_};
 ghost use Prim.Native.Nat.{_+_, _≤_, _<_, _^_};
+ghost use mathlib.Core.Bool.{false};
 ghost use mathlib.Core.List.{[]};
 ghost use lib.ListN.{length};
 ghost use Rattle.field.specs.Bytes.{Bytes, among, pick};
@@ -13,7 +14,7 @@ ghost use Rattle.field.specs.Put.{Wrote};
 ghost use Rattle.decisions.specs.At.{opts};
 ghost use Rattle.walk.specs.See.{at, see, Low};
 ghost use Rattle.visits.specs.Visiting.{Room};
-ghost use Rattle.jsx_precompile.specs.Run.{item-mid, place-mid, module-mid, items-mid, has-statement, has-html, piece-html, started, import-bytes, sum-of, heads-of, written-page};
+ghost use Rattle.jsx_precompile.specs.Run.{item-mid, place-mid, module-mid, items-mid, has-statement, items-before, items-from, has-html, piece-html, started, import-bytes, sum-of, heads-of, written-page};
 use crate::options::names_in;
 use crate::options::put_source;
 use crate::options::source_len;
@@ -104,6 +105,70 @@ fn visit_module<'a>(
             }
             _ => {
                 cur = leaf(page, cur, 0x13, b"");
+                let r = behind(t);
+                t = r;
+            }
+        }
+    }
+}
+
+// The items before the first 10 or 12.
+fn visit_before<'a>(
+    skip: &'a [u8],
+    props: &'a [u8],
+    s: &'a [u8],
+    scratch: &mut [u8],
+    templates: &mut [u8],
+    page: &mut [u8],
+    st: Walk,
+) -> Walk
+    requires { ⌜ Room (now scratch) (now s) (see (module-mid (opts (now skip) (now props)) false (items-before (module-items-in (read (now s))))) (at (now templates) (now page) st)) ⌝ }
+    ensures { λ r. ⌜ at (now (templates .exit)) (now (page .exit)) r ≡ see (module-mid (opts (now (skip .entry)) (now (props .entry))) false (items-before (module-items-in (read (now (s .entry)))))) (at (now (templates .entry)) (now (page .entry)) st) ⌝ }
+{
+    let mut t = s;
+    let mut cur = st;
+    loop {
+        match tag_at(t) {
+            0x10 => {
+                return cur;
+            }
+            0x11 => {
+                cur = visit_item(skip, props, body(t), 0x11, scratch, templates, page, cur);
+                let r = behind(t);
+                t = r;
+            }
+            0x12 => {
+                return cur;
+            }
+            256 => {
+                return cur;
+            }
+            _ => {
+                cur = leaf(page, cur, 0x13, b"");
+                let r = behind(t);
+                t = r;
+            }
+        }
+    }
+}
+
+// The first 10 or 12 and what follows.
+fn statements_in(s: &[u8]) -> &[u8]
+    ensures { λ r. ⌜ (module-items-in (read (now r)) ≡ items-from (module-items-in (read (now (s .entry))))) × (length (now r) ≤ length (now (s .entry))) ⌝ }
+{
+    let mut t = s;
+    loop {
+        match tag_at(t) {
+            0x10 => {
+                return t;
+            }
+            0x12 => {
+                return t;
+            }
+            256 => {
+                return t;
+            }
+            _ => {
                 let r = behind(t);
                 t = r;
             }
