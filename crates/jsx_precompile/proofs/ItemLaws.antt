@@ -2,7 +2,7 @@
 -- b is the body of the item in front, r what lies behind it; total is where the loop is to end.
 -- Main statements: `item-*`, `place-*`, `turn-*`, `before-*`, `items-*`, `import-written`. Assumes nothing.
 use mathlib.Core.Path.{_≡_, refl, sym, ap, _∙_, subst}
-use mathlib.Core.Bool.{Bool, true, false, _&&_, not}
+use mathlib.Core.Bool.{Bool, true, false, not}
 use Prim.Native.Nat.{ℕ, _+_, _-_, _≤_, _<_, _^_}
 use native.Mathlib.Omega.{arith}
 use mathlib.Core.List.{[], _∷_, _++_, append-nil}
@@ -207,30 +207,21 @@ module _ (k p : Bytes) where
         pub before-13-on : {r : Bytes} → r ≡ behind-of t → {q′ : Bytes} {y : Walk} → at [] q′ y ≡ see (leaf 0x13 []) (at [] q st) → see (before-at r) (at o q′ y) ≡ total
         before-13-on {r} u {q′} {y} d = turn-on (leaf 0x13 []) (before-at r) (empty-first h a b c u) (at o q st) g (lift o q q′ st y (leaf 0x13 []) refl d)
 
--- ---- all items: where the place goes, as the code's tests decide it
+-- ---- all items: where the place goes, as the code's test decides it
 
-pub and-taken : (b : Bool) {a r : Bool} → a ≡ true → r ≡ b → r ≡ (a && b)
-and-taken b e q = q ∙ rw e
-
-pub and-left : (b : Bool) {a r : Bool} → a ≡ false → r ≡ a → r ≡ (a && b)
-and-left b e q = q ∙ rw e
-
-module _ (k p s : Bytes) (placed : Bool) (o q : Bytes) (st : Walk) where
+module _ (k p s : Bytes) (o q : Bytes) (st : Walk) where
   abbrev items-seen : World
-  items-seen = see (items-mid (opts k p) placed (module-items-in (read s))) (at o q st)
+  items-seen = see (items-mid (opts k p) (module-items-in (read s))) (at o q st)
 
-  abbrev among : Bool
-  among = has-statement (module-items-in (read s))
+  module _ {b : Bool} (g : b ≡ has-statement (module-items-in (read s))) where
+    items-are : see (place-mid (not b) +++ module-at k p b s) (at o q st) ≡ items-seen
+    items-are = ap (λ (m : Mid). see m (at o q st)) (sym (placed-is (not b) (module-at k p b s))) ∙ rw g
 
-  module _ {a : Bool} (f : a ≡ (placed && not among)) {b : Bool} (g : b ≡ (placed && among)) where
-    items-are : see (place-mid a +++ module-at k p b s) (at o q st) ≡ items-seen
-    items-are = ap (λ (m : Mid). see m (at o q st)) (sym (placed-is a (module-at k p b s))) ∙ rw (f, g)
+    pub items-place : Low (items-seen .st) → Low (see (place-mid (not b)) (at [] q st) .st)
+    items-place = placed-low (not b) (module-at k p b s) o q st items-are
 
-    pub items-done : {q′ : Bytes} {y : Walk} → at [] q′ y ≡ see (place-mid a) (at [] q st) → see (module-at k p b s) (at o q′ y) ≡ items-seen
-    items-done = placed-on a (module-at k p b s) o q st items-are
-
-  pub items-place : {a : Bool} → a ≡ (placed && not among) → Low (items-seen .st) → Low (see (place-mid a) (at [] q st) .st)
-  items-place {a} f = placed-low a (module-at k p (placed && among) s) o q st (items-are f refl)
+    pub items-done : {q′ : Bytes} {y : Walk} → at [] q′ y ≡ see (place-mid (not b)) (at [] q st) → see (module-at k p b s) (at o q′ y) ≡ items-seen
+    items-done = placed-on (not b) (module-at k p b s) o q st items-are
 
 -- ---- the import
 
