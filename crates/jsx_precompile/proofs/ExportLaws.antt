@@ -1,5 +1,5 @@
 -- What the code of the export learns at each return and at each turn of a loop: the checks, the options, and the items of a page.
--- Main statements: `inputs-*`, `outputs-*`, `cleared-*`, `listed-*`, `source-*`, `items-*`, `statement-*`, `html-*`, `piece-*`. Assumes nothing.
+-- Main statements: `inputs-*`, `outputs-*`, `cleared-*`, `listed-*`, `source-*`, `items-*`, `statement-*`, `from-*`, `html-*`, `piece-*`. Assumes nothing.
 use mathlib.Core.Path.{_≡_, refl, sym, ap, _∙_}
 use mathlib.Core.Bool.{Bool, true, false, _||_}
 use Prim.Native.Nat.{ℕ, _≤_, _<_}
@@ -25,7 +25,7 @@ use Rattle.decisions.specs.At.{opts, element-name, behind-name, element-at, ser
 use Rattle.decisions.proofs.Series.{ended, any-field, pieces-none, pieces-30, pieces-31, pieces-20, pieces-other, fragment-is, tested}
 use Rattle.decisions.proofs.Laws.{element-serializable}
 use Rattle.walk.specs.declared.state.Walk.{Walk}
-use Rattle.jsx_precompile.specs.Run.{has-statement, has-html, piece-html, tag-html, verdict-of}
+use Rattle.jsx_precompile.specs.Run.{has-statement, items-from, has-html, piece-html, tag-html, verdict-of}
 
 -- ---- 1 to 8
 
@@ -175,6 +175,27 @@ module _ (s : Bytes) (t : ℕ) (e : t ≡ tag-of s) where
   statement-past h a b {r} v =
       ap (λ (x : Bytes). has-statement (module-items-in (read x))) v
       ∙ sym (tested t 0x11 (λ k. ap has-statement (items-11 s t e k)) λ c. ap has-statement (items-other s t e h a c b))
+
+-- ---- from the first of them on
+
+pub from-none : (s : Bytes) → Ended (read s) → module-items-in (read s) ≡ items-from (module-items-in (read s))
+unfolding items-from
+from-none s i = items-none s i ∙ sym (ap items-from (items-none s i))
+
+module _ (s : Bytes) (t : ℕ) (e : t ≡ tag-of s) where
+  pub from-10 : t ≡ 0x10 → module-items-in (read s) ≡ items-from (module-items-in (read s))
+  unfolding items-from
+  from-10 k = items-10 s t e k ∙ sym (ap items-from (items-10 s t e k))
+
+  pub from-12 : t ≡ 0x12 → module-items-in (read s) ≡ items-from (module-items-in (read s))
+  unfolding items-from
+  from-12 k = items-12 s t e k ∙ sym (ap items-from (items-12 s t e k))
+
+  pub from-past : (t ≡ 256 → ⊥) → (t ≡ 0x10 → ⊥) → (t ≡ 0x12 → ⊥) → {r : Bytes} → r ≡ behind-of s → items-from (module-items-in (read r)) ≡ items-from (module-items-in (read s))
+  unfolding items-from
+  from-past h a b {r} v =
+      ap (λ (x : Bytes). items-from (module-items-in (read x))) v
+      ∙ sym (tested t 0x11 (λ k. ap items-from (items-11 s t e k)) λ c. ap items-from (items-other s t e h a c b))
 
 -- ---- whether an element that becomes a template stands among the pieces, and among those of the items
 

@@ -1,8 +1,8 @@
 -- The items of a page as the walk visits them: one item, the place of the templates, and each turn over the items; the import.
 -- b is the body of the item in front, r what lies behind it; total is where the loop is to end.
--- Main statements: `item-*`, `place-*`, `turn-*`, `items-*`, `import-written`. Assumes nothing.
+-- Main statements: `item-*`, `place-*`, `turn-*`, `before-*`, `items-*`, `import-written`. Assumes nothing.
 use mathlib.Core.Path.{_≡_, refl, sym, ap, _∙_, subst}
-use mathlib.Core.Bool.{Bool, true, false, _&&_, not}
+use mathlib.Core.Bool.{Bool, true, false, not}
 use Prim.Native.Nat.{ℕ, _+_, _-_, _≤_, _<_, _^_}
 use native.Mathlib.Omega.{arith}
 use mathlib.Core.List.{[], _∷_, _++_, append-nil}
@@ -13,7 +13,7 @@ use Rattle.field.specs.Put.{Wrote, head}
 use Rattle.field.proofs.PutLaws.{wrote-then, wrote-is, wrote-behind}
 use Rattle.page.specs.Page.{Page}
 use Rattle.page.specs.Tree.{module-items-in}
-use Rattle.spec.specs.Pass.{Mid, _+++_}
+use Rattle.spec.specs.Pass.{Mid, none, _+++_}
 use Rattle.spec.specs.Output.{leaf}
 use Rattle.decisions.specs.At.{opts}
 use Rattle.walk.specs.declared.state.Walk.{Walk}
@@ -21,7 +21,7 @@ use Rattle.walk.specs.See.{World, at, see, to-page, begun, wrap, Low}
 use Rattle.walk.proofs.SeeLaws.{plain, see-none, see-node, see-grows, lift}
 use Rattle.visits.specs.Visiting.{pieces-at}
 use Rattle.visits.proofs.FieldLaws.{turn-low, turn-on, page-low, field-begin, field-inner, field-close, field-done}
-use Rattle.jsx_precompile.specs.Run.{item-mid, place-mid, placed-before, module-mid, has-statement, items-mid, import-bytes}
+use Rattle.jsx_precompile.specs.Run.{item-mid, place-mid, placed-before, module-mid, has-statement, items-before, items-mid, import-bytes}
 use Rattle.jsx_precompile.proofs.ExportLaws.{items-none, items-10, items-11, items-12, items-other}
 
 -- ---- one item: its pieces between `begin` and `close`
@@ -156,30 +156,72 @@ module _ (k p : Bytes) where
         pub turn-13-on : {r : Bytes} → r ≡ behind-of t → {q′ : Bytes} {y : Walk} → at [] q′ y ≡ see (leaf 0x13 []) (at [] q st) → see (module-at due r) (at o q′ y) ≡ total
         turn-13-on {r} u {q′} {y} d = turn-on (leaf 0x13 []) (module-at due r) (module-other h a b c u) (at o q st) g (lift o q q′ st y (leaf 0x13 []) refl d)
 
--- ---- all items: where the place goes, as the code's tests decide it
+-- ---- a turn over the items before the first 10 or 12
 
-pub and-taken : (b : Bool) {a r : Bool} → a ≡ true → r ≡ b → r ≡ (a && b)
-and-taken b e q = q ∙ rw e
+module _ (k p : Bytes) where
+  abbrev pub before-at : Bytes → Mid
+  before-at s = module-mid (opts k p) false (items-before (module-items-in (read s)))
 
-pub and-left : (b : Bool) {a r : Bool} → a ≡ false → r ≡ a → r ≡ (a && b)
-and-left b e q = q ∙ rw e
+  module _ (t : Bytes) (n : ℕ) (e : n ≡ tag-of t) where
+    abbrev Front : Page → Type 0
+    Front is = before-at t ≡ module-mid (opts k p) false (items-before is)
 
-module _ (k p s : Bytes) (placed : Bool) (o q : Bytes) (st : Walk) where
+    before-is : {is : Page} → module-items-in (read t) ≡ is → Front is
+    before-is h = ap (λ (x : Page). module-mid (opts k p) false (items-before x)) h
+
+    item-first : n ≡ 0x11 → {b : Bytes} → b ≡ body-of t → {r : Bytes} → r ≡ behind-of t → before-at t ≡ item-at k p 0x11 b +++ before-at r
+    unfolding module-mid items-before _+++_
+    item-first h v u = before-is (items-11 t n e h) ∙ rw (v, u)
+
+    empty-first : (n ≡ 256 → ⊥) → (n ≡ 0x10 → ⊥) → (n ≡ 0x11 → ⊥) → (n ≡ 0x12 → ⊥) → {r : Bytes} → r ≡ behind-of t → before-at t ≡ leaf 0x13 [] +++ before-at r
+    unfolding module-mid items-before _+++_
+    empty-first h a b c u = before-is (items-other t n e h a b c) ∙ rw u
+
+    module _ (o q : Bytes) (st : Walk) {total : World} (g : see (before-at t) (at o q st) ≡ total) where
+      nothing-left : before-at t ≡ none → at o q st ≡ total
+      nothing-left h = sym (see-none (at o q st)) ∙ ap (λ (m : Mid). see m (at o q st)) (sym h) ∙ g
+
+      pub before-10 : n ≡ 0x10 → at o q st ≡ total
+      unfolding module-mid items-before
+      before-10 h = nothing-left (before-is (items-10 t n e h))
+
+      pub before-12 : n ≡ 0x12 → at o q st ≡ total
+      unfolding module-mid items-before
+      before-12 h = nothing-left (before-is (items-12 t n e h))
+
+      pub before-end : Ended (read t) → at o q st ≡ total
+      unfolding module-mid items-before
+      before-end i = nothing-left (before-is (items-none t i))
+
+      module _ (h : n ≡ 0x11) {b : Bytes} (v : b ≡ body-of t) where
+        pub before-11-room : Low (total .st) → Low (see (item-at k p 0x11 b) (at o q st) .st)
+        before-11-room = turn-low (item-at k p 0x11 b) (before-at (behind-of t)) (item-first h v refl) (at o q st) g
+
+        pub before-11-on : {r : Bytes} → r ≡ behind-of t → {w′ : World} → w′ ≡ see (item-at k p 0x11 b) (at o q st) → see (before-at r) w′ ≡ total
+        before-11-on {r} u = turn-on (item-at k p 0x11 b) (before-at r) (item-first h v u) (at o q st) g
+
+      module _ (h : n ≡ 256 → ⊥) (a : n ≡ 0x10 → ⊥) (b : n ≡ 0x11 → ⊥) (c : n ≡ 0x12 → ⊥) where
+        pub before-13-room : Low (total .st) → Low (see (leaf 0x13 []) (at [] q st) .st)
+        before-13-room l = page-low (leaf 0x13 []) o q st (turn-low (leaf 0x13 []) (before-at (behind-of t)) (empty-first h a b c refl) (at o q st) g l)
+
+        pub before-13-on : {r : Bytes} → r ≡ behind-of t → {q′ : Bytes} {y : Walk} → at [] q′ y ≡ see (leaf 0x13 []) (at [] q st) → see (before-at r) (at o q′ y) ≡ total
+        before-13-on {r} u {q′} {y} d = turn-on (leaf 0x13 []) (before-at r) (empty-first h a b c u) (at o q st) g (lift o q q′ st y (leaf 0x13 []) refl d)
+
+-- ---- all items: where the place goes, as the code's test decides it
+
+module _ (k p s : Bytes) (o q : Bytes) (st : Walk) where
   abbrev items-seen : World
-  items-seen = see (items-mid (opts k p) placed (module-items-in (read s))) (at o q st)
+  items-seen = see (items-mid (opts k p) (module-items-in (read s))) (at o q st)
 
-  abbrev among : Bool
-  among = has-statement (module-items-in (read s))
+  module _ {b : Bool} (g : b ≡ has-statement (module-items-in (read s))) where
+    items-are : see (place-mid (not b) +++ module-at k p b s) (at o q st) ≡ items-seen
+    items-are = ap (λ (m : Mid). see m (at o q st)) (sym (placed-is (not b) (module-at k p b s))) ∙ rw g
 
-  module _ {a : Bool} (f : a ≡ (placed && not among)) {b : Bool} (g : b ≡ (placed && among)) where
-    items-are : see (place-mid a +++ module-at k p b s) (at o q st) ≡ items-seen
-    items-are = ap (λ (m : Mid). see m (at o q st)) (sym (placed-is a (module-at k p b s))) ∙ rw (f, g)
+    pub items-place : Low (items-seen .st) → Low (see (place-mid (not b)) (at [] q st) .st)
+    items-place = placed-low (not b) (module-at k p b s) o q st items-are
 
-    pub items-done : {q′ : Bytes} {y : Walk} → at [] q′ y ≡ see (place-mid a) (at [] q st) → see (module-at k p b s) (at o q′ y) ≡ items-seen
-    items-done = placed-on a (module-at k p b s) o q st items-are
-
-  pub items-place : {a : Bool} → a ≡ (placed && not among) → Low (items-seen .st) → Low (see (place-mid a) (at [] q st) .st)
-  items-place {a} f = placed-low a (module-at k p (placed && among) s) o q st (items-are f refl)
+    pub items-done : {q′ : Bytes} {y : Walk} → at [] q′ y ≡ see (place-mid (not b)) (at [] q st) → see (module-at k p b s) (at o q′ y) ≡ items-seen
+    items-done = placed-on (not b) (module-at k p b s) o q st items-are
 
 -- ---- the import
 

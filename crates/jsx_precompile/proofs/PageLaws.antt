@@ -1,11 +1,11 @@
--- A page's items from the page's bytes: room for the walk over them, whatever they are; what stands before them; and both outputs, written.
--- Main statements: `page-body`, `source-short`, `module-room`, `heads-shown`, `heads-told`, `items-room`, `page-import`, `page-plain`. Assumes nothing.
-use mathlib.Core.Path.{_≡_, refl, sym, ap, _∙_}
-use mathlib.Core.Bool.{Bool, true, false, not}
+-- A page's items from the page's bytes: room for the walk over them, whatever they are, and for what is put in; and both outputs, written.
+-- Main statements: `page-body`, `source-short`, `items-room`, `before-room`, `from-room`, `heads-room`, `page-shown`, `page-moved`. Assumes nothing.
+use mathlib.Core.Path.{_≡_, refl, sym, ap, ap₂, _∙_}
+use mathlib.Core.Bool.{Bool, true, false}
 use Prim.Native.Nat.{ℕ, _+_, _*_, _≤_, _<_, _^_}
 use native.Mathlib.Omega.{arith}
-use mathlib.Core.List.{List, [], _∷_}
-use lib.Dec.{eqb, ltb}
+use mathlib.Core.List.{List, [], _∷_, _++_}
+use lib.Dec.{eqb}
 use lib.ListN.{length}
 use borrow.Author.Tests.{ne-eqb}
 use Rattle.field.specs.Bytes.{Bytes, pick, among}
@@ -33,12 +33,13 @@ use Rattle.decisions.specs.Index.{names-of}
 use Rattle.decisions.proofs.Series.{tested, any-front}
 use Rattle.walk.specs.declared.state.Walk.{Walk}
 use Rattle.walk.specs.See.{World, at, see, Low}
-use Rattle.walk.proofs.SeeLaws.{low-is}
-use Rattle.jsx_precompile.specs.declared.module.Heads.{Heads}
-use Rattle.jsx_precompile.specs.Run.{items-mid, has-html, started, sum-of, heads-of, import-bytes, written-page}
-use Rattle.jsx_precompile.proofs.RunLaws.{has-html-placed, walked, items-walked, module-walked, heads-measured}
-use Rattle.jsx_precompile.proofs.WrittenLaws.{written-import, written-plain}
-use Rattle.jsx_precompile.proofs.ItemLaws.{module-at, bit-low}
+use Rattle.walk.proofs.SeeLaws.{Grows, see-grows, low-is}
+use Rattle.visits.proofs.FieldLaws.{turn-low, turn-on}
+use Rattle.jsx_precompile.specs.Run.{module-mid, has-statement, items-from, items-mid, has-html, started, sum-of, import-bytes, Headed, written-page}
+use Rattle.jsx_precompile.proofs.RunLaws.{has-html-takes, walked, world, items-walked, module-walked}
+use Rattle.jsx_precompile.proofs.CutLaws.{statement-from, parts, first-part, first-page}
+use Rattle.jsx_precompile.proofs.WrittenLaws.{written-import, written-moved}
+use Rattle.jsx_precompile.proofs.ItemLaws.{module-at, before-at, bit-low}
 
 -- whichever is taken
 chosen : {A : Type 0} (P : A → Type 0) (b : Bool) (f g : Unit {0} → A) → P (f tt) → P (g tt) → P (choose b f g)
@@ -118,60 +119,73 @@ module _ (k p s : Bytes) (short : length s < 2 ^ 32) where
       let e = encoded s in
       record { low-first = omega arith; low-later = omega (arith, t, e); low-templates = omega (arith, g, e); low-page = omega (arith, g, e) }
 
-  -- the walk that writes nothing
-  pub module-room : (t g : Bytes) {x : Walk} → x ≡ started 0 → Low (see (module-at k p false s) (at t g x) .st)
-  module-room t g e = low-is (ap (λ (x : Walk). see (module-at k p false s) (at t g x)) e ∙ module-walked (opts k p) items-of 0 t g) (walked-low (result .value) 0 (omega arith) (omega arith))
-
-  -- and the one that writes
-  pub items-room : (t g : Bytes) {h : Heads} → h ≡ heads-of (opts k p) items-of → {x : Walk} {q : ℕ} → x ≡ started q → q ≤ 8192 → Low (see (items-mid (opts k p) (h .placed) items-of) (at t g x) .st)
-  items-room t g {h} m {x} {q} e l =
-      low-is (ap (λ (x : Walk). see (items-mid (opts k p) (h .placed) items-of) (at t g x)) e ∙ items-walked (opts k p) items-of (h .placed) q t g (ap (λ (h : Heads). h .placed) m))
+  -- all items at once, behind room for the import
+  pub items-room : (t g : Bytes) → 1 ≤ result .taken → {x : Walk} {q : ℕ} → x ≡ started q → q ≤ 8192 → Low (see (items-mid (opts k p) items-of) (at t g x) .st)
+  items-room t g h {x} {q} e l =
+      low-is (ap (λ (x : Walk). see (items-mid (opts k p) items-of) (at t g x)) e ∙ items-walked (opts k p) items-of q t g (omega (arith, h, counted (opts k p) items-of)))
       (walked-low (with-templates (result .templates) (result .value)) q (placed-size (result .templates) (result .value)) l)
 
-pub import-short : (b : Bool) (n : ℕ) {q : ℕ} → q ≡ pick b (19 + n) 0 → n ≤ 4101 → q ≤ 8192
-import-short b n e l = omega (arith, bit-low b (19 + n) e)
+  -- and in two parts
+  module _ (t g : Bytes) {x : Walk} (e : x ≡ started 0) where
+    all-walked : see (module-at k p false s) (at t g x) ≡ world result (result .value) 0 t g
+    all-walked = ap (λ (x : Walk). see (module-at k p false s) (at t g x)) e ∙ module-walked (opts k p) items-of 0 t g
 
--- ---- what stands before the items
+    all-low : Low (see (module-at k p false s) (at t g x) .st)
+    all-low = low-is all-walked (walked-low (result .value) 0 (omega arith) (omega arith))
 
-abbrev heads : Bool → Bool → Heads
-heads i p = record { import = i; placed = p }
+    pub before-room : Low (see (before-at k p s) (at t g x) .st)
+    before-room = turn-low (before-at k p s) (module-mid (opts k p) false (items-from items-of)) (parts (opts k p) items-of) (at t g x) refl all-low
 
-module _ (k p : Bytes) (is : Page) where
-  pub heads-shown : {v : Bool} → v ≡ has-html (opts k []) is → v ≡ true → heads true true ≡ heads-of (opts k p) is
-  heads-shown e h = sym (has-html-placed k p is (counted (opts k p) is) (called (opts k p) is) (sym e ∙ h))
+    module _ {t₁ g₁ : Bytes} {y : Walk} (d : at t₁ g₁ y ≡ see (before-at k p s) (at t g x)) (u : Bytes) (j : module-items-in (read u) ≡ items-from items-of) where
+      pub from-is : see (module-at k p false u) (at t₁ g₁ y) ≡ see (module-at k p false s) (at t g x)
+      from-is =
+          ap (λ (i : Page). see (module-mid (opts k p) false i) (at t₁ g₁ y)) j
+          ∙ turn-on (before-at k p s) (module-mid (opts k p) false (items-from items-of)) (parts (opts k p) items-of) (at t g x) refl d
 
--- by the walk that writes nothing; n is the sum that `helper_sum` gives
-pub heads-told : (k p s t g : Bytes) {x : Walk} → x ≡ started 0 → {t′ g′ : Bytes} {y : Walk} → at t′ g′ y ≡ see (module-at k p false s) (at t g x) → {n : ℕ} → n ≡ sum-of y →
-    heads (not (eqb n 0)) (ltb 1 (y .later)) ≡ heads-of (opts k p) (module-items-in (read s))
-heads-told k p s t g {x} e {y = y} d {n} q =
-    let is = module-items-in (read s) in
-    ap (λ (m : ℕ). heads (not (eqb m 0)) (ltb 1 (y .later))) q
-    ∙ ap (λ (w : World). heads (not (eqb (sum-of (w .st)) 0)) (ltb 1 (w .st .later))) (d ∙ ap (λ (x : Walk). see (module-at k p false s) (at t g x)) e)
-    ∙ heads-measured (opts k p) is 0 t g (counted (opts k p) is) (called (opts k p) is)
+      pub from-room : Low (see (module-at k p false u) (at t₁ g₁ y) .st)
+      from-room = low-is from-is all-low
 
--- ---- both outputs, written: b is the page's body, h what `heads_before` gives, q what `import_len` does, and y the state behind the walk
+      -- room for what is due; q is the place of the templates
+      pub heads-room : {t₂ g₂ : Bytes} {z : Walk} → at t₂ g₂ z ≡ see (module-at k p false u) (at t₁ g₁ y) → {q : ℕ} → q ≡ pick (has-statement (module-items-in (read u))) (y .page) 0 → (q ≤ z .page) × (z .page < 2 ^ 62)
+      heads-room {z = z} f {q} c =
+          let n : z .page ≡ 0 + length (bytes (result .value)) = ap (λ (w : World). w .st .page) (f ∙ from-is ∙ all-walked) in
+          let l : y .page ≤ z .page = omega (arith, see-grows (module-at k p false u) (at t₁ g₁ y) .g-page, ap (λ (w : World). w .st .page) f) in
+          (omega (arith, bit-low (has-statement (module-items-in (read u))) (y .page) c), omega (arith, growth (opts k p) items-of, encoded s))
 
-module _ (k p : Bytes) (r : Row) (e : (n : Bytes) → among n (names-of k) ≡ among n (listed-in 2 r)) (f : (n : Bytes) → among n (names-of p) ≡ among n (listed-in 3 r)) (b : Bytes) {is : Page} (j : module-items-in (read b) ≡ is)
-    {h : Heads} (m : h ≡ heads-of (opts k p) (module-items-in (read b))) {q : ℕ} (l : q ≡ pick (h .import) (19 + length (source-in r)) 0) {x : Walk} (s : x ≡ started q) (t g : Bytes)
-    {t′ g′ : Bytes} {y : Walk} (v : at t′ g′ y ≡ see (items-mid (opts k p) (h .placed) (module-items-in (read b))) (at t g x)) where
-  walked-from : at t′ g′ y ≡ see (items-mid (opts k p) (heads-of (opts k p) (module-items-in (read b)) .placed) (module-items-in (read b))) (at t g (started q))
-  walked-from =
-      v ∙ ap (λ (z : Heads). see (items-mid (opts k p) (z .placed) (module-items-in (read b))) (at t g x)) m
-      ∙ ap (λ (z : Walk). see (items-mid (opts k p) (heads-of (opts k p) (module-items-in (read b)) .placed) (module-items-in (read b))) (at t g z)) s
+pub import-short : (n : ℕ) {q : ℕ} → q ≡ 19 + n → n ≤ 4101 → q ≤ 8192
+import-short n e l = omega arith
 
-  same-page : written-page (options-in r) (transform (options-in r) (module-items-in (read b))) t g ≡ written-page (options-in r) (transform (options-in r) is) t g
+pub html-takes : (k p : Bytes) (is : Page) {v : Bool} → v ≡ has-html (opts k []) is → v ≡ true → 1 ≤ transform (opts k p) is .taken
+html-takes k p is e h = has-html-takes k p is (sym e ∙ h)
+
+-- ---- both outputs, written: b is the page's body
+
+module _ (k p : Bytes) (r : Row) (e : (n : Bytes) → among n (names-of k) ≡ among n (listed-in 2 r)) (f : (n : Bytes) → among n (names-of p) ≡ among n (listed-in 3 r)) (b : Bytes) {is : Page}
+    (j : module-items-in (read b) ≡ is) (t g : Bytes) where
+  abbrev items-read : Page
+  items-read = module-items-in (read b)
+
+  same-page : written-page (options-in r) (transform (options-in r) items-read) t g ≡ written-page (options-in r) (transform (options-in r) is) t g
   same-page = ap (λ (i : Page). written-page (options-in r) (transform (options-in r) i) t g) j
 
-  pub page-import : h .import ≡ true → {n : ℕ} → n ≡ sum-of y → {g″ : Bytes} {z : ℕ} → Wrote g′ 0 (import-bytes (source-in r) n) g″ z → at t′ g″ y ≡ written-page (options-in r) (transform (options-in r) is) t g
-  page-import c {n} u w =
-      let i = module-items-in (read b) in
-      let due : q ≡ 19 + length (source-in r) = l ∙ ap (λ (z : Bool). pick z (19 + length (source-in r)) 0) c in
+  -- behind room for the import, which is put in front
+  pub page-shown : 1 ≤ transform (opts k p) items-read .taken → {q : ℕ} → q ≡ 19 + length (source-in r) → {x : Walk} → x ≡ started q →
+      {t′ g′ : Bytes} {y : Walk} → at t′ g′ y ≡ see (items-mid (opts k p) items-read) (at t g x) → {n : ℕ} → n ≡ sum-of y → {g″ : Bytes} {z : ℕ} → Wrote g′ 0 (import-bytes (source-in r) n) g″ z →
+      at t′ g″ y ≡ written-page (options-in r) (transform (options-in r) is) t g
+  page-shown h {q} l s {t′} {g′} {y} v u w =
       ap (λ (o : Bytes). at t′ o y) (w .out-is ∙ ap (λ (n : ℕ). put g′ 0 (import-bytes (source-in r) n)) u)
-      ∙ written-import k p r i e f (counted (opts k p) i) (called (opts k p) i) q t g (at t′ g′ y) (sym (ap (λ (z : Heads). z .import) m) ∙ c) due walked-from
+      ∙ written-import k p r items-read e f (counted (opts k p) items-read) (called (opts k p) items-read) q t g (at t′ g′ y) h l (v ∙ ap (λ (x : Walk). see (items-mid (opts k p) items-read) (at t g x)) s)
       ∙ same-page
 
-  pub page-plain : h .import ≡ false → at t′ g′ y ≡ written-page (options-in r) (transform (options-in r) is) t g
-  page-plain c =
-      let i = module-items-in (read b) in
-      let due : q ≡ 0 = l ∙ ap (λ (z : Bool). pick z (19 + length (source-in r)) 0) c in
-      written-plain k p r i e f (counted (opts k p) i) (called (opts k p) i) q t g (at t′ g′ y) (sym (ap (λ (z : Heads). z .import) m) ∙ c) due walked-from ∙ same-page
+  -- in two parts, and what is due put in; u has the second part, q is the place of the templates
+  pub page-moved : length b < 2 ^ 32 → {x : Walk} → x ≡ started 0 → {t₁ g₁ : Bytes} {y : Walk} → at t₁ g₁ y ≡ see (before-at k p b) (at t g x) → (u : Bytes) → module-items-in (read u) ≡ items-from items-read →
+      {t₂ g₂ : Bytes} {z : Walk} → at t₂ g₂ z ≡ see (module-at k p false u) (at t₁ g₁ y) → {q : ℕ} → q ≡ pick (has-statement (module-items-in (read u))) (y .page) 0 →
+      {g₃ : Bytes} {w : Walk} → ((o a c : Bytes) → g₂ ≡ put o 0 (a ++ c) → q ≡ length a → z .page ≡ length a + length c → Headed (source-in r) z o a c g₃ w) →
+      at t₂ g₃ w ≡ written-page (options-in r) (transform (options-in r) is) t g
+  page-moved short {x} s {y = y} d u i v {q} c put-in =
+      let all = v ∙ from-is k p b short t g s d u i ∙ ap (λ (x : Walk). see (module-at k p false b) (at t g x)) s in
+      let first : y .page ≡ length (bytes (first-part (opts k p) items-read 1 .value)) = ap (λ (w : World). w .st .page) (d ∙ ap (λ (x : Walk). see (before-at k p b) (at t g x)) s) ∙ first-page (opts k p) items-read t g in
+      let place : q ≡ pick (has-statement items-read) (length (bytes (first-part (opts k p) items-read 1 .value))) 0 =
+      c ∙ ap₂ (λ (h : Bool) (n : ℕ). pick h n 0) (ap has-statement i ∙ statement-from items-read) first in
+      written-moved k p r items-read e f (counted (opts k p) items-read) (called (opts k p) items-read) t g all put-in (has-statement items-read) refl place
+      ∙ same-page

@@ -1,12 +1,13 @@
 -- The whole page as one row of expressions is the transform's, with the place of the templates in it: what the walk over it leaves, and the
--- import in front. Main statements: `import-free`, `has-html-placed`, `items-visited`, `sum-is`, `page-put`. Assumes nothing.
+-- import in front. Main statements: `import-free`, `has-html-takes`, `items-visited`, `items-walked`, `module-walked`, `walked-sum`,
+-- `page-put`. Assumes nothing.
 use Prim.Native.Nat.{ℕ, zero, suc, _+_, _≤_}
 use native.Mathlib.Omega.{arith}
 use native.Mathlib.Nat.{zero-add, add-zero}
 use mathlib.Core.Path.{_≡_, refl, sym, ap, ap₂, _∙_, subst}
 use mathlib.Core.Bool.{Bool, true, false, _&&_, _||_, not}
 use mathlib.Core.List.{List, [], _∷_, _++_, append-nil}
-use lib.Dec.{T, eqb, leb, ltb, eqb·suc-zero, leb·suc-suc}
+use lib.Dec.{T, eqb, leb, ltb, leb·suc-suc}
 use lib.ListN.{length, length-append}
 use borrow.Author.Tests.{lt-ltb}
 use Rattle.field.specs.Bytes.{Bytes, ascii, pick, same, among}
@@ -34,8 +35,7 @@ use Rattle.decisions.specs.At.{opts}
 use Rattle.decisions.specs.Index.{names-of}
 use Rattle.walk.specs.declared.state.Walk.{Walk}
 use Rattle.walk.specs.See.{World, at, see, wrote}
-use Rattle.jsx_precompile.specs.declared.module.Heads.{Heads}
-use Rattle.jsx_precompile.specs.Run.{placed-before, module-mid, has-statement, items-mid, tag-html, piece-html, has-html, started, sum-of, heads-of, import-bytes}
+use Rattle.jsx_precompile.specs.Run.{placed-before, module-mid, has-statement, items-mid, tag-html, piece-html, has-html, started, sum-of, import-bytes}
 
 -- ---- the transform does not look at the import's source, and of the lists only at what stands among them
 
@@ -199,31 +199,18 @@ module _ (o o′ : Options) (e : o .skip-serialize ≡ o′ .skip-serialize) whe
   module-takes (P.statement-item ps ∷ is) h n = or-either (piece-html o ps) (has-html o is) (λ x. omega (arith, pieces-take ps x n)) (λ x. omega (arith, module-takes is x (n + visit-exprs (pieces o′ ps) n .taken))) h
   module-takes (P.empty-item ∷ is) h n = rw (leaf-takes 0x13 [] (module-items o′ is) n) (module-takes is h n)
 
-some : (n : ℕ) → 1 ≤ n → not (eqb n 0) ≡ true
-some zero h = absurd (omega arith)
-some (suc n) h = ap not (eqb·suc-zero n)
-
-called-sum : (r : Row) → stands 0x90 r ≡ true → 1 ≤ helper-sum r
+pub called-sum : (r : Row) → stands 0x90 r ≡ true → 1 ≤ helper-sum r
 unfolding helper-sum
 called-sum r e = rw e (omega arith)
 
-abbrev heads : Bool → Bool → Heads
-heads i p = record { import = i; placed = p }
-
--- the premises are `counted` and `called` of spec
-pub has-html-placed : (skip props : Bytes) (p : Page) →
-    length (transform (opts skip props) p .templates) ≡ transform (opts skip props) p .taken → stands 0x90 (transform (opts skip props) p .value) ≡ ltb 0 (transform (opts skip props) p .taken) →
-    has-html (opts skip []) p ≡ true → heads-of (opts skip props) p ≡ record { import = true; placed = true }
+pub has-html-takes : (skip props : Bytes) (p : Page) → has-html (opts skip []) p ≡ true → 1 ≤ transform (opts skip props) p .taken
 unfolding transform
-has-html-placed skip props p counted called h =
-    let d = visit-exprs (module-items (opts skip props) p) 1 in
-    let k : 1 ≤ d .taken = module-takes (opts skip []) (opts skip props) refl p (subst T (sym h) tt) 1 in
-    ap₂ heads (some (helper-sum (d .value)) (called-sum (d .value) (called ∙ lt-ltb 0 (d .taken) k))) (some (length (d .templates)) (omega arith))
+has-html-takes skip props p h = module-takes (opts skip []) (opts skip props) refl p (subst T (sym h) tt) 1
 
 -- ---- the items with the place of the templates among them
 
 module _ (o : Options) where
-  not-due : (is : Page) → module-mid o false is ≡ module-items o is
+  pub not-due : (is : Page) → module-mid o false is ≡ module-items o is
   unfolding module-mid module-items
   not-due [] = refl
   not-due (P.export-item ps ∷ is) = ap (node 0x10 [] (pieces o ps)) (not-due is)
@@ -244,7 +231,7 @@ module _ (o : Options) where
   module-visited (P.statement-item ps ∷ is) n = ap (λ (r : Mid). visit-exprs (node 0x83 [] none (node 0x12 [] (pieces o ps) r)) n) (not-due is) ∙ leaf-first 0x83 [] (node 0x12 [] (pieces o ps) (module-items o is)) n
   module-visited (P.empty-item ∷ is) n = behind 0x13 [] none (module-items o is) (module-mid o true is) n _ (module-visited is (n + 0))
 
-  statement-same : (is : Page) (n : ℕ) → Row.has-statement (visit-exprs (module-items o is) n .value) ≡ has-statement is
+  pub statement-same : (is : Page) (n : ℕ) → Row.has-statement (visit-exprs (module-items o is) n .value) ≡ has-statement is
   unfolding module-items has-statement Row.has-statement visit-exprs both pure
   statement-same [] n = refl
   statement-same (P.export-item ps ∷ is) n = refl
@@ -253,23 +240,20 @@ module _ (o : Options) where
   statement-same (P.empty-item ∷ is) n = statement-same is (n + 0)
 
   -- the same but for the place
-  pub items-visited : (is : Page) (n : ℕ) (placed : Bool) → placed ≡ not (eqb (length (visit-exprs (module-items o is) n .templates)) 0) →
-      visit-exprs (items-mid o placed is) n ≡ valued (with-templates (visit-exprs (module-items o is) n .templates) (visit-exprs (module-items o is) n .value)) (visit-exprs (module-items o is) n)
-  unfolding with-templates
-  items-visited is n placed e = on placed (has-statement is) (d .templates) e (statement-same is n)
+  pub items-visited : (is : Page) (n : ℕ) → 1 ≤ length (visit-exprs (module-items o is) n .templates) →
+      visit-exprs (items-mid o is) n ≡ valued (with-templates (visit-exprs (module-items o is) n .templates) (visit-exprs (module-items o is) n .value)) (visit-exprs (module-items o is) n)
+  items-visited is n l = on (has-statement is) (d .templates) l (statement-same is n)
     where
       d : Done Row
       d = visit-exprs (module-items o is) n
 
-      on : (b h : Bool) (ts : List Template) → b ≡ not (eqb (length ts) 0) → Row.has-statement (d .value) ≡ h → visit-exprs (placed-before (b && not h) (module-mid o (b && h) is)) n ≡ valued (with-templates ts (d .value)) d
-      on true h [] e g = absurd (subst T e tt)
-      on false h [] e g = unfold with-templates in ap (λ (m : Mid). visit-exprs m n) (not-due is)
-      on true true (t ∷ ts) e g = unfold with-templates in module-visited is n ∙ ap (λ (c : Bool). valued (pick c (before-statement (d .value)) (field 0x83 [] end (d .value))) d) (sym g)
-      on true false (t ∷ ts) e g =
+      on : (h : Bool) (ts : List Template) → 1 ≤ length ts → Row.has-statement (d .value) ≡ h → visit-exprs (placed-before (not h) (module-mid o h is)) n ≡ valued (with-templates ts (d .value)) d
+      on h [] l g = absurd (omega arith)
+      on true (t ∷ ts) l g = unfold with-templates in module-visited is n ∙ ap (λ (c : Bool). valued (pick c (before-statement (d .value)) (field 0x83 [] end (d .value))) d) (sym g)
+      on false (t ∷ ts) l g =
           unfold with-templates in
           ap (λ (m : Mid). visit-exprs (node 0x83 [] none m) n) (not-due is) ∙ leaf-first 0x83 [] (module-items o is) n
           ∙ ap (λ (c : Bool). valued (pick c (before-statement (d .value)) (field 0x83 [] end (d .value))) d) (sym g)
-      on false h (t ∷ ts) e g = absurd (subst T (sym (e ∙ some (suc (length ts)) (omega arith))) tt)
 
 -- ---- neither the helpers called nor a body too long comes with the place
 
@@ -346,12 +330,12 @@ wrote-walked d r q t p a =
         })
 
 -- the items with the place, and without
-pub items-walked : (o : Options) (is : Page) (placed : Bool) (q : ℕ) (t p : Bytes) → placed ≡ not (eqb (length (transform o is .templates)) 0) →
-    see (items-mid o placed is) (at t p (started q)) ≡ world (transform o is) (with-templates (transform o is .templates) (transform o is .value)) q t p
+pub items-walked : (o : Options) (is : Page) (q : ℕ) (t p : Bytes) → 1 ≤ length (transform o is .templates) →
+    see (items-mid o is) (at t p (started q)) ≡ world (transform o is) (with-templates (transform o is .templates) (transform o is .value)) q t p
 unfolding see transform
-items-walked o is placed q t p e =
+items-walked o is q t p l =
     let d = visit-exprs (module-items o is) 1 in
-    ap (λ (x : Done Row). wrote x (at t p (started q))) (items-visited o is 1 placed e) ∙ wrote-walked d (with-templates (d .templates) (d .value)) q t p (place-alike (d .templates) (d .value))
+    ap (λ (x : Done Row). wrote x (at t p (started q))) (items-visited o is 1 l) ∙ wrote-walked d (with-templates (d .templates) (d .value)) q t p (place-alike (d .templates) (d .value))
 
 pub module-walked : (o : Options) (is : Page) (q : ℕ) (t p : Bytes) → see (module-mid o false is) (at t p (started q)) ≡ world (transform o is) (transform o is .value) q t p
 unfolding see transform
@@ -373,24 +357,6 @@ unfolding helper-sum
 walked-sum d r q called =
     let v = d .value in
     omega (arith, bit-is (stands 0x94 v) 1, bit-is (ltb 1 (1 + d .taken)) 2, ap (λ (b : Bool). bit b 2) (more-taken (d .taken) ∙ sym called), bit-is (stands 0x91 v) 4, bit-is (stands 0x92 v) 8)
-
-pub sum-is : (o : Options) (is : Page) (placed : Bool) (q : ℕ) (t p : Bytes) → placed ≡ not (eqb (length (transform o is .templates)) 0) → stands 0x90 (transform o is .value) ≡ ltb 0 (transform o is .taken) →
-    sum-of (see (items-mid o placed is) (at t p (started q)) .st) ≡ helper-sum (transform o is .value)
-sum-is o is placed q t p e called =
-    let d = transform o is in
-    ap (λ (w : World). sum-of (w .st)) (items-walked o is placed q t p e) ∙ walked-sum d (with-templates (d .templates) (d .value)) q called
-
--- what stands before the items, measured; the premises are `counted` and `called` of spec
-taken-some : (k : ℕ) → ltb 0 k ≡ not (eqb k 0)
-taken-some zero = refl
-taken-some (suc k) = lt-ltb 0 (suc k) (omega arith) ∙ sym (some (suc k) (omega arith))
-
-pub heads-measured : (o : Options) (is : Page) (q : ℕ) (t p : Bytes) → length (transform o is .templates) ≡ transform o is .taken → stands 0x90 (transform o is .value) ≡ ltb 0 (transform o is .taken) →
-    let w = see (module-mid o false is) (at t p (started q)) .st in record { import = not (eqb (sum-of w) 0); placed = ltb 1 (w .later) } ≡ heads-of o is
-heads-measured o is q t p counted called =
-    let d = transform o is in
-    ap (λ (w : World). heads (not (eqb (sum-of (w .st)) 0)) (ltb 1 (w .st .later))) (module-walked o is q t p)
-    ∙ ap₂ heads (ap (λ (n : ℕ). not (eqb n 0)) (walked-sum d (d .value) q called)) (more-taken (d .taken) ∙ taken-some (d .taken) ∙ ap (λ (n : ℕ). not (eqb n 0)) (sym counted))
 
 -- ---- the import in front of the row
 

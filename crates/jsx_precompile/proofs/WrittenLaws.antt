@@ -1,5 +1,5 @@
--- Both outputs, written: the walk over the items, with the import in front where one is due, is the answer's; and so is the verdict of its
--- state. Main statements: `written-import`, `written-plain`, `verdict-is`. Assumes nothing.
+-- Both outputs, written: the walk over the items, with the import in front or what is due put in, is the answer's; and so is the verdict of its
+-- state. Main statements: `written-import`, `written-moved`, `verdict-is`. Assumes nothing.
 use Prim.Native.Nat.{ℕ, _+_, _≤_}
 use native.Mathlib.Omega.{arith}
 use mathlib.Core.Path.{_≡_, refl, sym, ap, ap₂, _∙_}
@@ -7,7 +7,7 @@ use mathlib.Core.Bool.{Bool, true, false, _||_, not}
 use mathlib.Core.List.{[], _∷_, _++_}
 use lib.Dec.{eqb, leb, ltb}
 use lib.ListN.{length, length-append}
-use borrow.Author.Tests.{le-ltb}
+use borrow.Author.Tests.{lt-ltb, le-ltb, ne-eqb}
 use Rattle.field.specs.Bytes.{Bytes, ascii, pick, among}
 use Rattle.field.specs.Row.{Row, end, loose, field, bytes, read, long-body}
 use Rattle.field.specs.Put.{put}
@@ -22,9 +22,12 @@ use Rattle.spec.specs.Answer.{check-outputs}
 use Rattle.spec.proofs.PageOut.{import-row, import-related}
 use Rattle.decisions.specs.At.{opts}
 use Rattle.decisions.specs.Index.{names-of}
-use Rattle.walk.specs.See.{World, at, see}
-use Rattle.jsx_precompile.specs.Run.{items-mid, started, sum-of, heads-of, import-bytes, written-page, verdict-of}
-use Rattle.jsx_precompile.proofs.RunLaws.{import-free, walked, items-walked, walked-sum, import-length, import-first, page-put, place-long}
+use Rattle.walk.specs.declared.state.Walk.{Walk}
+use Rattle.walk.specs.See.{World, at, see, to-page}
+use Rattle.jsx_precompile.specs.Run.{module-mid, has-statement, items-mid, started, sum-of, import-bytes, headed, Headed, written-page, verdict-of}
+use Rattle.jsx_precompile.proofs.RunLaws.{called-sum, import-free, walked, world, items-walked, module-walked, walked-sum, import-length, import-first, page-put, place-long}
+use Rattle.jsx_precompile.proofs.CutLaws.{Cut, first-part, second-part, cut-between, cut-before}
+use Rattle.jsx_precompile.proofs.HeadLaws.{headed-row}
 
 -- ---- the page behind the walk, by what stands in front of it
 
@@ -32,22 +35,14 @@ use Rattle.jsx_precompile.proofs.RunLaws.{import-free, walked, items-wa
 abbrev placed-row : Done Row → Row
 placed-row d = with-templates (d .templates) (d .value)
 
-world-is : (o : Options) (d : Done Row) (q : ℕ) (t p p′ : Bytes) → length (d .templates) ≡ d .taken → p′ ≡ put p 0 (bytes (page-out-row o d)) → q + length (bytes (placed-row d)) ≡ length (bytes (page-out-row o d)) →
-    at (put t 0 (bytes (templates-row (d .templates)))) p′ (walked d (placed-row d) q) ≡ written-page o d t p
-world-is o d q t p p′ counted e k = ap (λ (x : Bytes). out x (d .taken) (q + length (bytes (placed-row d)))) e ∙ ap₂ (out (put p 0 (bytes (page-out-row o d)))) (sym counted) k
+world-is : (o : Options) (d : Done Row) (r : Row) (q n : ℕ) (t p p′ : Bytes) → length (d .templates) ≡ d .taken → p′ ≡ put p 0 (bytes (page-out-row o d)) → n ≡ length (bytes (page-out-row o d)) →
+    at (put t 0 (bytes (templates-row (d .templates)))) p′ (to-page n (walked d r q)) ≡ written-page o d t p
+world-is o d r q n t p p′ counted e k = ap (λ (x : Bytes). out x (d .taken) n) e ∙ ap₂ (out (put p 0 (bytes (page-out-row o d)))) (sym counted) k
   where
     out : Bytes → ℕ → ℕ → World
     out x l n =
         at (put t 0 (bytes (templates-row (d .templates)))) x
-        (record { first = 1; later = 1 + l; templates = length (bytes (templates-row (d .templates))); page = n; seen = walked d (placed-row d) q .seen })
-
-yes-no : (b : Bool) → not b ≡ true → b ≡ false
-yes-no true h = sym h
-yes-no false h = refl
-
-no-yes : (b : Bool) → not b ≡ false → b ≡ true
-no-yes true h = refl
-no-yes false h = sym h
+        (record { first = 1; later = 1 + l; templates = length (bytes (templates-row (d .templates))); page = n; seen = walked d r q .seen })
 
 -- ---- the options are those that 02 and 03 list; the last premises are `counted` and `called` of spec
 
@@ -59,39 +54,56 @@ module _ (skip props : Bytes) (r : Row) (is : Page) (e : (n : Bytes) → among n
   abbrev sum : ℕ
   sum = helper-sum (made .value)
 
-  -- the walk from q on
-  abbrev walk : ℕ → Bytes → Bytes → World
-  walk q t p = see (items-mid (opts skip props) (heads-of (opts skip props) is .placed) is) (at t p (started q))
-
   -- the same transform
   free : (t p : Bytes) → written-page (options-in r) made t p ≡ written-page (options-in r) (transform (options-in r) is) t p
   free t p = ap (λ (d : Done Row). written-page (options-in r) d t p) (import-free skip props r is e f)
 
-  -- an import is due: it is written in front
-  pub written-import : (q : ℕ) (t p : Bytes) (w : World) → heads-of (opts skip props) is .import ≡ true → q ≡ 19 + length (source-in r) → w ≡ walk q t p →
+  called-due : 1 ≤ made .taken → 1 ≤ sum
+  called-due h = called-sum (made .value) (called ∙ lt-ltb 0 (made .taken) h)
+
+  -- the items were written behind room for the import: it is written in front
+  pub written-import : (q : ℕ) (t p : Bytes) (w : World) → 1 ≤ made .taken → q ≡ 19 + length (source-in r) → w ≡ see (items-mid (opts skip props) is) (at t p (started q)) →
       at (w .templates) (put (w .page) 0 (import-bytes (source-in r) (sum-of (w .st)))) (w .st) ≡ written-page (options-in r) (transform (options-in r) is) t p
   unfolding page-out-row options-in
   written-import q t p w h k g =
       let d = made in
-      let due : eqb sum 0 ≡ false = yes-no (eqb sum 0) h in
+      let some : 1 ≤ sum = called-due h in
+      let due : eqb sum 0 ≡ false = ne-eqb sum 0 (λ z. omega (arith, z, some)) in
       let in-front : bytes (with-import (source-in r) sum (placed-row d)) ≡ import-bytes (source-in r) sum ++ bytes (placed-row d) = import-first (source-in r) sum (placed-row d) due in
-      ap (λ (x : World). at (x .templates) (put (x .page) 0 (import-bytes (source-in r) (sum-of (x .st)))) (x .st)) (g ∙ items-walked (opts skip props) is (heads-of (opts skip props) is .placed) q t p refl)
-      ∙ world-is (options-in r) d q t p _ counted
+      ap (λ (x : World). at (x .templates) (put (x .page) 0 (import-bytes (source-in r) (sum-of (x .st)))) (x .st)) (g ∙ items-walked (opts skip props) is q t p (omega arith))
+      ∙ world-is (options-in r) d (placed-row d) q (q + length (bytes (placed-row d))) t p _ counted
       (ap (λ (n : ℕ). put (put p q (bytes (placed-row d))) 0 (import-bytes (source-in r) n)) (walked-sum d (placed-row d) q called) ∙ page-put p (source-in r) sum (placed-row d) q k due)
       (omega (arith, ap length in-front, length-append (import-bytes (source-in r) sum) (bytes (placed-row d)), import-length (source-in r) sum))
       ∙ free t p
 
-  -- none is due
-  pub written-plain : (q : ℕ) (t p : Bytes) (w : World) → heads-of (opts skip props) is .import ≡ false → q ≡ 0 → w ≡ walk q t p → w ≡ written-page (options-in r) (transform (options-in r) is) t p
-  unfolding page-out-row options-in with-import
-  written-plain q t p w h k g =
-      let d = made in
-      let none : with-import (source-in r) sum (placed-row d) ≡ placed-row d = ap (λ (b : Bool). pick b (placed-row d) (import-row (source-in r ++ ascii "/jsx-runtime") sum (placed-row d))) (no-yes (eqb sum 0) h) in
-      g ∙ items-walked (opts skip props) is (heads-of (opts skip props) is .placed) q t p refl
-      ∙ world-is (options-in r) d q t p _ counted
-      (ap₂ (λ (n : ℕ) (x : Row). put p n (bytes x)) k (sym none))
-      (omega (arith, ap (λ (x : Row). length (bytes x)) none))
-      ∙ free t p
+  -- the items alone were written, and what is due was put in; z is the state behind them
+  module _ (t p : Bytes) {t′ p′ : Bytes} {z : Walk} (g : at t′ p′ z ≡ see (module-mid (opts skip props) false is) (at t p (started 0))) {q : ℕ} {p″ : Bytes} {y : Walk}
+      (put-in : (o a b : Bytes) → p′ ≡ put o 0 (a ++ b) → q ≡ length a → z .page ≡ length a + length b → Headed (source-in r) z o a b p″ y) where
+    left : at t′ p′ z ≡ world made (made .value) 0 t p
+    left = g ∙ module-walked (opts skip props) is 0 t p
+
+    state : z ≡ walked made (made .value) 0
+    state = ap (λ (w : World). w .st) left
+
+    written-cut : (a b : Bytes) → Cut (made .templates) (made .value) a b → q ≡ length a → at t′ p″ y ≡ written-page (options-in r) (transform (options-in r) is) t p
+    unfolding page-out-row options-in
+    written-cut a b c k =
+        let d = made in
+        let end : z .page ≡ length a + length b = omega (arith, ap (λ (s : Walk). s .page) state, ap length (c .whole), length-append a b) in
+        let later : 1 + d .taken ≡ 1 + length (d .templates) = omega arith in
+        let h = put-in p a b (ap (λ (w : World). w .page) left ∙ ap (put p 0) (c .whole)) k end in
+        let row : headed (source-in r) z a b ≡ bytes (page-out-row (options-in r) d) =
+        ap (λ (s : Walk). headed (source-in r) s a b) state ∙ headed-row (source-in r) (walked d (d .value) 0) (d .templates) (d .value) a b later (walked-sum d (d .value) 0 called) (λ l. called-due (omega arith)) c in
+        let ts : t′ ≡ put t 0 (bytes (templates-row (d .templates))) = ap (λ (w : World). w .templates) left in
+        let st : y ≡ to-page (length (bytes (page-out-row (options-in r) d))) (walked d (d .value) 0) = h .state-is ∙ ap₂ to-page (ap length row) state in
+        ap₂ (λ (x : Bytes) (s : Walk). at x p″ s) ts st
+        ∙ world-is (options-in r) d (d .value) 0 (length (bytes (page-out-row (options-in r) d))) t p p″ counted (h .page-is ∙ ap (put p 0) row) refl
+        ∙ free t p
+
+    pub written-moved : (b : Bool) → has-statement is ≡ b → q ≡ pick b (length (bytes (first-part (opts skip props) is 1 .value))) 0 → at t′ p″ y ≡ written-page (options-in r) (transform (options-in r) is) t p
+    unfolding transform
+    written-moved true h k = written-cut (bytes (first-part (opts skip props) is 1 .value)) (second-part (opts skip props) is 1) (cut-between (opts skip props) is 1 (made .templates) h) k
+    written-moved false h k = written-cut [] (bytes (made .value)) (cut-before (opts skip props) is 1 (made .templates) h) k
 
 -- ---- the verdict
 

@@ -1,13 +1,13 @@
 -- The export: the items with the place of the templates among them, the import, and the whole answer. Assumes nothing: these are definitions.
 use Prim.Native.Nat.{ℕ, _+_}
-use mathlib.Core.Bool.{Bool, true, false, _&&_, _||_, not}
+use mathlib.Core.Bool.{Bool, true, false, _||_, not}
 use mathlib.Core.List.{[], _∷_, _++_}
 use mathlib.Core.Path.{_≡_}
 use lib.Dec.{eqb, leb, ltb}
 use lib.ListN.{length}
 use Rattle.field.specs.Bytes.{Bytes, ascii, pick}
 use Rattle.field.specs.Row.{Row, end, loose, field, bytes, long-body}
-use Rattle.field.specs.Put.{put}
+use Rattle.field.specs.Put.{put, head}
 use Rattle.page.specs.Page as P
 use Rattle.page.specs.Page.{Options, Page}
 use Rattle.page.specs.Tree.{pieces-in}
@@ -17,11 +17,10 @@ use Rattle.page.specs.declared.Verdict.{Verdict}
 use Rattle.spec.specs.Pass.{Done, Mid, none, node}
 use Rattle.spec.specs.Output.{leaf}
 use Rattle.spec.specs.Transform as T
-use Rattle.spec.specs.Transform.{pieces, templates-row, page-out-row, helper-sum, stands, transform}
+use Rattle.spec.specs.Transform.{pieces, templates-row, page-out-row, stands}
 use Rattle.spec.specs.Answer.{Outcome, number, templates-bytes, page-bytes, templates, templates-left, page-left, scratch-left}
 use Rattle.walk.specs.declared.state.Walk.{Walk}
-use Rattle.walk.specs.See.{World, at}
-use Rattle.jsx_precompile.specs.declared.module.Heads.{Heads}
+use Rattle.walk.specs.See.{World, at, to-page}
 use Rattle.jsx_precompile.specs.declared.Answer.{Answer}
 
 -- ---- items
@@ -54,9 +53,25 @@ has-statement (P.declaration-item ps ∷ is) = has-statement is
 has-statement (P.statement-item ps ∷ is) = true
 has-statement (P.empty-item ∷ is) = has-statement is
 
--- with the place of the templates or without
-abbrev pub items-mid : Options → (placed : Bool) → Page → Mid
-items-mid o placed is = placed-before (placed && not (has-statement is)) (module-mid o (placed && has-statement is) is)
+-- the items before the first 10 or 12
+unfoldable pub items-before : Page → Page
+items-before [] = []
+items-before (P.export-item ps ∷ is) = []
+items-before (P.declaration-item ps ∷ is) = P.declaration-item ps ∷ items-before is
+items-before (P.statement-item ps ∷ is) = []
+items-before (P.empty-item ∷ is) = P.empty-item ∷ items-before is
+
+-- that one and what follows
+unfoldable pub items-from : Page → Page
+items-from [] = []
+items-from (P.export-item ps ∷ is) = P.export-item ps ∷ is
+items-from (P.declaration-item ps ∷ is) = items-from is
+items-from (P.statement-item ps ∷ is) = P.statement-item ps ∷ is
+items-from (P.empty-item ∷ is) = items-from is
+
+-- with the place of the templates before the first 10 or 12; none stands: before all items
+abbrev pub items-mid : Options → Page → Mid
+items-mid o is = placed-before (not (has-statement is)) (module-mid o (has-statement is) is)
 
 -- ---- what shows that templates are recorded: an element among the pieces that becomes one
 
@@ -85,12 +100,19 @@ started p = record { first = 1; later = 1; templates = 0; page = p; seen = recor
 abbrev pub sum-of : Walk → ℕ
 sum-of w = pick (w .seen .jsx) 1 0 + pick (ltb 1 (w .later)) 2 0 + pick (w .seen .attr) 4 0 + pick (w .seen .escape) 8 0
 
--- what stands before the items
-abbrev pub heads-of : Options → Page → Heads
-heads-of o p = record { import = not (eqb (helper-sum (transform o p .value)) 0); placed = not (eqb (length (transform o p .templates)) 0) }
-
 unfoldable pub import-bytes : Bytes → ℕ → Bytes
 import-bytes source sum = bytes (field 0x82 [] (field 0x81 (source ++ ascii "/jsx-runtime") end (loose (sum ∷ []))) end)
+
+-- the import before a, and the place of the templates between a and b, where the state says that they are due
+unfoldable pub headed : (source : Bytes) → Walk → (a b : Bytes) → Bytes
+headed source w a b =
+    pick (ltb 1 (w .later)) (import-bytes source (sum-of w) ++ (a ++ (head 0x83 0 ++ b)))
+    (pick (eqb (sum-of w) 0) (a ++ b) (import-bytes source (sum-of w) ++ (a ++ b)))
+
+-- it is written into o, and the state is the one behind it
+pub record Headed (source : Bytes) (w : Walk) (o a b page : Bytes) (w′ : Walk) : Type 0 where
+  pub page-is : page ≡ put o 0 (headed source w a b)
+  pub state-is : w′ ≡ to-page (length (headed source w a b)) w
 
 -- both outputs of a result, written, and the state behind them
 abbrev pub written-page : Options → Done Row → (templates page : Bytes) → World

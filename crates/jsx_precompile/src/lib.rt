@@ -7,6 +7,7 @@ ghost use Rattle.spec.specs.Answer.{outcome, refused, check-inputs, zeros, scra
 ghost use Rattle.jsx_precompile.specs.Run.{Answers, verdict-of};
 
 mod module;
+mod moves;
 mod options;
 
 use module::write_page;

@@ -1,7 +1,8 @@
-// visit_mut_module and inject_runtime: the items, where the templates go among them, and the import.
+// visit_mut_module and inject_runtime: the items, where the templates go among them, and the import. No page is walked twice.
 ghost use mathlib.Core.Path.{_≡_};
 ghost use Prim.Native.Nat.{_+_, _≤_, _<_, _^_};
-ghost use mathlib.Core.List.{[]};
+ghost use mathlib.Core.Bool.{false};
+ghost use mathlib.Core.List.{[], _++_};
 ghost use lib.ListN.{length};
 ghost use Rattle.field.specs.Bytes.{Bytes, among, pick};
 ghost use Rattle.field.specs.Row.{read};
@@ -9,12 +10,13 @@ ghost use Rattle.page.specs.Tree.{texts-in, listed-in, pieces-in, module-items-
 ghost use Rattle.page.specs.declared.Verdict.the-variants.{Fine};
 ghost use Rattle.spec.specs.Answer.{check-inputs};
 ghost use Rattle.spec.specs.Transform.{transform};
-ghost use Rattle.field.specs.Put.{Wrote};
+ghost use Rattle.field.specs.Put.{put, Wrote};
 ghost use Rattle.decisions.specs.At.{opts};
 ghost use Rattle.decisions.specs.Index.{names-of};
 ghost use Rattle.walk.specs.See.{at, see, Low};
 ghost use Rattle.visits.specs.Visiting.{Room};
-ghost use Rattle.jsx_precompile.specs.Run.{item-mid, place-mid, module-mid, items-mid, has-statement, has-html, piece-html, started, import-bytes, sum-of, heads-of, written-page};
+ghost use Rattle.jsx_precompile.specs.Run.{item-mid, place-mid, module-mid, items-mid, has-statement, items-before, items-from, has-html, piece-html, started, import-bytes, sum-of, Headed, written-page};
+use crate::moves::move_up;
 use crate::options::index_room;
 use crate::options::names_in;
 use crate::options::put_source;
@@ -30,6 +32,7 @@ use field::writer::put_head;
 use visits::visit_pieces;
 use walk::state::Seen;
 use walk::state::Walk;
+use walk::state::at_page;
 use walk::state::begin;
 use walk::state::close;
 use walk::state::leaf;
@@ -114,6 +117,70 @@ fn visit_module<'a>(
     }
 }
 
+// The items before the first 10 or 12.
+fn visit_before<'a>(
+    skip: &'a [u8],
+    props: &'a [u8],
+    s: &'a [u8],
+    scratch: &mut [u8],
+    templates: &mut [u8],
+    page: &mut [u8],
+    st: Walk,
+) -> Walk
+    requires { ⌜ Room (now scratch) (now s) (see (module-mid (opts (now skip) (now props)) false (items-before (module-items-in (read (now s))))) (at (now templates) (now page) st)) ⌝ }
+    ensures { λ r. ⌜ at (now (templates .exit)) (now (page .exit)) r ≡ see (module-mid (opts (now (skip .entry)) (now (props .entry))) false (items-before (module-items-in (read (now (s .entry)))))) (at (now (templates .entry)) (now (page .entry)) st) ⌝ }
+{
+    let mut t = s;
+    let mut cur = st;
+    loop {
+        match tag_at(t) {
+            0x10 => {
+                return cur;
+            }
+            0x11 => {
+                cur = visit_item(skip, props, body(t), 0x11, scratch, templates, page, cur);
+                let r = behind(t);
+                t = r;
+            }
+            0x12 => {
+                return cur;
+            }
+            256 => {
+                return cur;
+            }
+            _ => {
+                cur = leaf(page, cur, 0x13, b"");
+                let r = behind(t);
+                t = r;
+            }
+        }
+    }
+}
+
+// The first 10 or 12 and what follows.
+fn statements_in(s: &[u8]) -> &[u8]
+    ensures { λ r. ⌜ (module-items-in (read (now r)) ≡ items-from (module-items-in (read (now (s .entry))))) × (length (now r) ≤ length (now (s .entry))) ⌝ }
+{
+    let mut t = s;
+    loop {
+        match tag_at(t) {
+            0x10 => {
+                return t;
+            }
+            0x12 => {
+                return t;
+            }
+            256 => {
+                return t;
+            }
+            _ => {
+                let r = behind(t);
+                t = r;
+            }
+        }
+    }
+}
+
 fn has_statement(s: &[u8]) -> bool
     ensures { λ r. ⌜ r ≡ has-statement (module-items-in (read (now (s .entry)))) ⌝ }
 {
@@ -137,27 +204,26 @@ fn has_statement(s: &[u8]) -> bool
     }
 }
 
-// All items, with the place of the templates or without.
+// All items, with the place of the templates.
 fn visit_items<'a>(
     skip: &'a [u8],
     props: &'a [u8],
     s: &'a [u8],
-    placed: bool,
     scratch: &mut [u8],
     templates: &mut [u8],
     page: &mut [u8],
     st: Walk,
 ) -> Walk
-    requires { ⌜ Room (now scratch) (now s) (see (items-mid (opts (now skip) (now props)) placed (module-items-in (read (now s)))) (at (now templates) (now page) st)) ⌝ }
-    ensures { λ r. ⌜ at (now (templates .exit)) (now (page .exit)) r ≡ see (items-mid (opts (now (skip .entry)) (now (props .entry))) placed (module-items-in (read (now (s .entry))))) (at (now (templates .entry)) (now (page .entry)) st) ⌝ }
+    requires { ⌜ Room (now scratch) (now s) (see (items-mid (opts (now skip) (now props)) (module-items-in (read (now s)))) (at (now templates) (now page) st)) ⌝ }
+    ensures { λ r. ⌜ at (now (templates .exit)) (now (page .exit)) r ≡ see (items-mid (opts (now (skip .entry)) (now (props .entry))) (module-items-in (read (now (s .entry))))) (at (now (templates .entry)) (now (page .entry)) st) ⌝ }
 {
     let among = has_statement(s);
-    let a = put_place(page, st, placed && !among);
-    visit_module(skip, props, s, placed && among, scratch, templates, page, a)
+    let a = put_place(page, st, !among);
+    visit_module(skip, props, s, among, scratch, templates, page, a)
 }
 
 // Whether an element that becomes a template stands among the pieces of an item: then templates are recorded, and helpers imported. Most
-// pages show it at once, and need no measuring.
+// pages show it at once, and both heads are written where they stand.
 fn has_html<'a>(skip: &'a [u8], s: &'a [u8]) -> bool
     ensures { λ r. ⌜ r ≡ has-html (opts (now (skip .entry)) []) (module-items-in (read (now (s .entry)))) ⌝ }
 {
@@ -261,42 +327,6 @@ fn bit(b: bool, n: u8) -> u8
     0
 }
 
-// What stands before the items.
-pub struct Heads {
-    pub import: bool,
-    pub placed: bool,
-}
-
-// Whether the import stands, and the place of the templates: where nothing shows it, a walk that writes nothing.
-fn heads_before<'a>(skip: &'a [u8], props: &'a [u8], s: &'a [u8], scratch: &mut [u8]) -> Heads
-    requires { ⌜ (65536 ≤ length (now scratch)) × (length (now s) < 2 ^ 32) ⌝ }
-    ensures { λ r. ⌜ r ≡ heads-of (opts (now (skip .entry)) (now (props .entry))) (module-items-in (read (now (s .entry)))) ⌝ }
-{
-    if has_html(skip, s) {
-        return Heads {
-            import: true,
-            placed: true,
-        };
-    }
-    let mut none = [0u8; 1];
-    let mut nothing = [0u8; 1];
-    let w = visit_module(
-        skip,
-        props,
-        s,
-        false,
-        scratch,
-        &mut none[..0],
-        &mut nothing[..0],
-        start(0),
-    );
-    let placed = 1 < w.later;
-    Heads {
-        import: helper_sum(w) != 0,
-        placed,
-    }
-}
-
 // 82: the source, `/jsx-runtime` and the sum.
 fn put_import(page: &mut [u8], options: &[u8], sum: u8) -> usize
     requires { ⌜ length (source-in (read (now options))) < 2 ^ 32 ⌝ }
@@ -310,15 +340,45 @@ fn put_import(page: &mut [u8], options: &[u8], sum: u8) -> usize
     c
 }
 
-// How long the 82 is, where it stands.
-fn import_len(options: &[u8], import: bool) -> usize
+// How long the 82 is.
+fn import_len(options: &[u8]) -> usize
     requires { ⌜ length (source-in (read (now options))) < 2 ^ 32 ⌝ }
-    ensures { λ r. ⌜ r ≡ pick import (19 + length (source-in (read (now (options .entry))))) 0 ⌝ }
+    ensures { λ r. ⌜ r ≡ 19 + length (source-in (read (now (options .entry)))) ⌝ }
 {
-    if import {
-        return 19 + source_len(options);
+    19 + source_len(options)
+}
+
+// Where the 83 goes: to p, where the first 10 or 12 starts, if t has one.
+fn place_at(t: &[u8], p: usize) -> usize
+    ensures { λ r. ⌜ r ≡ pick (has-statement (module-items-in (read (now (t .entry))))) p 0 ⌝ }
+{
+    if has_statement(t) {
+        return p;
     }
     0
+}
+
+// The 82 and the 83, where they turn out to be due: what is written makes room for them. Each byte moves once.
+fn put_heads(page: &mut [u8], options: &[u8], w: Walk, p: usize) -> Walk
+    requires { ⌜ (p ≤ w .page) × ((w .page < 2 ^ 62) × (length (source-in (read (now options))) < 2 ^ 32)) ⌝ }
+    ensures { λ r. ⌜ ((o a b : Bytes) → now (page .entry) ≡ put o 0 (a ++ b) → p ≡ length a → w .page ≡ length a + length b → Headed (source-in (read (now (options .entry)))) w o a b (now (page .exit)) r) ⌝ }
+{
+    let sum = helper_sum(w);
+    if 1 < w.later {
+        let n = import_len(options);
+        move_up(page, p, w.page, n + 3);
+        put_head(page, p + n, 0x83, 0);
+        move_up(page, 0, p, n);
+        put_import(page, options, sum);
+        return at_page(w, w.page + n + 3);
+    }
+    if sum == 0 {
+        return w;
+    }
+    let n = import_len(options);
+    move_up(page, 0, w.page, n);
+    put_import(page, options, sum);
+    at_page(w, w.page + n)
 }
 
 // Both outputs, as far as they fit; and the state behind them.
@@ -385,19 +445,14 @@ fn write_listed<'a>(
     ensures { λ r. ⌜ at (now (templates .exit)) (now (page .exit)) r ≡ written-page (options-in (read (now (options .entry)))) (transform (options-in (read (now (options .entry)))) (page-in (read (now (input .entry))))) (now (templates .entry)) (now (page .entry)) ⌝ }
 {
     let s = body(input);
-    let h = heads_before(skip, props, s, scratch);
-    let w = visit_items(
-        skip,
-        props,
-        s,
-        h.placed,
-        scratch,
-        templates,
-        page,
-        start(import_len(options, h.import)),
-    );
-    if h.import {
+    if has_html(skip, s) {
+        let first = start(import_len(options));
+        let w = visit_items(skip, props, s, scratch, templates, page, first);
         put_import(page, options, helper_sum(w));
+        return w;
     }
-    w
+    let a = visit_before(skip, props, s, scratch, templates, page, start(0));
+    let t = statements_in(s);
+    let w = visit_module(skip, props, t, false, scratch, templates, page, a);
+    put_heads(page, options, w, place_at(t, a.page))
 }
