@@ -33,7 +33,7 @@ use Rattle.decisions.specs.Index.{names-of}
 use Rattle.decisions.proofs.Series.{tested, any-front}
 use Rattle.walk.specs.declared.state.Walk.{Walk}
 use Rattle.walk.specs.See.{World, at, see, Low}
-use Rattle.walk.proofs.SeeLaws.{Grows, see-grows, low-is}
+use Rattle.walk.proofs.SeeLaws.{see-grows, low-is}
 use Rattle.visits.proofs.FieldLaws.{turn-low, turn-on}
 use Rattle.jsx_precompile.specs.Run.{module-mid, has-statement, items-from, items-mid, has-html, started, sum-of, import-bytes, Headed, written-page}
 use Rattle.jsx_precompile.proofs.RunLaws.{has-html-takes, walked, world, items-walked, module-walked}
@@ -137,7 +137,7 @@ module _ (k p s : Bytes) (short : length s < 2 ^ 32) where
     before-room = turn-low (before-at k p s) (module-mid (opts k p) false (items-from items-of)) (parts (opts k p) items-of) (at t g x) refl all-low
 
     module _ {t₁ g₁ : Bytes} {y : Walk} (d : at t₁ g₁ y ≡ see (before-at k p s) (at t g x)) (u : Bytes) (j : module-items-in (read u) ≡ items-from items-of) where
-      pub from-is : see (module-at k p false u) (at t₁ g₁ y) ≡ see (module-at k p false s) (at t g x)
+      from-is : see (module-at k p false u) (at t₁ g₁ y) ≡ see (module-at k p false s) (at t g x)
       from-is =
           ap (λ (i : Page). see (module-mid (opts k p) false i) (at t₁ g₁ y)) j
           ∙ turn-on (before-at k p s) (module-mid (opts k p) false (items-from items-of)) (parts (opts k p) items-of) (at t g x) refl d

@@ -1,15 +1,14 @@
 -- The whole page as one row of expressions is the transform's, with the place of the templates in it: what the walk over it leaves, and the
 -- import in front. Main statements: `import-free`, `has-html-takes`, `items-visited`, `items-walked`, `module-walked`, `walked-sum`,
 -- `page-put`. Assumes nothing.
-use Prim.Native.Nat.{ℕ, zero, suc, _+_, _≤_}
+use Prim.Native.Nat.{ℕ, suc, _+_, _≤_}
 use native.Mathlib.Omega.{arith}
 use native.Mathlib.Nat.{zero-add, add-zero}
 use mathlib.Core.Path.{_≡_, refl, sym, ap, ap₂, _∙_, subst}
 use mathlib.Core.Bool.{Bool, true, false, _&&_, _||_, not}
 use mathlib.Core.List.{List, [], _∷_, _++_, append-nil}
-use lib.Dec.{T, eqb, leb, ltb, leb·suc-suc}
+use lib.Dec.{T, eqb, ltb, leb·suc-suc}
 use lib.ListN.{length, length-append}
-use borrow.Author.Tests.{lt-ltb}
 use Rattle.field.specs.Bytes.{Bytes, ascii, pick, same, among}
 use Rattle.field.specs.Row.{Row, end, loose, field, field-bytes, bytes, read, long-body}
 use Rattle.field.specs.Put.{put}

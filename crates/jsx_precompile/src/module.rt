@@ -430,7 +430,7 @@ fn write_indexed<'a>(
     )
 }
 
-// By skip and props, which list what 02 and 03 do.
+// By skip and props, which list what 02 and 03 do. Where no element shows the heads at once, the items are written without them.
 fn write_listed<'a>(
     input: &'a [u8],
     options: &'a [u8],
