@@ -1,5 +1,5 @@
 -- What the code of src/children.rt learns. Main statements: `first-child`, `no-child`, `few-none`, `few-one`, `few-more`, `decided-start`,
--- `decided-60`, `decided-30`, `decided-other`, `decided-end`. Assumes nothing.
+-- `decided-60`, `decided-30`, `decided-other`, `decided-end`, `beside-text`, `beside-other`, `becomes-none`. Assumes nothing.
 use mathlib.Core.Path.{_≡_, refl, sym, ap, ap₂, _∙_, subst}
 use mathlib.Core.Bool.{Bool, true, false, _&&_, _||_, and-false}
 use mathlib.Core.Logic.{_⊎_, ⊎-elim}
@@ -9,7 +9,7 @@ use native.Mathlib.Nat.{zero-add}
 use mathlib.Core.List.{List, [], _∷_}
 use lib.Dec.{T, leb, ltb, eqb, ltb→lt}
 use lib.ListN.{length}
-use borrow.Author.Tests.{le-leb, lt-leb, ne-eqb}
+use borrow.Author.Tests.{le-leb, lt-leb, ne-eqb, leb-false}
 use Rattle.field.specs.Bytes.{Bytes, pick, null?}
 use Rattle.field.specs.Row.{read, Ended}
 use Rattle.field.specs.Front.{tag-of, body-of, behind-of}
@@ -198,3 +198,34 @@ module _ (k s : Bytes) (t : ℕ) (e : t ≡ tag-of s) (tags texts : ℕ) {r : By
       tested t 0x31 (λ z. ap (λ (x : M.Child). decided tags texts (x ∷ left k (behind-of s))) (sym (child-fragment k [] (body-of s))) ∙ ap D (sym (children-31 s t e z))) λ d.
       tested t 0x61 (λ z. ap D (sym (children-61 s t e z))) λ f.
       ap D (sym (children-other s t e h a c b d f)))
+
+-- ---- whether a serializable element is among the children: with a text beside them, one decides
+
+one-decides : (n m : ℕ) → (leb 2 (0 + n) || (eqb (0 + n) 1 && leb 1 (1 + m))) ≡ leb 1 n
+one-decides n m =
+    tested n 0 (λ k. rw k) λ a.
+    tested n 1 (λ k. rw (k, le-leb 1 (1 + m) (omega arith))) λ b.
+    rw (le-leb 2 (0 + n) (omega arith), le-leb 1 n (omega arith))
+
+pub beside-text : (cs : List M.Child) → decided 0 1 cs ≡ leb 1 (serializable-count cs)
+unfolding decided
+beside-text cs = one-decides (serializable-count cs) (text-count cs)
+
+module _ (k s : Bytes) (t : ℕ) (e : t ≡ tag-of s) {r : Bytes} (u : r ≡ behind-of s) where
+  beside-60 : t ≡ 0x60 → (v : Bool) → v ≡ null? (jsx-text-to-str (body-of s) false false) → decided 0 1 (left k r) ≡ decided 0 1 (left k s)
+  beside-60 h true g = decided-blank k s t e 0 1 refl u h g refl
+  beside-60 h false g = decided-text k s t e 0 1 refl u h g refl
+
+  pub beside-other : (t ≡ 256 → ⊥) → (t ≡ 0x30 → ⊥) → decided 0 1 (left k r) ≡ decided 0 1 (left k s)
+  beside-other h a = tested t 0x60 (λ z. beside-60 z _ refl) λ b. decided-other k s t e 0 1 u h b a
+
+  pub beside-tag : {b : Bytes} → b ≡ body-of s → t ≡ 0x30 → {v : Bool} → v ≡ serializable k b → v ≡ true → true ≡ decided 0 1 (left k s)
+  beside-tag q h g z = decided-both 1 1 (left k r) (omega arith) (omega arith) ∙ decided-tag k s t e 0 1 q u h g z
+
+-- no template without one
+pub becomes-none : (k s : Bytes) → leb 1 (serializable-count (left k s)) ≡ false → false ≡ becomes k (children-in (read s))
+unfolding becomes becomes-template
+becomes-none k s h =
+    let n = serializable-count (left k s) in
+    let l = leb-false 1 n h in
+    rw (lt-leb 2 n (omega (arith, l)), ne-eqb n 1 (λ z. omega (arith, l)))

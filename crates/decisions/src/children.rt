@@ -1,10 +1,14 @@
 // A series of children. Fields that are no child are passed over, so that the fields behind an element's name may be given whole.
 ghost use mathlib.Core.Path.{_≡_};
+ghost use mathlib.Core.List.{[]};
 ghost use Prim.Native.Nat.{_≤_};
+ghost use lib.Dec.{leb};
 ghost use lib.ListN.{length};
 ghost use Rattle.field.specs.Row.{read};
 ghost use Rattle.page.specs.Tree.{children-in};
-ghost use Rattle.decisions.specs.At.{FirstChild, few, becomes};
+ghost use Rattle.spec.specs.Merge.{serializable-count};
+ghost use Rattle.spec.specs.Transform.{children};
+ghost use Rattle.decisions.specs.At.{FirstChild, few, becomes, opts};
 use crate::element::is_serializable;
 use field::reader::behind;
 use field::reader::body;
@@ -59,8 +63,33 @@ pub fn child_count(s: &[u8]) -> usize
     2
 }
 
-// Whether several children of a call become one template.
-pub fn becomes_template(skip: &[u8], s: &[u8]) -> bool
+// Whether a serializable element is among the children. No text is looked into.
+fn has_html(skip: &[u8], s: &[u8]) -> bool
+    ensures { λ r. ⌜ r ≡ leb 1 (serializable-count (children (opts (now (skip .entry)) []) (children-in (read (now (s .entry)))))) ⌝ }
+{
+    let mut t = s;
+    loop {
+        match tag_at(t) {
+            0x30 => {
+                let r = behind(t);
+                if is_serializable(skip, body(t)) {
+                    return true;
+                }
+                t = r;
+            }
+            256 => {
+                return false;
+            }
+            _ => {
+                let r = behind(t);
+                t = r;
+            }
+        }
+    }
+}
+
+// Whether serializable elements and texts that are not blank, counted, make one template.
+fn counts_template(skip: &[u8], s: &[u8]) -> bool
     ensures { λ r. ⌜ r ≡ becomes (now (skip .entry)) (children-in (read (now (s .entry)))) ⌝ }
 {
     let mut t = s;
@@ -101,4 +130,14 @@ pub fn becomes_template(skip: &[u8], s: &[u8]) -> bool
             }
         }
     }
+}
+
+// Whether several children of a call become one template. A series of texts alone may be long and asked about often: it is not counted.
+pub fn becomes_template(skip: &[u8], s: &[u8]) -> bool
+    ensures { λ r. ⌜ r ≡ becomes (now (skip .entry)) (children-in (read (now (s .entry)))) ⌝ }
+{
+    if !has_html(skip, s) {
+        return false;
+    }
+    counts_template(skip, s)
 }
