@@ -17,7 +17,7 @@ use Rattle.field.proofs.RowLaws.{next-sizes, read-step, read-nil}
 use Rattle.page.specs.Tree.{choose}
 use Rattle.printing.specs.Card.{quoted, first-front, second-front, text-by, all-text, parted-text, behind-text, first-text, second-text}
 use Rattle.printing.specs.Front.{front-by, front-of, inner-of}
-use Rattle.printing.proofs.FrontLaws.{read-front, read-front-at, not-ended, inner-less}
+use Rattle.printing.proofs.FrontLaws.{read-front, read-field, not-ended, inner-less}
 
 -- ---- the first expression
 
@@ -130,8 +130,8 @@ text-second s = ap second-text (read-step s) ∙ text-next s (next-of s)
 -- ---- the expressions one by one
 
 module _ (s : Bytes) (t : ℕ) (e : t ≡ tag-of s) (h : t ≡ 256 → ⊥) {r : Bytes} (q : r ≡ behind-of s) where
-  row-is : read s ≡ field (tag-of s) (front-of s) (read (inner-of s)) (read r)
-  row-is = read-front-at s (λ z. h (e ∙ z)) ∙ ap (λ (x : Bytes). field (tag-of s) (front-of s) (read (inner-of s)) (read x)) (sym q)
+  row-is : read s ≡ field t (front-of s) (read (inner-of s)) (read r)
+  row-is = read-field s t e h refl refl q
 
   pub all-on : all-text (read s) ≡ first-text (read s) ++ all-text (read r)
   unfolding all-text first-text

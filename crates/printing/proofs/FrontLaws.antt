@@ -1,5 +1,5 @@
 -- The row at the front of bytes by `front-of` and `inner-of`: what a walk over printed fields learns from its readers.
--- Main statements: `read-front`, `read-front-at`, `not-ended`, `inner-less`, `front-length-within`, `front-is`,
+-- Main statements: `read-front`, `read-front-at`, `read-field`, `not-ended`, `inner-less`, `front-length-within`, `front-is`,
 -- `inner-is`.
 -- Assumes nothing.
 use mathlib.Core.Path.{_≡_, refl, sym, ap, _∙_, subst}
@@ -53,6 +53,10 @@ not-ended s h i = field-by s (next-of s) h (subst Ended (read-step s) i)
 
 pub read-front-at : (s : Bytes) → (tag-of s ≡ 256 → ⊥) → read s ≡ field (tag-of s) (front-of s) (read (inner-of s)) (read (behind-of s))
 read-front-at s h = read-front s (not-ended s h)
+
+-- the same by the parts that the readers hand back
+pub read-field : (s : Bytes) (t : ℕ) → t ≡ tag-of s → (t ≡ 256 → ⊥) → {w i r : Bytes} → w ≡ front-of s → i ≡ inner-of s → r ≡ behind-of s → read s ≡ field t w (read i) (read r)
+read-field s t e h ew ei er = read-front-at s (λ z. h (e ∙ z)) ∙ rw (e, ew, ei, er)
 
 -- ---- how long the two parts are
 

@@ -12,14 +12,15 @@ use Rattle.field.specs.Bytes.{Bytes, ascii}
 use Rattle.field.specs.Number.{number-of, number-from}
 use Rattle.field.specs.Row.{Row, end, loose, field, Inside, only-bytes, fields-after, inside, Next, nothing, no-field, next, next-of, opened, built, read, Ended}
 use Rattle.field.specs.Front.{tag-of, behind-of, behind-by}
-use Rattle.field.specs.Put.{Wrote}
 use Rattle.field.proofs.FrontLaws.{read-empty, read-torn}
 use Rattle.field.proofs.RowLaws.{read-step, read-nil}
 use Rattle.text.specs.Decimal.{decimal}
 use Rattle.page.specs.Tree.{choose}
 use Rattle.printing.specs.Front.{front-of, inner-of}
 use Rattle.printing.specs.Card.{quoted, template-name, parted-text, all-text, helper-text, odd, helpers-text, sum-behind, sum-in, import-text, templates-text, page-text}
-use Rattle.printing.proofs.TextLaws.{read-field, first-front-is, Printed, printed-room, printed-on}
+use Rattle.printing.proofs.FrontLaws.{read-field}
+use Rattle.printing.proofs.RoomLaws.{Left, left-room}
+use Rattle.printing.proofs.ByTag.{front-first}
 
 -- ---- the helpers
 
@@ -88,7 +89,7 @@ module _ (s : Bytes) {b : Bytes} (e : b ≡ behind-of s) where
 module _ (s : Bytes) {k : ℕ} {w : Bytes} (ek : k ≡ sum-in (read s)) (ew : w ≡ front-of s) where
   pub import-is : ascii "import { " ++ (helpers-text k ++ (ascii " } from " ++ (quoted w ++ (59 ∷ 10 ∷ [])))) ≡ import-text (read s)
   unfolding import-text
-  import-is = rw (ek, ew, ← first-front-is s)
+  import-is = rw (ek, ew, ← front-first s)
 
   pub import-room : (n : ℕ) → n + length (import-text (read s)) < 2 ^ 63 → n + (9 + (length (helpers-text k) + (8 + (length (quoted w) + 2)))) < 2 ^ 63
   import-room n h =
@@ -110,14 +111,9 @@ module _ (s : Bytes) (t : ℕ) (e : t ≡ tag-of s) (h : t ≡ 256 → ⊥) {w i
 length-line : (w i : Bytes) → length (line w i) ≡ 6 + (length (template-name w) + (4 + (length (parted-text (read i)) + 3)))
 length-line w i = omega (arith, length-append (decimal (number-of (take 2 w))) (ascii " = [" ++ (parted-text (read i) ++ (93 ∷ 59 ∷ 10 ∷ []))), length-append (parted-text (read i)) (93 ∷ 59 ∷ 10 ∷ []))
 
--- a turn of the loop
-module _ {s o t o₁ : Bytes} {n n₁ : ℕ} (p : Printed templates-text s o n t o₁ n₁) (g : ℕ) (e : g ≡ tag-of t) (h : g ≡ 256 → ⊥) {w i : Bytes} (ew : w ≡ front-of t) (ei : i ≡ inner-of t) where
-  pub templates-turn : n + length (templates-text (read s)) < 2 ^ 63 → n₁ + (6 + (length (template-name w) + (4 + (length (parted-text (read i)) + 3)))) < 2 ^ 63
-  templates-turn k =
-      omega (arith, printed-room _ _ _ _ _ _ _ p (line w i) (templates-text (read (behind-of t))) (templates-at t g e h ew ei refl) k, length-line w i)
-
-  pub templates-on : {r o₂ : Bytes} {n₂ : ℕ} → r ≡ behind-of t → Wrote o₁ n₁ (line w i) o₂ n₂ → Printed templates-text s o n r o₂ n₂
-  templates-on er v = printed-on _ _ _ _ _ _ _ p (templates-at t g e h ew ei er) v
+-- the room of a turn of the loop
+pub templates-turn : {o₀ x o : Bytes} {n₀ n : ℕ} (t : Bytes) → Left o₀ n₀ x o n (templates-text (read t)) → (g : ℕ) → g ≡ tag-of t → (g ≡ 256 → ⊥) → {w i : Bytes} → w ≡ front-of t → i ≡ inner-of t → n + (6 + (length (template-name w) + (4 + (length (parted-text (read i)) + 3)))) < 2 ^ 63
+templates-turn t l g e h {w} {i} ew ei = omega (arith, left-room l (line w i) (templates-text (read (behind-of t))) (templates-at t g e h ew ei refl), length-line w i)
 
 pub templates-end : (x : Row) → Ended x → templates-text x ≡ []
 unfolding templates-text

@@ -1,28 +1,23 @@
 -- Names with points between, and the number in a template's name.
--- Main statements: `pointed-at`, `pointed-more-at`, `pointed-end`, `pointed-more-end`, `pointed-turn`, `pointed-on`, `two-long`, `two-short`. Assumes nothing.
+-- Main statements: `pointed-at`, `pointed-more-at`, `pointed-end`, `pointed-more-end`, `two-long`, `two-short`. Assumes nothing.
 use mathlib.Core.Path.{_≡_, refl, sym, ap, _∙_}
-use Prim.Native.Nat.{ℕ, _+_, _≤_, _<_, _^_}
+use Prim.Native.Nat.{ℕ, _≤_, _<_}
 use native.Mathlib.Omega.{arith}
 use mathlib.Core.List.{[], _∷_, _++_}
-use lib.ListN.{length, take, length-append}
+use lib.ListN.{length, take}
 use lib.Seq.{take-all, length-take-le}
 use Rattle.field.specs.Bytes.{Bytes}
 use Rattle.field.specs.Number.{number-of}
 use Rattle.field.specs.Row.{Row, end, loose, field, read, Ended}
 use Rattle.field.specs.Front.{tag-of, behind-of}
-use Rattle.field.specs.Put.{Wrote}
-use Rattle.field.proofs.PutLaws.{wrote-then}
 use Rattle.printing.specs.Front.{front-of}
 use Rattle.printing.specs.Card.{pointed, pointed-more}
-use Rattle.printing.proofs.TextLaws.{read-field, Printed, printed-room, printed-on}
+use Rattle.printing.proofs.FrontLaws.{read-field}
 
 module _ (s : Bytes) (t : ℕ) (e : t ≡ tag-of s) (h : t ≡ 256 → ⊥) {w r : Bytes} (ew : w ≡ front-of s) (er : r ≡ behind-of s) where
   pub pointed-at : pointed (read s) ≡ w ++ pointed-more (read r)
   unfolding pointed
   pointed-at = ap pointed (read-field s t e h ew refl er)
-
-  pub pointed-room : (n : ℕ) → n + length (pointed (read s)) < 2 ^ 63 → n + (length w + length (pointed-more (read r))) < 2 ^ 63
-  pointed-room n k = omega (arith, ap length pointed-at, length-append w (pointed-more (read r)))
 
   pub pointed-more-at : pointed-more (read s) ≡ (46 ∷ w) ++ pointed-more (read r)
   unfolding pointed-more
@@ -39,14 +34,6 @@ unfolding pointed-more
 pointed-more-end end i = refl
 pointed-more-end (loose b) i = refl
 pointed-more-end (field t f y r) i = absurd i
-
--- a turn of the loop
-module _ {s o t o₁ : Bytes} {n n₁ : ℕ} (p : Printed pointed-more s o n t o₁ n₁) (g : ℕ) (e : g ≡ tag-of t) (h : g ≡ 256 → ⊥) {w : Bytes} (ew : w ≡ front-of t) where
-  pub pointed-turn : n + length (pointed-more (read s)) < 2 ^ 63 → n₁ + (1 + length w) < 2 ^ 63
-  pointed-turn k = omega (arith, printed-room _ _ _ _ _ _ _ p (46 ∷ w) (pointed-more (read (behind-of t))) (pointed-more-at t g e h ew refl) k)
-
-  pub pointed-on : {r o₂ o₃ : Bytes} {n₂ n₃ : ℕ} → r ≡ behind-of t → Wrote o₁ n₁ (46 ∷ []) o₂ n₂ → Wrote o₂ n₂ w o₃ n₃ → Printed pointed-more s o n r o₃ n₃
-  pointed-on er u v = printed-on _ _ _ _ _ _ _ p (pointed-more-at t g e h ew er) (wrote-then u v)
 
 -- the number of a body of two bytes and more, and of a shorter one
 pub two-long : (f : Bytes) → 2 ≤ length f → number-of (take 8 (take 2 f)) ≡ number-of (take 2 f)

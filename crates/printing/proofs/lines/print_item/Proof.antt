@@ -5,7 +5,7 @@ use borrow.Author.Needs.{needs}
 use Rattle.field.specs.Row.{read}
 use Rattle.field.proofs.PutLaws.{wrote-then}
 use Rattle.printing.specs.Card.{all-text}
-use Rattle.printing.proofs.TextLaws.{room-first, room-next}
+use Rattle.printing.proofs.RoomLaws.{room-first, room-next}
 use Rattle.printing.proofs.lines.print_item.Statement.{statement}
 use Rattle.printing.proofs.lines.print_item.Tie as tie
 

@@ -1,4 +1,4 @@
--- `print_page` meets its contract. The loop's invariant: what is written, and then the text of the items that are left, is the whole text.
+-- `print_page` meets its contract. The loop's invariant: the text of the items behind is left to write.
 use mathlib.Core.Path.{refl}
 use native.Mathlib.Omega.{arith}
 use mathlib.Core.List.{[], _∷_, _++_}
@@ -7,20 +7,21 @@ use borrow.Author.Needs.{needs}
 use Rattle.field.specs.Front.{behind-of}
 use Rattle.field.specs.Row.{read}
 use Rattle.field.proofs.FrontLaws.{behind-less}
+use Rattle.field.proofs.PutLaws.{wrote-length}
 use Rattle.printing.specs.Card.{all-text, import-text, templates-text, page-text}
 use Rattle.printing.proofs.LineLaws.{page-import, page-templates, page-empty, page-item, page-end}
-use Rattle.printing.proofs.TextLaws.{Printed, printed-start, printed-room, printed-on, printed-end, printed-length}
+use Rattle.printing.proofs.RoomLaws.{Left, left-begin, left-room, left-on, left-done}
 use Rattle.printing.proofs.lines.print_page.Statement.{statement}
 use Rattle.printing.proofs.lines.print_page.Tie as tie
 
 abbrev Inv-loop : tie.InvT-loop
-Inv-loop out₀ at templates page a₀ t₀ t11 out a t = Printed (page-text (read templates)) t₀ out₀ a₀ t out a
+Inv-loop out₀ at templates page a₀ t₀ t11 out a t = Left out₀ a₀ (page-text (read templates) (read t₀)) out a (page-text (read templates) (read t))
 
 abbrev μ-loop : tie.MeasureT-loop
 μ-loop out₀ at templates page a₀ t₀ t11 out a t = length t
 
 loop-holds : tie.Need-loop-holds Inv-loop μ-loop
-loop-holds c = printed-start _ _ _ _
+loop-holds c = left-begin _ _ _ (c .before .before .before .pre)
 
 tag-at-requires : tie.Need-tag-at-requires Inv-loop μ-loop
 tag-at-requires c κs = tt
@@ -34,7 +35,7 @@ print-import-requires c κs =
     let c₂ = c₁ .before .before .before .before .before in
     let t = c₁ .before .loop .t .now in
     let ts = read (c₂ .args .templates .now) in
-    printed-room _ _ _ _ _ _ _ (c₁ .before .loop .inv) (import-text (read (c .inner .result .now))) (page-text ts (read (behind-of t))) (page-import ts t _ (c₁ .tag-at .ensures .0) (c .inner .ensures) refl (c .before .before .match .keys1)) (c₂ .pre)
+    left-room (c₁ .before .loop .inv) (import-text (read (c .inner .result .now))) (page-text ts (read (behind-of t))) (page-import ts t _ (c₁ .tag-at .ensures .0) (c .inner .ensures) refl (c .before .before .match .keys1))
 
 behind-requires : tie.Need-behind-requires Inv-loop μ-loop
 behind-requires c κs = tt
@@ -48,7 +49,7 @@ loop-again : tie.Need-loop-again Inv-loop μ-loop
 loop-again c =
     let c₁ = c .before .before .before in
     let c₂ = c₁ .before .before .before in
-    printed-on _ _ _ _ _ _ _ (c₂ .before .before .loop .inv) (page-import _ _ _ (c₂ .before .tag-at .ensures .0) (c₁ .before .inner .ensures) (c .behind .ensures) (c₂ .match .keys1)) (c₁ .print-import .ensures)
+    left-on (c₂ .before .before .loop .inv) (page-import _ _ _ (c₂ .before .tag-at .ensures .0) (c₁ .before .inner .ensures) (c .behind .ensures) (c₂ .match .keys1)) (c₁ .print-import .ensures)
 
 print-templates-requires : tie.Need-print-templates-requires Inv-loop μ-loop
 print-templates-requires c κs =
@@ -56,7 +57,7 @@ print-templates-requires c κs =
     let c₂ = c₁ .before .before .before .before in
     let t = c₁ .loop .t .now in
     let ts = read (c₂ .args .templates .now) in
-    printed-room _ _ _ _ _ _ _ (c₁ .loop .inv) (templates-text ts) (page-text ts (read (behind-of t))) (page-templates ts t _ (c .before .before .tag-at .ensures .0) refl (c .before .match .keys2)) (c₂ .pre)
+    left-room (c₁ .loop .inv) (templates-text ts) (page-text ts (read (behind-of t))) (page-templates ts t _ (c .before .before .tag-at .ensures .0) refl (c .before .match .keys2))
 
 behind-requires-2 : tie.Need-behind-requires-2 Inv-loop μ-loop
 behind-requires-2 c κs = tt
@@ -68,7 +69,7 @@ loop-again-2 : tie.Need-loop-again-2 Inv-loop μ-loop
 loop-again-2 c =
     let c₁ = c .before .before .before in
     let c₂ = c₁ .before .before .before in
-    printed-on _ _ _ _ _ _ _ (c₂ .before .loop .inv) (page-templates _ _ _ (c₂ .tag-at .ensures .0) (c .behind2 .ensures) (c₁ .before .before .match .keys2)) (c₁ .print-templates .ensures)
+    left-on (c₂ .before .loop .inv) (page-templates _ _ _ (c₂ .tag-at .ensures .0) (c .behind2 .ensures) (c₁ .before .before .match .keys2)) (c₁ .print-templates .ensures)
 
 slice-aggregate-put-bytes : tie.Need-slice-aggregate-put-bytes Inv-loop μ-loop
 slice-aggregate-put-bytes c = search needs
@@ -79,7 +80,7 @@ put-bytes-requires c κs =
     let c₂ = c₁ .before .before .before .before .before in
     let t = c₁ .before .loop .t .now in
     let ts = read (c₂ .args .templates .now) in
-    omega (arith, printed-room _ _ _ _ _ _ _ (c₁ .before .loop .inv) (59 ∷ 10 ∷ []) (page-text ts (read (behind-of t))) (page-empty ts t _ (c₁ .tag-at .ensures .0) refl (c .before .before .match .keys3)) (c₂ .pre))
+    omega (arith, left-room (c₁ .before .loop .inv) (59 ∷ 10 ∷ []) (page-text ts (read (behind-of t))) (page-empty ts t _ (c₁ .tag-at .ensures .0) refl (c .before .before .match .keys3)))
 
 behind-requires-3 : tie.Need-behind-requires-3 Inv-loop μ-loop
 behind-requires-3 c κs = tt
@@ -93,13 +94,13 @@ loop-again-3 : tie.Need-loop-again-3 Inv-loop μ-loop
 loop-again-3 c =
     let c₁ = c .before .before .before in
     let c₂ = c₁ .before .before .before in
-    printed-on _ _ _ _ _ _ _ (c₂ .before .before .loop .inv) (page-empty _ _ _ (c₂ .before .tag-at .ensures .0) (c .behind3 .ensures) (c₂ .match .keys3)) (c₁ .put-bytes .ensures)
+    left-on (c₂ .before .before .loop .inv) (page-empty _ _ _ (c₂ .before .tag-at .ensures .0) (c .behind3 .ensures) (c₂ .match .keys3)) (c₁ .put-bytes .ensures)
 
 same-length : tie.Need-same-length Inv-loop μ-loop
-same-length c = printed-length _ _ _ _ _ _ _ (c .before .before .loop .inv)
+same-length c = wrote-length (left-done (c .before .before .loop .inv) (page-end _ _ (c .before .tag-at .ensures .1 (c .match .keys4))))
 
 returns : tie.Need-returns Inv-loop μ-loop
-returns c = printed-end _ _ _ _ _ _ _ (c .before .before .loop .inv) (page-end _ _ (c .before .tag-at .ensures .1 (c .match .keys4)))
+returns c = left-done (c .before .before .loop .inv) (page-end _ _ (c .before .tag-at .ensures .1 (c .match .keys4)))
 
 inner-requires-2 : tie.Need-inner-requires-2 Inv-loop μ-loop
 inner-requires-2 c κs = tt
@@ -111,7 +112,7 @@ print-item-requires c κs =
     let t = c₁ .before .loop .t .now in
     let ts = read (c₂ .args .templates .now) in
     let n = c .before .before .match .rest in
-    printed-room _ _ _ _ _ _ _ (c₁ .before .loop .inv) (all-text (read (c .inner2 .result .now)) ++ (10 ∷ [])) (page-text ts (read (behind-of t))) (page-item ts t _ (c₁ .tag-at .ensures .0) (c .inner2 .ensures) refl (n .0 .0 .0 .1) (n .0 .0 .1) (n .0 .1) (n .1)) (c₂ .pre)
+    left-room (c₁ .before .loop .inv) (all-text (read (c .inner2 .result .now)) ++ (10 ∷ [])) (page-text ts (read (behind-of t))) (page-item ts t _ (c₁ .tag-at .ensures .0) (c .inner2 .ensures) refl (n .0 .0 .0 .1) (n .0 .0 .1) (n .0 .1) (n .1))
 
 behind-requires-4 : tie.Need-behind-requires-4 Inv-loop μ-loop
 behind-requires-4 c κs = tt
@@ -124,7 +125,7 @@ loop-again-4 c =
     let c₁ = c .before .before .before in
     let c₂ = c₁ .before .before .before in
     let n = c₂ .match .rest in
-    printed-on _ _ _ _ _ _ _ (c₂ .before .before .loop .inv) (page-item _ _ _ (c₂ .before .tag-at .ensures .0) (c₁ .before .inner2 .ensures) (c .behind4 .ensures) (n .0 .0 .0 .1) (n .0 .0 .1) (n .0 .1) (n .1)) (c₁ .print-item .ensures)
+    left-on (c₂ .before .before .loop .inv) (page-item _ _ _ (c₂ .before .tag-at .ensures .0) (c₁ .before .inner2 .ensures) (c .behind4 .ensures) (n .0 .0 .0 .1) (n .0 .0 .1) (n .0 .1) (n .1)) (c₁ .print-item .ensures)
 
 pub print-page-spec : {M : Type 1} → statement M
 print-page-spec =

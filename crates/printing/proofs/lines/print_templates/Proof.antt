@@ -1,24 +1,25 @@
--- `print_templates` meets its contract. The loop's invariant: what is written, and then the text of the templates that are left, is the whole text.
+-- `print_templates` meets its contract. The loop's invariant: the text of the templates behind is left to write.
 use mathlib.Core.Path.{refl}
 use native.Mathlib.Omega.{arith}
 use lib.ListN.{length}
 use borrow.Author.Needs.{needs}
+use Rattle.field.specs.Row.{read}
 use Rattle.field.proofs.FrontLaws.{behind-less}
-use Rattle.field.proofs.PutLaws.{wrote-then}
+use Rattle.field.proofs.PutLaws.{wrote-then, wrote-length}
 use Rattle.printing.specs.Card.{templates-text}
-use Rattle.printing.proofs.LineLaws.{templates-turn, templates-on, templates-end}
-use Rattle.printing.proofs.TextLaws.{Printed, printed-start, printed-end, printed-length}
+use Rattle.printing.proofs.LineLaws.{templates-at, templates-turn, templates-end}
+use Rattle.printing.proofs.RoomLaws.{Left, left-begin, left-on, left-done}
 use Rattle.printing.proofs.lines.print_templates.Statement.{statement}
 use Rattle.printing.proofs.lines.print_templates.Tie as tie
 
 abbrev Inv-loop : tie.InvT-loop
-Inv-loop out₀ at s a₀ t₀ t11 t12 t13 out a t = Printed templates-text t₀ out₀ a₀ t out a
+Inv-loop out₀ at s a₀ t₀ t11 t12 t13 out a t = Left out₀ a₀ (templates-text (read t₀)) out a (templates-text (read t))
 
 abbrev μ-loop : tie.MeasureT-loop
 μ-loop out₀ at s a₀ t₀ t11 t12 t13 out a t = length t
 
 loop-holds : tie.Need-loop-holds Inv-loop μ-loop
-loop-holds c = printed-start _ _ _ _
+loop-holds c = left-begin _ _ _ (c .before .before .pre)
 
 tag-at-requires : tie.Need-tag-at-requires Inv-loop μ-loop
 tag-at-requires c κs = tt
@@ -29,8 +30,7 @@ slice-aggregate-put-bytes c = search needs
 put-bytes-requires : tie.Need-put-bytes-requires Inv-loop μ-loop
 put-bytes-requires c κs =
     let c₁ = c .before .before .before in
-    let c₂ = c₁ .before .before .before .before in
-    omega (arith, templates-turn (c₁ .before .loop .inv) _ (c₁ .tag-at .ensures .0) (c .before .before .if1 .taken) refl refl (c₂ .pre))
+    omega (arith, templates-turn _ (c₁ .before .loop .inv) _ (c₁ .tag-at .ensures .0) (c .before .before .if1 .taken) refl refl)
 
 front-requires : tie.Need-front-requires Inv-loop μ-loop
 front-requires c κs = tt
@@ -39,8 +39,7 @@ put-template-name-requires : tie.Need-put-template-name-requires Inv-loop μ-loo
 put-template-name-requires c κs =
     let c₁ = c .before .before .before .before in
     let c₂ = c₁ .before .before .before in
-    let c₃ = c₂ .before .before .before .before .before in
-    omega (arith, c₁ .put-bytes .ensures .end-is, templates-turn (c₂ .before .before .loop .inv) _ (c₂ .before .tag-at .ensures .0) (c₂ .if1 .taken) (c .front .ensures) refl (c₃ .pre))
+    omega (arith, c₁ .put-bytes .ensures .end-is, templates-turn _ (c₂ .before .before .loop .inv) _ (c₂ .before .tag-at .ensures .0) (c₂ .if1 .taken) (c .front .ensures) refl)
 
 slice-aggregate-put-bytes-2 : tie.Need-slice-aggregate-put-bytes-2 Inv-loop μ-loop
 slice-aggregate-put-bytes-2 c = search needs
@@ -50,8 +49,7 @@ put-bytes-requires-2 c κs =
     let c₁ = c .before .before .before .before in
     let c₂ = c₁ .before .before .before .before .before in
     let c₃ = c₂ .before .before .before in
-    let c₄ = c₃ .before .before .before .before .before in
-    omega (arith, c₂ .put-bytes .ensures .end-is, c₁ .put-template-name .ensures .end-is, templates-turn (c₃ .before .before .loop .inv) _ (c₃ .before .tag-at .ensures .0) (c₃ .if1 .taken) (c₁ .before .front .ensures) refl (c₄ .pre))
+    omega (arith, c₂ .put-bytes .ensures .end-is, c₁ .put-template-name .ensures .end-is, templates-turn _ (c₃ .before .before .loop .inv) _ (c₃ .before .tag-at .ensures .0) (c₃ .if1 .taken) (c₁ .before .front .ensures) refl)
 
 inner-requires : tie.Need-inner-requires Inv-loop μ-loop
 inner-requires c κs = tt
@@ -62,8 +60,7 @@ print-parted-requires c κs =
     let c₂ = c₁ .before .before .before .before .before in
     let c₃ = c₂ .before .before .before .before .before in
     let c₄ = c₃ .before .before .before in
-    let c₅ = c₄ .before .before .before .before .before in
-    omega (arith, c₃ .put-bytes .ensures .end-is, c₂ .put-template-name .ensures .end-is, c₁ .put-bytes2 .ensures .end-is, templates-turn (c₄ .before .before .loop .inv) _ (c₄ .before .tag-at .ensures .0) (c₄ .if1 .taken) (c₂ .before .front .ensures) (c .inner .ensures) (c₅ .pre))
+    omega (arith, c₃ .put-bytes .ensures .end-is, c₂ .put-template-name .ensures .end-is, c₁ .put-bytes2 .ensures .end-is, templates-turn _ (c₄ .before .before .loop .inv) _ (c₄ .before .tag-at .ensures .0) (c₄ .if1 .taken) (c₂ .before .front .ensures) (c .inner .ensures))
 
 slice-aggregate-put-bytes-3 : tie.Need-slice-aggregate-put-bytes-3 Inv-loop μ-loop
 slice-aggregate-put-bytes-3 c = search needs
@@ -75,8 +72,7 @@ put-bytes-requires-3 c κs =
     let c₃ = c₂ .before .before .before .before .before in
     let c₄ = c₃ .before .before .before .before .before in
     let c₅ = c₄ .before .before .before in
-    let c₆ = c₅ .before .before .before .before .before in
-    omega (arith, c₄ .put-bytes .ensures .end-is, c₃ .put-template-name .ensures .end-is, c₂ .put-bytes2 .ensures .end-is, c₁ .print-parted .ensures .end-is, templates-turn (c₅ .before .before .loop .inv) _ (c₅ .before .tag-at .ensures .0) (c₅ .if1 .taken) (c₃ .before .front .ensures) (c₁ .before .inner .ensures) (c₆ .pre))
+    omega (arith, c₄ .put-bytes .ensures .end-is, c₃ .put-template-name .ensures .end-is, c₂ .put-bytes2 .ensures .end-is, c₁ .print-parted .ensures .end-is, templates-turn _ (c₅ .before .before .loop .inv) _ (c₅ .before .tag-at .ensures .0) (c₅ .if1 .taken) (c₃ .before .front .ensures) (c₁ .before .inner .ensures))
 
 behind-requires : tie.Need-behind-requires Inv-loop μ-loop
 behind-requires c κs = tt
@@ -94,13 +90,13 @@ loop-again c =
     let c₄ = c₃ .before .before .before .before .before in
     let c₅ = c₄ .before .before .before .before .before in
     let c₆ = c₅ .before .before .before in
-    templates-on (c₆ .before .before .loop .inv) _ (c₆ .before .tag-at .ensures .0) (c₆ .if1 .taken) (c₄ .before .front .ensures) (c₂ .before .inner .ensures) (c .behind .ensures) (wrote-then (c₅ .put-bytes .ensures) (wrote-then (c₄ .put-template-name .ensures) (wrote-then (c₃ .put-bytes2 .ensures) (wrote-then (c₂ .print-parted .ensures) (c₁ .put-bytes3 .ensures)))))
+    left-on (c₆ .before .before .loop .inv) (templates-at _ _ (c₆ .before .tag-at .ensures .0) (c₆ .if1 .taken) (c₄ .before .front .ensures) (c₂ .before .inner .ensures) (c .behind .ensures)) (wrote-then (c₅ .put-bytes .ensures) (wrote-then (c₄ .put-template-name .ensures) (wrote-then (c₃ .put-bytes2 .ensures) (wrote-then (c₂ .print-parted .ensures) (c₁ .put-bytes3 .ensures)))))
 
 same-length : tie.Need-same-length Inv-loop μ-loop
-same-length c = printed-length _ _ _ _ _ _ _ (c .before .before .loop .inv)
+same-length c = wrote-length (left-done (c .before .before .loop .inv) (templates-end _ (c .before .tag-at .ensures .1 (c .if1 .left))))
 
 returns : tie.Need-returns Inv-loop μ-loop
-returns c = printed-end _ _ _ _ _ _ _ (c .before .before .loop .inv) (templates-end _ (c .before .tag-at .ensures .1 (c .if1 .left)))
+returns c = left-done (c .before .before .loop .inv) (templates-end _ (c .before .tag-at .ensures .1 (c .if1 .left)))
 
 pub print-templates-spec : {M : Type 1} → statement M
 print-templates-spec =

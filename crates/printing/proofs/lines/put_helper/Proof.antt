@@ -8,7 +8,7 @@ use borrow.Author.Tests.{not-true, not-false}
 use Rattle.field.specs.Bytes.{Bytes, ascii}
 use Rattle.field.proofs.PutLaws.{wrote-none, wrote-is, wrote-then}
 use Rattle.printing.proofs.LineLaws.{helper-none, helper-later, helper-first}
-use Rattle.printing.proofs.TextLaws.{room-next}
+use Rattle.printing.proofs.RoomLaws.{room-next}
 use Rattle.printing.proofs.lines.put_helper.Statement.{statement}
 use Rattle.printing.proofs.lines.put_helper.Tie as tie
 

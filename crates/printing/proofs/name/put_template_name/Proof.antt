@@ -7,7 +7,7 @@ use Rattle.field.specs.Number.{number-of}
 use Rattle.field.proofs.PutLaws.{wrote-is, wrote-then}
 use Rattle.text.specs.Decimal.{decimal}
 use Rattle.printing.proofs.NameLaws.{two-long, two-short}
-use Rattle.printing.proofs.TextLaws.{room-next}
+use Rattle.printing.proofs.RoomLaws.{room-next}
 use Rattle.printing.proofs.name.put_template_name.Statement.{statement}
 use Rattle.printing.proofs.name.put_template_name.Tie as tie
 
