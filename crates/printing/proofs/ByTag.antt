@@ -4,20 +4,19 @@
 use mathlib.Core.Path.{_≡_, refl, sym, ap, _∙_, subst}
 use Prim.Native.Nat.{ℕ, _≤_, _<_}
 use native.Mathlib.Omega.{arith}
-use mathlib.Core.Bool.{Bool, true, false}
 use mathlib.Core.List.{[], _++_}
 use mathlib.Core.Logic.{_⊎_, inl, inr, ⊎-elim}
-use lib.Dec.{T, eqb, ltb, ltb→lt}
+use lib.Dec.{T, ltb, ltb→lt}
 use lib.ListN.{length}
-use borrow.Author.Tests.{eqb-true, eqb-false, ne-eqb}
+use borrow.Author.Tests.{ne-eqb}
 use Rattle.field.specs.Bytes.{Bytes, ascii}
-use Rattle.field.specs.Row.{Row, end, loose, field, Inside, only-bytes, fields-after, inside, Next, nothing, no-field, next, next-of, opened, built, read, Ended}
-use Rattle.field.specs.Front.{tag-of, body-of, behind-of, tag-by, body-by, behind-by}
-use Rattle.field.proofs.RowLaws.{next-sizes, read-step, read-nil}
+use Rattle.field.specs.Row.{Row, end, loose, field, Next, nothing, no-field, next, next-of, read, Ended}
+use Rattle.field.specs.Front.{tag-of, behind-of, behind-by}
+use Rattle.field.proofs.RowLaws.{next-sizes}
 use Rattle.page.specs.Tree.{choose}
 use Rattle.printing.specs.Card.{quoted, first-front, second-front, text-by, all-text, parted-text, behind-text, first-text, second-text}
-use Rattle.printing.specs.Front.{front-by, front-of, inner-of}
-use Rattle.printing.proofs.FrontLaws.{read-front, read-field, not-ended, inner-less}
+use Rattle.printing.specs.Front.{front-of, inner-of}
+use Rattle.printing.proofs.FrontLaws.{read-field, read-by, inner-less}
 
 -- ---- the first expression
 
@@ -25,25 +24,10 @@ use Rattle.printing.proofs.FrontLaws.{read-front, read-field, not-ended
 abbrev pub text-of : ℕ → Bytes → Row → Bytes
 text-of t f i = text-by t f i (λ _. all-text i) (λ _. parted-text i) (λ _. behind-text i) (λ _. first-text i) (λ _. second-text i)
 
-tag-ended : (s : Bytes) → Ended (read s) → tag-of s ≡ 256
-tag-ended s i = on (eqb (tag-of s) 256) refl
-  where
-    on : (b : Bool) → eqb (tag-of s) 256 ≡ b → tag-of s ≡ 256
-    on true q = eqb-true (tag-of s) 256 q
-    on false q = absurd (not-ended s (eqb-false (tag-of s) 256 q) i)
-
 -- 256 prints nothing, so this holds whatever the bytes
 pub first-by : (s : Bytes) → first-text (read s) ≡ text-of (tag-of s) (front-of s) (read (inner-of s))
 unfolding first-text text-by choose
-first-by s = on (read s) refl
-  where
-    none : Ended (read s) → [] ≡ text-of (tag-of s) (front-of s) (read (inner-of s))
-    none i = ap (λ (t : ℕ). text-of t (front-of s) (read (inner-of s))) (sym (tag-ended s i))
-
-    on : (x : Row) → read s ≡ x → first-text (read s) ≡ text-of (tag-of s) (front-of s) (read (inner-of s))
-    on end q = ap first-text q ∙ none (subst Ended (sym q) tt)
-    on (loose b) q = ap first-text q ∙ none (subst Ended (sym q) tt)
-    on (field t f i r) q = ap first-text (read-front s (λ z. subst Ended q z))
+first-by = read-by first-text refl (λ b. refl)
 
 module _ (s : Bytes) (t : ℕ) (e : t ≡ tag-of s) where
   first-is : first-text (read s) ≡ text-of t (front-of s) (read (inner-of s))
@@ -85,47 +69,15 @@ module _ (s : Bytes) (t : ℕ) (e : t ≡ tag-of s) where
 
 -- ---- the front of the first field and of the second
 
-front-next : (s : Bytes) (n : Next) → first-front (built read s n) ≡ front-by (inside (tag-by n)) (body-by n)
-unfolding built opened inside
-front-next s nothing = refl
-front-next s no-field = refl
-front-next s (next t w r) = on (inside t)
-  where
-    on : (c : Inside) → first-front (opened c read t w r) ≡ front-by c w
-    on only-bytes = refl
-    on (fields-after n) = refl
-
 pub front-first : (s : Bytes) → first-front (read s) ≡ front-of s
-unfolding front-of tag-of body-of
-front-first s = ap first-front (read-step s) ∙ front-next s (next-of s)
-
-second-next : (s : Bytes) (n : Next) → second-front (built read s n) ≡ first-front (read (behind-by n))
-unfolding built opened
-second-next s nothing = ap first-front (sym read-nil)
-second-next s no-field = ap first-front (sym read-nil)
-second-next s (next t w r) = on (inside t)
-  where
-    on : (c : Inside) → second-front (opened c read t w r) ≡ first-front (read r)
-    on only-bytes = refl
-    on (fields-after n) = refl
+front-first = read-by first-front refl (λ b. refl)
 
 pub front-second : (s : Bytes) → second-front (read s) ≡ front-of (behind-of s)
-unfolding behind-of
-front-second s = ap second-front (read-step s) ∙ second-next s (next-of s) ∙ front-first (behind-of s)
-
-text-next : (s : Bytes) (n : Next) → second-text (built read s n) ≡ first-text (read (behind-by n))
-unfolding built opened first-text second-text
-text-next s nothing = ap first-text (sym read-nil)
-text-next s no-field = ap first-text (sym read-nil)
-text-next s (next t w r) = on (inside t)
-  where
-    on : (c : Inside) → second-text (opened c read t w r) ≡ first-text (read r)
-    on only-bytes = refl
-    on (fields-after n) = refl
+front-second s = read-by second-front refl (λ b. refl) s ∙ front-first (behind-of s)
 
 pub text-second : (s : Bytes) → second-text (read s) ≡ first-text (read (behind-of s))
-unfolding behind-of
-text-second s = ap second-text (read-step s) ∙ text-next s (next-of s)
+unfolding first-text second-text
+text-second = read-by second-text refl (λ b. refl)
 
 -- ---- the expressions one by one
 

@@ -1,6 +1,5 @@
 -- The row at the front of bytes by `front-of` and `inner-of`: what a walk over printed fields learns from its readers.
--- Main statements: `read-front`, `read-front-at`, `read-field`, `not-ended`, `inner-less`, `front-length-within`, `front-is`,
--- `inner-is`.
+-- Main statements: `read-front`, `read-field`, `read-by`, `not-ended`, `inner-less`, `front-length-within`, `front-is`, `inner-is`.
 -- Assumes nothing.
 use mathlib.Core.Path.{_≡_, refl, sym, ap, _∙_, subst}
 use mathlib.Core.Bool.{Bool, true, false}
@@ -13,7 +12,7 @@ use lib.ListN.{length, take, drop, length-drop, drop-of-length-le}
 use lib.Seq.{take-all, take-length, drop-length}
 use borrow.Author.Tests.{leb-true, leb-false}
 use Rattle.field.specs.Bytes.{Bytes, pick}
-use Rattle.field.specs.Row.{Row, field, Inside, only-bytes, fields-after, inside, Next, nothing, no-field, next, next-of, opened, built, read, Ended}
+use Rattle.field.specs.Row.{Row, end, loose, field, Inside, only-bytes, fields-after, inside, Next, nothing, no-field, next, next-of, opened, built, read, Ended}
 use Rattle.field.specs.Front.{tag-of, body-of, behind-of, tag-by, body-by, behind-by}
 use Rattle.field.proofs.RowLaws.{read-step, read-nil}
 use Rattle.field.proofs.FrontLaws.{body-less}
@@ -51,12 +50,22 @@ pub not-ended : (s : Bytes) → (tag-of s ≡ 256 → ⊥) → Ended (read s) �
 unfolding tag-of
 not-ended s h i = field-by s (next-of s) h (subst Ended (read-step s) i)
 
-pub read-front-at : (s : Bytes) → (tag-of s ≡ 256 → ⊥) → read s ≡ field (tag-of s) (front-of s) (read (inner-of s)) (read (behind-of s))
-read-front-at s h = read-front s (not-ended s h)
-
--- the same by the parts that the readers hand back
+-- by the tag and the parts that the readers hand back
 pub read-field : (s : Bytes) (t : ℕ) → t ≡ tag-of s → (t ≡ 256 → ⊥) → {w i r : Bytes} → w ≡ front-of s → i ≡ inner-of s → r ≡ behind-of s → read s ≡ field t w (read i) (read r)
-read-field s t e h ew ei er = read-front-at s (λ z. h (e ∙ z)) ∙ rw (e, ew, ei, er)
+read-field s t e h ew ei er = read-front s (not-ended s (λ z. h (e ∙ z))) ∙ rw (e, ew, ei, er)
+
+-- what makes of no field the same as of an empty one of tag 256 goes by the parts, whatever the bytes
+pub read-by : {B : Type 0} (f : Row → B) → f end ≡ f (field 256 [] end end) → ((b : Bytes) → f (loose b) ≡ f (field 256 [] end end)) → (s : Bytes) → f (read s) ≡ f (field (tag-of s) (front-of s) (read (inner-of s)) (read (behind-of s)))
+unfolding tag-of body-of behind-of front-of inner-of built inside
+read-by f he hl s = ap f (read-step s) ∙ on (next-of s)
+  where
+    none : f (field 256 [] end end) ≡ f (field 256 [] (read []) (read []))
+    none = ap (λ (x : Row). f (field 256 [] x x)) (sym read-nil)
+
+    on : (n : Next) → f (built read s n) ≡ f (field (tag-by n) (front-by (inside (tag-by n)) (body-by n)) (read (inner-by (inside (tag-by n)) (body-by n))) (read (behind-by n)))
+    on nothing = he ∙ none
+    on no-field = hl s ∙ none
+    on (next t w r) = ap f (opened-parts (inside t) t w r)
 
 -- ---- how long the two parts are
 

@@ -10,15 +10,14 @@ use lib.ListN.{length, take, getD, length-append}
 use borrow.Author.Tests.{ne-eqb}
 use Rattle.field.specs.Bytes.{Bytes, ascii}
 use Rattle.field.specs.Number.{number-of, number-from}
-use Rattle.field.specs.Row.{Row, end, loose, field, Inside, only-bytes, fields-after, inside, Next, nothing, no-field, next, next-of, opened, built, read, Ended}
-use Rattle.field.specs.Front.{tag-of, behind-of, behind-by}
+use Rattle.field.specs.Row.{Row, end, loose, field, read, Ended}
+use Rattle.field.specs.Front.{tag-of, behind-of}
 use Rattle.field.proofs.FrontLaws.{read-empty, read-torn}
-use Rattle.field.proofs.RowLaws.{read-step, read-nil}
 use Rattle.text.specs.Decimal.{decimal}
 use Rattle.page.specs.Tree.{choose}
 use Rattle.printing.specs.Front.{front-of, inner-of}
 use Rattle.printing.specs.Card.{quoted, template-name, parted-text, all-text, helper-text, odd, helpers-text, sum-behind, sum-in, import-text, templates-text, page-text}
-use Rattle.printing.proofs.FrontLaws.{read-field}
+use Rattle.printing.proofs.FrontLaws.{read-field, read-by}
 use Rattle.printing.proofs.RoomLaws.{Left, left-room}
 use Rattle.printing.proofs.ByTag.{front-first}
 
@@ -52,19 +51,8 @@ module _ (k : ℕ) {a b c d e f g : Bool} (ea : a ≡ odd k) (eb : b ≡ odd (k 
 
 -- ---- the sum
 
-sum-opened : (c : Inside) (t : ℕ) (w r : Bytes) → sum-in (opened c read t w r) ≡ sum-behind (read r)
-unfolding opened
-sum-opened only-bytes t w r = refl
-sum-opened (fields-after n) t w r = refl
-
 sum-is : (s : Bytes) → sum-in (read s) ≡ sum-behind (read (behind-of s))
-unfolding built behind-of
-sum-is s = ap sum-in (read-step s) ∙ on (next-of s)
-  where
-    on : (n : Next) → sum-in (built read s n) ≡ sum-behind (read (behind-by n))
-    on nothing = sym (ap sum-behind read-nil)
-    on no-field = sym (ap sum-behind read-nil)
-    on (next t w r) = sum-opened (inside t) t w r
+sum-is = read-by sum-in refl (λ b. refl)
 
 one-byte : (b : Bytes) → (length b ≡ 0 → ⊥) → number-of (take 1 b) ≡ getD b 0 0
 unfolding number-from
