@@ -14,6 +14,7 @@ use borrow.Author.Tests.{ltb-true, ltb-false, eqb-true, eqb-false, lt-ltb, le-lt
 use Rattle.field.specs.Bytes.{Bytes, ascii, pick, same, among}
 use Rattle.field.specs.Row.{next-of, read}
 use Rattle.field.specs.Front.{body-of}
+use Rattle.field.proofs.FrontLaws.{read-empty}
 use Rattle.names.specs.Names.{small-letter, small-letters, normalize-dom-attr-name}
 use Rattle.names.proofs.CompareLaws.{same-eq, same-refl, capital-below, capital-above, capital-within}
 use Rattle.names.proofs.ListLaws.{refuted}
@@ -68,6 +69,10 @@ among-gathered n (suc k) b =
 pub listed-plain : (b : Bytes) → length b ≤ 4096 → names-of b ≡ texts-in 0x20 (read b)
 unfolding names-of
 listed-plain b h = rw (le-leb (length b) 4096 h)
+
+pub listed-empty : (n b : Bytes) → length b ≡ 0 → among n (names-of b) ≡ false
+unfolding among texts-in
+listed-empty n b h = ap (λ (l : List Bytes). among n l) (listed-plain b (omega (arith, h)) ∙ ap (texts-in 0x20) (read-empty b h))
 
 pub listed-indexed : (n b : Bytes) → 4096 < length b → among n (names-of b) ≡ among n (chain 1366 b (two-at b (2 * hash n)))
 unfolding names-of

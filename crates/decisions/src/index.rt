@@ -180,7 +180,8 @@ fn chain_has_namespaced<'a>(b: &'a [u8], ns: &'a [u8], name: &'a [u8], last: usi
     false
 }
 
-pub fn lists(list: &[u8], name: &[u8]) -> bool
+// The names of a series that is not empty, or of an index.
+fn finds(list: &[u8], name: &[u8]) -> bool
     ensures { λ r. ⌜ r ≡ among (now (name .entry)) (names-of (now (list .entry))) ⌝ }
 {
     if list.len() <= 4096 {
@@ -188,6 +189,16 @@ pub fn lists(list: &[u8], name: &[u8]) -> bool
     }
     let h = hash_on(0, name);
     in_chain(list, name, two_at(list, 2 * h))
+}
+
+// Most options list nothing: that is seen before a call is made.
+pub fn lists(list: &[u8], name: &[u8]) -> bool
+    ensures { λ r. ⌜ r ≡ among (now (name .entry)) (names-of (now (list .entry))) ⌝ }
+{
+    if list.len() == 0 {
+        return false;
+    }
+    finds(list, name)
 }
 
 // Whether ns:name, normalised, is listed.
