@@ -34,12 +34,15 @@ fn seeds() {
     if no_judge() {
         return;
     }
-    let count: u64 = std::env::var("HOST_SEEDS").map_or(200_000, |word| word.parse().expect("HOST_SEEDS is a number"));
+    let word = |name: &str, other: u64| {
+        std::env::var(name).map_or(other, |word| word.parse().unwrap_or_else(|_| panic!("{name} is no number: {word}")))
+    };
+    let (from, count) = (word("HOST_SEEDS_FROM", 0), word("HOST_SEEDS", 200_000));
     let start = Instant::now();
     let step = (count / 10).clamp(1, 50_000);
     for first in (0..count).step_by(step as usize) {
         let some = step.min(count - first);
-        if let Some(words) = first_difference(first, some, &library) {
+        if let Some(words) = first_difference(from + first, some, &library) {
             panic!("{words}");
         }
         say(&format!("seeds: {} of {count}, no difference, {} s", first + some, start.elapsed().as_secs()));
