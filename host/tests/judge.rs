@@ -62,6 +62,59 @@ fn limits_and_marks() {
     say(&format!("marks: {}, no difference", marks.len()));
 }
 
+/// Options with many names, which the library looks up by their hashes: names of the page itself, as written, in small
+/// letters and with a namespace, among short ones.
+#[test]
+fn many_listed_names() {
+    if no_judge() {
+        return;
+    }
+    const CASES: u64 = 10_000;
+    let mut listed = 0;
+    for seed in 0..CASES {
+        let mut case = generate::case(seed);
+        case.options = listing(seed, &case.page);
+        listed += case.options.len();
+        agree(&case);
+    }
+    say(&format!("many listed names: {CASES} pages, {} bytes of options each, no difference", listed / CASES as usize));
+}
+
+/// 02 and 03 with up to 4,000 bytes of names.
+fn listing(seed: u64, page: &[u8]) -> Vec<u8> {
+    let mut state = seed;
+    let mut below = |most: usize| {
+        state = state.wrapping_mul(6_364_136_223_846_793_005).wrapping_add(1_442_695_040_888_963_407);
+        (state >> 33) as usize % most
+    };
+    let names: Vec<&[u8]> = (0..page.len().saturating_sub(3))
+        .filter(|&i| page[i] == 0x40 && page[i + 1] == 0)
+        .filter_map(|i| page.get(i + 3..i + 3 + page[i + 2] as usize))
+        .filter(|name| !name.is_empty() && name.iter().all(u8::is_ascii_graphic))
+        .collect();
+    let mut options = vec![];
+    for tag in [0x02, 0x03] {
+        let mut list = vec![];
+        let most = 40 + below(1_900);
+        while list.len() < most {
+            let own =
+                |i: usize| names.get(i % names.len().max(1)).map_or(&b"i"[..], |name| &name[..name.len().min(40)]);
+            let name = match below(8) {
+                0 => own(below(1_000)).to_vec(),
+                1 => own(below(1_000)).to_ascii_lowercase(),
+                2 => [own(below(1_000)), b":", own(below(1_000))].concat().to_ascii_lowercase(),
+                3 => b"href".to_vec(),
+                _ => (0..1 + below(3)).map(|_| b'a' + below(26) as u8).collect(),
+            };
+            list.extend([0x20, 0, name.len() as u8]);
+            list.extend(name);
+        }
+        options.extend([tag, (list.len() / 256) as u8, (list.len() % 256) as u8]);
+        options.extend(list);
+    }
+    options
+}
+
 #[test]
 fn stored_answers() {
     let stored = include_str!("../../oracle/vectors/judge.txt");
