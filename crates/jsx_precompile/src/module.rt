@@ -29,7 +29,7 @@ use field::reader::tag_at;
 use field::writer::put_byte;
 use field::writer::put_bytes;
 use field::writer::put_head;
-use visits::visit_pieces;
+use visits::on_pieces;
 use walk::state::Seen;
 use walk::state::Walk;
 use walk::state::at_page;
@@ -52,7 +52,7 @@ fn visit_item<'a>(
     ensures { λ r. ⌜ at (now (templates .exit)) (now (page .exit)) r ≡ see (item-mid (opts (now (skip .entry)) (now (props .entry))) tag (read (now (b .entry)))) (at (now (templates .entry)) (now (page .entry)) st) ⌝ }
 {
     let p = st.page;
-    let x = visit_pieces(skip, props, b, scratch, templates, page, begin(st));
+    let x = on_pieces(skip, props, b, scratch, templates, page, begin(st));
     close(page, x, p, tag)
 }
 

@@ -1,4 +1,5 @@
-// The cycle: expression, element, children and call.
+// The cycle: expression, element, children and call. An `on_` function is a visit of 000 (visit_mut_expr), a `to_` function one that
+// serializes (serialize_jsx_to_call_expr); both are short, since the toolchain names the cycle by all of them.
 ghost use mathlib.Core.Path.{_≡_};
 ghost use mathlib.Core.Bool.{true, false};
 ghost use mathlib.Core.List.{[]};
@@ -68,7 +69,7 @@ use walk::state::literal_leaf;
 use walk::state::text_leaf;
 
 // visit_mut_expr on the expression in front.
-fn visit_expr<'a>(
+fn on_expr<'a>(
     skip: &'a [u8],
     props: &'a [u8],
     s: &'a [u8],
@@ -84,21 +85,21 @@ fn visit_expr<'a>(
     let b = body(s);
     match tag_at(s) {
         0x76 => {
-            let x = visit_items(skip, props, b, scratch, templates, page, begin(st));
+            let x = on_items(skip, props, b, scratch, templates, page, begin(st));
             close(page, x, p, 0x76)
         }
         0x79 => {
-            let x = visit_pieces(skip, props, b, scratch, templates, page, begin(st));
+            let x = on_pieces(skip, props, b, scratch, templates, page, begin(st));
             close(page, x, p, 0x79)
         }
-        0x30 => visit_element(skip, props, b, scratch, templates, page, st),
-        0x31 => visit_fragment(skip, props, b, scratch, templates, page, st),
+        0x30 => on_jsx(skip, props, b, scratch, templates, page, st),
+        0x31 => on_fragment(skip, props, b, scratch, templates, page, st),
         _ => literal_leaf(page, st, s),
     }
 }
 
 // The same of an expression in braces, where there is one.
-fn visit_held<'a>(
+fn on_held<'a>(
     skip: &'a [u8],
     props: &'a [u8],
     c: &'a [u8],
@@ -113,11 +114,11 @@ fn visit_held<'a>(
     if tag_at(c) == 256 {
         return st;
     }
-    visit_expr(skip, props, c, scratch, templates, page, st)
+    on_expr(skip, props, c, scratch, templates, page, st)
 }
 
 // An array's elements.
-fn visit_items<'a>(
+fn on_items<'a>(
     skip: &'a [u8],
     props: &'a [u8],
     s: &'a [u8],
@@ -135,7 +136,7 @@ fn visit_items<'a>(
         match tag_at(t) {
             0x77 => {
                 let p = cur.page;
-                let x = visit_expr(skip, props, body(t), scratch, templates, page, begin(cur));
+                let x = on_expr(skip, props, body(t), scratch, templates, page, begin(cur));
                 cur = close(page, x, p, 0x77);
                 let r = behind(t);
                 t = r;
@@ -149,7 +150,7 @@ fn visit_items<'a>(
                 return cur;
             }
             _ => {
-                cur = visit_expr(skip, props, t, scratch, templates, page, cur);
+                cur = on_expr(skip, props, t, scratch, templates, page, cur);
                 let r = behind(t);
                 t = r;
             }
@@ -158,7 +159,7 @@ fn visit_items<'a>(
 }
 
 // Pieces of source and the tags between them.
-pub fn visit_pieces<'a>(
+pub fn on_pieces<'a>(
     skip: &'a [u8],
     props: &'a [u8],
     s: &'a [u8],
@@ -180,12 +181,12 @@ pub fn visit_pieces<'a>(
                 t = r;
             }
             0x30 => {
-                cur = visit_element(skip, props, body(t), scratch, templates, page, cur);
+                cur = on_jsx(skip, props, body(t), scratch, templates, page, cur);
                 let r = behind(t);
                 t = r;
             }
             0x31 => {
-                cur = visit_fragment(skip, props, body(t), scratch, templates, page, cur);
+                cur = on_fragment(skip, props, body(t), scratch, templates, page, cur);
                 let r = behind(t);
                 t = r;
             }
@@ -201,7 +202,7 @@ pub fn visit_pieces<'a>(
 }
 
 // An element as an expression: its templates are recorded, and then both passes run with the numbers behind them.
-fn visit_element<'a>(
+fn on_jsx<'a>(
     skip: &'a [u8],
     props: &'a [u8],
     b: &'a [u8],
@@ -215,12 +216,12 @@ fn visit_element<'a>(
 {
     let first = st.first;
     let k = record_serialize(skip, props, b, scratch, templates, records_of(st));
-    let w = page_jsx(skip, props, b, scratch, templates, page, recorded(st, k));
+    let w = to_jsx(skip, props, b, scratch, templates, page, recorded(st, k));
     returned(w, first)
 }
 
 // A fragment's children as a template.
-fn visit_template<'a>(
+fn on_template<'a>(
     skip: &'a [u8],
     props: &'a [u8],
     s: &'a [u8],
@@ -236,13 +237,13 @@ fn visit_template<'a>(
     let p = st.page;
     let k = record_fragment(skip, props, s, scratch, templates, records_of(st));
     let a = begin_template(page, recorded(st, k));
-    let c = page_parts(skip, props, s, scratch, templates, page, a);
+    let c = to_parts(skip, props, s, scratch, templates, page, a);
     let d = close(page, c, p, 0x90);
     returned(d, first)
 }
 
 // A fragment as an expression.
-fn visit_fragment<'a>(
+fn on_fragment<'a>(
     skip: &'a [u8],
     props: &'a [u8],
     s: &'a [u8],
@@ -260,21 +261,21 @@ fn visit_fragment<'a>(
             let a = children_at(s);
             let b = body(a);
             match tag_at(a) {
-                0x30 => visit_element(skip, props, b, scratch, templates, page, st),
-                0x31 => visit_found(skip, props, b, scratch, templates, page, st),
+                0x30 => on_jsx(skip, props, b, scratch, templates, page, st),
+                0x31 => on_found(skip, props, b, scratch, templates, page, st),
                 0x61 => {
                     let todo = held_todo(skip, props, b, scratch);
                     leave(page, st, todo)
                 }
-                _ => visit_template(skip, props, s, scratch, templates, page, st),
+                _ => on_template(skip, props, s, scratch, templates, page, st),
             }
         }
-        _ => visit_template(skip, props, s, scratch, templates, page, st),
+        _ => on_template(skip, props, s, scratch, templates, page, st),
     }
 }
 
 // A fragment in a fragment, by its children: a tag that they give, or nothing, is left.
-fn visit_found<'a>(
+fn on_found<'a>(
     skip: &'a [u8],
     props: &'a [u8],
     s: &'a [u8],
@@ -290,7 +291,7 @@ fn visit_found<'a>(
     let kind = f.kind;
     match kind {
         Kind::Nothing => {
-            let todo = children_todo(skip, props, s, scratch);
+            let todo = child_todo(skip, props, s, scratch);
             leave(page, st, todo)
         }
         Kind::Expr => {
@@ -299,14 +300,14 @@ fn visit_found<'a>(
                 let todo = tag_todo(skip, props, c, scratch);
                 return leave(page, st, todo);
             }
-            visit_given(skip, props, s, f, scratch, templates, page, st)
+            on_given(skip, props, s, f, scratch, templates, page, st)
         }
-        _ => visit_given(skip, props, s, f, scratch, templates, page, st),
+        _ => on_given(skip, props, s, f, scratch, templates, page, st),
     }
 }
 
 // What the children give, where it is no tag.
-fn visit_given<'a>(
+fn on_given<'a>(
     skip: &'a [u8],
     props: &'a [u8],
     s: &'a [u8],
@@ -321,7 +322,7 @@ fn visit_given<'a>(
 {
     let first = st.first;
     let k = record_found(skip, props, s, scratch, templates, records_of(st));
-    let w = page_found(
+    let w = to_found(
         skip,
         props,
         s,
@@ -336,7 +337,7 @@ fn visit_given<'a>(
 }
 
 // serialize_jsx, with numbers of the first pass from `first` on.
-fn page_jsx<'a>(
+fn to_jsx<'a>(
     skip: &'a [u8],
     props: &'a [u8],
     b: &'a [u8],
@@ -351,15 +352,15 @@ fn page_jsx<'a>(
     if is_serializable(skip, b) {
         let p = st.page;
         let a = begin_template(page, st);
-        let c = page_attrs(skip, props, behind(b), scratch, templates, page, a);
-        let d = page_parts(skip, props, inner_children(b), scratch, templates, page, c);
+        let c = to_attrs(skip, props, behind(b), scratch, templates, page, a);
+        let d = to_parts(skip, props, inner_children(b), scratch, templates, page, c);
         return close(page, d, p, 0x90);
     }
-    page_call(skip, props, b, scratch, templates, page, st)
+    to_call(skip, props, b, scratch, templates, page, st)
 }
 
 // The gaps of an element in a template.
-fn page_element<'a>(
+fn to_gaps<'a>(
     skip: &'a [u8],
     props: &'a [u8],
     b: &'a [u8],
@@ -372,14 +373,14 @@ fn page_element<'a>(
     ensures { λ r. ⌜ at (now (templates .exit)) (now (page .exit)) r ≡ act (dynamic-exprs (element-at (now (skip .entry)) (now (props .entry)) (now (b .entry)) .to-string-vec)) (at (now (templates .entry)) (now (page .entry)) st) ⌝ }
 {
     if is_serializable(skip, b) {
-        let a = page_attrs(skip, props, behind(b), scratch, templates, page, st);
-        return page_parts(skip, props, inner_children(b), scratch, templates, page, a);
+        let a = to_attrs(skip, props, behind(b), scratch, templates, page, st);
+        return to_parts(skip, props, inner_children(b), scratch, templates, page, a);
     }
-    page_call(skip, props, b, scratch, templates, page, st)
+    to_call(skip, props, b, scratch, templates, page, st)
 }
 
 // The gaps of attributes in an opening tag.
-fn page_attrs<'a>(
+fn to_attrs<'a>(
     skip: &'a [u8],
     props: &'a [u8],
     s: &'a [u8],
@@ -400,7 +401,7 @@ fn page_attrs<'a>(
                 let gap = attribute_gap(props, a);
                 let p = cur.page;
                 let x = attribute_front(page, cur, a, gap);
-                let y = visit_held(skip, props, held_at(a, gap), scratch, templates, page, x);
+                let y = on_held(skip, props, held_at(a, gap), scratch, templates, page, x);
                 cur = gap_back(page, y, p, 0x91, a, gap);
                 let r = behind(t);
                 t = r;
@@ -417,7 +418,7 @@ fn page_attrs<'a>(
 }
 
 // The gaps of children in a template.
-fn page_parts<'a>(
+fn to_parts<'a>(
     skip: &'a [u8],
     props: &'a [u8],
     s: &'a [u8],
@@ -438,18 +439,18 @@ fn page_parts<'a>(
                 let wrapped = is_wrapped(c);
                 let p = cur.page;
                 let x = begin_if(cur, wrapped);
-                let y = visit_held(skip, props, gap_held(c), scratch, templates, page, x);
+                let y = on_held(skip, props, gap_held(c), scratch, templates, page, x);
                 cur = close_if(page, y, p, 0x92, wrapped);
                 let r = behind(t);
                 t = r;
             }
             0x30 => {
-                cur = page_element(skip, props, body(t), scratch, templates, page, cur);
+                cur = to_gaps(skip, props, body(t), scratch, templates, page, cur);
                 let r = behind(t);
                 t = r;
             }
             0x31 => {
-                cur = page_parts(skip, props, body(t), scratch, templates, page, cur);
+                cur = to_parts(skip, props, body(t), scratch, templates, page, cur);
                 let r = behind(t);
                 t = r;
             }
@@ -465,7 +466,7 @@ fn page_parts<'a>(
 }
 
 // serialize_jsx_to_call_expr
-fn page_call<'a>(
+fn to_call<'a>(
     skip: &'a [u8],
     props: &'a [u8],
     b: &'a [u8],
@@ -482,22 +483,22 @@ fn page_call<'a>(
     let rest = behind(b);
     let n = name_expr(page, begin(st), b);
     let q = n.page;
-    let x = page_props(skip, props, rest, norm, scratch, templates, page, begin(n));
+    let x = to_props(skip, props, rest, norm, scratch, templates, page, begin(n));
     let f = found_of(skip, rest);
     let stands = is_found(f);
     let h = x.page;
     let y = children_front(page, x, stands);
-    let z = page_found(skip, props, rest, f, false, scratch, templates, page, y);
+    let z = to_found(skip, props, rest, f, false, scratch, templates, page, y);
     let c = close_if(page, z, h, 0x96, stands);
     let d = close_props(page, c, q);
     let a = key_at(rest, norm);
     let k = key_front(page, d, a);
-    let l = visit_held(skip, props, key_held(a), scratch, templates, page, k);
+    let l = on_held(skip, props, key_held(a), scratch, templates, page, k);
     close(page, l, p, 0x94)
 }
 
 // The properties of a call.
-fn page_props<'a>(
+fn to_props<'a>(
     skip: &'a [u8],
     props: &'a [u8],
     s: &'a [u8],
@@ -519,14 +520,14 @@ fn page_props<'a>(
                 let gap = property_gap(a, norm);
                 let p = cur.page;
                 let x = property_front(page, cur, a, gap);
-                let y = visit_held(skip, props, held_at(a, gap), scratch, templates, page, x);
+                let y = on_held(skip, props, held_at(a, gap), scratch, templates, page, x);
                 cur = gap_back(page, y, p, 0x96, a, gap);
                 let r = behind(t);
                 t = r;
             }
             0x53 => {
                 let p = cur.page;
-                let x = visit_expr(skip, props, body(t), scratch, templates, page, begin(cur));
+                let x = on_expr(skip, props, body(t), scratch, templates, page, begin(cur));
                 cur = close(page, x, p, 0x53);
                 let r = behind(t);
                 t = r;
@@ -539,7 +540,7 @@ fn page_props<'a>(
 }
 
 // What the children of a call give: one expression, or, where it is spliced, the elements of an array.
-fn page_found<'a>(
+fn to_found<'a>(
     skip: &'a [u8],
     props: &'a [u8],
     s: &'a [u8],
@@ -559,22 +560,22 @@ fn page_found<'a>(
     match kind {
         Kind::Nothing => st,
         Kind::Text => text_leaf(page, st, body(u)),
-        Kind::Element => page_jsx(skip, props, body(u), scratch, templates, page, st),
+        Kind::Element => to_jsx(skip, props, body(u), scratch, templates, page, st),
         Kind::Template => {
             let a = begin_template(page, st);
-            let c = page_parts(skip, props, u, scratch, templates, page, a);
+            let c = to_parts(skip, props, u, scratch, templates, page, a);
             close(page, c, p, 0x90)
         }
-        Kind::Run => page_entries(skip, props, u, scratch, templates, page, st),
+        Kind::Run => to_entries(skip, props, u, scratch, templates, page, st),
         Kind::Expr => {
             if splice && tag_at(u) == 0x76 {
-                return visit_items(skip, props, body(u), scratch, templates, page, st);
+                return on_items(skip, props, body(u), scratch, templates, page, st);
             }
-            visit_expr(skip, props, u, scratch, templates, page, st)
+            on_expr(skip, props, u, scratch, templates, page, st)
         }
         Kind::Many => {
             let a = begin_if(st, !splice);
-            let c = page_entries(skip, props, u, scratch, templates, page, a);
+            let c = to_entries(skip, props, u, scratch, templates, page, a);
             close_if(page, c, p, 0x76, !splice)
         }
         Kind::Empty => {
@@ -587,7 +588,7 @@ fn page_found<'a>(
 }
 
 // The entries of merged children.
-fn page_entries<'a>(
+fn to_entries<'a>(
     skip: &'a [u8],
     props: &'a [u8],
     s: &'a [u8],
@@ -618,7 +619,7 @@ fn page_entries<'a>(
                 } else {
                     let a = flush(page, cur, run);
                     run = 0;
-                    cur = visit_expr(skip, props, c, scratch, templates, page, a);
+                    cur = on_expr(skip, props, c, scratch, templates, page, a);
                     let r = behind(t);
                     t = r;
                 }
@@ -626,7 +627,7 @@ fn page_entries<'a>(
             0x30 => {
                 let a = flush(page, cur, run);
                 run = 0;
-                cur = page_jsx(skip, props, body(t), scratch, templates, page, a);
+                cur = to_jsx(skip, props, body(t), scratch, templates, page, a);
                 let r = behind(t);
                 t = r;
             }
@@ -634,7 +635,7 @@ fn page_entries<'a>(
                 let a = flush(page, cur, run);
                 run = 0;
                 let b = body(t);
-                cur = page_found(
+                cur = to_found(
                     skip,
                     props,
                     b,
@@ -666,7 +667,7 @@ fn held_todo<'a>(skip: &'a [u8], props: &'a [u8], c: &'a [u8], scratch: &mut [u8
 {
     let mut none = [0u8; 1];
     let mut nothing = [0u8; 1];
-    let w = visit_held(
+    let w = on_held(
         skip,
         props,
         c,
@@ -691,9 +692,9 @@ fn tag_todo<'a>(skip: &'a [u8], props: &'a [u8], c: &'a [u8], scratch: &mut [u8]
             if attrs_todo(skip, props, rest, scratch) {
                 return true;
             }
-            children_todo(skip, props, rest, scratch)
+            child_todo(skip, props, rest, scratch)
         }
-        0x31 => children_todo(skip, props, b, scratch),
+        0x31 => child_todo(skip, props, b, scratch),
         _ => false,
     }
 }
@@ -732,7 +733,7 @@ fn attrs_todo<'a>(skip: &'a [u8], props: &'a [u8], s: &'a [u8], scratch: &mut [u
 }
 
 // In children.
-fn children_todo<'a>(skip: &'a [u8], props: &'a [u8], s: &'a [u8], scratch: &mut [u8]) -> bool
+fn child_todo<'a>(skip: &'a [u8], props: &'a [u8], s: &'a [u8], scratch: &mut [u8]) -> bool
     requires { ⌜ (65536 ≤ length (now scratch)) × (length (now s) < 2 ^ 32) ⌝ }
     ensures { λ r. ⌜ r ≡ children-reach-todo (children-at (now (skip .entry)) (now (props .entry)) (read (now (s .entry)))) ⌝ }
 {

@@ -3,4 +3,4 @@
 mod calls;
 mod state;
 
-pub use calls::visit_pieces;
+pub use calls::on_pieces;

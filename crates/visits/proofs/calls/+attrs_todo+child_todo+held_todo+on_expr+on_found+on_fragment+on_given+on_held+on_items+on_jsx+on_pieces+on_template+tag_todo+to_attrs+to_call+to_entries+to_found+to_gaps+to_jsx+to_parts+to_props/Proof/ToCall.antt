@@ -1,4 +1,4 @@
--- What `page_call` needs to meet its contract: at each step what is left of the call does, from here on, what the whole does from the start.
+-- What `to_call` needs to meet its contract: at each step what is left of the call does, from here on, what the whole does from the start.
 -- Assumes nothing.
 use mathlib.Core.Path.{_≡_, sym, ap, _∙_}
 use Prim.Native.Nat.{ℕ, _+_, _≤_}
@@ -20,11 +20,11 @@ use Rattle.walk.proofs.SeeLaws.{see-grows}
 use Rattle.walk.proofs.ActLaws.{act-grows, is-none}
 use Rattle.visits.proofs.CallLaws.{stands-by, lacks-by, found-stands, Call, call-of, call-is, name-plain, key-left, props-left, child-left, found-left, children-left, attributes-left, named-left, name-left, call-left, grew, front-grew, front-past, child-grew, closed-grew, begin-room, name-room, props-begin-room, props-room, front-room, found-room, child-room, closed-room, begun-on, name-on, props-begun-on, front-on, child-on, closed-on, props-on, found-on, key-room, key-on, held-room, call-low, call-done}
 use borrow.Author.Needs.{needs}
-use Rattle.visits.proofs.calls.page_call.Reads as page-call
-use Rattle.visits.proofs.calls.+attrs_todo+children_todo+held_todo+page_attrs+page_call+page_element+page_entries+page_found+page_jsx+page_parts+page_props+tag_todo+visit_element+visit_expr+visit_found+visit_fragment+visit_given+visit_held+visit_items+visit_pieces+visit_template.Lts-page_call as page-call-lts
-use Rattle.visits.proofs.calls.page_found.Reads as page-found
-use Rattle.visits.proofs.calls.page_props.Reads as page-props
-use Rattle.visits.proofs.calls.visit_held.Reads as visit-held
+use Rattle.visits.proofs.calls.to_call.Reads as to-call
+use Rattle.visits.proofs.calls.+attrs_todo+child_todo+held_todo+on_expr+on_found+on_fragment+on_given+on_held+on_items+on_jsx+on_pieces+on_template+tag_todo+to_attrs+to_call+to_entries+to_found+to_gaps+to_jsx+to_parts+to_props.Lts-to_call as to-call-lts
+use Rattle.visits.proofs.calls.to_found.Reads as to-found
+use Rattle.visits.proofs.calls.to_props.Reads as to-props
+use Rattle.visits.proofs.calls.on_held.Reads as on-held
 use Rattle.decisions.proofs.element.is_component.Reads as is-component-reads
 use Rattle.field.proofs.reader.behind.Reads as behind-reads
 use Rattle.found.proofs.found_of.Reads as found-of-reads
@@ -38,52 +38,52 @@ use Rattle.walk.proofs.call.name_expr.Reads as name-expr-reads
 use Rattle.walk.proofs.state.begin.Reads as begin-reads
 use Rattle.walk.proofs.state.close.Reads as close-reads
 use Rattle.walk.proofs.state.close_if.Reads as close-if-reads
-use Rattle.visits.proofs.calls.+attrs_todo+children_todo+held_todo+page_attrs+page_call+page_element+page_entries+page_found+page_jsx+page_parts+page_props+tag_todo+visit_element+visit_expr+visit_found+visit_fragment+visit_given+visit_held+visit_items+visit_pieces+visit_template.Proof.Cycle.{page-call-at, page-found-below, page-props-below, visit-held-below}
+use Rattle.visits.proofs.calls.+attrs_todo+child_todo+held_todo+on_expr+on_found+on_fragment+on_given+on_held+on_items+on_jsx+on_pieces+on_template+tag_todo+to_attrs+to_call+to_entries+to_found+to_gaps+to_jsx+to_parts+to_props.Proof.Cycle.{to-call-at, to-found-below, to-props-below, on-held-below}
 
-abbrev pub page-call-calls : ℕ → page-call-lts.Claims
-page-call-calls t = (is-component-reads.Asked, is-component-reads.Learnt, behind-reads.Asked, behind-reads.Learnt, begin-reads.Asked, begin-reads.Learnt, name-expr-reads.Asked, name-expr-reads.Learnt, page-props-below t, page-props.Post, found-of-reads.Asked, found-of-reads.Learnt, is-found-reads.Asked, is-found-reads.Learnt, children-front-reads.Asked, children-front-reads.Learnt, page-found-below t, page-found.Post, close-if-reads.Asked, close-if-reads.Learnt, close-props-reads.Asked, close-props-reads.Learnt, key-at-reads.Asked, key-at-reads.Learnt, key-front-reads.Asked, key-front-reads.Learnt, key-held-reads.Asked, key-held-reads.Learnt, visit-held-below t, visit-held.Post, close-reads.Asked, close-reads.Learnt)
+abbrev pub to-call-calls : ℕ → to-call-lts.Claims
+to-call-calls t = (is-component-reads.Asked, is-component-reads.Learnt, behind-reads.Asked, behind-reads.Learnt, begin-reads.Asked, begin-reads.Learnt, name-expr-reads.Asked, name-expr-reads.Learnt, to-props-below t, to-props.Post, found-of-reads.Asked, found-of-reads.Learnt, is-found-reads.Asked, is-found-reads.Learnt, children-front-reads.Asked, children-front-reads.Learnt, to-found-below t, to-found.Post, close-if-reads.Asked, close-if-reads.Learnt, close-props-reads.Asked, close-props-reads.Learnt, key-at-reads.Asked, key-at-reads.Learnt, key-front-reads.Asked, key-front-reads.Learnt, key-held-reads.Asked, key-held-reads.Learnt, on-held-below t, on-held.Post, close-reads.Asked, close-reads.Learnt)
 
 -- ---- what is known behind each call
 
 abbrev Behind : ℕ → Type 0
-Behind t = page-call-lts.After-behind (page-call-calls t) (page-call-at t) page-call.Post
+Behind t = to-call-lts.After-behind (to-call-calls t) (to-call-at t) to-call.Post
 
 abbrev Begun : ℕ → Type 0
-Begun t = page-call-lts.After-begin (page-call-calls t) (page-call-at t) page-call.Post
+Begun t = to-call-lts.After-begin (to-call-calls t) (to-call-at t) to-call.Post
 
 abbrev Named : ℕ → Type 0
-Named t = page-call-lts.After-name-expr (page-call-calls t) (page-call-at t) page-call.Post
+Named t = to-call-lts.After-name-expr (to-call-calls t) (to-call-at t) to-call.Post
 
 abbrev PropsBegun : ℕ → Type 0
-PropsBegun t = page-call-lts.After-begin2 (page-call-calls t) (page-call-at t) page-call.Post
+PropsBegun t = to-call-lts.After-begin2 (to-call-calls t) (to-call-at t) to-call.Post
 
 abbrev Filled : ℕ → Type 0
-Filled t = page-call-lts.After-page-props (page-call-calls t) (page-call-at t) page-call.Post
+Filled t = to-call-lts.After-to-props (to-call-calls t) (to-call-at t) to-call.Post
 
 abbrev Looked : ℕ → Type 0
-Looked t = page-call-lts.After-is-found (page-call-calls t) (page-call-at t) page-call.Post
+Looked t = to-call-lts.After-is-found (to-call-calls t) (to-call-at t) to-call.Post
 
 abbrev Fronted : ℕ → Type 0
-Fronted t = page-call-lts.After-children-front (page-call-calls t) (page-call-at t) page-call.Post
+Fronted t = to-call-lts.After-children-front (to-call-calls t) (to-call-at t) to-call.Post
 
 abbrev Found : ℕ → Type 0
-Found t = page-call-lts.After-page-found (page-call-calls t) (page-call-at t) page-call.Post
+Found t = to-call-lts.After-to-found (to-call-calls t) (to-call-at t) to-call.Post
 
 abbrev Childed : ℕ → Type 0
-Childed t = page-call-lts.After-close-if (page-call-calls t) (page-call-at t) page-call.Post
+Childed t = to-call-lts.After-close-if (to-call-calls t) (to-call-at t) to-call.Post
 
 abbrev Closed : ℕ → Type 0
-Closed t = page-call-lts.After-close-props (page-call-calls t) (page-call-at t) page-call.Post
+Closed t = to-call-lts.After-close-props (to-call-calls t) (to-call-at t) to-call.Post
 
 abbrev Keyed : ℕ → Type 0
-Keyed t = page-call-lts.After-key-front (page-call-calls t) (page-call-at t) page-call.Post
+Keyed t = to-call-lts.After-key-front (to-call-calls t) (to-call-at t) to-call.Post
 
 abbrev Visited : ℕ → Type 0
-Visited t = page-call-lts.After-visit-held (page-call-calls t) (page-call-at t) page-call.Post
+Visited t = to-call-lts.After-on-held (to-call-calls t) (to-call-at t) to-call.Post
 
 -- ---- and before it
 
-abbrev start : (t : ℕ) → Behind t → page-call-lts.Start (page-call-calls t) (page-call-at t) page-call.Post
+abbrev start : (t : ℕ) → Behind t → to-call-lts.Start (to-call-calls t) (to-call-at t) to-call.Post
 start t i = i .before .before .before .before .before .before .before .before
 
 abbrev begun-behind : (t : ℕ) → Begun t → Behind t
@@ -151,20 +151,20 @@ abbrev props-place : (t : ℕ) → Named t → ℕ
 props-place t c = c .name-expr .result .page
 
 abbrev children-place : (t : ℕ) → Filled t → ℕ
-children-place t c = c .page-props .result .page
+children-place t c = c .to-props .result .page
 
 -- both outs behind the properties, and behind `children`
 abbrev filled-templates : (t : ℕ) → Filled t → Bytes
-filled-templates t c = c .page-props .last .1 .1 .1 .1 .1 .0
+filled-templates t c = c .to-props .last .1 .1 .1 .1 .1 .0
 
 abbrev filled-page : (t : ℕ) → Filled t → Bytes
-filled-page t c = c .page-props .last .1 .1 .1 .1 .1 .1 .0
+filled-page t c = c .to-props .last .1 .1 .1 .1 .1 .1 .0
 
 abbrev found-templates : (t : ℕ) → Found t → Bytes
-found-templates t c = c .page-found .last .1 .1 .1 .1 .1 .1 .0
+found-templates t c = c .to-found .last .1 .1 .1 .1 .1 .1 .0
 
 abbrev found-page : (t : ℕ) → Found t → Bytes
-found-page t c = c .page-found .last .1 .1 .1 .1 .1 .1 .1 .0
+found-page t c = c .to-found .last .1 .1 .1 .1 .1 .1 .1 .0
 
 -- ---- the name and the properties: s is whether `children` stands
 
@@ -194,15 +194,15 @@ props-begin t c s h = props-begun-on (call-by t (named-behind t (props-named t c
 
 props-end : (t : ℕ) (c : Filled t) (s : Bool) → is-none (given t (named-behind t (filled-named t c))) ≡ not s →
     children-left (call-by t (named-behind t (filled-named t c)) s) (call-place t (named-behind t (filled-named t c))) (props-place t (filled-named t c))
-    (at (filled-templates t c) (filled-page t c) (c .page-props .result))
+    (at (filled-templates t c) (filled-page t c) (c .to-props .result))
     ≡ whole t (named-behind t (filled-named t c))
-props-end t c s h = props-on (call-by t (named-behind t (filled-named t c)) s) _ _ _ _ _ (c .page-props .ensures) (props-begin t (c .before) s h)
+props-end t c s h = props-on (call-by t (named-behind t (filled-named t c)) s) _ _ _ _ _ (c .to-props .ensures) (props-begin t (c .before) s h)
 
 named-past : (t : ℕ) (c : Named t) → call-place t (named-behind t c) + 3 ≤ props-place t c
 named-past t c = omega (arith, ap (λ (x : Walk). x .page) (c .before .begin .ensures), grew (see-grows _ _) (c .name-expr .ensures))
 
 filled-past : (t : ℕ) (c : Filled t) → props-place t (filled-named t c) + 3 ≤ children-place t c
-filled-past t c = omega (arith, ap (λ (x : Walk). x .page) (c .before .begin2 .ensures), grew (see-grows _ _) (c .page-props .ensures))
+filled-past t c = omega (arith, ap (λ (x : Walk). x .page) (c .before .begin2 .ensures), grew (see-grows _ _) (c .to-props .ensures))
 
 -- ---- `children`: what is found tells whether it stands
 
@@ -226,15 +226,15 @@ children-begin t c =
 
 children-found : (t : ℕ) (c : Found t) →
     child-left (call t (found-looked t c)) (call-place t (looked-behind t (found-looked t c))) (props-place t (looked-named t (found-looked t c))) (children-place t (looked-filled t (found-looked t c)))
-    (at (found-templates t c) (found-page t c) (c .page-found .result))
+    (at (found-templates t c) (found-page t c) (c .to-found .result))
     ≡ whole t (looked-behind t (found-looked t c))
-children-found t c = found-on (call t (found-looked t c)) _ _ _ _ _ _ (c .page-found .ensures) (children-begin t (c .before .before .before .before .before .before))
+children-found t c = found-on (call t (found-looked t c)) _ _ _ _ _ _ (c .to-found .ensures) (children-begin t (c .before .before .before .before .before .before))
 
-found-past : (t : ℕ) (c : Found t) → children-place t (looked-filled t (found-looked t c)) ≤ c .page-found .result .page
-found-past t c = omega (arith, front-grew (found-looked t c .is-found .result) _ _ _ _ (c .before .before .before .before .before .before .children-front .ensures), grew (act-grows _ _) (c .page-found .ensures))
+found-past : (t : ℕ) (c : Found t) → children-place t (looked-filled t (found-looked t c)) ≤ c .to-found .result .page
+found-past t c = omega (arith, front-grew (found-looked t c .is-found .result) _ _ _ _ (c .before .before .before .before .before .before .children-front .ensures), grew (act-grows _ _) (c .to-found .ensures))
 
-child-past : (t : ℕ) (c : Found t) → found-looked t c .is-found .result ≡ true → children-place t (looked-filled t (found-looked t c)) + 3 ≤ c .page-found .result .page
-child-past t c h = omega (arith, front-past (found-looked t c .is-found .result) _ _ _ _ (c .before .before .before .before .before .before .children-front .ensures) h, grew (act-grows _ _) (c .page-found .ensures))
+child-past : (t : ℕ) (c : Found t) → found-looked t c .is-found .result ≡ true → children-place t (looked-filled t (found-looked t c)) + 3 ≤ c .to-found .result .page
+child-past t c h = omega (arith, front-past (found-looked t c .is-found .result) _ _ _ _ (c .before .before .before .before .before .before .children-front .ensures) h, grew (act-grows _ _) (c .to-found .ensures))
 
 children-end : (t : ℕ) (c : Childed t) →
     props-left (call t (found-looked t (childed-found t c))) (call-place t (looked-behind t (found-looked t (childed-found t c)))) (props-place t (looked-named t (found-looked t (childed-found t c))))
@@ -245,7 +245,7 @@ children-end t c = child-on (call t (found-looked t (childed-found t c))) _ _ _ 
 childed-past : (t : ℕ) (c : Childed t) → props-place t (looked-named t (found-looked t (childed-found t c))) + 3 ≤ c .close-if .result .page
 childed-past t c =
     let f = childed-found t c in
-    omega (arith, filled-past t (looked-filled t (found-looked t f)), found-past t f, child-grew (found-looked t f .is-found .result) _ _ _ _ (f .page-found .result) _ (c .close-if .ensures))
+    omega (arith, filled-past t (looked-filled t (found-looked t f)), found-past t f, child-grew (found-looked t f .is-found .result) _ _ _ _ (f .to-found .result) _ (c .close-if .ensures))
 
 -- ---- the key
 
@@ -270,7 +270,7 @@ key-begins t c =
     let a = start t (found-behind t (keyed-found t c)) .args in
     key-on (a .skip .now) (a .props .now) _ _ (key-value t c) (c .before .before .key-at .ensures .0 (a .skip .now) (a .props .now)) _ _ _ _ (props-close t (keyed-closed t c)) _ _ (c .key-front .ensures)
 
-visited-past : (t : ℕ) (c : Visited t) → call-place t (found-behind t (keyed-found t (visited-keyed t c))) + 3 ≤ c .visit-held .result .page
+visited-past : (t : ℕ) (c : Visited t) → call-place t (found-behind t (keyed-found t (visited-keyed t c))) + 3 ≤ c .on-held .result .page
 visited-past t c =
     let k = visited-keyed t c in
     let d = keyed-closed t k in
@@ -280,35 +280,35 @@ visited-past t c =
       childed-past t (d .before .before .before .before),
       closed-grew (props-place t (looked-named t (found-looked t (closed-found t d)))) _ _ (d .before .before .before .before .close-if .result) _ (d .close-props .ensures),
       grew (see-grows _ _) (k .key-front .ensures),
-      grew (see-grows _ _) (c .visit-held .ensures),
+      grew (see-grows _ _) (c .on-held .ensures),
     )
 
 -- ---- the needs
 
-pub page-call-is-component-requires : (t : ℕ) → page-call-lts.Need-is-component-requires (page-call-calls t) (page-call-at t) page-call.Post
-page-call-is-component-requires t c κs = tt
+pub to-call-is-component-requires : (t : ℕ) → to-call-lts.Need-is-component-requires (to-call-calls t) (to-call-at t) to-call.Post
+to-call-is-component-requires t c κs = tt
 
-pub page-call-behind-requires : (t : ℕ) → page-call-lts.Need-behind-requires (page-call-calls t) (page-call-at t) page-call.Post
-page-call-behind-requires t c κs = tt
+pub to-call-behind-requires : (t : ℕ) → to-call-lts.Need-behind-requires (to-call-calls t) (to-call-at t) to-call.Post
+to-call-behind-requires t c κs = tt
 
-pub page-call-begin-requires : (t : ℕ) → page-call-lts.Need-begin-requires (page-call-calls t) (page-call-at t) page-call.Post
-page-call-begin-requires t c κs =
+pub to-call-begin-requires : (t : ℕ) → to-call-lts.Need-begin-requires (to-call-calls t) (to-call-at t) to-call.Post
+to-call-begin-requires t c κs =
     let i = c .before in
     begin-room _ _ _ _ _ (low t i) (call-starts t i (stands-by (given t i)) (lacks-by (given t i)))
 
-pub page-call-name-expr-requires : (t : ℕ) → page-call-lts.Need-name-expr-requires (page-call-calls t) (page-call-at t) page-call.Post
-page-call-name-expr-requires t c κs =
+pub to-call-name-expr-requires : (t : ℕ) → to-call-lts.Need-name-expr-requires (to-call-calls t) (to-call-at t) to-call.Post
+to-call-name-expr-requires t c κs =
     let i = begun-behind t c in
     name-room _ _ _ _ _ (low t i) _ (name-begins t c (stands-by (given t i)) (lacks-by (given t i)))
 
-pub page-call-begin-requires-2 : (t : ℕ) → page-call-lts.Need-begin-requires-2 (page-call-calls t) (page-call-at t) page-call.Post
-page-call-begin-requires-2 t c κs =
+pub to-call-begin-requires-2 : (t : ℕ) → to-call-lts.Need-begin-requires-2 (to-call-calls t) (to-call-at t) to-call.Post
+to-call-begin-requires-2 t c κs =
     let n = c .before .before .before .before .before in
     let i = named-behind t n in
     props-begin-room _ _ _ _ _ (low t i) _ (name-ends t n (stands-by (given t i)) (lacks-by (given t i)))
 
-pub page-call-page-props-requires : (t : ℕ) → page-call-lts.Need-page-props-requires (page-call-calls t) (page-call-at t) page-call.Post
-page-call-page-props-requires t c κs =
+pub to-call-to-props-requires : (t : ℕ) → to-call-lts.Need-to-props-requires (to-call-calls t) (to-call-at t) to-call.Post
+to-call-to-props-requires t c κs =
     let i = named-behind t (props-named t c) in
     let r = start t i .pre in
     let n = rest-short t i in (
@@ -320,21 +320,21 @@ page-call-page-props-requires t c κs =
       },
     )
 
-pub page-call-found-of-requires : (t : ℕ) → page-call-lts.Need-found-of-requires (page-call-calls t) (page-call-at t) page-call.Post
-page-call-found-of-requires t c κs =
+pub to-call-found-of-requires : (t : ℕ) → to-call-lts.Need-found-of-requires (to-call-calls t) (to-call-at t) to-call.Post
+to-call-found-of-requires t c κs =
     let i = c .before .before .before .before .before .before .before .before .before .before .before .before .before .before .before .before in
     omega (arith, rest-short t i, start t i .pre .1 .short)
 
-pub page-call-is-found-requires : (t : ℕ) → page-call-lts.Need-is-found-requires (page-call-calls t) (page-call-at t) page-call.Post
-page-call-is-found-requires t c κs = tt
+pub to-call-is-found-requires : (t : ℕ) → to-call-lts.Need-is-found-requires (to-call-calls t) (to-call-at t) to-call.Post
+to-call-is-found-requires t c κs = tt
 
-pub page-call-children-front-requires : (t : ℕ) → page-call-lts.Need-children-front-requires (page-call-calls t) (page-call-at t) page-call.Post
-page-call-children-front-requires t c κs =
+pub to-call-children-front-requires : (t : ℕ) → to-call-lts.Need-children-front-requires (to-call-calls t) (to-call-at t) to-call.Post
+to-call-children-front-requires t c κs =
     let l = c .before in
     front-room (call t l) _ _ _ _ (low t (looked-behind t l)) _ _ (props-end t (looked-filled t l) (l .is-found .result) (children-stand t l))
 
-pub page-call-page-found-requires : (t : ℕ) → page-call-lts.Need-page-found-requires (page-call-calls t) (page-call-at t) page-call.Post
-page-call-page-found-requires t c κs =
+pub to-call-to-found-requires : (t : ℕ) → to-call-lts.Need-to-found-requires (to-call-calls t) (to-call-at t) to-call.Post
+to-call-to-found-requires t c κs =
     let l = c .before .before .before .before .before .before .before in
     let i = looked-behind t l in
     let r = start t i .pre in
@@ -344,38 +344,38 @@ page-call-page-found-requires t c κs =
       (
         record { within = f .0; finds = f .1 (start t i .args .props .now) },
         record {
-          desk = omega (arith, looked-filled t l .page-props .kept .1 .1 .1 .1 .0, r .1 .desk);
+          desk = omega (arith, looked-filled t l .to-props .kept .1 .1 .1 .1 .0, r .1 .desk);
           short = omega (arith, n, r .1 .short);
           low = found-room _ _ _ _ _ (low t i) _ _ _ (children-begin t (c .before .before .before .before .before));
         },
       ),
     )
 
-pub page-call-close-if-requires : (t : ℕ) → page-call-lts.Need-close-if-requires (page-call-calls t) (page-call-at t) page-call.Post
-page-call-close-if-requires t c κs =
+pub to-call-close-if-requires : (t : ℕ) → to-call-lts.Need-close-if-requires (to-call-calls t) (to-call-at t) to-call.Post
+to-call-close-if-requires t c κs =
     let f = c .before .before .before .before .before .before .before in
     (child-past t f, child-room _ _ _ _ _ (low t (found-behind t f)) _ _ _ (children-found t f))
 
-pub page-call-close-props-requires : (t : ℕ) → page-call-lts.Need-close-props-requires (page-call-calls t) (page-call-at t) page-call.Post
-page-call-close-props-requires t c κs =
+pub to-call-close-props-requires : (t : ℕ) → to-call-lts.Need-close-props-requires (to-call-calls t) (to-call-at t) to-call.Post
+to-call-close-props-requires t c κs =
     let d = c .before .before .before in
     (childed-past t d, closed-room _ _ _ _ _ (low t (found-behind t (childed-found t d))) _ _ (children-end t d))
 
-pub page-call-key-at-requires : (t : ℕ) → page-call-lts.Need-key-at-requires (page-call-calls t) (page-call-at t) page-call.Post
-page-call-key-at-requires t c κs = tt
+pub to-call-key-at-requires : (t : ℕ) → to-call-lts.Need-key-at-requires (to-call-calls t) (to-call-at t) to-call.Post
+to-call-key-at-requires t c κs = tt
 
-pub page-call-key-front-requires : (t : ℕ) → page-call-lts.Need-key-front-requires (page-call-calls t) (page-call-at t) page-call.Post
-page-call-key-front-requires t c κs =
+pub to-call-key-front-requires : (t : ℕ) → to-call-lts.Need-key-front-requires (to-call-calls t) (to-call-at t) to-call.Post
+to-call-key-front-requires t c κs =
     let d = c .before .before .before .before in
     let i = found-behind t (closed-found t d) in
     let a = start t i .args in
     key-room (a .skip .now) (a .props .now) _ _ (value-in (read (c .before .key-at .result .now))) (c .before .key-at .ensures .0 (a .skip .now) (a .props .now)) _ _ _ _ (props-close t d) (low t i)
 
-pub page-call-key-held-requires : (t : ℕ) → page-call-lts.Need-key-held-requires (page-call-calls t) (page-call-at t) page-call.Post
-page-call-key-held-requires t c κs = tt
+pub to-call-key-held-requires : (t : ℕ) → to-call-lts.Need-key-held-requires (to-call-calls t) (to-call-at t) to-call.Post
+to-call-key-held-requires t c κs = tt
 
-pub page-call-visit-held-requires : (t : ℕ) → page-call-lts.Need-visit-held-requires (page-call-calls t) (page-call-at t) page-call.Post
-page-call-visit-held-requires t c κs =
+pub to-call-on-held-requires : (t : ℕ) → to-call-lts.Need-on-held-requires (to-call-calls t) (to-call-at t) to-call.Post
+to-call-on-held-requires t c κs =
     let k = c .before .before .before .before .before .before in
     let f = keyed-found t k in
     let i = found-behind t f in
@@ -386,54 +386,54 @@ page-call-visit-held-requires t c κs =
     let d = c .before .before .before .before .before .before .before .before .key-at .ensures .1 in (
       omega (arith, h .1, d, n, r .0),
       record {
-        desk = omega (arith, f .page-found .kept .1 .1 .1 .1 .1 .0, looked-filled t (found-looked t f) .page-props .kept .1 .1 .1 .1 .0, r .1 .desk);
+        desk = omega (arith, f .to-found .kept .1 .1 .1 .1 .1 .0, looked-filled t (found-looked t f) .to-props .kept .1 .1 .1 .1 .0, r .1 .desk);
         short = omega (arith, h .1, d, n, r .1 .short);
         low = held-room _ _ _ (h .0 (a .skip .now) (a .props .now)) _ _ (key-begins t k) (low t i);
       },
     )
 
-pub page-call-close-requires : (t : ℕ) → page-call-lts.Need-close-requires (page-call-calls t) (page-call-at t) page-call.Post
-page-call-close-requires t c κs =
+pub to-call-close-requires : (t : ℕ) → to-call-lts.Need-close-requires (to-call-calls t) (to-call-at t) to-call.Post
+to-call-close-requires t c κs =
     let v = c .before .before .before .before .before .before .before in
     let k = visited-keyed t v in
     let i = found-behind t (keyed-found t k) in
     let a = start t i .args in (
       visited-past t v,
-      call-low _ _ _ (c .before .before .before .before .before .before .before .before .before .before .before .key-held .ensures .0 (a .skip .now) (a .props .now)) _ _ (key-begins t k) _ _ _ (v .visit-held .ensures) (low t i),
+      call-low _ _ _ (c .before .before .before .before .before .before .before .before .before .before .before .key-held .ensures .0 (a .skip .now) (a .props .now)) _ _ (key-begins t k) _ _ _ (v .on-held .ensures) (low t i),
     )
 
-pub page-call-same-length : (t : ℕ) → page-call-lts.Need-same-length (page-call-calls t) (page-call-at t) page-call.Post
-page-call-same-length t c =
+pub to-call-same-length : (t : ℕ) → to-call-lts.Need-same-length (to-call-calls t) (to-call-at t) to-call.Post
+to-call-same-length t c =
     let v = c .before .before .before .before .before .before .before .before .before .before in
     let f = keyed-found t (visited-keyed t v) in
-    v .visit-held .kept .1 .1 .1 .0 ∙ f .page-found .kept .1 .1 .1 .1 .1 .0 ∙ looked-filled t (found-looked t f) .page-props .kept .1 .1 .1 .1 .0
+    v .on-held .kept .1 .1 .1 .0 ∙ f .to-found .kept .1 .1 .1 .1 .1 .0 ∙ looked-filled t (found-looked t f) .to-props .kept .1 .1 .1 .1 .0
 
-pub page-call-same-length-2 : (t : ℕ) → page-call-lts.Need-same-length-2 (page-call-calls t) (page-call-at t) page-call.Post
-page-call-same-length-2 t c =
+pub to-call-same-length-2 : (t : ℕ) → to-call-lts.Need-same-length-2 (to-call-calls t) (to-call-at t) to-call.Post
+to-call-same-length-2 t c =
     let v = c .before .before .before .before .before .before .before .before .before .before in
     let f = keyed-found t (visited-keyed t v) in
-    v .visit-held .kept .1 .1 .1 .1 .0 ∙ f .page-found .kept .1 .1 .1 .1 .1 .1 .0 ∙ looked-filled t (found-looked t f) .page-props .kept .1 .1 .1 .1 .1 .0
+    v .on-held .kept .1 .1 .1 .1 .0 ∙ f .to-found .kept .1 .1 .1 .1 .1 .1 .0 ∙ looked-filled t (found-looked t f) .to-props .kept .1 .1 .1 .1 .1 .0
 
-pub page-call-same-length-3 : (t : ℕ) → page-call-lts.Need-same-length-3 (page-call-calls t) (page-call-at t) page-call.Post
-page-call-same-length-3 t c =
+pub to-call-same-length-3 : (t : ℕ) → to-call-lts.Need-same-length-3 (to-call-calls t) (to-call-at t) to-call.Post
+to-call-same-length-3 t c =
     let v = c .before .before .before .before .before .before .before .before .before .before in
     let k = visited-keyed t v in
     let d = keyed-closed t k in
     let f = closed-found t d in
     let l = found-looked t f in
     c .before .before .close .kept .0
-    ∙ v .visit-held .kept .1 .1 .1 .1 .1 .0
+    ∙ v .on-held .kept .1 .1 .1 .1 .1 .0
     ∙ k .key-front .kept .0
     ∙ d .close-props .kept .0
     ∙ d .before .before .before .before .close-if .kept .0
-    ∙ f .page-found .kept .1 .1 .1 .1 .1 .1 .1 .0
+    ∙ f .to-found .kept .1 .1 .1 .1 .1 .1 .1 .0
     ∙ f .before .before .before .before .before .before .children-front .kept .0
-    ∙ looked-filled t l .page-props .kept .1 .1 .1 .1 .1 .1 .0
+    ∙ looked-filled t l .to-props .kept .1 .1 .1 .1 .1 .1 .0
     ∙ looked-named t l .name-expr .kept .0
 
-pub page-call-returns : (t : ℕ) → page-call-lts.Need-returns (page-call-calls t) (page-call-at t) page-call.Post
-page-call-returns t c =
+pub to-call-returns : (t : ℕ) → to-call-lts.Need-returns (to-call-calls t) (to-call-at t) to-call.Post
+to-call-returns t c =
     let v = c .before .before .before .before .before .before .before .before .before .before in
     let k = visited-keyed t v in
     let a = start t (found-behind t (keyed-found t k)) .args in
-    call-done _ _ _ (c .before .before .before .before .before .before .before .before .before .before .before .before .before .before .key-held .ensures .0 (a .skip .now) (a .props .now)) _ _ (key-begins t k) _ _ _ (v .visit-held .ensures) _ _ (c .before .before .close .ensures)
+    call-done _ _ _ (c .before .before .before .before .before .before .before .before .before .before .before .before .before .before .key-held .ensures .0 (a .skip .now) (a .props .now)) _ _ (key-begins t k) _ _ _ (v .on-held .ensures) _ _ (c .before .before .close .ensures)

@@ -7,7 +7,7 @@ use lib.ListN.{length}
 use Rattle.field.proofs.FrontLaws.{body-less, behind-less}
 use Rattle.visits.proofs.TodoLaws.{attrs-reach, attribute-front, value-front, spread-front, no-attribute}
 use Rattle.visits.proofs.calls.attrs_todo.Reads as attrs-todo
-use Rattle.visits.proofs.calls.+attrs_todo+children_todo+held_todo+page_attrs+page_call+page_element+page_entries+page_found+page_jsx+page_parts+page_props+tag_todo+visit_element+visit_expr+visit_found+visit_fragment+visit_given+visit_held+visit_items+visit_pieces+visit_template.Lts-attrs_todo as attrs-todo-lts
+use Rattle.visits.proofs.calls.+attrs_todo+child_todo+held_todo+on_expr+on_found+on_fragment+on_given+on_held+on_items+on_jsx+on_pieces+on_template+tag_todo+to_attrs+to_call+to_entries+to_found+to_gaps+to_jsx+to_parts+to_props.Lts-attrs_todo as attrs-todo-lts
 use Rattle.visits.proofs.calls.held_todo.Reads as held-todo
 use Rattle.visits.proofs.calls.tag_todo.Reads as tag-todo
 use Rattle.field.proofs.reader.behind.Reads as behind-reads
@@ -15,7 +15,7 @@ use Rattle.field.proofs.reader.body.Reads as body-reads
 use Rattle.field.proofs.reader.tag_at.Reads as tag-at-reads
 use Rattle.visits.proofs.state.tag_value.Reads as tag-value-reads
 use Rattle.walk.proofs.attribute.key_held.Reads as key-held-reads
-use Rattle.visits.proofs.calls.+attrs_todo+children_todo+held_todo+page_attrs+page_call+page_element+page_entries+page_found+page_jsx+page_parts+page_props+tag_todo+visit_element+visit_expr+visit_found+visit_fragment+visit_given+visit_held+visit_items+visit_pieces+visit_template.Proof.Cycle.{attrs-todo-at, held-todo-below, tag-todo-below}
+use Rattle.visits.proofs.calls.+attrs_todo+child_todo+held_todo+on_expr+on_found+on_fragment+on_given+on_held+on_items+on_jsx+on_pieces+on_template+tag_todo+to_attrs+to_call+to_entries+to_found+to_gaps+to_jsx+to_parts+to_props.Proof.Cycle.{attrs-todo-at, held-todo-below, tag-todo-below}
 
 abbrev pub attrs-todo-calls : ℕ → attrs-todo-lts.Claims
 attrs-todo-calls t = (tag-at-reads.Asked, tag-at-reads.Learnt, body-reads.Asked, body-reads.Learnt, key-held-reads.Asked, key-held-reads.Learnt, held-todo-below t, held-todo.Post, tag-value-reads.Asked, tag-value-reads.Learnt, tag-todo-below t, tag-todo.Post, behind-reads.Asked, behind-reads.Learnt)
