@@ -116,6 +116,9 @@ fn has_one(skip: &[u8], s: &[u8]) -> bool
                 }
             }
             256 => {
+                if heavy.len() == 0 {
+                    return false;
+                }
                 return gives(skip, heavy);
             }
             _ => {
