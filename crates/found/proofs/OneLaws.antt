@@ -4,7 +4,7 @@
 -- Assumes nothing.
 use mathlib.Core.Path.{_≡_, refl, sym, ap, _∙_, subst}
 use mathlib.Core.Bool.{Bool, true, false}
-use Prim.Native.Nat.{ℕ, _+_, _-_, _≤_, _<_}
+use Prim.Native.Nat.{ℕ, _+_, _-_, _≤_}
 use native.Mathlib.Omega.{arith}
 use mathlib.Core.List.{List, [], _∷_, _++_}
 use lib.ListN.{length, take, drop}
@@ -28,7 +28,7 @@ use Rattle.found.specs.Finds.{kids, entries-at, found-at, expr-at, eleme
 use Rattle.found.specs.Steady.{one-stays, stays, steady}
 use Rattle.found.specs.declared.Joined.{Joined}
 use Rattle.found.specs.declared.Joined.the-variants as J
-use Rattle.found.proofs.Places.{Stands, Tail, tail-all, tail-room, stands-room, stands-part, stands-body, stands-behind}
+use Rattle.found.proofs.Places.{Stands, Tail, tail-all, stands-room, stands-part, stands-body, stands-behind}
 use Rattle.found.proofs.MergeLaws.{run-entries, left-entries, Grows, left-blank, left-text, left-joined, left-more, left-apart, left-30, left-31, left-other}
 use Rattle.found.proofs.FoundLaws.{stands-inside, found-60, found-52, found-30, same-found, found-template, flat-found}
 use Rattle.found.proofs.SteadyLaws.{steady-append, steady-front, steady-found, steady-flattened}

@@ -9,12 +9,10 @@ use lib.Dec.{eqb}
 use lib.ListN.{length}
 use borrow.Author.Tests.{eqb-true, ne-eqb}
 use Rattle.field.specs.Bytes.{Bytes, pick}
-use Rattle.field.specs.Row.{Row, end, loose, field, read}
+use Rattle.field.specs.Row.{Row, field, read}
 use Rattle.field.specs.Front.{tag-of, body-of}
-use Rattle.page.specs.Page as P
 use Rattle.page.specs.Page.{Options, Expr, Items, Pieces, Tag}
-use Rattle.page.specs.Tree.{choose, expr-by, expr-in, items-in}
-use Rattle.spec.specs.Pass as S
+use Rattle.page.specs.Tree.{expr-by, expr-in, items-in}
 use Rattle.spec.specs.Pass.{Mid, none, node, raw}
 use Rattle.spec.specs.Merge.{Entry, still, passed, array-found, one-found}
 use Rattle.spec.specs.Children as C
@@ -24,6 +22,7 @@ use Rattle.decisions.specs.At.{opts}
 use Rattle.decisions.proofs.Series.{any-field, any-front, expr-76}
 use Rattle.found.specs.Finds.{expr-at}
 use Rattle.found.specs.Steady.{one-stays, any-stays, stays, steady}
+use Rattle.found.proofs.ItemLaws.{choose-all, choose-second}
 
 -- a function that answers no says nothing
 pub never : false ≡ true → ⊥
@@ -105,20 +104,10 @@ steady-flattened (e ∷ e′ ∷ es) h = h
 
 -- ---- an expression
 
--- whichever is chosen
-choose-all : {A : Type 0} (P : A → Type 0) (b : Bool) (f g : Unit {0} → A) → P (f tt) → P (g tt) → P (choose b f g)
-unfolding choose
-choose-all P true f g x y = x
-choose-all P false f g x y = y
-
-choose-second : {A : Type 0} (P : A → Type 0) (b : Bool) (f g : Unit {0} → A) → b ≡ false → P (g tt) → P (choose b f g)
-unfolding choose
-choose-second P b f g h y = rw h y
-
 module _ (o : Options) where
   -- no array: it stays, alone and among others
   abbrev Kept : Expr → Type 0
-  Kept e = (one-stays (expr o e S.none) ≡ true) × ((m : Mid) → any-stays (expr o e m) ≡ true)
+  Kept e = (one-stays (expr o e none) ≡ true) × ((m : Mid) → any-stays (expr o e m) ≡ true)
 
   kept-by : (t : ℕ) (f : Bytes) (is : Unit {0} → Items) (ps : Unit {0} → Pieces) (el fr : Unit {0} → Tag) → (t ≡ 0x76 → ⊥) → Kept (expr-by t f is ps el fr)
   unfolding one-stays any-stays expr expr-by
@@ -144,13 +133,13 @@ module _ (s : Bytes) (t : ℕ) (e : t ≡ tag-of s) where
   pub stays-plain : (t ≡ 0x76 → ⊥) → (skip props : Bytes) → one-stays (expr-at skip props s) ≡ true
   unfolding expr-in one-stays expr
   stays-plain n skip props =
-      any-front (λ (r : Row). one-stays (expr (opts skip props) (expr-in r) S.none) ≡ true) s t e refl (λ b. refl) λ f i. kept-by (opts skip props) t f _ _ _ _ n .0
+      any-front (λ (r : Row). one-stays (expr (opts skip props) (expr-in r) none) ≡ true) s t e refl (λ b. refl) λ f i. kept-by (opts skip props) t f _ _ _ _ n .0
 
   pub stays-array : t ≡ 0x76 → {b : Bytes} → b ≡ body-of s → (u : ℕ) → u ≡ tag-of b → (u ≡ 256 → ⊥) → (u ≡ 0x76 → ⊥) → (u ≡ 0x77 → ⊥) →
       (skip props : Bytes) → one-stays (expr-at skip props s) ≡ true
   unfolding one-stays expr
   stays-array k {b} q u d l m n skip props =
       let o : Options = opts skip props in
-      ap (λ (x : Expr). one-stays (expr o x S.none)) (expr-76 s t e k)
+      ap (λ (x : Expr). one-stays (expr o x none)) (expr-76 s t e k)
       ∙ (ap (λ (x : Bytes). any-stays (items o (items-in (read x)))) (sym q)
       ∙ any-field (λ (r : Row). any-stays (items o (items-in r)) ≡ true) b u d l λ f i. first-kept o u f i _ m n)
