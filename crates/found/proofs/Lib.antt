@@ -12,3 +12,4 @@ pub mod EnterLaws
 pub mod WalkLaws
 pub mod FoundLaws
 pub mod StepLaws
+pub mod SeveralLaws
