@@ -129,11 +129,15 @@ module _ (skip s t heavy : Bytes) (run one : Bool) (k : Seen skip s t heavy run 
   pub seen-end : Ended (read t) → one ≡ true → ((props : Bytes) → 1 ≤ steady (added skip props heavy)) → Several skip s
   seen-end i z g props =
       let l = k props in
-      omega
-      (arith,
-      ap length (l .all-is ∙ ap (λ (es : List Entry). l .so-far ++ es) (left-end skip props t (l .buf) i)),
-      length-append (l .so-far) (run-entries (l .buf)),
-      l .least, one-is one z, g props, steady-few (added skip props heavy))
+      omega (
+        arith,
+        ap length (l .all-is ∙ ap (λ (es : List Entry). l .so-far ++ es) (left-end skip props t (l .buf) i)),
+        length-append (l .so-far) (run-entries (l .buf)),
+        l .least,
+        one-is one z,
+        g props,
+        steady-few (added skip props heavy),
+      )
 
   module _ (r : Bytes) where
     -- nothing comes of the field in front
@@ -175,12 +179,15 @@ module _ (skip s t heavy : Bytes) (run one : Bool) (k : Seen skip s t heavy run 
       many-run z y props =
           let l = k props in
           let g = h props (l .buf) in
-          omega
-          (arith,
-          ap length (l .all-is ∙ ap (λ (es : List Entry). l .so-far ++ es) (g .grown)),
-          length-append (l .so-far) (left-entries skip props (l .buf ++ g .more) r),
-          l .least, one-is one y, run-none (l .buf) (no-run (l .buf) (l .run-is) z),
-          merge-some (l .buf ++ g .more) (kids skip props r) (not-null (l .buf) (g .more) (g .not-null)))
+          omega (
+            arith,
+            ap length (l .all-is ∙ ap (λ (es : List Entry). l .so-far ++ es) (g .grown)),
+            length-append (l .so-far) (left-entries skip props (l .buf ++ g .more) r),
+            l .least,
+            one-is one y,
+            run-none (l .buf) (no-run (l .buf) (l .run-is) z),
+            merge-some (l .buf ++ g .more) (kids skip props r) (not-null (l .buf) (g .more) (g .not-null)),
+          )
 
     -- the run ends, and the entries es follow
     module _ (es : Bytes → List Entry) (h : (props buf : Bytes) → left-entries skip props buf t ≡ run-entries buf ++ (es props ++ left-entries skip props [] r)) where
@@ -202,9 +209,12 @@ module _ (skip s t heavy : Bytes) (run one : Bool) (k : Seen skip s t heavy run 
                 ∙ (sym (append-assoc (l .so-far) (run-entries (l .buf)) (es props ++ rest))
                 ∙ sym (append-assoc (l .so-far ++ run-entries (l .buf)) (es props) rest)));
             least =
-                omega
-                (arith, g props (length (l .so-far) + length (run-entries (l .buf))) (l .least), length-append (l .so-far ++ run-entries (l .buf)) (es props),
-                length-append (l .so-far) (run-entries (l .buf)));
+                omega (
+                  arith,
+                  g props (length (l .so-far) + length (run-entries (l .buf))) (l .least),
+                  length-append (l .so-far ++ run-entries (l .buf)) (es props),
+                  length-append (l .so-far) (run-entries (l .buf)),
+                );
           }
 
       pub seen-unsure : Seen skip s r heavy false one
@@ -221,19 +231,22 @@ module _ (skip s t heavy : Bytes) (run one : Bool) (k : Seen skip s t heavy run 
       many-apart z f props =
           let l = k props in
           let rest : List Entry = left-entries skip props [] r in
-          omega
-          (arith,
-          ap length (l .all-is ∙ ap (λ (x : List Entry). l .so-far ++ x) (h props (l .buf))),
-          length-append (l .so-far) (run-entries (l .buf) ++ (es props ++ rest)),
-          length-append (run-entries (l .buf)) (es props ++ rest),
-          length-append (es props) rest,
-          l .least, one-is one z, f props)
+          omega (
+            arith,
+            ap length (l .all-is ∙ ap (λ (x : List Entry). l .so-far ++ x) (h props (l .buf))),
+            length-append (l .so-far) (run-entries (l .buf) ++ (es props ++ rest)),
+            length-append (run-entries (l .buf)) (es props ++ rest),
+            length-append (es props) rest,
+            l .least,
+            one-is one z,
+            f props,
+          )
 
 -- ---- by the tag in front
 
 module _ (skip s t heavy : Bytes) (run one : Bool) (k : Seen skip s t heavy run one) (u : ℕ) (e : u ≡ tag-of t) {r : Bytes} (q : r ≡ behind-of t) where
-  pub many-other : (u ≡ 256 → ⊥) → (u ≡ 0x60 → ⊥) → (u ≡ 0x52 → ⊥) → (u ≡ 0x30 → ⊥) → (u ≡ 0x31 → ⊥) → Seen skip s r heavy run one
-  many-other h a b c d = seen-past skip s t heavy run one k r λ props buf. left-other skip props t u e q buf h a b c d
+  pub other-seen : (u ≡ 256 → ⊥) → (u ≡ 0x60 → ⊥) → (u ≡ 0x52 → ⊥) → (u ≡ 0x30 → ⊥) → (u ≡ 0x31 → ⊥) → Seen skip s r heavy run one
+  other-seen h a b c d = seen-past skip s t heavy run one k r λ props buf. left-other skip props t u e q buf h a b c d
 
   -- a text
   module _ (h : u ≡ 0x60) {b : Bytes} (p : b ≡ body-of t) {v : Bool} (g : v ≡ null? (jsx-text-to-str b false false)) where
