@@ -1,8 +1,8 @@
 -- What children give, by how many they are: what `found_of` returns. Main statements: `found-none`, `found-60`, `found-52`, `found-empty`,
--- `found-30`, `found-31`, `found-61`, `found-template`, `found-many`. Assumes nothing.
+-- `found-30`, `found-31`, `found-61`, `found-template`, `found-several`, `found-many`. Assumes nothing.
 use mathlib.Core.Path.{_≡_, refl, sym, ap, _∙_, subst}
 use mathlib.Core.Bool.{Bool, true, false}
-use Prim.Native.Nat.{ℕ, _+_, _-_}
+use Prim.Native.Nat.{ℕ, _+_, _-_, _≤_}
 use native.Mathlib.Omega.{arith}
 use mathlib.Core.List.{_∷_}
 use lib.Dec.{T}
@@ -22,11 +22,12 @@ use Rattle.spec.specs.Transform.{children, fragment-of}
 use Rattle.decisions.specs.At.{opts, few, is-none, becomes}
 use Rattle.decisions.proofs.Series.{tested, children-60, children-52, children-30, children-31, children-61, contained-none, contained-field}
 use Rattle.decisions.proofs.Laws.{child-element, child-fragment, becomes-is}
-use Rattle.found.specs.Finds.{Within, part, placed, kids, found-at, expr-at, text-entry, element-entry, template-entry, Finds, Flattened, FirstAt}
+use Rattle.found.specs.Finds.{Within, part, placed, kids, entries-at, found-at, expr-at, text-entry, element-entry, template-entry, Finds, Flattened, FirstAt}
 use Rattle.found.specs.declared.Kind.{Kind}
 use Rattle.found.specs.declared.Kind.the-variants as K
 use Rattle.found.specs.declared.Found.{Found}
 use Rattle.found.proofs.Places.{Stands, stands-room, stands-part, stands-of, body-in}
+use Rattle.found.proofs.FlattenLaws.{flat-all}
 use Rattle.found.proofs.EnterLaws.{moved}
 use Rattle.found.proofs.WalkLaws.{Entered}
 
@@ -206,6 +207,17 @@ module _ (skip s : Bytes) {n : ℕ} (c : n ≡ few (children-in (read s))) where
           λ props.
               let m = many props z in
               m .0 ∙ (rw (many-children, m .1) (ap (λ (x : Bytes). M.one-found (template-entry skip props x)) (sym (take-all (length s) s (omega arith))))),
+        )
+
+    -- without going through them
+    pub found-several : t ≡ false → ((props : Bytes) → 2 ≤ length (entries-at skip props s)) → {r : Found} → r ≡ placed K.Many 0 (length s) → Given skip s r
+    unfolding many-children choose
+    found-several z g {r} q =
+        subst (Given skip s) (sym q) (
+          omega arith,
+          λ props.
+              let m = many props z in
+              subst (λ (x : M.Found). Finds skip props x K.Many (take (length s) s)) (sym (m .0 ∙ rw (many-children, m .1))) (flat-all skip props s (g props)),
         )
 
     pub found-many : t ≡ false → (y : Found) → Entered skip s y → (r : Found) → Within r s × Flattened s y r → Given skip s r
