@@ -1,8 +1,8 @@
 -- What children give, by how many they are: what `found_of` returns. Main statements: `found-none`, `found-60`, `found-52`, `found-empty`,
--- `found-30`, `found-31`, `found-61`, `found-template`, `found-many`; `same-found`, `flat-found`. Assumes nothing.
+-- `found-30`, `found-31`, `found-61`, `found-template`, `found-several`, `found-many`; `same-found`, `flat-found`. Assumes nothing.
 use mathlib.Core.Path.{_≡_, refl, sym, ap, _∙_, subst}
 use mathlib.Core.Bool.{Bool, true, false}
-use Prim.Native.Nat.{ℕ, _+_, _-_}
+use Prim.Native.Nat.{ℕ, _+_, _-_, _≤_}
 use native.Mathlib.Omega.{arith}
 use mathlib.Core.List.{_∷_}
 use lib.Dec.{T}
@@ -27,6 +27,7 @@ use Rattle.found.specs.declared.Kind.{Kind}
 use Rattle.found.specs.declared.Kind.the-variants as K
 use Rattle.found.specs.declared.Found.{Found}
 use Rattle.found.proofs.Places.{Stands, stands-room, stands-part, stands-of, body-in}
+use Rattle.found.proofs.FlattenLaws.{flat-all}
 use Rattle.found.proofs.EnterLaws.{moved}
 use Rattle.found.proofs.WalkLaws.{Entered}
 
@@ -213,6 +214,12 @@ module _ (skip s : Bytes) {n : ℕ} (c : n ≡ few (children-in (read s))) where
     pub flat-found : t ≡ false → (props : Bytes) → found-at skip props s ≡ flattened (entries-at skip props s)
     unfolding many-children choose
     flat-found z props = let m = many props z in m .0 ∙ rw (many-children, m .1)
+
+    -- without going through them
+    pub found-several : t ≡ false → ((props : Bytes) → 2 ≤ length (entries-at skip props s)) → {r : Found} → r ≡ placed K.Many 0 (length s) → Given skip s r
+    found-several z g {r} q =
+        subst (Given skip s) (sym q)
+        (omega arith, λ props. subst (λ (x : M.Found). Finds skip props x K.Many (take (length s) s)) (sym (flat-found z props)) (flat-all skip props s (g props)))
 
     pub found-many : t ≡ false → (y : Found) → Entered skip s y → (r : Found) → Within r s × Flattened s y r → Given skip s r
     found-many z y g r q =

@@ -129,7 +129,7 @@ fn has_one(skip: &[u8], s: &[u8]) -> bool
     }
 }
 
-// Whether merged children surely have several entries, by more than one fragment.
+// Whether merged children surely have several entries, by more than one fragment. A run has its entry from its first text on.
 pub fn is_many(skip: &[u8], s: &[u8]) -> bool
     ensures { λ r. ⌜ (r ≡ true → (props : Bytes) → 2 ≤ length (entries-at (now (skip .entry)) props (now (s .entry)))) ⌝ }
 {
@@ -151,6 +151,7 @@ pub fn is_many(skip: &[u8], s: &[u8]) -> bool
                         return true;
                     }
                     run = true;
+                    one = true;
                     let r = behind(t);
                     t = r;
                 }
@@ -163,17 +164,24 @@ pub fn is_many(skip: &[u8], s: &[u8]) -> bool
                         t = r;
                     }
                     Joined::Something => {
+                        if run {
+                            let r = behind(t);
+                            t = r;
+                        } else {
+                            if one {
+                                return true;
+                            }
+                            run = true;
+                            one = true;
+                            let r = behind(t);
+                            t = r;
+                        }
+                    }
+                    Joined::Apart => {
                         if one {
                             return true;
                         }
-                        run = true;
-                        let r = behind(t);
-                        t = r;
-                    }
-                    Joined::Apart => {
-                        if one || run {
-                            return true;
-                        }
+                        run = false;
                         one = true;
                         let r = behind(t);
                         t = r;
@@ -181,16 +189,16 @@ pub fn is_many(skip: &[u8], s: &[u8]) -> bool
                 }
             }
             0x30 => {
-                if one || run {
+                if one {
                     return true;
                 }
+                run = false;
                 one = true;
                 let r = behind(t);
                 t = r;
             }
             0x31 => {
                 let b = body(t);
-                one = one || run;
                 run = false;
                 if s.len() / 2 < b.len() {
                     heavy = b;
@@ -209,7 +217,7 @@ pub fn is_many(skip: &[u8], s: &[u8]) -> bool
                 }
             }
             256 => {
-                if one || run {
+                if one {
                     return gives(skip, heavy);
                 }
                 return false;
