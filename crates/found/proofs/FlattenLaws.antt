@@ -1,5 +1,5 @@
--- The only entry taken out of its array: what `flattened` returns. Main statements: `flat-77`, `flat-78`, `flat-other`, `flat-many`,
--- `flat-placed`, `flat-rest`. Assumes nothing.
+-- The only entry taken out of its array: what `flattened` returns. Main statements: `flat-all`, `flat-77`, `flat-78`, `flat-other`,
+-- `flat-many`, `flat-placed`, `flat-rest`. Assumes nothing.
 use mathlib.Core.Path.{_≡_, refl, sym, ap, _∙_, subst}
 use Prim.Native.Nat.{ℕ, _+_, _≤_}
 use native.Mathlib.Omega.{arith}
@@ -30,6 +30,13 @@ several [] h = absurd (omega arith)
 several (e ∷ []) h = absurd (omega arith)
 several (e ∷ e′ ∷ es) h = refl
 
+-- several entries of the children in s: all of s is their place
+pub flat-all : (skip props s : Bytes) → 2 ≤ length (entries-at skip props s) → Finds skip props (C.flattened (entries-at skip props s)) K.Many (take (length s) s)
+flat-all skip props s l =
+    let es : List Entry = entries-at skip props s in
+    let e : take (length s) s ≡ s = take-all (length s) s (omega arith) in
+    subst (λ (b : Bytes). (C.flattened es ≡ array-found (entries-at skip props b)) × (2 ≤ length (entries-at skip props b))) (sym e) (several es l, l)
+
 -- where nothing is to be done
 kept : (skip props : Bytes) (es : List Entry) (k : Kind) (b : Bytes) → OneOf (0 ∷ 1 ∷ 3 ∷ 4 ∷ 5 ∷ 6 ∷ 7 ∷ 9 ∷ []) (tagOf the-type k) → Enters skip props (Runs skip props) es k b →
     Finds skip props (C.flattened es) k b
@@ -54,10 +61,7 @@ module _ (s : Bytes) (f : Found) (w : Within f s) where
       subst (λ (r : Found). Within r s × Flattened s f r) (sym q) (
         omega arith,
         λ skip props x.
-            let es : List Entry = entries-at skip props s in
-            let e : take (length s) s ≡ s = take-all (length s) s (omega arith) in
-            let l : 2 ≤ length es = subst (λ (k : Kind). Enters skip props (Runs skip props) es k (part s f)) h x .0 in
-            subst (λ (b : Bytes). (C.flattened es ≡ array-found (entries-at skip props b)) × (2 ≤ length (entries-at skip props b))) (sym e) (several es l, l),
+            flat-all skip props s (subst (λ (k : Kind). Enters skip props (Runs skip props) (entries-at skip props s) k (part s f)) h x .0),
       )
 
   -- one fragment alone gives them: its place stays

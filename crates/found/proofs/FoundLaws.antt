@@ -1,8 +1,8 @@
 -- What children give, by how many they are: what `found_of` returns. Main statements: `found-none`, `found-60`, `found-52`, `found-empty`,
--- `found-30`, `found-31`, `found-61`, `found-template`, `found-many`. Assumes nothing.
+-- `found-30`, `found-31`, `found-61`, `found-template`, `found-several`, `found-many`; `same-found`, `flat-found`. Assumes nothing.
 use mathlib.Core.Path.{_≡_, refl, sym, ap, _∙_, subst}
 use mathlib.Core.Bool.{Bool, true, false}
-use Prim.Native.Nat.{ℕ, _+_, _-_}
+use Prim.Native.Nat.{ℕ, _+_, _-_, _≤_}
 use native.Mathlib.Omega.{arith}
 use mathlib.Core.List.{_∷_}
 use lib.Dec.{T}
@@ -17,16 +17,17 @@ use Rattle.page.specs.Page as P
 use Rattle.page.specs.Tree.{choose, Contained, nothing-contained, contained, contained-child, element-in, fragment-in, children-in, contained-in, expr-in}
 use Rattle.spec.specs.Merge as M
 use Rattle.spec.specs.Merge.{Child, becomes-template, nothing-found}
-use Rattle.spec.specs.Children.{found-of, one-child, many-children, children-to-expr}
+use Rattle.spec.specs.Children.{found-of, flattened, one-child, many-children, children-to-expr}
 use Rattle.spec.specs.Transform.{children, fragment-of}
 use Rattle.decisions.specs.At.{opts, few, is-none, becomes}
 use Rattle.decisions.proofs.Series.{tested, children-60, children-52, children-30, children-31, children-61, contained-none, contained-field}
 use Rattle.decisions.proofs.Laws.{child-element, child-fragment, becomes-is}
-use Rattle.found.specs.Finds.{Within, part, placed, kids, found-at, expr-at, text-entry, element-entry, template-entry, Finds, Flattened, FirstAt}
+use Rattle.found.specs.Finds.{Within, part, placed, kids, entries-at, found-at, expr-at, text-entry, element-entry, template-entry, Finds, Flattened, FirstAt}
 use Rattle.found.specs.declared.Kind.{Kind}
 use Rattle.found.specs.declared.Kind.the-variants as K
 use Rattle.found.specs.declared.Found.{Found}
 use Rattle.found.proofs.Places.{Stands, stands-room, stands-part, stands-of, body-in}
+use Rattle.found.proofs.FlattenLaws.{flat-all}
 use Rattle.found.proofs.EnterLaws.{moved}
 use Rattle.found.proofs.WalkLaws.{Entered}
 
@@ -178,18 +179,19 @@ module _ (skip s : Bytes) {n : ℕ} (c : n ≡ few (children-in (read s))) where
                   holds props (contained (expr-in (read b))) (contained-field b m g i) ∙ ap (λ (x : Bytes). found-of (expr-at skip props x)) (sym (stands-part s (at + 3) b st)),
             )
 
-      pub found-31 : u ≡ 0x31 → (y : Found) → Given skip b y → {r : Found} → r ≡ placed (y .kind) (at + 3 + y .from) (y .len) → Given skip s r
+      -- a fragment gives what its own children give
+      pub same-found : u ≡ 0x31 → (props : Bytes) → found-at skip props s ≡ found-at skip props b
       unfolding few children children-to-expr one-child fragment-of
+      same-found k props =
+          alone props (P.tag-child (fragment-in (read (body-of a))) P.no-children) (only (P.tag-child (fragment-in (read (body-of a)))) (children-31 a u e k) refl)
+          ∙ (ap one-child (child-fragment skip props (body-of a)) ∙ ap (found-at skip props) (sym p))
+
+      pub found-31 : u ≡ 0x31 → (y : Found) → Given skip b y → {r : Found} → r ≡ placed (y .kind) (at + 3 + y .from) (y .len) → Given skip s r
       found-31 k y g {r} w =
           let st : Stands s (at + 3) b = stands-inside (λ z. omega arith) in
           let m = moved s (at + 3) b st y (g .0) (λ (d : Kind) (x : Bytes). (props : Bytes) → Finds skip props (found-at skip props b) d x) (g .1) w in (
             m .0,
-            λ props.
-                subst (λ (x : M.Found). Finds skip props x (r .kind) (part s r))
-                (sym
-                (alone props (P.tag-child (fragment-in (read (body-of a))) P.no-children) (only (P.tag-child (fragment-in (read (body-of a)))) (children-31 a u e k) refl)
-                ∙ (ap one-child (child-fragment skip props (body-of a)) ∙ ap (found-at skip props) (sym p))))
-                (m .1 props),
+            λ props. subst (λ (x : M.Found). Finds skip props x (r .kind) (part s r)) (sym (same-found k props)) (m .1 props),
           )
 
   -- several
@@ -208,11 +210,17 @@ module _ (skip s : Bytes) {n : ℕ} (c : n ≡ few (children-in (read s))) where
               m .0 ∙ (rw (many-children, m .1) (ap (λ (x : Bytes). M.one-found (template-entry skip props x)) (sym (take-all (length s) s (omega arith))))),
         )
 
-    pub found-many : t ≡ false → (y : Found) → Entered skip s y → (r : Found) → Within r s × Flattened s y r → Given skip s r
+    -- no template
+    pub flat-found : t ≡ false → (props : Bytes) → found-at skip props s ≡ flattened (entries-at skip props s)
     unfolding many-children choose
-    found-many z y g r q = (
-      q .0,
-      λ props.
-          let m = many props z in
-          subst (λ (x : M.Found). Finds skip props x (r .kind) (part s r)) (sym (m .0 ∙ rw (many-children, m .1))) (q .1 skip props (g .1 props)),
-    )
+    flat-found z props = let m = many props z in m .0 ∙ rw (many-children, m .1)
+
+    -- without going through them
+    pub found-several : t ≡ false → ((props : Bytes) → 2 ≤ length (entries-at skip props s)) → {r : Found} → r ≡ placed K.Many 0 (length s) → Given skip s r
+    found-several z g {r} q =
+        subst (Given skip s) (sym q)
+        (omega arith, λ props. subst (λ (x : M.Found). Finds skip props x K.Many (take (length s) s)) (sym (flat-found z props)) (flat-all skip props s (g props)))
+
+    pub found-many : t ≡ false → (y : Found) → Entered skip s y → (r : Found) → Within r s × Flattened s y r → Given skip s r
+    found-many z y g r q =
+        (q .0, λ props. subst (λ (x : M.Found). Finds skip props x (r .kind) (part s r)) (sym (flat-found z props)) (q .1 skip props (g .1 props)))

@@ -25,12 +25,12 @@ use Rattle.decisions.proofs.Series.{any-field, any-front, expr-76}
 use Rattle.found.specs.Finds.{expr-at, first-item, hole-node, item-count}
 
 -- whichever is chosen
-choose-all : {A : Type 0} (P : A → Type 0) (b : Bool) (f g : Unit {0} → A) → P (f tt) → P (g tt) → P (choose b f g)
+pub choose-all : {A : Type 0} (P : A → Type 0) (b : Bool) (f g : Unit {0} → A) → P (f tt) → P (g tt) → P (choose b f g)
 unfolding choose
 choose-all P true f g x y = x
 choose-all P false f g x y = y
 
-choose-second : {A : Type 0} (P : A → Type 0) (b : Bool) (f g : Unit {0} → A) → b ≡ false → P (g tt) → P (choose b f g)
+pub choose-second : {A : Type 0} (P : A → Type 0) (b : Bool) (f g : Unit {0} → A) → b ≡ false → P (g tt) → P (choose b f g)
 unfolding choose
 choose-second P b f g h y = rw h y
 

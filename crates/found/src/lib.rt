@@ -6,6 +6,7 @@ ghost use Rattle.field.specs.Bytes.{Bytes};
 ghost use Rattle.field.specs.Row.{read};
 ghost use Rattle.page.specs.Tree.{contained-in};
 ghost use Rattle.found.specs.Finds.{Within, part, placed, Runs, Enters, Finds, Flattened, Spliced, FirstAt, item-count, joined-of, then-found, run-found, is-settled, entries-at, found-at};
+use crate::several::is_many;
 use decisions::children::becomes_template;
 use decisions::children::child_count;
 use decisions::expr::Shape;
@@ -14,6 +15,8 @@ use field::reader::behind;
 use field::reader::body;
 use field::reader::tag_at;
 use text::jsx_text::is_blank;
+
+mod several;
 
 pub enum Kind {
     // no expression
@@ -390,6 +393,9 @@ pub fn found_of(skip: &[u8], s: &[u8]) -> Found
         _ => {
             if becomes_template(skip, s) {
                 return whole(Kind::Template, s);
+            }
+            if is_many(skip, s) {
+                return whole(Kind::Many, s);
             }
             flattened(s, entries_of(skip, s))
         }

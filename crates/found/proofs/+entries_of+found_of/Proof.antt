@@ -9,7 +9,7 @@ use Rattle.found.proofs.Places.{tail-room, stands-room, stands-body}
 use Rattle.found.proofs.KindLaws.{settled}
 use Rattle.found.proofs.WalkLaws.{Looked, looked-start, looked-many, looked-end}
 use Rattle.found.proofs.StepLaws.{room-inside, step-blank, step-text, step-run, step-joined, step-more, step-expr, step-element, step-fragment, step-other}
-use Rattle.found.proofs.FoundLaws.{stands-inside, found-none, found-60, found-52, found-empty, found-30, found-31, found-61, found-template, found-many}
+use Rattle.found.proofs.FoundLaws.{stands-inside, found-none, found-60, found-52, found-empty, found-30, found-31, found-61, found-template, found-several, found-many}
 use Prim.Native.Nat.{ℕ, _+_, _*_, _<_}
 use borrow.Fn.Kinds.{In}
 use borrow.Fn.PlainCycle.{Measures, is, falls, and}
@@ -30,6 +30,7 @@ use Rattle.found.proofs.inside.Reads as inside-reads
 use Rattle.found.proofs.is_settled.Reads as is-settled-reads
 use Rattle.found.proofs.joined_at.Reads as joined-at-reads
 use Rattle.found.proofs.nowhere.Reads as nowhere-reads
+use Rattle.found.proofs.several.is_many.Reads as is-many-reads
 use Rattle.found.proofs.spliced.Reads as spliced-reads
 use Rattle.found.proofs.then.Reads as then-reads
 use Rattle.found.proofs.whole.Reads as whole-reads
@@ -69,7 +70,7 @@ abbrev entries-of-μ-loop : entries-of-lts.MeasureT-loop
 entries-of-μ-loop skip s t₀ run₀ cur₀ t run cur = length t
 
 abbrev found-of-calls : ℕ → found-of-lts.Claims
-found-of-calls t = (child-count-reads.Asked, child-count-reads.Learnt, nowhere-reads.Asked, nowhere-reads.Learnt, first-child-reads.Asked, first-child-reads.Learnt, body-reads.Asked, body-reads.Learnt, tag-at-reads.Asked, tag-at-reads.Learnt, found-of-below t, found-of.Post, inside-reads.Asked, inside-reads.Learnt, becomes-template-reads.Asked, becomes-template-reads.Learnt, whole-reads.Asked, whole-reads.Learnt, entries-of-below t, entries-of.Post, flattened-reads.Asked, flattened-reads.Learnt)
+found-of-calls t = (child-count-reads.Asked, child-count-reads.Learnt, nowhere-reads.Asked, nowhere-reads.Learnt, first-child-reads.Asked, first-child-reads.Learnt, body-reads.Asked, body-reads.Learnt, tag-at-reads.Asked, tag-at-reads.Learnt, found-of-below t, found-of.Post, inside-reads.Asked, inside-reads.Learnt, becomes-template-reads.Asked, becomes-template-reads.Learnt, whole-reads.Asked, whole-reads.Learnt, is-many-reads.Asked, is-many-reads.Learnt, entries-of-below t, entries-of.Post, flattened-reads.Asked, flattened-reads.Learnt)
 
 entries-of-nowhere-requires : (t : ℕ) → entries-of-lts.Need-nowhere-requires (entries-of-calls t) (entries-of-at t) entries-of.Post entries-of-Inv-loop entries-of-μ-loop
 entries-of-nowhere-requires t c κs = tt
@@ -292,32 +293,41 @@ found-of-whole-requires t c κs = tt
 found-of-returns-2 : (t : ℕ) → found-of-lts.Need-returns-2 (found-of-calls t) (found-of-at t) found-of.Post
 found-of-returns-2 t c = found-template _ _ (c .before .before .before .before .child-count .ensures) (c .before .before .before .match .rest .0 .1) (c .before .before .before .match .rest .1) (c .before .before .becomes-template .ensures) (c .before .if2 .taken) (c .whole .ensures)
 
+found-of-is-many-requires : (t : ℕ) → found-of-lts.Need-is-many-requires (found-of-calls t) (found-of-at t) found-of.Post
+found-of-is-many-requires t c κs = tt
+
+found-of-whole-requires-2 : (t : ℕ) → found-of-lts.Need-whole-requires-2 (found-of-calls t) (found-of-at t) found-of.Post
+found-of-whole-requires-2 t c κs = tt
+
+found-of-returns-3 : (t : ℕ) → found-of-lts.Need-returns-3 (found-of-calls t) (found-of-at t) found-of.Post
+found-of-returns-3 t c = found-several _ _ (c .before .before .before .before .before .before .child-count .ensures) (c .before .before .before .before .before .match .rest .0 .1) (c .before .before .before .before .before .match .rest .1) (c .before .before .before .before .becomes-template .ensures) (c .before .before .before .if2 .left) (c .before .before .is-many .ensures (c .before .if3 .taken)) (c .whole2 .ensures)
+
 found-of-entries-of-requires : (t : ℕ) → found-of-lts.Need-entries-of-requires (found-of-calls t) (found-of-at t) found-of.Post
-found-of-entries-of-requires t c κs = (omega (arith, c .before .before .before .before .before .before .pre .0), c .before .before .before .before .before .before .pre .1)
+found-of-entries-of-requires t c κs = (omega (arith, c .before .before .before .before .before .before .before .before .pre .0), c .before .before .before .before .before .before .before .before .pre .1)
 
 found-of-flattened-requires : (t : ℕ) → found-of-lts.Need-flattened-requires (found-of-calls t) (found-of-at t) found-of.Post
 found-of-flattened-requires t c κs = c .entries-of .ensures .0
 
-found-of-returns-3 : (t : ℕ) → found-of-lts.Need-returns-3 (found-of-calls t) (found-of-at t) found-of.Post
-found-of-returns-3 t c = found-none _ _ (c .before .before .child-count .ensures) (c .before .match .keys1) (c .nowhere .ensures)
-
 found-of-returns-4 : (t : ℕ) → found-of-lts.Need-returns-4 (found-of-calls t) (found-of-at t) found-of.Post
-found-of-returns-4 t c = found-60 _ _ (c .before .before .before .before .before .before .child-count .ensures) (c .before .before .before .before .before .match .keys2) _ (c .before .before .before .before .first-child .ensures) refl _ (c .before .tag-at .ensures .0) (c .match2 .keys1)
+found-of-returns-4 t c = found-none _ _ (c .before .before .child-count .ensures) (c .before .match .keys1) (c .nowhere .ensures)
 
 found-of-returns-5 : (t : ℕ) → found-of-lts.Need-returns-5 (found-of-calls t) (found-of-at t) found-of.Post
-found-of-returns-5 t c = found-52 _ _ (c .before .before .before .before .before .before .before .before .child-count .ensures) (c .before .before .before .before .before .before .before .match .keys2) _ (c .before .before .before .before .before .before .first-child .ensures) refl _ (c .before .before .before .tag-at .ensures .0) (c .before .before .before .before .body .ensures) (c .before .before .match2 .keys2) _ (c .before .tag-at2 .ensures .0) (c .if1 .left)
+found-of-returns-5 t c = found-60 _ _ (c .before .before .before .before .before .before .child-count .ensures) (c .before .before .before .before .before .match .keys2) _ (c .before .before .before .before .first-child .ensures) refl _ (c .before .tag-at .ensures .0) (c .match2 .keys1)
 
 found-of-returns-6 : (t : ℕ) → found-of-lts.Need-returns-6 (found-of-calls t) (found-of-at t) found-of.Post
-found-of-returns-6 t c = found-30 _ _ (c .before .before .before .before .before .before .child-count .ensures) (c .before .before .before .before .before .match .keys2) _ (c .before .before .before .before .first-child .ensures) refl _ (c .before .tag-at .ensures .0) (c .match2 .keys3)
+found-of-returns-6 t c = found-52 _ _ (c .before .before .before .before .before .before .before .before .child-count .ensures) (c .before .before .before .before .before .before .before .match .keys2) _ (c .before .before .before .before .before .before .first-child .ensures) refl _ (c .before .before .before .tag-at .ensures .0) (c .before .before .before .before .body .ensures) (c .before .before .match2 .keys2) _ (c .before .tag-at2 .ensures .0) (c .if1 .left)
 
 found-of-returns-7 : (t : ℕ) → found-of-lts.Need-returns-7 (found-of-calls t) (found-of-at t) found-of.Post
-found-of-returns-7 t c = found-31 _ _ (c .before .before .before .before .before .before .before .before .child-count .ensures) (c .before .before .before .before .before .before .before .match .keys2) _ (c .before .before .before .before .before .before .first-child .ensures) refl _ (c .before .before .before .tag-at .ensures .0) (c .before .before .before .before .body .ensures) (c .before .before .match2 .keys4) (c .before .found-of .result) (c .before .found-of .ensures) (c .inside .ensures)
+found-of-returns-7 t c = found-30 _ _ (c .before .before .before .before .before .before .child-count .ensures) (c .before .before .before .before .before .match .keys2) _ (c .before .before .before .before .first-child .ensures) refl _ (c .before .tag-at .ensures .0) (c .match2 .keys3)
 
 found-of-returns-8 : (t : ℕ) → found-of-lts.Need-returns-8 (found-of-calls t) (found-of-at t) found-of.Post
-found-of-returns-8 t c = found-61 _ _ (c .before .before .before .before .before .before .before .child-count .ensures) (c .before .before .before .before .before .before .match .keys2) _ (c .before .before .before .before .before .first-child .ensures) refl _ (c .before .before .tag-at .ensures .0) (c .before .match2 .rest .0 .0 .0 .1) (c .before .match2 .rest .0 .0 .1) (c .before .match2 .rest .0 .1) (c .before .match2 .rest .1) (c .nowhere3 .ensures)
+found-of-returns-8 t c = found-31 _ _ (c .before .before .before .before .before .before .before .before .child-count .ensures) (c .before .before .before .before .before .before .before .match .keys2) _ (c .before .before .before .before .before .before .first-child .ensures) refl _ (c .before .before .before .tag-at .ensures .0) (c .before .before .before .before .body .ensures) (c .before .before .match2 .keys4) (c .before .found-of .result) (c .before .found-of .ensures) (c .inside .ensures)
 
 found-of-returns-9 : (t : ℕ) → found-of-lts.Need-returns-9 (found-of-calls t) (found-of-at t) found-of.Post
-found-of-returns-9 t c = found-many _ _ (c .before .before .before .before .before .child-count .ensures) (c .before .before .before .before .match .rest .0 .1) (c .before .before .before .before .match .rest .1) (c .before .before .before .becomes-template .ensures) (c .before .before .if2 .left) (c .before .entries-of .result) (c .before .entries-of .ensures) (c .flattened .result) (c .flattened .ensures)
+found-of-returns-9 t c = found-61 _ _ (c .before .before .before .before .before .before .before .child-count .ensures) (c .before .before .before .before .before .before .match .keys2) _ (c .before .before .before .before .before .first-child .ensures) refl _ (c .before .before .tag-at .ensures .0) (c .before .match2 .rest .0 .0 .0 .1) (c .before .match2 .rest .0 .0 .1) (c .before .match2 .rest .0 .1) (c .before .match2 .rest .1) (c .nowhere3 .ensures)
+
+found-of-returns-10 : (t : ℕ) → found-of-lts.Need-returns-10 (found-of-calls t) (found-of-at t) found-of.Post
+found-of-returns-10 t c = found-many _ _ (c .before .before .before .before .before .before .before .child-count .ensures) (c .before .before .before .before .before .before .match .rest .0 .1) (c .before .before .before .before .before .before .match .rest .1) (c .before .before .before .before .before .becomes-template .ensures) (c .before .before .before .before .if2 .left) (c .before .entries-of .result) (c .before .entries-of .ensures) (c .flattened .result) (c .flattened .ensures)
 
 pub +entries-of+found-of-spec : {M : Type 1} → statement M
 +entries-of+found-of-spec = close μ-entries-of μ-found-of (λ t. entries-of-lts.spec (entries-of-calls t)
@@ -401,12 +411,15 @@ pub +entries-of+found-of-spec : {M : Type 1} → statement M
     (found-of-becomes-template-requires t)
     (found-of-whole-requires t)
     (found-of-returns-2 t)
+    (found-of-is-many-requires t)
+    (found-of-whole-requires-2 t)
+    (found-of-returns-3 t)
     (found-of-entries-of-requires t)
     (found-of-flattened-requires t)
-    (found-of-returns-3 t)
     (found-of-returns-4 t)
     (found-of-returns-5 t)
     (found-of-returns-6 t)
     (found-of-returns-7 t)
     (found-of-returns-8 t)
     (found-of-returns-9 t)
+    (found-of-returns-10 t)
