@@ -5,7 +5,9 @@ mod common;
 use common::{no_judge, say};
 use jsx_precompile::{Options, Refusal, Transformer, transform_into};
 use oracle::compare::{difference, first_difference};
+use oracle::generate::rng::Rng;
 use oracle::generate::{self, Case, Room};
+use oracle::make::*;
 use oracle::show::{hex, show};
 use oracle::vectors::Vector;
 use oracle::{Answer, exhaustive, marks, outcome};
@@ -82,11 +84,8 @@ fn many_listed_names() {
 
 /// 02 and 03 with up to 4,000 bytes of names.
 fn listing(seed: u64, page: &[u8]) -> Vec<u8> {
-    let mut state = seed;
-    let mut below = |most: usize| {
-        state = state.wrapping_mul(6_364_136_223_846_793_005).wrapping_add(1_442_695_040_888_963_407);
-        (state >> 33) as usize % most
-    };
+    let mut rng = Rng::new(seed);
+    let mut below = |most: usize| rng.below(most);
     let names: Vec<&[u8]> = (0..page.len().saturating_sub(3))
         .filter(|&i| page[i] == 0x40 && page[i + 1] == 0)
         .filter_map(|i| page.get(i + 3..i + 3 + page[i + 2] as usize))
@@ -113,6 +112,53 @@ fn listing(seed: u64, page: &[u8]) -> Vec<u8> {
         options.extend(list);
     }
     options
+}
+
+/// Fragments in fragments under a call, beside texts, expressions and arrays that flattening may leave nothing of: how many
+/// entries a level gives is asked for at each.
+#[test]
+fn nested_fragments() {
+    if no_judge() {
+        return;
+    }
+    const CASES: u64 = 20_000;
+    let mut taken = 0;
+    for seed in 0..CASES {
+        let mut rng = Rng::new(seed);
+        let levels = rng.within(1, 20);
+        let children = series(&mut rng, levels);
+        let tag = if rng.chance(80) { element("F", &children) } else { fragment(&children) };
+        let page = page_of(tag);
+        taken += usize::from(outcome(&page, &[]).is_ok());
+        agree(&Case { page, options: vec![], scratch: 65_536, templates_room: Room::Exact, page_room: Room::Exact });
+    }
+    say(&format!("nested fragments: {CASES} pages, {taken} taken, no difference"));
+}
+
+/// Up to four children, fragments of that many levels at the most among them.
+fn series(rng: &mut Rng, levels: usize) -> Vec<Vec<u8>> {
+    (0..rng.below(5))
+        .map(|_| if levels > 0 && rng.chance(60) { fragment(&series(rng, levels - 1)) } else { leaf(rng) })
+        .collect()
+}
+
+fn leaf(rng: &mut Rng) -> Vec<u8> {
+    match rng.below(14) {
+        0 => text("\n \n"),
+        1 => text("a"),
+        2 => braces(string("")),
+        3 => braces(string("b")),
+        4 => braces(null()),
+        5 => braces(code("e")),
+        6 => braces(array(&[])),
+        7 => braces(array(&[array(&[])])),
+        8 => braces(array(&[array_spread(array(&[]))])),
+        9 => braces(array(&[hole()])),
+        10 => braces(array(&[null(), array(&[])])),
+        11 => element("G", &[]),
+        12 => element("i", &[]),
+        _ => empty_braces(),
+    }
 }
 
 #[test]
@@ -169,7 +215,6 @@ fn all_short_byte_strings() {
 /// All pages of up to seven fields with the leaves that the judge names, under four options.
 #[test]
 fn all_small_pages() {
-    use oracle::make::{attributes_listed, elements_listed};
     if no_judge() {
         return;
     }
@@ -226,7 +271,6 @@ fn buffers_that_grow() {
 
 #[test]
 fn outputs_longer_than_the_first_guess() {
-    use oracle::make::{element, page_of, text};
     let page = page_of(element("p", &[text(&"\"".repeat(10_000))]));
     let forms = jsx_precompile::transform(&page, &Options::new()).expect("it is taken");
     assert_eq!(forms.templates_bytes().len(), 5 + 3 + "<p></p>".len() + 10_000 * "&quot;".len());

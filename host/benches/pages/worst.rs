@@ -5,7 +5,7 @@ use oracle::answer::{MOST_OPTIONS, MOST_PAGE};
 use oracle::make::*;
 
 pub fn sets() -> Vec<Set> {
-    [attributes(), listed(), texts(), tags(), deep(), fragments()].into_iter().flatten().collect()
+    [attributes(), listed(), texts(), tags(), chains(), deep(), fragments()].into_iter().flatten().collect()
 }
 
 const ROOM: usize = MOST_PAGE - 3;
@@ -120,6 +120,31 @@ fn tags() -> Vec<Set> {
     ]
 }
 
+/// Many tags within each other, side by side.
+fn chains() -> Vec<Set> {
+    let pieces = |tag: Vec<u8>| page(&[statement(&fill(20, &tag))]);
+    let in_b = |x| element("b", &[x]);
+    let in_f = |x| element("F", &[x]);
+    let all_listed = names_like(2, "i");
+    vec![
+        one("chains of elements", pieces(around(43, i(), in_b))),
+        one("chains of calls", pieces(around(43, element("F", &[]), in_f))),
+        one("chains, by turns", pieces(around(21, i(), |x| in_b(in_f(x))))),
+        one("trees of elements", pieces(tree("b", 6))),
+        one("trees of calls", pieces(tree("F", 6))),
+        one("elements with empty braces", pieces(element("i", &[empty_braces()]))),
+        one("calls with a text and a tag", pieces(element("F", &[i(), text("a")]))),
+        Set::under("02 full, chains of calls", all_listed.clone(), pieces(around(43, i(), |x| element("i", &[x])))),
+        Set::under("02 full, trees of calls", all_listed, pieces(tree("i", 6))),
+    ]
+}
+
+/// Tags of two children each, that many levels deep.
+fn tree(name: &str, levels: usize) -> Vec<u8> {
+    let children = if levels == 0 { vec![] } else { vec![tree(name, levels - 1); 2] };
+    element(name, &children)
+}
+
 /// That many times around the deepest.
 fn around(levels: usize, deepest: Vec<u8>, wrap: impl Fn(Vec<u8>) -> Vec<u8>) -> Vec<u8> {
     (0..levels).fold(deepest, |inner, _| wrap(inner))
@@ -153,10 +178,15 @@ fn fragments() -> Vec<Set> {
     let called = |deepest: &[Vec<u8>]| element("F", &[empty_braces(), nested(deepest)]);
     let two = |deepest: Vec<Vec<u8>>| [deepest, vec![braces(null()), braces(null())]].concat();
     let with = |name: &str, deepest: Vec<Vec<u8>>| tag(&format!("fragments, {name}"), called(&two(deepest)));
-    let behind = |name: &str, deepest: Vec<Vec<u8>>| {
-        let inner = around(42, fragment(&two(deepest)), |x| fragment(&[x, braces(null())]));
+    let beside = |name: &str, deepest: Vec<Vec<u8>>, before: Vec<Vec<u8>>, behind: Vec<u8>| {
+        let inner =
+            around(42, fragment(&two(deepest)), |x| fragment(&[before.clone(), vec![x, behind.clone()]].concat()));
         tag(&format!("fragments, {name}"), element("F", &[inner, braces(null())]))
     };
+    let behind = |name: &str, deepest: Vec<Vec<u8>>| beside(name, deepest, vec![], braces(null()));
+    let nine_thousand = vec![empty_braces(); 9_000];
+    let one_entry = fragment(&[braces(null()), empty_braces()]);
+    let no_entry = fragment(&[empty_braces(), empty_braces()]);
     let short_lines = text(&" \n".repeat(15_000));
     // Each tag is asked for in each fragment around it, and stands last in the list.
     let list = [names_like(2, "j")[3..4_087].to_vec(), source("i")].concat();
@@ -173,6 +203,12 @@ fn fragments() -> Vec<Set> {
         tag("fragments, not a call", fragment(&[nested(&two(vec![empty_braces(); 10_000]))])),
         behind("one behind each", vec![empty_braces(); 10_000]),
         behind("one behind each, short lines", vec![short_lines]),
+        beside("a text behind each", nine_thousand.clone(), vec![], text("a")),
+        beside("an array behind each", nine_thousand.clone(), vec![], braces(array(&[null()]))),
+        beside("a fragment behind each", nine_thousand.clone(), vec![], one_entry.clone()),
+        beside("fragments beside each", nine_thousand.clone(), vec![no_entry], one_entry.clone()),
+        beside("blanks at each", vec![], vec![empty_braces(); 200], one_entry),
+        beside("an empty array behind each", nine_thousand, vec![], braces(array(&[]))),
         Set::under("fragments, 02 full, calls", field(2, &list), page_of(called(&fill(500, &i())))),
     ]
 }
