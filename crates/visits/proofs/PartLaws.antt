@@ -1,6 +1,6 @@
 -- The gaps of a template, as the page walk writes them: of an element, of its attributes and of its children. In a loop s is what is left of
 -- a series, w where the walk stands, and total where it is to end. Main statements: `jsx-template`, `jsx-call`, `element-call`,
--- `element-parts`, `parts-direct`; `template-room` and the like; `container-on`, `element-on`, `attr-on` and the like for a turn.
+-- `element-parts`, `element-bare`, `parts-direct`; `template-room` and the like; `container-on`, `element-on`, `attr-on` and the like for a turn.
 -- Assumes nothing.
 use mathlib.Core.Path.{_≡_, refl, sym, ap, _∙_, subst}
 use Prim.Native.Nat.{ℕ, _+_, _≤_}
@@ -10,13 +10,13 @@ use mathlib.Core.List.{List, [], _∷_, _++_}
 use mathlib.Core.Option.{Option, none, some}
 use lib.ListN.{length}
 use Rattle.field.specs.Bytes.{Bytes, pick}
-use Rattle.field.specs.Row.{read, Ended}
+use Rattle.field.specs.Row.{Row, read, Ended}
 use Rattle.field.specs.Front.{tag-of, body-of, behind-of}
 use Rattle.field.proofs.RowLaws.{read-nil}
 use Rattle.field.proofs.Actions.{Action, Lows, by, on, room, finish, low-now}
 use Rattle.names.specs.Names.{AttrName, is-void-element}
 use Rattle.page.specs.Page.{Name, identifier, member, namespaced, Options}
-use Rattle.page.specs.Tree.{choose, attr-name-in, value-in, contained-in, Contained}
+use Rattle.page.specs.Tree.{choose, attributes-in, attr-name-in, value-in, contained-in, Contained}
 use Rattle.spec.specs.Pass as S
 use Rattle.spec.specs.Pass.{Done, Pass, pure, Mid, node, _+++_, Part, chars, gap}
 use Rattle.spec.specs.Output.{dynamic-exprs, gen-template}
@@ -24,7 +24,7 @@ use Rattle.spec.specs.Merge.{joined-text, Child, text, empty, container, elemen
 use Rattle.spec.specs.Attributes as A
 use Rattle.spec.specs.Attributes.{Attribute, is-serializable}
 use Rattle.spec.specs.Children.{maybe-wrap, merged-parts, children-to-string, serialize-jsx, to-call-expr, element-to-string-vec}
-use Rattle.spec.specs.Transform.{value, element-of}
+use Rattle.spec.specs.Transform.{value, element-of, attributes}
 use Rattle.decisions.specs.Index.{names-of}
 use Rattle.decisions.specs.At.{opts, element-name, behind-name, identifier-bytes, attributes-at, children-at, element-at, serializable}
 use Rattle.decisions.proofs.Laws.{element-serializable}
@@ -139,6 +139,14 @@ call-parts o as′ cs (identifier n) h = rw h
 call-parts o as′ cs (member ns) h = refl
 call-parts o as′ cs (namespaced n m) h = refl
 
+-- no bytes hold no attribute and no child
+no-attrs : (skip props : Bytes) (w : World) → act (dynamic-exprs (attrs-at skip props [])) w ≡ act (dynamic-exprs []) w
+unfolding attributes-in attributes A.attrs-parts
+no-attrs skip props w = ap (λ (x : Row). act (dynamic-exprs (A.attrs-parts (opts skip props) (attributes-at skip props x))) w) read-nil
+
+no-inner : (skip props : Bytes) (w : World) → act (dynamic-exprs (children-to-string false (kids skip props []))) w ≡ act (dynamic-exprs []) w
+no-inner skip props w = parts-direct false (kids skip props []) w ∙ ap (λ (ps : List Part). act (dynamic-exprs ps) w) (parts-none skip props false [] (subst Ended (sym read-nil) tt))
+
 module _ (skip props b : Bytes) {z : Bool} (e : z ≡ serializable skip b) (w : World) where
   decided : {y : Bool} → z ≡ y → element-at skip props b .serializable ≡ y
   decided h = element-serializable skip props b ∙ sym e ∙ h
@@ -165,7 +173,7 @@ module _ (skip props b : Bytes) {z : Bool} (e : z ≡ serializable skip b) (w : 
     inner-gaps : (x : World) (y : Bool) →
         act (dynamic-exprs (pick y [] (inner skip props (identifier-bytes (element-name (read b))) r))) x
         ≡ act (dynamic-exprs (children-to-string false (kids skip props (pick y [] (behind-of b))))) x
-    inner-gaps x true = sym (parts-direct false (kids skip props []) x ∙ ap (λ (ps : List Part). act (dynamic-exprs ps) x) (parts-none skip props false [] (subst Ended (sym read-nil) tt)))
+    inner-gaps x true = sym (no-inner skip props x)
     inner-gaps x false =
         let n = identifier-bytes (element-name (read b)) in
         let c = chars (60 ∷ 47 ∷ (n ++ (62 ∷ []))) ∷ [] in
@@ -196,6 +204,22 @@ module _ (skip props b : Bytes) {z : Bool} (e : z ≡ serializable skip b) (w : 
 
       pub inner-room : Low (act (dynamic-exprs (element-at skip props b .to-string-vec)) w .st) → Low (act (dynamic-exprs (children-to-string false (kids skip props i))) w₁ .st)
       inner-room l = low-is (inner-done refl) l
+
+  -- with nothing behind its name it has none
+  module _ (h : z ≡ true) where
+    bare : (r : Bytes) → r ≡ behind-of b → length r ≡ 0 → w ≡ act (dynamic-exprs (element-at skip props b .to-string-vec)) w
+    bare [] q n =
+        let x = act (dynamic-exprs (attrs-at skip props [])) w in
+        sym (no-inner skip props x ∙ act-no-parts x ∙ no-attrs skip props w ∙ act-no-parts w)
+        ∙ element-parts h q (either (is-void-element (identifier-bytes (element-name (read b)))))
+      where
+        either : (y : Bool) → [] ≡ pick y [] (behind-of b)
+        either true = refl
+        either false = q
+    bare (x ∷ r) q n = absurd (omega arith)
+
+    pub element-bare : {r : Bytes} → r ≡ behind-of b → length r ≡ 0 → w ≡ act (dynamic-exprs (element-at skip props b .to-string-vec)) w
+    element-bare {r} q n = bare r q n
 
 -- what lies behind its name, or nothing
 pub inner-shorter : (b : Bytes) {i : Bytes} → i ≡ pick (is-void-element (identifier-bytes (element-name (read b)))) [] (behind-of b) → length i ≤ length b

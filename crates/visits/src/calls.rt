@@ -352,14 +352,18 @@ fn to_jsx<'a>(
     if is_serializable(skip, b) {
         let p = st.page;
         let a = begin_template(page, st);
-        let c = to_attrs(skip, props, behind(b), scratch, templates, page, a);
+        let rest = behind(b);
+        if rest.len() == 0 {
+            return close(page, a, p, 0x90);
+        }
+        let c = to_attrs(skip, props, rest, scratch, templates, page, a);
         let d = to_parts(skip, props, inner_children(b), scratch, templates, page, c);
         return close(page, d, p, 0x90);
     }
     to_call(skip, props, b, scratch, templates, page, st)
 }
 
-// The gaps of an element in a template.
+// The gaps of an element in a template. HTML with nothing behind its name leaves none, so neither walk is begun.
 fn to_gaps<'a>(
     skip: &'a [u8],
     props: &'a [u8],
@@ -373,7 +377,11 @@ fn to_gaps<'a>(
     ensures { λ r. ⌜ at (now (templates .exit)) (now (page .exit)) r ≡ act (dynamic-exprs (element-at (now (skip .entry)) (now (props .entry)) (now (b .entry)) .to-string-vec)) (at (now (templates .entry)) (now (page .entry)) st) ⌝ }
 {
     if is_serializable(skip, b) {
-        let a = to_attrs(skip, props, behind(b), scratch, templates, page, st);
+        let rest = behind(b);
+        if rest.len() == 0 {
+            return st;
+        }
+        let a = to_attrs(skip, props, rest, scratch, templates, page, st);
         return to_parts(skip, props, inner_children(b), scratch, templates, page, a);
     }
     to_call(skip, props, b, scratch, templates, page, st)

@@ -55,10 +55,10 @@ use Rattle.visits.proofs.calls.+attrs_todo+child_todo+held_todo+on_expr
 use Rattle.visits.proofs.calls.+attrs_todo+child_todo+held_todo+on_expr+on_found+on_fragment+on_given+on_held+on_items+on_jsx+on_pieces+on_template+tag_todo+to_attrs+to_call+to_entries+to_found+to_gaps+to_jsx+to_parts+to_props.Proof.HeldTodo.{held-todo-array-borrow-prefix-none, held-todo-array-borrow-prefix-nothing, held-todo-calls, held-todo-fresh-requires, held-todo-returns, held-todo-same-length, held-todo-slice-aggregate-on-held, held-todo-slice-aggregate-on-held-2, held-todo-on-held-requires}
 use Rattle.visits.proofs.calls.+attrs_todo+child_todo+held_todo+on_expr+on_found+on_fragment+on_given+on_held+on_items+on_jsx+on_pieces+on_template+tag_todo+to_attrs+to_call+to_entries+to_found+to_gaps+to_jsx+to_parts+to_props.Proof.ToAttrs.{to-attrs-Inv-loop, to-attrs-attribute-front-requires, to-attrs-attribute-gap-requires, to-attrs-behind-requires, to-attrs-behind-requires-2, to-attrs-body-requires, to-attrs-calls, to-attrs-gap-back-requires, to-attrs-held-at-requires, to-attrs-loop-again, to-attrs-loop-again-2, to-attrs-loop-holds, to-attrs-loop-less, to-attrs-loop-less-2, to-attrs-returns, to-attrs-same-length, to-attrs-same-length-2, to-attrs-same-length-3, to-attrs-tag-at-requires, to-attrs-on-held-requires, to-attrs-μ-loop}
 use Rattle.visits.proofs.calls.+attrs_todo+child_todo+held_todo+on_expr+on_found+on_fragment+on_given+on_held+on_items+on_jsx+on_pieces+on_template+tag_todo+to_attrs+to_call+to_entries+to_found+to_gaps+to_jsx+to_parts+to_props.Proof.ToCall.{to-call-begin-requires, to-call-begin-requires-2, to-call-behind-requires, to-call-calls, to-call-children-front-requires, to-call-close-if-requires, to-call-close-props-requires, to-call-close-requires, to-call-found-of-requires, to-call-is-component-requires, to-call-is-found-requires, to-call-key-at-requires, to-call-key-front-requires, to-call-key-held-requires, to-call-name-expr-requires, to-call-to-found-requires, to-call-to-props-requires, to-call-returns, to-call-same-length, to-call-same-length-2, to-call-same-length-3, to-call-on-held-requires}
-use Rattle.visits.proofs.calls.+attrs_todo+child_todo+held_todo+on_expr+on_found+on_fragment+on_given+on_held+on_items+on_jsx+on_pieces+on_template+tag_todo+to_attrs+to_call+to_entries+to_found+to_gaps+to_jsx+to_parts+to_props.Proof.ToGaps.{to-gaps-behind-requires, to-gaps-calls, to-gaps-inner-children-requires, to-gaps-is-serializable-requires, to-gaps-to-attrs-requires, to-gaps-to-call-requires, to-gaps-to-parts-requires, to-gaps-returns, to-gaps-returns-2, to-gaps-same-length, to-gaps-same-length-2, to-gaps-same-length-3, to-gaps-same-length-4, to-gaps-same-length-5, to-gaps-same-length-6}
+use Rattle.visits.proofs.calls.+attrs_todo+child_todo+held_todo+on_expr+on_found+on_fragment+on_given+on_held+on_items+on_jsx+on_pieces+on_template+tag_todo+to_attrs+to_call+to_entries+to_found+to_gaps+to_jsx+to_parts+to_props.Proof.ToGaps.{to-gaps-behind-requires, to-gaps-calls, to-gaps-inner-children-requires, to-gaps-is-serializable-requires, to-gaps-to-attrs-requires, to-gaps-to-call-requires, to-gaps-to-parts-requires, to-gaps-returns, to-gaps-returns-2, to-gaps-returns-3, to-gaps-same-length, to-gaps-same-length-2, to-gaps-same-length-3, to-gaps-same-length-4, to-gaps-same-length-5, to-gaps-same-length-6}
 use Rattle.visits.proofs.calls.+attrs_todo+child_todo+held_todo+on_expr+on_found+on_fragment+on_given+on_held+on_items+on_jsx+on_pieces+on_template+tag_todo+to_attrs+to_call+to_entries+to_found+to_gaps+to_jsx+to_parts+to_props.Proof.ToEntries.{to-entries-Inv-loop, to-entries-behind-requires, to-entries-behind-requires-2, to-entries-behind-requires-3, to-entries-behind-requires-4, to-entries-behind-requires-5, to-entries-behind-requires-6, to-entries-body-requires, to-entries-body-requires-2, to-entries-body-requires-3, to-entries-body-requires-4, to-entries-calls, to-entries-flush-requires, to-entries-flush-requires-2, to-entries-flush-requires-3, to-entries-flush-requires-4, to-entries-found-of-requires, to-entries-join-container-requires, to-entries-join-text-requires, to-entries-joins-requires, to-entries-loop-again, to-entries-loop-again-2, to-entries-loop-again-3, to-entries-loop-again-4, to-entries-loop-again-5, to-entries-loop-again-6, to-entries-loop-holds, to-entries-loop-less, to-entries-loop-less-2, to-entries-loop-less-3, to-entries-loop-less-4, to-entries-loop-less-5, to-entries-loop-less-6, to-entries-to-found-requires, to-entries-to-jsx-requires, to-entries-returns, to-entries-same-length, to-entries-same-length-2, to-entries-same-length-3, to-entries-tag-at-requires, to-entries-on-expr-requires, to-entries-μ-loop}
 use Rattle.visits.proofs.calls.+attrs_todo+child_todo+held_todo+on_expr+on_found+on_fragment+on_given+on_held+on_items+on_jsx+on_pieces+on_template+tag_todo+to_attrs+to_call+to_entries+to_found+to_gaps+to_jsx+to_parts+to_props.Proof.ToFound.{to-found-begin-if-requires, to-found-begin-if-requires-2, to-found-begin-template-requires, to-found-body-requires, to-found-body-requires-2, to-found-body-requires-3, to-found-calls, to-found-close-if-requires, to-found-close-if-requires-2, to-found-close-requires, to-found-enum-told, to-found-enum-told-10, to-found-enum-told-2, to-found-enum-told-3, to-found-enum-told-4, to-found-enum-told-5, to-found-enum-told-6, to-found-enum-told-7, to-found-enum-told-8, to-found-enum-told-9, to-found-hole-leaf-requires, to-found-to-entries-requires, to-found-to-entries-requires-2, to-found-to-jsx-requires, to-found-to-parts-requires, to-found-place-requires, to-found-returns, to-found-returns-10, to-found-returns-11, to-found-returns-2, to-found-returns-3, to-found-returns-4, to-found-returns-5, to-found-returns-6, to-found-returns-7, to-found-returns-8, to-found-returns-9, to-found-same-length, to-found-same-length-10, to-found-same-length-11, to-found-same-length-12, to-found-same-length-13, to-found-same-length-14, to-found-same-length-15, to-found-same-length-16, to-found-same-length-17, to-found-same-length-18, to-found-same-length-19, to-found-same-length-2, to-found-same-length-20, to-found-same-length-21, to-found-same-length-3, to-found-same-length-4, to-found-same-length-5, to-found-same-length-6, to-found-same-length-7, to-found-same-length-8, to-found-same-length-9, to-found-tag-at-requires, to-found-text-leaf-requires, to-found-on-expr-requires, to-found-on-items-requires}
-use Rattle.visits.proofs.calls.+attrs_todo+child_todo+held_todo+on_expr+on_found+on_fragment+on_given+on_held+on_items+on_jsx+on_pieces+on_template+tag_todo+to_attrs+to_call+to_entries+to_found+to_gaps+to_jsx+to_parts+to_props.Proof.ToJsx.{to-jsx-begin-template-requires, to-jsx-behind-requires, to-jsx-calls, to-jsx-close-requires, to-jsx-inner-children-requires, to-jsx-is-serializable-requires, to-jsx-to-attrs-requires, to-jsx-to-call-requires, to-jsx-to-parts-requires, to-jsx-returns, to-jsx-returns-2, to-jsx-same-length, to-jsx-same-length-2, to-jsx-same-length-3, to-jsx-same-length-4, to-jsx-same-length-5, to-jsx-same-length-6}
+use Rattle.visits.proofs.calls.+attrs_todo+child_todo+held_todo+on_expr+on_found+on_fragment+on_given+on_held+on_items+on_jsx+on_pieces+on_template+tag_todo+to_attrs+to_call+to_entries+to_found+to_gaps+to_jsx+to_parts+to_props.Proof.ToJsx.{to-jsx-begin-template-requires, to-jsx-behind-requires, to-jsx-calls, to-jsx-close-requires, to-jsx-close-requires-2, to-jsx-inner-children-requires, to-jsx-is-serializable-requires, to-jsx-to-attrs-requires, to-jsx-to-call-requires, to-jsx-to-parts-requires, to-jsx-returns, to-jsx-returns-2, to-jsx-returns-3, to-jsx-same-length, to-jsx-same-length-2, to-jsx-same-length-3, to-jsx-same-length-4, to-jsx-same-length-5, to-jsx-same-length-6, to-jsx-same-length-7}
 use Rattle.visits.proofs.calls.+attrs_todo+child_todo+held_todo+on_expr+on_found+on_fragment+on_given+on_held+on_items+on_jsx+on_pieces+on_template+tag_todo+to_attrs+to_call+to_entries+to_found+to_gaps+to_jsx+to_parts+to_props.Proof.ToParts.{to-parts-Inv-loop, to-parts-begin-if-requires, to-parts-behind-requires, to-parts-behind-requires-2, to-parts-behind-requires-3, to-parts-behind-requires-4, to-parts-body-requires, to-parts-body-requires-2, to-parts-body-requires-3, to-parts-calls, to-parts-close-if-requires, to-parts-gap-held-requires, to-parts-is-wrapped-requires, to-parts-loop-again, to-parts-loop-again-2, to-parts-loop-again-3, to-parts-loop-again-4, to-parts-loop-holds, to-parts-loop-less, to-parts-loop-less-2, to-parts-loop-less-3, to-parts-loop-less-4, to-parts-to-gaps-requires, to-parts-to-parts-requires, to-parts-returns, to-parts-same-length, to-parts-same-length-2, to-parts-same-length-3, to-parts-tag-at-requires, to-parts-on-held-requires, to-parts-μ-loop}
 use Rattle.visits.proofs.calls.+attrs_todo+child_todo+held_todo+on_expr+on_found+on_fragment+on_given+on_held+on_items+on_jsx+on_pieces+on_template+tag_todo+to_attrs+to_call+to_entries+to_found+to_gaps+to_jsx+to_parts+to_props.Proof.ToProps.{to-props-Inv-loop, to-props-begin-requires, to-props-behind-requires, to-props-behind-requires-2, to-props-body-requires, to-props-body-requires-2, to-props-calls, to-props-close-requires, to-props-gap-back-requires, to-props-held-at-requires, to-props-loop-again, to-props-loop-again-2, to-props-loop-holds, to-props-loop-less, to-props-loop-less-2, to-props-property-front-requires, to-props-property-gap-requires, to-props-returns, to-props-same-length, to-props-same-length-2, to-props-same-length-3, to-props-tag-at-requires, to-props-on-expr-requires, to-props-on-held-requires, to-props-μ-loop}
 use Rattle.visits.proofs.calls.+attrs_todo+child_todo+held_todo+on_expr+on_found+on_fragment+on_given+on_held+on_items+on_jsx+on_pieces+on_template+tag_todo+to_attrs+to_call+to_entries+to_found+to_gaps+to_jsx+to_parts+to_props.Proof.TagTodo.{tag-todo-attrs-todo-requires, tag-todo-behind-requires, tag-todo-body-requires, tag-todo-calls, tag-todo-child-todo-requires, tag-todo-child-todo-requires-2, tag-todo-returns, tag-todo-returns-2, tag-todo-returns-3, tag-todo-returns-4, tag-todo-same-length, tag-todo-same-length-2, tag-todo-same-length-3, tag-todo-tag-at-requires}
@@ -573,37 +573,41 @@ pub +attrs-todo+child-todo+held-todo+on-expr+on-found+on-fragment+on-given+on-he
     to-gaps.Post
     (to-gaps-is-serializable-requires t)
     (to-gaps-behind-requires t)
+    (to-gaps-returns t)
     (to-gaps-to-attrs-requires t)
     (to-gaps-inner-children-requires t)
     (to-gaps-to-parts-requires t)
     (to-gaps-same-length t)
     (to-gaps-same-length-2 t)
     (to-gaps-same-length-3 t)
-    (to-gaps-returns t)
+    (to-gaps-returns-2 t)
     (to-gaps-to-call-requires t)
     (to-gaps-same-length-4 t)
     (to-gaps-same-length-5 t)
     (to-gaps-same-length-6 t)
-    (to-gaps-returns-2 t))
+    (to-gaps-returns-3 t))
     (λ t. to-jsx-lts.spec (to-jsx-calls t)
     (to-jsx-at t)
     to-jsx.Post
     (to-jsx-is-serializable-requires t)
     (to-jsx-begin-template-requires t)
     (to-jsx-behind-requires t)
+    (to-jsx-close-requires t)
+    (to-jsx-same-length t)
+    (to-jsx-returns t)
     (to-jsx-to-attrs-requires t)
     (to-jsx-inner-children-requires t)
     (to-jsx-to-parts-requires t)
-    (to-jsx-close-requires t)
-    (to-jsx-same-length t)
+    (to-jsx-close-requires-2 t)
     (to-jsx-same-length-2 t)
     (to-jsx-same-length-3 t)
-    (to-jsx-returns t)
-    (to-jsx-to-call-requires t)
     (to-jsx-same-length-4 t)
+    (to-jsx-returns-2 t)
+    (to-jsx-to-call-requires t)
     (to-jsx-same-length-5 t)
     (to-jsx-same-length-6 t)
-    (to-jsx-returns-2 t))
+    (to-jsx-same-length-7 t)
+    (to-jsx-returns-3 t))
     (λ t. to-parts-lts.spec (to-parts-calls t)
     (to-parts-at t)
     to-parts.Post

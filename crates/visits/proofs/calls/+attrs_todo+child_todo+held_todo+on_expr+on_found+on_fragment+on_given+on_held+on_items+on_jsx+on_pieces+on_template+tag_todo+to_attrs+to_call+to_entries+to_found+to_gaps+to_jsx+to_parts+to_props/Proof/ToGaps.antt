@@ -3,7 +3,7 @@ use mathlib.Core.Path.{refl, _∙_}
 use native.Mathlib.Omega.{arith}
 use Rattle.records.proofs.ReadLaws.{behind-shorter}
 use Rattle.walk.proofs.SeeLaws.{low-is}
-use Rattle.visits.proofs.PartLaws.{element-call, inner-shorter, attrs-room, inner-room, inner-done}
+use Rattle.visits.proofs.PartLaws.{element-call, element-bare, inner-shorter, attrs-room, inner-room, inner-done}
 use Prim.Native.Nat.{ℕ}
 use borrow.Author.Needs.{needs}
 use Rattle.visits.proofs.calls.to_attrs.Reads as to-attrs
@@ -25,9 +25,15 @@ to-gaps-is-serializable-requires t c κs = tt
 pub to-gaps-behind-requires : (t : ℕ) → to-gaps-lts.Need-behind-requires (to-gaps-calls t) (to-gaps-at t) to-gaps.Post
 to-gaps-behind-requires t c κs = tt
 
+pub to-gaps-returns : (t : ℕ) → to-gaps-lts.Need-returns (to-gaps-calls t) (to-gaps-at t) to-gaps.Post
+to-gaps-returns t c =
+    let b = c .before in
+    let i = b .before in
+    element-bare _ _ _ (i .before .is-serializable .ensures) _ (i .if1 .taken) (b .behind .ensures) (c .if2 .taken)
+
 pub to-gaps-to-attrs-requires : (t : ℕ) → to-gaps-lts.Need-to-attrs-requires (to-gaps-calls t) (to-gaps-at t) to-gaps.Post
 to-gaps-to-attrs-requires t c κs =
-    let b = c .before .before .before in
+    let b = c .before .before .before .before in
     let i = b .before in
     let a = i .before .before .before .before .before .before .before .before in
     let l = behind-shorter _ (b .behind .ensures) in
@@ -40,7 +46,7 @@ pub to-gaps-to-parts-requires : (t : ℕ) → to-gaps-lts.Need-to-parts-requires
 to-gaps-to-parts-requires t c κs =
     let k = c .before .before .before in
     let y = k .before .before .before .before .before .before .before in
-    let b = y .before .before .before .before in
+    let b = y .before .before .before .before .before in
     let i = b .before in
     let a = i .before .before .before .before .before .before .before .before in
     let l = inner-shorter _ (k .inner-children .ensures) in
@@ -55,12 +61,12 @@ to-gaps-same-length-2 t c = search needs
 pub to-gaps-same-length-3 : (t : ℕ) → to-gaps-lts.Need-same-length-3 (to-gaps-calls t) (to-gaps-at t) to-gaps.Post
 to-gaps-same-length-3 t c = search needs
 
-pub to-gaps-returns : (t : ℕ) → to-gaps-lts.Need-returns (to-gaps-calls t) (to-gaps-at t) to-gaps.Post
-to-gaps-returns t c =
+pub to-gaps-returns-2 : (t : ℕ) → to-gaps-lts.Need-returns-2 (to-gaps-calls t) (to-gaps-at t) to-gaps.Post
+to-gaps-returns-2 t c =
     let z = c .before .before .before .before .before .before in
     let k = z .before .before .before .before in
     let y = k .before .before .before .before .before .before .before in
-    let b = y .before .before .before .before in
+    let b = y .before .before .before .before .before in
     let i = b .before in
     inner-done _ _ _ (i .before .is-serializable .ensures) _ (i .if1 .taken) (b .behind .ensures) (k .inner-children .ensures) (y .to-attrs .ensures) (z .to-parts .ensures)
 
@@ -79,8 +85,8 @@ to-gaps-same-length-5 t c = search needs
 pub to-gaps-same-length-6 : (t : ℕ) → to-gaps-lts.Need-same-length-6 (to-gaps-calls t) (to-gaps-at t) to-gaps.Post
 to-gaps-same-length-6 t c = search needs
 
-pub to-gaps-returns-2 : (t : ℕ) → to-gaps-lts.Need-returns-2 (to-gaps-calls t) (to-gaps-at t) to-gaps.Post
-to-gaps-returns-2 t c =
+pub to-gaps-returns-3 : (t : ℕ) → to-gaps-lts.Need-returns-3 (to-gaps-calls t) (to-gaps-at t) to-gaps.Post
+to-gaps-returns-3 t c =
     let y = c .before .before .before .before .before .before in
     let i = y .before .before .before .before in
     y .to-call .ensures ∙ element-call _ _ _ (i .before .is-serializable .ensures) _ (i .if1 .left)
