@@ -143,6 +143,9 @@ pub fn record_serialize<'a>(
 {
     let rest = behind(b);
     if !is_serializable(skip, b) {
+        if rest.len() == 0 {
+            return st;
+        }
         return record_found(skip, props, rest, scratch, out, st);
     }
     let n = st.next;
