@@ -1,6 +1,6 @@
 -- Elements and series of children as they stand in bytes: what the walk does at each tag, and what it goes by at an element.
 -- Main statements: `within-30`, `called-30` and the like; `serialize-call`, `serialize-template`, `serialize-kids`, `inner-call`, `inner-void`,
--- `inner-kids`; `found-0`, `found-1`, `found-2`, `found-merged`. Assumes nothing.
+-- `inner-kids`, `serialize-none`, `inner-none`; `found-0`, `found-1`, `found-2`, `found-merged`. Assumes nothing.
 use mathlib.Core.Path.{_≡_, refl, sym, ap, _∙_, subst}
 use Prim.Native.Nat.{ℕ, _≤_}
 use native.Mathlib.Omega.{arith}
@@ -11,6 +11,7 @@ use Rattle.field.specs.Bytes.{Bytes, pick}
 use Rattle.field.specs.Row.{read, Ended, Next, nothing, no-field, next, next-of}
 use Rattle.field.specs.Front.{tag-of, body-of, behind-of, behind-by}
 use Rattle.field.proofs.RowLaws.{next-sizes}
+use Rattle.field.proofs.FrontLaws.{read-empty}
 use Rattle.names.specs.Names.{is-void-element}
 use Rattle.page.specs.Page as P
 use Rattle.page.specs.Page.{Options}
@@ -27,7 +28,7 @@ use Rattle.decisions.proofs.Laws.{child-element, child-fragment, element-serial
 use Rattle.decisions.proofs.Series.{tested, behind-name-at, children-none, children-60, children-52, children-30, children-31, children-61, children-other}
 use Rattle.records.specs.Keep.{Kept, at, keep, write, bumped}
 use Rattle.records.proofs.KeepLaws.{keep-pure, keep-map, keep-gen}
-use Rattle.records.proofs.ChildLaws.{within, called, merged-called, few-of, few-two, found-none, found-few, found-array, found-template, element-call, element-inner}
+use Rattle.records.proofs.ChildLaws.{within, called, parts-within, merged-called, few-of, few-two, found-none, found-few, found-array, found-template, element-call, element-inner}
 
 -- what lies behind a field is no longer than what it stands in
 pub behind-shorter : (s : Bytes) {r : Bytes} → r ≡ behind-of s → length r ≤ length s
@@ -184,6 +185,32 @@ module _ (k p b : Bytes) {r : Bytes} (q : r ≡ behind-of b) where
     pub serialize-kids : z ≡ true → (w : Kept) {n : Bytes} → n ≡ identifier-bytes (element-name (read b)) → {v : Bool} → v ≡ is-void-element n → v ≡ false → keep (serialize-jsx (element-at k p b)) w
         ≡ write (w .st .next) false (element-at k p b .to-string-vec) (keep (dynamic-exprs (children-to-string false (children-at k p (read r)))) (at (w .out) (bumped (w .st))))
     serialize-kids h w i u g = serialize-template h w ∙ ap (write (w .st .next) false (element-at k p b .to-string-vec)) (inner-kids h (at (w .out) (bumped (w .st))) i u g)
+
+  -- one with nothing behind its name records nothing
+  module _ (l : length r ≡ 0) (w : Kept) where
+    no-kids : children-at k p (read r) ≡ []
+    no-kids = kids-none k p r (subst Ended (sym (read-empty r l)) tt)
+
+    found-nothing : keep (found-pass (children-to-expr (children-at k p (read r)))) w ≡ w
+    unfolding few-of
+    found-nothing = found-none (children-at k p (read r)) (ap few-of no-kids) w
+
+    -- as an expression, if it is no HTML
+    pub serialize-none : {z : Bool} → z ≡ serializable k b → z ≡ false → keep (serialize-jsx (element-at k p b)) w ≡ w
+    serialize-none d h = serialize-call d h w ∙ found-nothing
+
+    -- in a template, whatever it is
+    within-void : (v : Bool) → keep (dynamic-exprs (pick v [] (children-to-string false (children-at k p (read r))))) w ≡ w
+    unfolding dynamic-exprs within
+    within-void true = keep-pure _ w
+    within-void false = ap (λ (cs : List Child). keep (dynamic-exprs (children-to-string false cs)) w) no-kids ∙ (parts-within false [] w ∙ keep-pure _ w)
+
+    inner-either : (z : Bool) → z ≡ serializable k b → keep (dynamic-exprs (element-at k p b .to-string-vec)) w ≡ w
+    inner-either true d = inner d refl w ∙ within-void (is-void-element (identifier-bytes (element-name (read b))))
+    inner-either false d = inner-call d refl w ∙ found-nothing
+
+    pub inner-none : keep (dynamic-exprs (element-at k p b .to-string-vec)) w ≡ w
+    inner-none = inner-either (serializable k b) refl
 
 -- ---- children of a call
 

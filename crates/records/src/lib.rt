@@ -143,10 +143,16 @@ pub fn record_serialize<'a>(
 {
     let rest = behind(b);
     if !is_serializable(skip, b) {
+        if rest.len() == 0 {
+            return st;
+        }
         return record_found(skip, props, rest, scratch, out, st);
     }
     let n = st.next;
     let a = taken(st);
+    if rest.len() == 0 {
+        return write_element(skip, props, b, out, n, a);
+    }
     if is_void_element(identifier(b)) {
         return write_element(skip, props, b, out, n, a);
     }
@@ -167,6 +173,9 @@ fn record_element<'a>(
     ensures { λ r. ⌜ at (now (out .exit)) r ≡ keep (dynamic-exprs (element-at (now (skip .entry)) (now (props .entry)) (now (b .entry)) .to-string-vec)) (at (now (out .entry)) st) ⌝ }
 {
     let rest = behind(b);
+    if rest.len() == 0 {
+        return st;
+    }
     if !is_serializable(skip, b) {
         return record_found(skip, props, rest, scratch, out, st);
     }

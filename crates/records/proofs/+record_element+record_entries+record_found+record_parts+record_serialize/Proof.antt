@@ -16,7 +16,7 @@ use Rattle.field.proofs.FrontLaws.{body-less, behind-less}
 use Rattle.records.specs.Keep.{at, keep, Low}
 use Rattle.records.proofs.KeepLaws.{keep-low, length-kept, inner-low, outer-low, outer-is}
 use Rattle.records.proofs.ChildLaws.{within, called, parts-within, merged-called}
-use Rattle.records.proofs.ReadLaws.{behind-shorter, serialize-call, serialize-template, serialize-kids, inner-call, inner-void, inner-kids, found-0, found-1, found-2, found-merged}
+use Rattle.records.proofs.ReadLaws.{behind-shorter, serialize-call, serialize-template, serialize-kids, serialize-none, inner-call, inner-void, inner-kids, inner-none, found-0, found-1, found-2, found-merged}
 use Rattle.records.proofs.WalkLaws.{test-failed, test-held, element-room, element-on, kids-room, kids-on, parts-past, parts-end, serialize-room, serialize-on, found-room, found-on, entries-past, entries-end}
 use borrow.Author.Needs.{needs}
 use borrow.Fn.Kinds.{In}
@@ -148,22 +148,25 @@ abbrev record-found-calls : ℕ → record-found-lts.Claims
 record-found-calls t = (child-count-reads.Asked, child-count-reads.Learnt, record-entries-below t, record-entries.Post, becomes-template-reads.Asked, becomes-template-reads.Learnt, taken-reads.Asked, taken-reads.Learnt, record-parts-below t, record-parts.Post, write-merged-reads.Asked, write-merged-reads.Learnt)
 
 abbrev record-serialize-calls : ℕ → record-serialize-lts.Claims
-record-serialize-calls t = (behind-reads.Asked, behind-reads.Learnt, is-serializable-reads.Asked, is-serializable-reads.Learnt, record-found-below t, record-found.Post, taken-reads.Asked, taken-reads.Learnt, identifier-reads.Asked, identifier-reads.Learnt, is-void-element-reads.Asked, is-void-element-reads.Learnt, write-element-reads.Asked, write-element-reads.Learnt, record-parts-below t, record-parts.Post)
+record-serialize-calls t = (behind-reads.Asked, behind-reads.Learnt, is-serializable-reads.Asked, is-serializable-reads.Learnt, record-found-below t, record-found.Post, taken-reads.Asked, taken-reads.Learnt, write-element-reads.Asked, write-element-reads.Learnt, identifier-reads.Asked, identifier-reads.Learnt, is-void-element-reads.Asked, is-void-element-reads.Learnt, record-parts-below t, record-parts.Post)
 
 -- ---- an element in a template
 
 record-element-behind-requires : (t : ℕ) → record-element-lts.Need-behind-requires (record-element-calls t) (record-element-at t) record-element.Post
 record-element-behind-requires t c κs = tt
 
+record-element-returns : (t : ℕ) → record-element-lts.Need-returns (record-element-calls t) (record-element-at t) record-element.Post
+record-element-returns t c = sym (inner-none _ _ _ (c .before .behind .ensures) (c .if1 .taken) _)
+
 record-element-is-serializable-requires : (t : ℕ) → record-element-lts.Need-is-serializable-requires (record-element-calls t) (record-element-at t) record-element.Post
 record-element-is-serializable-requires t c κs = tt
 
 record-element-record-found-requires : (t : ℕ) → record-element-lts.Need-record-found-requires (record-element-calls t) (record-element-at t) record-element.Post
 record-element-record-found-requires t c κs =
-    let a = c .before .before .before .before .before .before .before .before .before .before in
+    let a = c .before .before .before .before .before .before .before .before .before .before .before in
     let i = c .before .before in
-    let l = behind-shorter _ (i .before .before .behind .ensures) in
-    (omega (arith, l, a .pre .0), (a .pre .1 .0, (omega (arith, l, a .pre .1 .1 .0), subst Low (inner-call _ _ _ (i .before .before .behind .ensures) (i .before .is-serializable .ensures) (test-failed (i .before .is-serializable .result) (i .if1 .taken)) _) (a .pre .1 .1 .1))))
+    let l = behind-shorter _ (i .before .before .before .behind .ensures) in
+    (omega (arith, l, a .pre .0), (a .pre .1 .0, (omega (arith, l, a .pre .1 .1 .0), subst Low (inner-call _ _ _ (i .before .before .before .behind .ensures) (i .before .is-serializable .ensures) (test-failed (i .before .is-serializable .result) (i .if2 .taken)) _) (a .pre .1 .1 .1))))
 
 record-element-same-length : (t : ℕ) → record-element-lts.Need-same-length (record-element-calls t) (record-element-at t) record-element.Post
 record-element-same-length t c = search needs
@@ -171,10 +174,10 @@ record-element-same-length t c = search needs
 record-element-same-length-2 : (t : ℕ) → record-element-lts.Need-same-length-2 (record-element-calls t) (record-element-at t) record-element.Post
 record-element-same-length-2 t c = search needs
 
-record-element-returns : (t : ℕ) → record-element-lts.Need-returns (record-element-calls t) (record-element-at t) record-element.Post
-record-element-returns t c =
+record-element-returns-2 : (t : ℕ) → record-element-lts.Need-returns-2 (record-element-calls t) (record-element-at t) record-element.Post
+record-element-returns-2 t c =
     let i = c .before .before .before .before .before .before .before in
-    c .before .before .before .before .record-found .ensures ∙ sym (inner-call _ _ _ (i .before .before .behind .ensures) (i .before .is-serializable .ensures) (test-failed (i .before .is-serializable .result) (i .if1 .taken)) _)
+    c .before .before .before .before .record-found .ensures ∙ sym (inner-call _ _ _ (i .before .before .before .behind .ensures) (i .before .is-serializable .ensures) (test-failed (i .before .is-serializable .result) (i .if2 .taken)) _)
 
 record-element-identifier-requires : (t : ℕ) → record-element-lts.Need-identifier-requires (record-element-calls t) (record-element-at t) record-element.Post
 record-element-identifier-requires t c κs = tt
@@ -182,15 +185,15 @@ record-element-identifier-requires t c κs = tt
 record-element-is-void-element-requires : (t : ℕ) → record-element-lts.Need-is-void-element-requires (record-element-calls t) (record-element-at t) record-element.Post
 record-element-is-void-element-requires t c κs = tt
 
-record-element-returns-2 : (t : ℕ) → record-element-lts.Need-returns-2 (record-element-calls t) (record-element-at t) record-element.Post
-record-element-returns-2 t c = sym (inner-void _ _ _ (c .before .before .before .before .before .behind .ensures) (c .before .before .before .before .is-serializable .ensures) (test-held (c .before .before .before .before .is-serializable .result) (c .before .before .before .if1 .left)) _ (c .before .before .identifier .ensures) (c .before .is-void-element .ensures) (c .if2 .taken))
+record-element-returns-3 : (t : ℕ) → record-element-lts.Need-returns-3 (record-element-calls t) (record-element-at t) record-element.Post
+record-element-returns-3 t c = sym (inner-void _ _ _ (c .before .before .before .before .before .before .behind .ensures) (c .before .before .before .before .is-serializable .ensures) (test-held (c .before .before .before .before .is-serializable .result) (c .before .before .before .if2 .left)) _ (c .before .before .identifier .ensures) (c .before .is-void-element .ensures) (c .if3 .taken))
 
 record-element-record-parts-requires : (t : ℕ) → record-element-lts.Need-record-parts-requires (record-element-calls t) (record-element-at t) record-element.Post
 record-element-record-parts-requires t c κs =
-    let a = c .before .before .before .before .before .before .before .before .before .before .before .before .before in
+    let a = c .before .before .before .before .before .before .before .before .before .before .before .before .before .before in
     let i = c .before .before in
-    let l = behind-shorter _ (i .before .before .before .before .before .behind .ensures) in
-    (omega (arith, l, a .pre .0), (a .pre .1 .0, (omega (arith, l, a .pre .1 .1 .0), subst Low (inner-kids _ _ _ (i .before .before .before .before .before .behind .ensures) (i .before .before .before .before .is-serializable .ensures) (test-held (i .before .before .before .before .is-serializable .result) (i .before .before .before .if1 .left)) _ (i .before .before .identifier .ensures) (i .before .is-void-element .ensures) (i .if2 .left)) (a .pre .1 .1 .1))))
+    let l = behind-shorter _ (i .before .before .before .before .before .before .behind .ensures) in
+    (omega (arith, l, a .pre .0), (a .pre .1 .0, (omega (arith, l, a .pre .1 .1 .0), subst Low (inner-kids _ _ _ (i .before .before .before .before .before .before .behind .ensures) (i .before .before .before .before .is-serializable .ensures) (test-held (i .before .before .before .before .is-serializable .result) (i .before .before .before .if2 .left)) _ (i .before .before .identifier .ensures) (i .before .is-void-element .ensures) (i .if3 .left)) (a .pre .1 .1 .1))))
 
 record-element-same-length-3 : (t : ℕ) → record-element-lts.Need-same-length-3 (record-element-calls t) (record-element-at t) record-element.Post
 record-element-same-length-3 t c = search needs
@@ -198,10 +201,10 @@ record-element-same-length-3 t c = search needs
 record-element-same-length-4 : (t : ℕ) → record-element-lts.Need-same-length-4 (record-element-calls t) (record-element-at t) record-element.Post
 record-element-same-length-4 t c = search needs
 
-record-element-returns-3 : (t : ℕ) → record-element-lts.Need-returns-3 (record-element-calls t) (record-element-at t) record-element.Post
-record-element-returns-3 t c =
+record-element-returns-4 : (t : ℕ) → record-element-lts.Need-returns-4 (record-element-calls t) (record-element-at t) record-element.Post
+record-element-returns-4 t c =
     let i = c .before .before .before .before .before .before .before in
-    c .before .before .before .before .record-parts .ensures ∙ sym (inner-kids _ _ _ (i .before .before .before .before .before .behind .ensures) (i .before .before .before .before .is-serializable .ensures) (test-held (i .before .before .before .before .is-serializable .result) (i .before .before .before .if1 .left)) _ (i .before .before .identifier .ensures) (i .before .is-void-element .ensures) (i .if2 .left))
+    c .before .before .before .before .record-parts .ensures ∙ sym (inner-kids _ _ _ (i .before .before .before .before .before .before .behind .ensures) (i .before .before .before .before .is-serializable .ensures) (test-held (i .before .before .before .before .is-serializable .result) (i .before .before .before .if2 .left)) _ (i .before .before .identifier .ensures) (i .before .is-void-element .ensures) (i .if3 .left))
 
 -- ---- children as entries
 
@@ -451,10 +454,15 @@ record-serialize-behind-requires t c κs = tt
 record-serialize-is-serializable-requires : (t : ℕ) → record-serialize-lts.Need-is-serializable-requires (record-serialize-calls t) (record-serialize-at t) record-serialize.Post
 record-serialize-is-serializable-requires t c κs = tt
 
+record-serialize-returns : (t : ℕ) → record-serialize-lts.Need-returns (record-serialize-calls t) (record-serialize-at t) record-serialize.Post
+record-serialize-returns t c =
+    let i = c .before in
+    sym (serialize-none _ _ _ (i .before .before .behind .ensures) (c .if2 .taken) _ (i .before .is-serializable .ensures) (test-failed (i .before .is-serializable .result) (i .if1 .taken)))
+
 record-serialize-record-found-requires : (t : ℕ) → record-serialize-lts.Need-record-found-requires (record-serialize-calls t) (record-serialize-at t) record-serialize.Post
 record-serialize-record-found-requires t c κs =
-    let a = c .before .before .before .before .before .before .before .before .before .before in
-    let i = c .before .before in
+    let a = c .before .before .before .before .before .before .before .before .before .before .before in
+    let i = c .before .before .before in
     let l = behind-shorter _ (i .before .before .behind .ensures) in
     (omega (arith, l, a .pre .0), (a .pre .1 .0, (omega (arith, l, a .pre .1 .1 .0), subst Low (serialize-call _ _ _ (i .before .before .behind .ensures) (i .before .is-serializable .ensures) (test-failed (i .before .is-serializable .result) (i .if1 .taken)) _) (a .pre .1 .1 .1))))
 
@@ -464,9 +472,9 @@ record-serialize-same-length t c = search needs
 record-serialize-same-length-2 : (t : ℕ) → record-serialize-lts.Need-same-length-2 (record-serialize-calls t) (record-serialize-at t) record-serialize.Post
 record-serialize-same-length-2 t c = search needs
 
-record-serialize-returns : (t : ℕ) → record-serialize-lts.Need-returns (record-serialize-calls t) (record-serialize-at t) record-serialize.Post
-record-serialize-returns t c =
-    let i = c .before .before .before .before .before .before .before in
+record-serialize-returns-2 : (t : ℕ) → record-serialize-lts.Need-returns-2 (record-serialize-calls t) (record-serialize-at t) record-serialize.Post
+record-serialize-returns-2 t c =
+    let i = c .before .before .before .before .before .before .before .before in
     c .before .before .before .before .record-found .ensures ∙ sym (serialize-call _ _ _ (i .before .before .behind .ensures) (i .before .is-serializable .ensures) (test-failed (i .before .is-serializable .result) (i .if1 .taken)) _)
 
 record-serialize-taken-requires : (t : ℕ) → record-serialize-lts.Need-taken-requires (record-serialize-calls t) (record-serialize-at t) record-serialize.Post
@@ -474,54 +482,70 @@ record-serialize-taken-requires t c κs =
     let a = c .before .before .before .before .before .before .before .before in
     keep-low _ (at (a .args .out .now) (a .args .st)) (a .pre .1 .1 .1) .low-next
 
+record-serialize-write-element-requires : (t : ℕ) → record-serialize-lts.Need-write-element-requires (record-serialize-calls t) (record-serialize-at t) record-serialize.Post
+record-serialize-write-element-requires t c κs =
+    let v = c .before in
+    let i = v .before .before in
+    let a = i .before .before .before .before .before .before .before .before in
+    (sym (i .before .is-serializable .ensures) ∙ test-held (i .before .is-serializable .result) (i .if1 .left), outer-low _ _ _ _ _ (serialize-template _ _ _ (i .before .before .behind .ensures) (i .before .is-serializable .ensures) (test-held (i .before .is-serializable .result) (i .if1 .left)) _) (v .before .taken .ensures) (sym (inner-none _ _ _ (i .before .before .behind .ensures) (v .if3 .taken) _)) (a .pre .1 .1 .1))
+
+record-serialize-same-length-3 : (t : ℕ) → record-serialize-lts.Need-same-length-3 (record-serialize-calls t) (record-serialize-at t) record-serialize.Post
+record-serialize-same-length-3 t c = search needs
+
+record-serialize-returns-3 : (t : ℕ) → record-serialize-lts.Need-returns-3 (record-serialize-calls t) (record-serialize-at t) record-serialize.Post
+record-serialize-returns-3 t c =
+    let v = c .before .before .before .before in
+    let i = v .before .before in
+    outer-is _ _ _ _ _ (serialize-template _ _ _ (i .before .before .behind .ensures) (i .before .is-serializable .ensures) (test-held (i .before .is-serializable .result) (i .if1 .left)) _) (v .before .taken .ensures) (sym (inner-none _ _ _ (i .before .before .behind .ensures) (v .if3 .taken) _)) (c .before .before .write-element .ensures)
+
 record-serialize-identifier-requires : (t : ℕ) → record-serialize-lts.Need-identifier-requires (record-serialize-calls t) (record-serialize-at t) record-serialize.Post
 record-serialize-identifier-requires t c κs = tt
 
 record-serialize-is-void-element-requires : (t : ℕ) → record-serialize-lts.Need-is-void-element-requires (record-serialize-calls t) (record-serialize-at t) record-serialize.Post
 record-serialize-is-void-element-requires t c κs = tt
 
-record-serialize-write-element-requires : (t : ℕ) → record-serialize-lts.Need-write-element-requires (record-serialize-calls t) (record-serialize-at t) record-serialize.Post
-record-serialize-write-element-requires t c κs =
-    let v = c .before in
-    let i = v .before .before .before .before in
-    let a = i .before .before .before .before .before .before .before .before in
-    (sym (i .before .is-serializable .ensures) ∙ test-held (i .before .is-serializable .result) (i .if1 .left), outer-low _ _ _ _ _ (serialize-template _ _ _ (i .before .before .behind .ensures) (i .before .is-serializable .ensures) (test-held (i .before .is-serializable .result) (i .if1 .left)) _) (v .before .before .before .taken .ensures) (sym (inner-void _ _ _ (i .before .before .behind .ensures) (i .before .is-serializable .ensures) (test-held (i .before .is-serializable .result) (i .if1 .left)) _ (v .before .before .identifier .ensures) (v .before .is-void-element .ensures) (v .if2 .taken))) (a .pre .1 .1 .1))
-
-record-serialize-same-length-3 : (t : ℕ) → record-serialize-lts.Need-same-length-3 (record-serialize-calls t) (record-serialize-at t) record-serialize.Post
-record-serialize-same-length-3 t c = search needs
-
-record-serialize-returns-2 : (t : ℕ) → record-serialize-lts.Need-returns-2 (record-serialize-calls t) (record-serialize-at t) record-serialize.Post
-record-serialize-returns-2 t c =
-    let v = c .before .before .before .before in
-    let i = v .before .before .before .before in
-    outer-is _ _ _ _ _ (serialize-template _ _ _ (i .before .before .behind .ensures) (i .before .is-serializable .ensures) (test-held (i .before .is-serializable .result) (i .if1 .left)) _) (v .before .before .before .taken .ensures) (sym (inner-void _ _ _ (i .before .before .behind .ensures) (i .before .is-serializable .ensures) (test-held (i .before .is-serializable .result) (i .if1 .left)) _ (v .before .before .identifier .ensures) (v .before .is-void-element .ensures) (v .if2 .taken))) (c .before .before .write-element .ensures)
-
-record-serialize-record-parts-requires : (t : ℕ) → record-serialize-lts.Need-record-parts-requires (record-serialize-calls t) (record-serialize-at t) record-serialize.Post
-record-serialize-record-parts-requires t c κs =
-    let v = c .before .before in
-    let i = v .before .before .before .before in
-    let a = i .before .before .before .before .before .before .before .before in
-    let l = behind-shorter _ (i .before .before .behind .ensures) in
-    (omega (arith, l, a .pre .0), (a .pre .1 .0, (omega (arith, l, a .pre .1 .1 .0), inner-low _ _ _ _ _ (serialize-kids _ _ _ (i .before .before .behind .ensures) (i .before .is-serializable .ensures) (test-held (i .before .is-serializable .result) (i .if1 .left)) _ (v .before .before .identifier .ensures) (v .before .is-void-element .ensures) (v .if2 .left)) (v .before .before .before .taken .ensures) (a .pre .1 .1 .1))))
-
 record-serialize-write-element-requires-2 : (t : ℕ) → record-serialize-lts.Need-write-element-requires-2 (record-serialize-calls t) (record-serialize-at t) record-serialize.Post
 record-serialize-write-element-requires-2 t c κs =
-    let v = c .before .before .before .before .before .before .before .before in
-    let i = v .before .before .before .before in
+    let v = c .before in
+    let i = v .before .before .before .before .before in
     let a = i .before .before .before .before .before .before .before .before in
-    (sym (i .before .is-serializable .ensures) ∙ test-held (i .before .is-serializable .result) (i .if1 .left), outer-low _ _ _ _ _ (serialize-kids _ _ _ (i .before .before .behind .ensures) (i .before .is-serializable .ensures) (test-held (i .before .is-serializable .result) (i .if1 .left)) _ (v .before .before .identifier .ensures) (v .before .is-void-element .ensures) (v .if2 .left)) (v .before .before .before .taken .ensures) (c .before .before .before .before .before .record-parts .ensures) (a .pre .1 .1 .1))
+    (sym (i .before .is-serializable .ensures) ∙ test-held (i .before .is-serializable .result) (i .if1 .left), outer-low _ _ _ _ _ (serialize-template _ _ _ (i .before .before .behind .ensures) (i .before .is-serializable .ensures) (test-held (i .before .is-serializable .result) (i .if1 .left)) _) (v .before .before .before .before .taken .ensures) (sym (inner-void _ _ _ (i .before .before .behind .ensures) (i .before .is-serializable .ensures) (test-held (i .before .is-serializable .result) (i .if1 .left)) _ (v .before .before .identifier .ensures) (v .before .is-void-element .ensures) (v .if4 .taken))) (a .pre .1 .1 .1))
 
 record-serialize-same-length-4 : (t : ℕ) → record-serialize-lts.Need-same-length-4 (record-serialize-calls t) (record-serialize-at t) record-serialize.Post
 record-serialize-same-length-4 t c = search needs
 
+record-serialize-returns-4 : (t : ℕ) → record-serialize-lts.Need-returns-4 (record-serialize-calls t) (record-serialize-at t) record-serialize.Post
+record-serialize-returns-4 t c =
+    let v = c .before .before .before .before in
+    let i = v .before .before .before .before .before in
+    outer-is _ _ _ _ _ (serialize-template _ _ _ (i .before .before .behind .ensures) (i .before .is-serializable .ensures) (test-held (i .before .is-serializable .result) (i .if1 .left)) _) (v .before .before .before .before .taken .ensures) (sym (inner-void _ _ _ (i .before .before .behind .ensures) (i .before .is-serializable .ensures) (test-held (i .before .is-serializable .result) (i .if1 .left)) _ (v .before .before .identifier .ensures) (v .before .is-void-element .ensures) (v .if4 .taken))) (c .before .before .write-element2 .ensures)
+
+record-serialize-record-parts-requires : (t : ℕ) → record-serialize-lts.Need-record-parts-requires (record-serialize-calls t) (record-serialize-at t) record-serialize.Post
+record-serialize-record-parts-requires t c κs =
+    let v = c .before .before in
+    let i = v .before .before .before .before .before in
+    let a = i .before .before .before .before .before .before .before .before in
+    let l = behind-shorter _ (i .before .before .behind .ensures) in
+    (omega (arith, l, a .pre .0), (a .pre .1 .0, (omega (arith, l, a .pre .1 .1 .0), inner-low _ _ _ _ _ (serialize-kids _ _ _ (i .before .before .behind .ensures) (i .before .is-serializable .ensures) (test-held (i .before .is-serializable .result) (i .if1 .left)) _ (v .before .before .identifier .ensures) (v .before .is-void-element .ensures) (v .if4 .left)) (v .before .before .before .before .taken .ensures) (a .pre .1 .1 .1))))
+
+record-serialize-write-element-requires-3 : (t : ℕ) → record-serialize-lts.Need-write-element-requires-3 (record-serialize-calls t) (record-serialize-at t) record-serialize.Post
+record-serialize-write-element-requires-3 t c κs =
+    let v = c .before .before .before .before .before .before .before .before in
+    let i = v .before .before .before .before .before in
+    let a = i .before .before .before .before .before .before .before .before in
+    (sym (i .before .is-serializable .ensures) ∙ test-held (i .before .is-serializable .result) (i .if1 .left), outer-low _ _ _ _ _ (serialize-kids _ _ _ (i .before .before .behind .ensures) (i .before .is-serializable .ensures) (test-held (i .before .is-serializable .result) (i .if1 .left)) _ (v .before .before .identifier .ensures) (v .before .is-void-element .ensures) (v .if4 .left)) (v .before .before .before .before .taken .ensures) (c .before .before .before .before .before .record-parts .ensures) (a .pre .1 .1 .1))
+
 record-serialize-same-length-5 : (t : ℕ) → record-serialize-lts.Need-same-length-5 (record-serialize-calls t) (record-serialize-at t) record-serialize.Post
 record-serialize-same-length-5 t c = search needs
 
-record-serialize-returns-3 : (t : ℕ) → record-serialize-lts.Need-returns-3 (record-serialize-calls t) (record-serialize-at t) record-serialize.Post
-record-serialize-returns-3 t c =
+record-serialize-same-length-6 : (t : ℕ) → record-serialize-lts.Need-same-length-6 (record-serialize-calls t) (record-serialize-at t) record-serialize.Post
+record-serialize-same-length-6 t c = search needs
+
+record-serialize-returns-5 : (t : ℕ) → record-serialize-lts.Need-returns-5 (record-serialize-calls t) (record-serialize-at t) record-serialize.Post
+record-serialize-returns-5 t c =
     let v = c .before .before .before .before .before .before .before .before .before .before .before in
-    let i = v .before .before .before .before in
-    outer-is _ _ _ _ _ (serialize-kids _ _ _ (i .before .before .behind .ensures) (i .before .is-serializable .ensures) (test-held (i .before .is-serializable .result) (i .if1 .left)) _ (v .before .before .identifier .ensures) (v .before .is-void-element .ensures) (v .if2 .left)) (v .before .before .before .taken .ensures) (c .before .before .before .before .before .before .before .before .record-parts .ensures) (c .before .before .write-element2 .ensures)
+    let i = v .before .before .before .before .before in
+    outer-is _ _ _ _ _ (serialize-kids _ _ _ (i .before .before .behind .ensures) (i .before .is-serializable .ensures) (test-held (i .before .is-serializable .result) (i .if1 .left)) _ (v .before .before .identifier .ensures) (v .before .is-void-element .ensures) (v .if4 .left)) (v .before .before .before .before .taken .ensures) (c .before .before .before .before .before .before .before .before .record-parts .ensures) (c .before .before .write-element3 .ensures)
 
 pub +record-element+record-entries+record-found+record-parts+record-serialize-spec :
     {M : Type 1} → statement M
@@ -536,18 +560,19 @@ pub +record-element+record-entries+record-found+record-parts+record-serialize-sp
     (record-element-at t)
     record-element.Post
     (record-element-behind-requires t)
+    (record-element-returns t)
     (record-element-is-serializable-requires t)
     (record-element-record-found-requires t)
     (record-element-same-length t)
     (record-element-same-length-2 t)
-    (record-element-returns t)
+    (record-element-returns-2 t)
     (record-element-identifier-requires t)
     (record-element-is-void-element-requires t)
-    (record-element-returns-2 t)
+    (record-element-returns-3 t)
     (record-element-record-parts-requires t)
     (record-element-same-length-3 t)
     (record-element-same-length-4 t)
-    (record-element-returns-3 t))
+    (record-element-returns-4 t))
     (λ t. record-entries-lts.spec (record-entries-calls t)
     (record-entries-at t)
     record-entries.Post
@@ -619,18 +644,22 @@ pub +record-element+record-entries+record-found+record-parts+record-serialize-sp
     record-serialize.Post
     (record-serialize-behind-requires t)
     (record-serialize-is-serializable-requires t)
+    (record-serialize-returns t)
     (record-serialize-record-found-requires t)
     (record-serialize-same-length t)
     (record-serialize-same-length-2 t)
-    (record-serialize-returns t)
+    (record-serialize-returns-2 t)
     (record-serialize-taken-requires t)
-    (record-serialize-identifier-requires t)
-    (record-serialize-is-void-element-requires t)
     (record-serialize-write-element-requires t)
     (record-serialize-same-length-3 t)
-    (record-serialize-returns-2 t)
-    (record-serialize-record-parts-requires t)
+    (record-serialize-returns-3 t)
+    (record-serialize-identifier-requires t)
+    (record-serialize-is-void-element-requires t)
     (record-serialize-write-element-requires-2 t)
     (record-serialize-same-length-4 t)
+    (record-serialize-returns-4 t)
+    (record-serialize-record-parts-requires t)
+    (record-serialize-write-element-requires-3 t)
     (record-serialize-same-length-5 t)
-    (record-serialize-returns-3 t)
+    (record-serialize-same-length-6 t)
+    (record-serialize-returns-5 t)
