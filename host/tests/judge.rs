@@ -39,7 +39,7 @@ fn seeds() {
     let word = |name: &str, other: u64| {
         std::env::var(name).map_or(other, |word| word.parse().unwrap_or_else(|_| panic!("{name} is no number: {word}")))
     };
-    let (from, count) = (word("HOST_SEEDS_FROM", 0), word("HOST_SEEDS", 200_000));
+    let (from, count) = (word("HOST_SEEDS_FROM", 0), word("HOST_SEEDS", 500_000));
     let start = Instant::now();
     let step = (count / 10).clamp(1, 50_000);
     for first in (0..count).step_by(step as usize) {
