@@ -12,6 +12,7 @@ use lib.ListN.{length}
 use Rattle.field.specs.Bytes.{Bytes, ascii, pick, same}
 use Rattle.field.specs.Row.{Row, read}
 use Rattle.field.specs.Front.{tag-of, body-of, behind-of}
+use Rattle.field.proofs.FrontLaws.{read-empty}
 use Rattle.field.proofs.Actions.{Action, Lows, by, on, room, finish}
 use Rattle.text.specs.Text.{normalize-lit-str}
 use Rattle.names.specs.Names.{AttrName, get-attr-name}
@@ -406,6 +407,11 @@ module _ (skip props : Bytes) (p : ℕ) (m : Mid) (v : P.Value) (d : m ≡ key-f
 
   pub key-on : (s′ : Bytes) (r : Walk) → at [] s′ r ≡ see (key-string (value (opts [] []) v)) (at [] s x) → key-left p (key-held (value (opts skip props) v)) (at o s′ r) ≡ total
   key-on s′ r e = ap (key-left p (key-held (value (opts skip props) v))) (lift o s s′ x r key-before (key-plain (value (opts [] []) v)) e) ∙ held-left
+
+-- no attribute decides it
+pub no-key : (skip props : Bytes) {m : Mid} (a : Bytes) → length a ≡ 0 → m ≡ key-from (value (opts skip props) (value-in (read a))) S.none → S.none ≡ m
+unfolding key-from value value-in
+no-key skip props a h d = sym (d ∙ ap (λ (x : Row). key-from (value (opts skip props) (value-in x)) S.none) (read-empty a h))
 
 module _ (p : ℕ) (m n : Mid) (e : n ≡ m) (w total : World) (g : key-left p m w ≡ total) where
   held-is : wrap 0x94 p (see n w) ≡ total

@@ -492,6 +492,10 @@ fn to_call<'a>(
     let c = close_if(page, z, h, 0x96, stands);
     let d = close_props(page, c, q);
     let a = key_at(rest, norm);
+    // Most calls have no key.
+    if a.len() == 0 {
+        return close(page, d, p, 0x94);
+    }
     let k = key_front(page, d, a);
     let l = on_held(skip, props, key_held(a), scratch, templates, page, k);
     close(page, l, p, 0x94)
