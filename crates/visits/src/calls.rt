@@ -482,6 +482,11 @@ fn to_call<'a>(
     let norm = !is_component(b);
     let rest = behind(b);
     let n = name_expr(page, begin(st), b);
+    // Neither attributes nor children.
+    if rest.len() == 0 {
+        let z = leaf(page, n, 0x73, b"");
+        return close(page, z, p, 0x94);
+    }
     let q = n.page;
     let x = to_props(skip, props, rest, norm, scratch, templates, page, begin(n));
     let f = found_of(skip, rest);
