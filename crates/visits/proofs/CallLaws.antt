@@ -7,17 +7,18 @@ use native.Mathlib.Omega.{arith}
 use mathlib.Core.Bool.{Bool, true, false, _&&_, not, false≢true}
 use mathlib.Core.List.{List, [], _∷_}
 use lib.Dec.{eqb}
-use borrow.Author.Tests.{eqb-true}
+use borrow.Author.Tests.{eqb-true, eq-eqb}
 use lib.ListN.{length}
 use Rattle.field.specs.Bytes.{Bytes, ascii, pick, same}
 use Rattle.field.specs.Row.{Row, read}
 use Rattle.field.specs.Front.{tag-of, body-of, behind-of}
+use Rattle.field.proofs.FrontLaws.{read-empty}
 use Rattle.field.proofs.Actions.{Action, Lows, by, on, room, finish}
 use Rattle.text.specs.Text.{normalize-lit-str}
 use Rattle.names.specs.Names.{AttrName, get-attr-name}
 use Rattle.page.specs.Page as P
 use Rattle.page.specs.Page.{Name, identifier, member, namespaced, Options}
-use Rattle.page.specs.Tree.{choose, attr-name-in, value-in, expr-in}
+use Rattle.page.specs.Tree.{choose, attr-name-in, attributes-in, children-in, value-in, expr-in}
 use Rattle.spec.specs.Pass as S
 use Rattle.spec.specs.Pass.{Done, Pass, pure, map, long-if, Mid, node, _+++_}
 use Rattle.spec.specs.Output.{leaf, null-node, gen-template}
@@ -25,7 +26,7 @@ use Rattle.spec.specs.Merge.{Found, Element, merge, long-run, short-runs}
 use Rattle.spec.specs.Attributes as A
 use Rattle.spec.specs.Attributes.{is-component, first-upper, prop-of, props-of, key-of, key-from}
 use Rattle.spec.specs.Children.{found-of, entry-pass, found-pass, members-row, name-expr, call-node, to-call-expr, serialize-jsx, children-to-expr, children-to-string}
-use Rattle.spec.specs.Transform.{expr, value, attributes, element-of}
+use Rattle.spec.specs.Transform.{expr, value, attributes, children, element-of}
 use Rattle.decisions.specs.At.{opts, element-name, attributes-at, children-at, element-at}
 use Rattle.decisions.proofs.Series.{behind-name-at, attributes-50, attributes-53, attributes-other}
 use Rattle.found.specs.Finds as Finds
@@ -37,7 +38,7 @@ use Rattle.walk.specs.declared.state.Walk.{Walk}
 use Rattle.walk.specs.See.{World, at, see, act, passed, to-page, begun, wrap, wrap-if, todo-if, props-closed, Low}
 use Rattle.walk.specs.Plan.{Plan, prop-gap, plan-by, plan-front, plan-back, attr-plan, prop-plan, key-string, key-held}
 use Rattle.walk.proofs.SeeLaws.{Grows, grows-same, grows-then, see-grows, begun-grows, wrap-grows, low-back, low-is, see-none, see-node, see-rest, see-page, see-state, see-templates-length, see-page-length, plain, lift, lift-world, lift-wrap, lift-wrap-if, lift-begun, lift-props-closed}
-use Rattle.walk.proofs.ActLaws.{see-append, act-grows, act-map-pure, passed-see, passed-props-closed, call-named, call-props, children-begun, call-closed, act-call-none, act-call-some, act-to-call, is-none, template-stands, raised-stands, call-stands, array-stands}
+use Rattle.walk.proofs.ActLaws.{see-append, act-grows, act-pure, act-map-pure, passed-see, passed-props-closed, call-named, call-props, children-begun, call-closed, act-call-none, act-call-some, act-to-call, is-none, template-stands, raised-stands, call-stands, array-stands}
 use Rattle.walk.proofs.GapLaws.{plan-mid, plan-done, prop-plan-is, plan-front-same, plan-back-same, plan-held-same, key-is, key-string-same}
 use Rattle.visits.specs.Visiting.{expr-at, found-out, is-found}
 use Rattle.visits.proofs.FieldLaws.{field-begin, field-inner, field-close, field-done}
@@ -407,6 +408,11 @@ module _ (skip props : Bytes) (p : ℕ) (m : Mid) (v : P.Value) (d : m ≡ key-f
   pub key-on : (s′ : Bytes) (r : Walk) → at [] s′ r ≡ see (key-string (value (opts [] []) v)) (at [] s x) → key-left p (key-held (value (opts skip props) v)) (at o s′ r) ≡ total
   key-on s′ r e = ap (key-left p (key-held (value (opts skip props) v))) (lift o s s′ x r key-before (key-plain (value (opts [] []) v)) e) ∙ held-left
 
+-- no attribute decides it
+pub no-key : (skip props : Bytes) {m : Mid} (a : Bytes) → length a ≡ 0 → m ≡ key-from (value (opts skip props) (value-in (read a))) S.none → S.none ≡ m
+unfolding key-from value value-in
+no-key skip props a h d = sym (d ∙ ap (λ (x : Row). key-from (value (opts skip props) (value-in x)) S.none) (read-empty a h))
+
 module _ (p : ℕ) (m n : Mid) (e : n ≡ m) (w total : World) (g : key-left p m w ≡ total) where
   held-is : wrap 0x94 p (see n w) ≡ total
   unfolding key-left
@@ -421,6 +427,48 @@ module _ (p : ℕ) (m n : Mid) (e : n ≡ m) (w total : World) (g : key-left p m
 
     pub call-done : (s′ : Bytes) (r : Walk) → at [] s′ r ≡ wrap 0x94 p (at [] s x) → at o s′ r ≡ total
     call-done s′ r b = lift-wrap o s s′ x r 0x94 p b ∙ ap (wrap 0x94 p) a ∙ held-is
+
+-- nothing stands behind the name
+module _ (skip props b r : Bytes) (norm : Bool) (h : length r ≡ 0) where
+  abbrev bare : Call
+  bare = call-of skip props b r norm false
+
+  pub bare-lacks : (j : ℕ) → is-none (found-out false (children-to-expr (children-at skip props (read r))) j .value) ≡ true
+  unfolding children-in children children-to-expr found-out found-pass pure
+  bare-lacks j = ap (λ (x : Row). is-none (found-out false (children-to-expr (children-at skip props x)) j .value)) (read-empty r h)
+
+  bare-props : bare .props ≡ S.none
+  unfolding attributes-in attributes props-of
+  bare-props = ap (λ (x : Row). props-of norm (attributes-at skip props x)) (read-empty r h)
+
+  bare-found : bare .found ≡ pure S.none
+  unfolding children-in children children-to-expr found-out found-pass
+  bare-found = ap (λ (x : Row). found-out false (children-to-expr (children-at skip props x))) (read-empty r h)
+
+  bare-key : bare .key ≡ S.none
+  unfolding attributes-in attributes key-of
+  bare-key = ap (λ (x : Row). key-of norm (attributes-at skip props x) S.none) (read-empty r h)
+
+  module _ (p : ℕ) (o s : Bytes) (x : Walk) where
+    bare-left : named-left bare p (at o s x) ≡ key-left p S.none (see null-node (at o s x))
+    unfolding named-left attributes-left children-left found-left child-left props-left
+    bare-left =
+        let w = at o s x in
+        let q = x .page in
+        ap (λ (m : Mid). key-left p m (props-closed q (act (bare .found) (see (bare .props) (begun w))))) bare-key
+        ∙ ap (λ (f : Pass Mid). key-left p S.none (props-closed q (act f (see (bare .props) (begun w))))) bare-found
+        ∙ ap (λ (y : World). key-left p S.none (props-closed q y)) (act-pure S.none (see (bare .props) (begun w)) ∙ see-none (see (bare .props) (begun w)) ∙ ap (λ (m : Mid). see m (begun w)) bare-props ∙ see-none (begun w))
+        ∙ ap (λ (y : Bool). key-left p S.none (pick y (see null-node w) (wrap 0x95 q (begun w)))) (eq-eqb (q + 3) (q + 3) refl)
+
+    module _ (total : World) (g : named-left bare p (at o s x) ≡ total) where
+      null-left : key-left p S.none (see null-node (at o s x)) ≡ total
+      null-left = sym bare-left ∙ g
+
+      pub bare-room : Low (total .st) → Low (see null-node (at [] s x) .st)
+      bare-room l = see-low null-node o s x (low-back (key-grows p S.none (see null-node (at o s x))) (low-is null-left l))
+
+      pub bare-on : (s′ : Bytes) (y : Walk) → at [] s′ y ≡ see null-node (at [] s x) → key-left p S.none (at o s′ y) ≡ total
+      bare-on s′ y e = ap (key-left p S.none) (lift o s s′ x y null-node refl e) ∙ null-left
 
 -- ---- a turn over attributes
 

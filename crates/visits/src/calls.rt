@@ -490,6 +490,11 @@ fn to_call<'a>(
     let norm = !is_component(b);
     let rest = behind(b);
     let n = name_expr(page, begin(st), b);
+    // Neither attributes nor children.
+    if rest.len() == 0 {
+        let z = leaf(page, n, 0x73, b"");
+        return close(page, z, p, 0x94);
+    }
     let q = n.page;
     let x = to_props(skip, props, rest, norm, scratch, templates, page, begin(n));
     let f = found_of(skip, rest);
@@ -500,6 +505,10 @@ fn to_call<'a>(
     let c = close_if(page, z, h, 0x96, stands);
     let d = close_props(page, c, q);
     let a = key_at(rest, norm);
+    // Most calls have no key.
+    if a.len() == 0 {
+        return close(page, d, p, 0x94);
+    }
     let k = key_front(page, d, a);
     let l = on_held(skip, props, key_held(a), scratch, templates, page, k);
     close(page, l, p, 0x94)

@@ -54,7 +54,7 @@ use Rattle.visits.proofs.calls.+attrs_todo+child_todo+held_todo+on_expr
 use Rattle.visits.proofs.calls.+attrs_todo+child_todo+held_todo+on_expr+on_found+on_fragment+on_given+on_held+on_items+on_jsx+on_pieces+on_template+tag_todo+to_attrs+to_call+to_entries+to_found+to_gaps+to_jsx+to_parts+to_props.Proof.ChildTodo.{child-todo-Inv-loop, child-todo-behind-requires, child-todo-behind-requires-2, child-todo-behind-requires-3, child-todo-behind-requires-4, child-todo-behind-requires-5, child-todo-body-requires, child-todo-body-requires-2, child-todo-calls, child-todo-held-todo-requires, child-todo-held-todo-requires-2, child-todo-loop-again, child-todo-loop-again-2, child-todo-loop-again-3, child-todo-loop-again-4, child-todo-loop-again-5, child-todo-loop-holds, child-todo-loop-less, child-todo-loop-less-2, child-todo-loop-less-3, child-todo-loop-less-4, child-todo-loop-less-5, child-todo-returns, child-todo-returns-2, child-todo-returns-3, child-todo-returns-4, child-todo-returns-5, child-todo-same-length, child-todo-same-length-2, child-todo-same-length-3, child-todo-same-length-4, child-todo-same-length-5, child-todo-tag-at-requires, child-todo-tag-todo-requires, child-todo-tag-todo-requires-2, child-todo-μ-loop}
 use Rattle.visits.proofs.calls.+attrs_todo+child_todo+held_todo+on_expr+on_found+on_fragment+on_given+on_held+on_items+on_jsx+on_pieces+on_template+tag_todo+to_attrs+to_call+to_entries+to_found+to_gaps+to_jsx+to_parts+to_props.Proof.HeldTodo.{held-todo-array-borrow-prefix-none, held-todo-array-borrow-prefix-nothing, held-todo-calls, held-todo-fresh-requires, held-todo-returns, held-todo-same-length, held-todo-slice-aggregate-on-held, held-todo-slice-aggregate-on-held-2, held-todo-on-held-requires}
 use Rattle.visits.proofs.calls.+attrs_todo+child_todo+held_todo+on_expr+on_found+on_fragment+on_given+on_held+on_items+on_jsx+on_pieces+on_template+tag_todo+to_attrs+to_call+to_entries+to_found+to_gaps+to_jsx+to_parts+to_props.Proof.ToAttrs.{to-attrs-Inv-loop, to-attrs-attribute-front-requires, to-attrs-attribute-gap-requires, to-attrs-behind-requires, to-attrs-behind-requires-2, to-attrs-body-requires, to-attrs-calls, to-attrs-gap-back-requires, to-attrs-held-at-requires, to-attrs-loop-again, to-attrs-loop-again-2, to-attrs-loop-holds, to-attrs-loop-less, to-attrs-loop-less-2, to-attrs-returns, to-attrs-same-length, to-attrs-same-length-2, to-attrs-same-length-3, to-attrs-tag-at-requires, to-attrs-on-held-requires, to-attrs-μ-loop}
-use Rattle.visits.proofs.calls.+attrs_todo+child_todo+held_todo+on_expr+on_found+on_fragment+on_given+on_held+on_items+on_jsx+on_pieces+on_template+tag_todo+to_attrs+to_call+to_entries+to_found+to_gaps+to_jsx+to_parts+to_props.Proof.ToCall.{to-call-begin-requires, to-call-begin-requires-2, to-call-behind-requires, to-call-calls, to-call-children-front-requires, to-call-close-if-requires, to-call-close-props-requires, to-call-close-requires, to-call-found-of-requires, to-call-is-component-requires, to-call-is-found-requires, to-call-key-at-requires, to-call-key-front-requires, to-call-key-held-requires, to-call-name-expr-requires, to-call-to-found-requires, to-call-to-props-requires, to-call-returns, to-call-same-length, to-call-same-length-2, to-call-same-length-3, to-call-on-held-requires}
+use Rattle.visits.proofs.calls.+attrs_todo+child_todo+held_todo+on_expr+on_found+on_fragment+on_given+on_held+on_items+on_jsx+on_pieces+on_template+tag_todo+to_attrs+to_call+to_entries+to_found+to_gaps+to_jsx+to_parts+to_props.Proof.ToCall.{to-call-begin-requires, to-call-begin-requires-2, to-call-behind-requires, to-call-calls, to-call-children-front-requires, to-call-close-if-requires, to-call-close-props-requires, to-call-close-requires, to-call-close-requires-2, to-call-close-requires-3, to-call-found-of-requires, to-call-is-component-requires, to-call-is-found-requires, to-call-key-at-requires, to-call-key-front-requires, to-call-key-held-requires, to-call-leaf-requires, to-call-name-expr-requires, to-call-to-found-requires, to-call-to-props-requires, to-call-returns, to-call-returns-2, to-call-returns-3, to-call-same-length, to-call-same-length-2, to-call-same-length-3, to-call-same-length-4, to-call-same-length-5, to-call-same-length-6, to-call-same-length-7, to-call-slice-aggregate-leaf, to-call-on-held-requires}
 use Rattle.visits.proofs.calls.+attrs_todo+child_todo+held_todo+on_expr+on_found+on_fragment+on_given+on_held+on_items+on_jsx+on_pieces+on_template+tag_todo+to_attrs+to_call+to_entries+to_found+to_gaps+to_jsx+to_parts+to_props.Proof.ToGaps.{to-gaps-behind-requires, to-gaps-calls, to-gaps-inner-children-requires, to-gaps-is-serializable-requires, to-gaps-to-attrs-requires, to-gaps-to-call-requires, to-gaps-to-parts-requires, to-gaps-returns, to-gaps-returns-2, to-gaps-returns-3, to-gaps-same-length, to-gaps-same-length-2, to-gaps-same-length-3, to-gaps-same-length-4, to-gaps-same-length-5, to-gaps-same-length-6}
 use Rattle.visits.proofs.calls.+attrs_todo+child_todo+held_todo+on_expr+on_found+on_fragment+on_given+on_held+on_items+on_jsx+on_pieces+on_template+tag_todo+to_attrs+to_call+to_entries+to_found+to_gaps+to_jsx+to_parts+to_props.Proof.ToEntries.{to-entries-Inv-loop, to-entries-behind-requires, to-entries-behind-requires-2, to-entries-behind-requires-3, to-entries-behind-requires-4, to-entries-behind-requires-5, to-entries-behind-requires-6, to-entries-body-requires, to-entries-body-requires-2, to-entries-body-requires-3, to-entries-body-requires-4, to-entries-calls, to-entries-flush-requires, to-entries-flush-requires-2, to-entries-flush-requires-3, to-entries-flush-requires-4, to-entries-found-of-requires, to-entries-join-container-requires, to-entries-join-text-requires, to-entries-joins-requires, to-entries-loop-again, to-entries-loop-again-2, to-entries-loop-again-3, to-entries-loop-again-4, to-entries-loop-again-5, to-entries-loop-again-6, to-entries-loop-holds, to-entries-loop-less, to-entries-loop-less-2, to-entries-loop-less-3, to-entries-loop-less-4, to-entries-loop-less-5, to-entries-loop-less-6, to-entries-to-found-requires, to-entries-to-jsx-requires, to-entries-returns, to-entries-same-length, to-entries-same-length-2, to-entries-same-length-3, to-entries-tag-at-requires, to-entries-on-expr-requires, to-entries-μ-loop}
 use Rattle.visits.proofs.calls.+attrs_todo+child_todo+held_todo+on_expr+on_found+on_fragment+on_given+on_held+on_items+on_jsx+on_pieces+on_template+tag_todo+to_attrs+to_call+to_entries+to_found+to_gaps+to_jsx+to_parts+to_props.Proof.ToFound.{to-found-begin-if-requires, to-found-begin-if-requires-2, to-found-begin-template-requires, to-found-body-requires, to-found-body-requires-2, to-found-body-requires-3, to-found-calls, to-found-close-if-requires, to-found-close-if-requires-2, to-found-close-requires, to-found-enum-told, to-found-enum-told-10, to-found-enum-told-2, to-found-enum-told-3, to-found-enum-told-4, to-found-enum-told-5, to-found-enum-told-6, to-found-enum-told-7, to-found-enum-told-8, to-found-enum-told-9, to-found-hole-leaf-requires, to-found-to-entries-requires, to-found-to-entries-requires-2, to-found-to-jsx-requires, to-found-to-parts-requires, to-found-place-requires, to-found-returns, to-found-returns-10, to-found-returns-11, to-found-returns-2, to-found-returns-3, to-found-returns-4, to-found-returns-5, to-found-returns-6, to-found-returns-7, to-found-returns-8, to-found-returns-9, to-found-same-length, to-found-same-length-10, to-found-same-length-11, to-found-same-length-12, to-found-same-length-13, to-found-same-length-14, to-found-same-length-15, to-found-same-length-16, to-found-same-length-17, to-found-same-length-18, to-found-same-length-19, to-found-same-length-2, to-found-same-length-20, to-found-same-length-21, to-found-same-length-3, to-found-same-length-4, to-found-same-length-5, to-found-same-length-6, to-found-same-length-7, to-found-same-length-8, to-found-same-length-9, to-found-tag-at-requires, to-found-text-leaf-requires, to-found-on-expr-requires, to-found-on-items-requires}
@@ -443,6 +443,11 @@ pub +attrs-todo+child-todo+held-todo+on-expr+on-found+on-fragment+on-given+on-he
     (to-call-behind-requires t)
     (to-call-begin-requires t)
     (to-call-name-expr-requires t)
+    (to-call-slice-aggregate-leaf t)
+    (to-call-leaf-requires t)
+    (to-call-close-requires t)
+    (to-call-same-length t)
+    (to-call-returns t)
     (to-call-begin-requires-2 t)
     (to-call-to-props-requires t)
     (to-call-found-of-requires t)
@@ -452,14 +457,19 @@ pub +attrs-todo+child-todo+held-todo+on-expr+on-found+on-fragment+on-given+on-he
     (to-call-close-if-requires t)
     (to-call-close-props-requires t)
     (to-call-key-at-requires t)
+    (to-call-close-requires-2 t)
+    (to-call-same-length-2 t)
+    (to-call-same-length-3 t)
+    (to-call-same-length-4 t)
+    (to-call-returns-2 t)
     (to-call-key-front-requires t)
     (to-call-key-held-requires t)
     (to-call-on-held-requires t)
-    (to-call-close-requires t)
-    (to-call-same-length t)
-    (to-call-same-length-2 t)
-    (to-call-same-length-3 t)
-    (to-call-returns t))
+    (to-call-close-requires-3 t)
+    (to-call-same-length-5 t)
+    (to-call-same-length-6 t)
+    (to-call-same-length-7 t)
+    (to-call-returns-3 t))
     (λ t. to-entries-lts.spec (to-entries-calls t)
     (to-entries-at t)
     to-entries.Post

@@ -1,24 +1,24 @@
 -- What `to_call` needs to meet its contract: at each step what is left of the call does, from here on, what the whole does from the start.
 -- Assumes nothing.
-use mathlib.Core.Path.{_≡_, sym, ap, _∙_}
+use mathlib.Core.Path.{_≡_, refl, sym, ap, _∙_}
 use Prim.Native.Nat.{ℕ, _+_, _≤_}
 use native.Mathlib.Omega.{arith}
-use mathlib.Core.Bool.{Bool, true, not}
+use mathlib.Core.Bool.{Bool, true, false, not}
 use lib.ListN.{length}
 use Rattle.field.specs.Bytes.{Bytes}
 use Rattle.field.specs.Row.{read}
 use Rattle.page.specs.Page as P
 use Rattle.page.specs.Tree.{value-in}
-use Rattle.spec.specs.Pass.{Mid}
+use Rattle.spec.specs.Pass.{Mid, none}
 use Rattle.spec.specs.Transform.{value}
 use Rattle.decisions.specs.At.{opts, element-at}
 use Rattle.strings.proofs.FrontSizes.{behind-le}
 use Rattle.walk.specs.declared.state.Walk.{Walk}
 use Rattle.walk.specs.See.{World, at, act, Low}
 use Rattle.walk.specs.Plan.{key-held}
-use Rattle.walk.proofs.SeeLaws.{see-grows}
+use Rattle.walk.proofs.SeeLaws.{see-grows, see-none}
 use Rattle.walk.proofs.ActLaws.{act-grows, is-none}
-use Rattle.visits.proofs.CallLaws.{stands-by, lacks-by, found-stands, Call, call-of, call-is, name-plain, key-left, props-left, child-left, found-left, children-left, attributes-left, named-left, name-left, call-left, grew, front-grew, front-past, child-grew, closed-grew, begin-room, name-room, props-begin-room, props-room, front-room, found-room, child-room, closed-room, begun-on, name-on, props-begun-on, front-on, child-on, closed-on, props-on, found-on, key-room, key-on, held-room, call-low, call-done}
+use Rattle.visits.proofs.CallLaws.{stands-by, lacks-by, found-stands, Call, call-of, call-is, name-plain, key-left, props-left, child-left, found-left, children-left, attributes-left, named-left, name-left, call-left, grew, front-grew, front-past, child-grew, closed-grew, begin-room, name-room, props-begin-room, props-room, front-room, found-room, child-room, closed-room, begun-on, name-on, props-begun-on, front-on, child-on, closed-on, props-on, found-on, key-room, key-on, held-room, no-key, bare-lacks, bare-room, bare-on, call-low, call-done}
 use borrow.Author.Needs.{needs}
 use Rattle.visits.proofs.calls.to_call.Reads as to-call
 use Rattle.visits.proofs.calls.+attrs_todo+child_todo+held_todo+on_expr+on_found+on_fragment+on_given+on_held+on_items+on_jsx+on_pieces+on_template+tag_todo+to_attrs+to_call+to_entries+to_found+to_gaps+to_jsx+to_parts+to_props.Lts-to_call as to-call-lts
@@ -38,10 +38,11 @@ use Rattle.walk.proofs.call.name_expr.Reads as name-expr-reads
 use Rattle.walk.proofs.state.begin.Reads as begin-reads
 use Rattle.walk.proofs.state.close.Reads as close-reads
 use Rattle.walk.proofs.state.close_if.Reads as close-if-reads
+use Rattle.walk.proofs.state.leaf.Reads as leaf-reads
 use Rattle.visits.proofs.calls.+attrs_todo+child_todo+held_todo+on_expr+on_found+on_fragment+on_given+on_held+on_items+on_jsx+on_pieces+on_template+tag_todo+to_attrs+to_call+to_entries+to_found+to_gaps+to_jsx+to_parts+to_props.Proof.Cycle.{to-call-at, to-found-below, to-props-below, on-held-below}
 
 abbrev pub to-call-calls : ℕ → to-call-lts.Claims
-to-call-calls t = (is-component-reads.Asked, is-component-reads.Learnt, behind-reads.Asked, behind-reads.Learnt, begin-reads.Asked, begin-reads.Learnt, name-expr-reads.Asked, name-expr-reads.Learnt, to-props-below t, to-props.Post, found-of-reads.Asked, found-of-reads.Learnt, is-found-reads.Asked, is-found-reads.Learnt, children-front-reads.Asked, children-front-reads.Learnt, to-found-below t, to-found.Post, close-if-reads.Asked, close-if-reads.Learnt, close-props-reads.Asked, close-props-reads.Learnt, key-at-reads.Asked, key-at-reads.Learnt, key-front-reads.Asked, key-front-reads.Learnt, key-held-reads.Asked, key-held-reads.Learnt, on-held-below t, on-held.Post, close-reads.Asked, close-reads.Learnt)
+to-call-calls t = (is-component-reads.Asked, is-component-reads.Learnt, behind-reads.Asked, behind-reads.Learnt, begin-reads.Asked, begin-reads.Learnt, name-expr-reads.Asked, name-expr-reads.Learnt, leaf-reads.Asked, leaf-reads.Learnt, close-reads.Asked, close-reads.Learnt, to-props-below t, to-props.Post, found-of-reads.Asked, found-of-reads.Learnt, is-found-reads.Asked, is-found-reads.Learnt, children-front-reads.Asked, children-front-reads.Learnt, to-found-below t, to-found.Post, close-if-reads.Asked, close-if-reads.Learnt, close-props-reads.Asked, close-props-reads.Learnt, key-at-reads.Asked, key-at-reads.Learnt, key-front-reads.Asked, key-front-reads.Learnt, key-held-reads.Asked, key-held-reads.Learnt, on-held-below t, on-held.Post)
 
 -- ---- what is known behind each call
 
@@ -53,6 +54,9 @@ Begun t = to-call-lts.After-begin (to-call-calls t) (to-call-at t) to-call.Post
 
 abbrev Named : ℕ → Type 0
 Named t = to-call-lts.After-name-expr (to-call-calls t) (to-call-at t) to-call.Post
+
+abbrev Nulled : ℕ → Type 0
+Nulled t = to-call-lts.After-leaf (to-call-calls t) (to-call-at t) to-call.Post
 
 abbrev PropsBegun : ℕ → Type 0
 PropsBegun t = to-call-lts.After-begin2 (to-call-calls t) (to-call-at t) to-call.Post
@@ -92,8 +96,11 @@ begun-behind t c = c .before .before
 abbrev named-behind : (t : ℕ) → Named t → Behind t
 named-behind t c = begun-behind t (c .before)
 
+abbrev nulled-named : (t : ℕ) → Nulled t → Named t
+nulled-named t c = c .before .before .before .before .before .before
+
 abbrev props-named : (t : ℕ) → PropsBegun t → Named t
-props-named t c = c .before .before .before .before .before .before
+props-named t c = c .before .before .before .before .before .before .before
 
 abbrev filled-named : (t : ℕ) → Filled t → Named t
 filled-named t c = props-named t (c .before)
@@ -114,7 +121,7 @@ abbrev closed-found : (t : ℕ) → Closed t → Found t
 closed-found t c = childed-found t (c .before .before .before .before)
 
 abbrev keyed-closed : (t : ℕ) → Keyed t → Closed t
-keyed-closed t c = c .before .before .before .before .before
+keyed-closed t c = c .before .before .before .before .before .before
 
 abbrev keyed-found : (t : ℕ) → Keyed t → Found t
 keyed-found t c = closed-found t (keyed-closed t c)
@@ -185,6 +192,27 @@ name-ends : (t : ℕ) (c : Named t) (s : Bool) → is-none (given t (named-behin
     (at (start t (named-behind t c) .args .templates .now) (c .name-expr .last .0) (c .name-expr .result))
     ≡ whole t (named-behind t c)
 name-ends t c s h = name-on (call-by t (named-behind t c) s) _ _ _ _ _ _ _ (name-plain _) (c .name-expr .ensures) (name-begins t (c .before) s h)
+
+-- nothing stands behind the name
+name-bare : (t : ℕ) (c : Named t) → length (named-behind t c .behind .result .now) ≡ 0 →
+    named-left (call-by t (named-behind t c) false) (call-place t (named-behind t c))
+    (at (start t (named-behind t c) .args .templates .now) (c .name-expr .last .0) (c .name-expr .result))
+    ≡ whole t (named-behind t c)
+name-bare t c h =
+    let i = named-behind t c in
+    let a = start t i .args in
+    name-ends t c false (bare-lacks (a .skip .now) (a .props .now) (a .b .now) (i .behind .result .now) (not (i .before .is-component .result)) h (a .st .first))
+
+null-ends : (t : ℕ) (c : Nulled t) →
+    key-left (call-place t (named-behind t (nulled-named t c))) none
+    (at (start t (named-behind t (nulled-named t c)) .args .templates .now) (c .leaf .last .0) (c .leaf .result))
+    ≡ whole t (named-behind t (nulled-named t c))
+null-ends t c =
+    let n = nulled-named t c in
+    let i = named-behind t n in
+    let a = start t i .args in
+    let h = c .before .before .before .if1 .taken in
+    bare-on (a .skip .now) (a .props .now) (a .b .now) (i .behind .result .now) (not (i .before .is-component .result)) h _ _ _ _ _ (name-bare t n h) _ _ (c .leaf .ensures)
 
 props-begin : (t : ℕ) (c : PropsBegun t) (s : Bool) → is-none (given t (named-behind t (props-named t c))) ≡ not s →
     attributes-left (call-by t (named-behind t (props-named t c)) s) (call-place t (named-behind t (props-named t c))) (props-place t (props-named t c))
@@ -258,9 +286,26 @@ props-close : (t : ℕ) (c : Closed t) →
     ≡ whole t (found-behind t (closed-found t c))
 props-close t c = closed-on (call t (found-looked t (closed-found t c))) _ _ _ _ _ _ _ _ (c .close-props .ensures) (children-end t (c .before .before .before .before))
 
+closed-past : (t : ℕ) (c : Closed t) → call-place t (found-behind t (closed-found t c)) + 3 ≤ c .close-props .result .page
+closed-past t c =
+    let n = looked-named t (found-looked t (closed-found t c)) in
+    let d = c .before .before .before .before in
+    omega (arith, named-past t n, childed-past t d, closed-grew (props-place t n) _ _ (d .close-if .result) _ (c .close-props .ensures))
+
+closed-length : (t : ℕ) (c : Closed t) → length (c .close-props .last .0) ≡ length (start t (found-behind t (closed-found t c)) .args .page .now)
+closed-length t c =
+    let f = closed-found t c in
+    let l = found-looked t f in
+    c .close-props .kept .0
+    ∙ c .before .before .before .before .close-if .kept .0
+    ∙ f .to-found .kept .1 .1 .1 .1 .1 .1 .1 .0
+    ∙ f .before .before .before .before .before .before .children-front .kept .0
+    ∙ looked-filled t l .to-props .kept .1 .1 .1 .1 .1 .1 .0
+    ∙ looked-named t l .name-expr .kept .0
+
 -- the attribute that decides it
 abbrev key-value : (t : ℕ) → Keyed t → P.Value
-key-value t c = value-in (read (c .before .before .key-at .result .now))
+key-value t c = value-in (read (c .before .before .before .key-at .result .now))
 
 key-begins : (t : ℕ) (c : Keyed t) →
     key-left (call-place t (found-behind t (keyed-found t c))) (key-held (value (opts (start t (found-behind t (keyed-found t c)) .args .skip .now) (start t (found-behind t (keyed-found t c)) .args .props .now)) (key-value t c)))
@@ -268,20 +313,12 @@ key-begins : (t : ℕ) (c : Keyed t) →
     ≡ whole t (found-behind t (keyed-found t c))
 key-begins t c =
     let a = start t (found-behind t (keyed-found t c)) .args in
-    key-on (a .skip .now) (a .props .now) _ _ (key-value t c) (c .before .before .key-at .ensures .0 (a .skip .now) (a .props .now)) _ _ _ _ (props-close t (keyed-closed t c)) _ _ (c .key-front .ensures)
+    key-on (a .skip .now) (a .props .now) _ _ (key-value t c) (c .before .before .before .key-at .ensures .0 (a .skip .now) (a .props .now)) _ _ _ _ (props-close t (keyed-closed t c)) _ _ (c .key-front .ensures)
 
 visited-past : (t : ℕ) (c : Visited t) → call-place t (found-behind t (keyed-found t (visited-keyed t c))) + 3 ≤ c .on-held .result .page
 visited-past t c =
     let k = visited-keyed t c in
-    let d = keyed-closed t k in
-    omega (
-      arith,
-      named-past t (looked-named t (found-looked t (closed-found t d))),
-      childed-past t (d .before .before .before .before),
-      closed-grew (props-place t (looked-named t (found-looked t (closed-found t d)))) _ _ (d .before .before .before .before .close-if .result) _ (d .close-props .ensures),
-      grew (see-grows _ _) (k .key-front .ensures),
-      grew (see-grows _ _) (c .on-held .ensures),
-    )
+    omega (arith, closed-past t (keyed-closed t k), grew (see-grows _ _) (k .key-front .ensures), grew (see-grows _ _) (c .on-held .ensures))
 
 -- ---- the needs
 
@@ -301,9 +338,39 @@ to-call-name-expr-requires t c κs =
     let i = begun-behind t c in
     name-room _ _ _ _ _ (low t i) _ (name-begins t c (stands-by (given t i)) (lacks-by (given t i)))
 
+-- where nothing stands behind the name the call ends with null
+
+pub to-call-slice-aggregate-leaf : (t : ℕ) → to-call-lts.Need-slice-aggregate-leaf (to-call-calls t) (to-call-at t) to-call.Post
+to-call-slice-aggregate-leaf t c = search needs
+
+pub to-call-leaf-requires : (t : ℕ) → to-call-lts.Need-leaf-requires (to-call-calls t) (to-call-at t) to-call.Post
+to-call-leaf-requires t c κs =
+    let n = c .before .before .before .before .before in
+    let i = named-behind t n in
+    let a = start t i .args in
+    bare-room (a .skip .now) (a .props .now) (a .b .now) _ (not (i .before .is-component .result)) (c .before .before .if1 .taken) _ _ _ _ _ (name-bare t n (c .before .before .if1 .taken)) (low t i)
+
+pub to-call-close-requires : (t : ℕ) → to-call-lts.Need-close-requires (to-call-calls t) (to-call-at t) to-call.Post
+to-call-close-requires t c κs =
+    let l = c .before .before .before in
+    let n = nulled-named t l in (
+      omega (arith, named-past t n, grew (see-grows _ _) (l .leaf .ensures)),
+      call-low _ _ _ refl _ _ (null-ends t l) _ _ _ (sym (see-none _)) (low t (named-behind t n)),
+    )
+
+pub to-call-same-length : (t : ℕ) → to-call-lts.Need-same-length (to-call-calls t) (to-call-at t) to-call.Post
+to-call-same-length t c =
+    let l = c .before .before .before .before .before .before in
+    c .before .before .close .kept .0 ∙ l .leaf .kept .0 ∙ nulled-named t l .name-expr .kept .0
+
+pub to-call-returns : (t : ℕ) → to-call-lts.Need-returns (to-call-calls t) (to-call-at t) to-call.Post
+to-call-returns t c =
+    let l = c .before .before .before .before .before .before in
+    call-done _ _ _ refl _ _ (null-ends t l) _ _ _ (sym (see-none _)) _ _ (c .before .before .close .ensures)
+
 pub to-call-begin-requires-2 : (t : ℕ) → to-call-lts.Need-begin-requires-2 (to-call-calls t) (to-call-at t) to-call.Post
 to-call-begin-requires-2 t c κs =
-    let n = c .before .before .before .before .before in
+    let n = c .before .before .before .before .before .before in
     let i = named-behind t n in
     props-begin-room _ _ _ _ _ (low t i) _ (name-ends t n (stands-by (given t i)) (lacks-by (given t i)))
 
@@ -322,7 +389,7 @@ to-call-to-props-requires t c κs =
 
 pub to-call-found-of-requires : (t : ℕ) → to-call-lts.Need-found-of-requires (to-call-calls t) (to-call-at t) to-call.Post
 to-call-found-of-requires t c κs =
-    let i = c .before .before .before .before .before .before .before .before .before .before .before .before .before .before .before .before in
+    let i = c .before .before .before .before .before .before .before .before .before .before .before .before .before .before .before .before .before in
     omega (arith, rest-short t i, start t i .pre .1 .short)
 
 pub to-call-is-found-requires : (t : ℕ) → to-call-lts.Need-is-found-requires (to-call-calls t) (to-call-at t) to-call.Post
@@ -364,12 +431,44 @@ to-call-close-props-requires t c κs =
 pub to-call-key-at-requires : (t : ℕ) → to-call-lts.Need-key-at-requires (to-call-calls t) (to-call-at t) to-call.Post
 to-call-key-at-requires t c κs = tt
 
+-- where no key is found the call ends
+
+pub to-call-close-requires-2 : (t : ℕ) → to-call-lts.Need-close-requires-2 (to-call-calls t) (to-call-at t) to-call.Post
+to-call-close-requires-2 t c κs =
+    let k = c .before .before in
+    let d = k .before .before .before in
+    let i = found-behind t (closed-found t d) in
+    let a = start t i .args in (
+      closed-past t d,
+      call-low _ _ _ (no-key (a .skip .now) (a .props .now) _ (c .before .if2 .taken) (k .key-at .ensures .0 (a .skip .now) (a .props .now))) _ _ (props-close t d) _ _ _ (sym (see-none _)) (low t i),
+    )
+
+pub to-call-same-length-2 : (t : ℕ) → to-call-lts.Need-same-length-2 (to-call-calls t) (to-call-at t) to-call.Post
+to-call-same-length-2 t c =
+    let f = closed-found t (c .before .before .before .before .before .before .before .before) in
+    f .to-found .kept .1 .1 .1 .1 .1 .0 ∙ looked-filled t (found-looked t f) .to-props .kept .1 .1 .1 .1 .0
+
+pub to-call-same-length-3 : (t : ℕ) → to-call-lts.Need-same-length-3 (to-call-calls t) (to-call-at t) to-call.Post
+to-call-same-length-3 t c =
+    let f = closed-found t (c .before .before .before .before .before .before .before .before) in
+    f .to-found .kept .1 .1 .1 .1 .1 .1 .0 ∙ looked-filled t (found-looked t f) .to-props .kept .1 .1 .1 .1 .1 .0
+
+pub to-call-same-length-4 : (t : ℕ) → to-call-lts.Need-same-length-4 (to-call-calls t) (to-call-at t) to-call.Post
+to-call-same-length-4 t c = c .before .before .close2 .kept .0 ∙ closed-length t (c .before .before .before .before .before .before .before .before)
+
+pub to-call-returns-2 : (t : ℕ) → to-call-lts.Need-returns-2 (to-call-calls t) (to-call-at t) to-call.Post
+to-call-returns-2 t c =
+    let k = c .before .before .before .before .before in
+    let d = k .before .before .before in
+    let a = start t (found-behind t (closed-found t d)) .args in
+    call-done _ _ _ (no-key (a .skip .now) (a .props .now) _ (c .before .before .before .before .if2 .taken) (k .key-at .ensures .0 (a .skip .now) (a .props .now))) _ _ (props-close t d) _ _ _ (sym (see-none _)) _ _ (c .before .before .close2 .ensures)
+
 pub to-call-key-front-requires : (t : ℕ) → to-call-lts.Need-key-front-requires (to-call-calls t) (to-call-at t) to-call.Post
 to-call-key-front-requires t c κs =
-    let d = c .before .before .before .before in
+    let d = c .before .before .before .before .before in
     let i = found-behind t (closed-found t d) in
     let a = start t i .args in
-    key-room (a .skip .now) (a .props .now) _ _ (value-in (read (c .before .key-at .result .now))) (c .before .key-at .ensures .0 (a .skip .now) (a .props .now)) _ _ _ _ (props-close t d) (low t i)
+    key-room (a .skip .now) (a .props .now) _ _ (value-in (read (c .before .before .key-at .result .now))) (c .before .before .key-at .ensures .0 (a .skip .now) (a .props .now)) _ _ _ _ (props-close t d) (low t i)
 
 pub to-call-key-held-requires : (t : ℕ) → to-call-lts.Need-key-held-requires (to-call-calls t) (to-call-at t) to-call.Post
 to-call-key-held-requires t c κs = tt
@@ -383,7 +482,7 @@ to-call-on-held-requires t c κs =
     let r = start t i .pre in
     let n = rest-short t i in
     let h = c .before .before .before .key-held .ensures in
-    let d = c .before .before .before .before .before .before .before .before .key-at .ensures .1 in (
+    let d = c .before .before .before .before .before .before .before .before .before .key-at .ensures .1 in (
       omega (arith, h .1, d, n, r .0),
       record {
         desk = omega (arith, f .to-found .kept .1 .1 .1 .1 .1 .0, looked-filled t (found-looked t f) .to-props .kept .1 .1 .1 .1 .0, r .1 .desk);
@@ -392,8 +491,8 @@ to-call-on-held-requires t c κs =
       },
     )
 
-pub to-call-close-requires : (t : ℕ) → to-call-lts.Need-close-requires (to-call-calls t) (to-call-at t) to-call.Post
-to-call-close-requires t c κs =
+pub to-call-close-requires-3 : (t : ℕ) → to-call-lts.Need-close-requires-3 (to-call-calls t) (to-call-at t) to-call.Post
+to-call-close-requires-3 t c κs =
     let v = c .before .before .before .before .before .before .before in
     let k = visited-keyed t v in
     let i = found-behind t (keyed-found t k) in
@@ -402,38 +501,27 @@ to-call-close-requires t c κs =
       call-low _ _ _ (c .before .before .before .before .before .before .before .before .before .before .before .key-held .ensures .0 (a .skip .now) (a .props .now)) _ _ (key-begins t k) _ _ _ (v .on-held .ensures) (low t i),
     )
 
-pub to-call-same-length : (t : ℕ) → to-call-lts.Need-same-length (to-call-calls t) (to-call-at t) to-call.Post
-to-call-same-length t c =
+pub to-call-same-length-5 : (t : ℕ) → to-call-lts.Need-same-length-5 (to-call-calls t) (to-call-at t) to-call.Post
+to-call-same-length-5 t c =
     let v = c .before .before .before .before .before .before .before .before .before .before in
     let f = keyed-found t (visited-keyed t v) in
     v .on-held .kept .1 .1 .1 .0 ∙ f .to-found .kept .1 .1 .1 .1 .1 .0 ∙ looked-filled t (found-looked t f) .to-props .kept .1 .1 .1 .1 .0
 
-pub to-call-same-length-2 : (t : ℕ) → to-call-lts.Need-same-length-2 (to-call-calls t) (to-call-at t) to-call.Post
-to-call-same-length-2 t c =
+pub to-call-same-length-6 : (t : ℕ) → to-call-lts.Need-same-length-6 (to-call-calls t) (to-call-at t) to-call.Post
+to-call-same-length-6 t c =
     let v = c .before .before .before .before .before .before .before .before .before .before in
     let f = keyed-found t (visited-keyed t v) in
     v .on-held .kept .1 .1 .1 .1 .0 ∙ f .to-found .kept .1 .1 .1 .1 .1 .1 .0 ∙ looked-filled t (found-looked t f) .to-props .kept .1 .1 .1 .1 .1 .0
 
-pub to-call-same-length-3 : (t : ℕ) → to-call-lts.Need-same-length-3 (to-call-calls t) (to-call-at t) to-call.Post
-to-call-same-length-3 t c =
+pub to-call-same-length-7 : (t : ℕ) → to-call-lts.Need-same-length-7 (to-call-calls t) (to-call-at t) to-call.Post
+to-call-same-length-7 t c =
     let v = c .before .before .before .before .before .before .before .before .before .before in
     let k = visited-keyed t v in
-    let d = keyed-closed t k in
-    let f = closed-found t d in
-    let l = found-looked t f in
-    c .before .before .close .kept .0
-    ∙ v .on-held .kept .1 .1 .1 .1 .1 .0
-    ∙ k .key-front .kept .0
-    ∙ d .close-props .kept .0
-    ∙ d .before .before .before .before .close-if .kept .0
-    ∙ f .to-found .kept .1 .1 .1 .1 .1 .1 .1 .0
-    ∙ f .before .before .before .before .before .before .children-front .kept .0
-    ∙ looked-filled t l .to-props .kept .1 .1 .1 .1 .1 .1 .0
-    ∙ looked-named t l .name-expr .kept .0
+    c .before .before .close3 .kept .0 ∙ v .on-held .kept .1 .1 .1 .1 .1 .0 ∙ k .key-front .kept .0 ∙ closed-length t (keyed-closed t k)
 
-pub to-call-returns : (t : ℕ) → to-call-lts.Need-returns (to-call-calls t) (to-call-at t) to-call.Post
-to-call-returns t c =
+pub to-call-returns-3 : (t : ℕ) → to-call-lts.Need-returns-3 (to-call-calls t) (to-call-at t) to-call.Post
+to-call-returns-3 t c =
     let v = c .before .before .before .before .before .before .before .before .before .before in
     let k = visited-keyed t v in
     let a = start t (found-behind t (keyed-found t k)) .args in
-    call-done _ _ _ (c .before .before .before .before .before .before .before .before .before .before .before .before .before .before .key-held .ensures .0 (a .skip .now) (a .props .now)) _ _ (key-begins t k) _ _ _ (v .on-held .ensures) _ _ (c .before .before .close .ensures)
+    call-done _ _ _ (c .before .before .before .before .before .before .before .before .before .before .before .before .before .before .key-held .ensures .0 (a .skip .now) (a .props .now)) _ _ (key-begins t k) _ _ _ (v .on-held .ensures) _ _ (c .before .before .close3 .ensures)
