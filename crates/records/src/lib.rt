@@ -172,17 +172,17 @@ fn record_element<'a>(
     requires { ⌜ (65536 ≤ length (now scratch)) × ((length (now b) < 2 ^ 32) × Low (keep (dynamic-exprs (element-at (now skip) (now props) (now b) .to-string-vec)) (at (now out) st))) ⌝ }
     ensures { λ r. ⌜ at (now (out .exit)) r ≡ keep (dynamic-exprs (element-at (now (skip .entry)) (now (props .entry)) (now (b .entry)) .to-string-vec)) (at (now (out .entry)) st) ⌝ }
 {
-    let rest = behind(b);
-    if rest.len() == 0 {
+    let s = behind(b);
+    if s.len() == 0 {
         return st;
     }
     if !is_serializable(skip, b) {
-        return record_found(skip, props, rest, scratch, out, st);
+        return record_found(skip, props, s, scratch, out, st);
     }
     if is_void_element(identifier(b)) {
         return st;
     }
-    record_parts(skip, props, rest, scratch, out, st)
+    record_parts(skip, props, s, scratch, out, st)
 }
 
 // Children in a template.
