@@ -174,30 +174,26 @@ fn attribute_strings<'a>(
     if is_listed(props, a) {
         return space_and_cut(out, st);
     }
-    match value_at(a) {
-        Value::Absent => {
-            if is_boolean(a) {
-                return put_space_escaped_name(out, st, a);
-            }
-            space_and_cut(out, st)
+    let Value::Field(tag) = value_at(a) else {
+        if is_boolean(a) {
+            return put_space_escaped_name(out, st, a);
         }
-        Value::Field(tag) => {
-            let v = body(behind(a));
-            if tag == 0x51 {
-                if is_key(a, true) {
-                    return space_and_cut(out, st);
-                }
-                if is_ref(a) {
-                    return space_and_cut(out, st);
-                }
-                return put_serialized(out, st, a, v);
-            }
-            if tag == 0x52 {
-                return container_strings(skip, props, a, v, out, st);
-            }
-            st
+        return space_and_cut(out, st);
+    };
+    let v = body(behind(a));
+    if tag == 0x51 {
+        if is_key(a, true) {
+            return space_and_cut(out, st);
         }
+        if is_ref(a) {
+            return space_and_cut(out, st);
+        }
+        return put_serialized(out, st, a, v);
     }
+    if tag == 0x52 {
+        return container_strings(skip, props, a, v, out, st);
+    }
+    st
 }
 
 // Attributes stand before children: the first field that is none ends them.

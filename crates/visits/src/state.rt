@@ -100,15 +100,13 @@ pub fn is_tag(c: &[u8]) -> bool
 pub fn tag_value(a: &[u8]) -> &[u8]
     ensures { λ r. ⌜ ((skip props : Bytes) → tag-inside skip props (contained-in (read (now r))) ≡ value-inside (value (opts skip props) (value-in (read (now (a .entry)))))) × (length (now r) ≤ length (now (a .entry))) ⌝ }
 {
-    match value_at(a) {
-        Value::Absent => &a[..0],
-        Value::Field(tag) => {
-            if tag == 0x30 || tag == 0x31 {
-                return behind(a);
-            }
-            &a[..0]
-        }
+    let Value::Field(tag) = value_at(a) else {
+        return &a[..0];
+    };
+    if tag == 0x30 || tag == 0x31 {
+        return behind(a);
     }
+    &a[..0]
 }
 
 // What stands at the place.

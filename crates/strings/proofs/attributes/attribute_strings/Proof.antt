@@ -1,4 +1,4 @@
--- A listed attribute, then an arm for each kind of value: what the attribute gives is what the arm writes.
+-- A listed attribute, then one without a value, then by the kind of value: what the attribute gives is what is written.
 use borrow.Author.Needs.{needs}
 use mathlib.Core.Path.{sym, ap, _∙_, subst}
 use Rattle.field.specs.Front.{body-of}
@@ -27,6 +27,9 @@ returns c =
 value-at-requires : tie.Need-value-at-requires
 value-at-requires c κs = search needs
 
+enum-known-tag : tie.Need-enum-known-tag
+enum-known-tag c = search needs
+
 enum-told : tie.Need-enum-told
 enum-told c = search needs
 
@@ -51,8 +54,13 @@ space-and-cut-requires-2 c κs =
     let a = c .before .before .before .before .before .before .before .before .before .before .before .before .args in
     subst Low (absent-other (opts (a .skip .now) (a .props .now)) (a .a .now) (at (a .out .now) (a .st)) (c .before .before .before .before .before .before .before .is-listed .ensures) (c .before .before .before .before .before .before .if1 .left) (c .before .before .before .before .before .value-at .ensures) (c .before .before .before .enum-told .given .1) (c .before .before .is-boolean .ensures) (c .before .if2 .left)) (c .before .before .before .before .before .before .before .before .before .before .before .before .pre)
 
-enum-known-tag : tie.Need-enum-known-tag
-enum-known-tag c = search needs
+same-length-3 : tie.Need-same-length-3
+same-length-3 c = search needs
+
+returns-3 : tie.Need-returns-3
+returns-3 c =
+    let a = c .before .before .before .before .before .before .before .before .before .before .before .before .before .before .before .args in
+    c .before .before .space-and-cut2 .ensures ∙ sym (absent-other (opts (a .skip .now) (a .props .now)) (a .a .now) (at (a .out .now) (a .st)) (c .before .before .before .before .before .before .before .before .before .before .is-listed .ensures) (c .before .before .before .before .before .before .before .before .before .if1 .left) (c .before .before .before .before .before .before .before .before .value-at .ensures) (c .before .before .before .before .before .before .enum-told .given .1) (c .before .before .before .before .before .is-boolean .ensures) (c .before .before .before .before .if2 .left))
 
 behind-requires : tie.Need-behind-requires
 behind-requires c κs = search needs
@@ -68,11 +76,11 @@ space-and-cut-requires-3 c κs =
     let a = c .before .before .before .before .before .before .before .before .before .before .before .before .before .before .before .before .args in
     subst Low (string-key (opts (a .skip .now) (a .props .now)) (a .a .now) (at (a .out .now) (a .st)) (c .before .before .before .before .before .before .before .before .before .before .before .is-listed .ensures) (c .before .before .before .before .before .before .before .before .before .before .if1 .left) (c .before .before .before .before .before .before .before .before .before .value-at .ensures) (c .before .before .before .before .before .before .before .tag .given .1) (c .before .before .before .before .body .ensures ∙ ap body-of (c .before .before .before .before .before .behind .ensures)) (c .before .before .before .if3 .taken) (c .before .before .is-key .ensures) (c .before .if4 .taken)) (c .before .before .before .before .before .before .before .before .before .before .before .before .before .before .before .before .pre)
 
-same-length-3 : tie.Need-same-length-3
-same-length-3 c = search needs
+same-length-4 : tie.Need-same-length-4
+same-length-4 c = search needs
 
-returns-3 : tie.Need-returns-3
-returns-3 c =
+returns-4 : tie.Need-returns-4
+returns-4 c =
     let a = c .before .before .before .before .before .before .before .before .before .before .before .before .before .before .before .before .before .before .before .args in
     c .before .before .space-and-cut3 .ensures ∙ sym (string-key (opts (a .skip .now) (a .props .now)) (a .a .now) (at (a .out .now) (a .st)) (c .before .before .before .before .before .before .before .before .before .before .before .before .before .before .is-listed .ensures) (c .before .before .before .before .before .before .before .before .before .before .before .before .before .if1 .left) (c .before .before .before .before .before .before .before .before .before .before .before .before .value-at .ensures) (c .before .before .before .before .before .before .before .before .before .before .tag .given .1) (c .before .before .before .before .before .before .before .body .ensures ∙ ap body-of (c .before .before .before .before .before .before .before .before .behind .ensures)) (c .before .before .before .before .before .before .if3 .taken) (c .before .before .before .before .before .is-key .ensures) (c .before .before .before .before .if4 .taken))
 
@@ -84,11 +92,11 @@ space-and-cut-requires-4 c κs =
     let a = c .before .before .before .before .before .before .before .before .before .before .before .before .before .before .before .before .before .before .args in
     subst Low (string-ref (opts (a .skip .now) (a .props .now)) (a .a .now) (at (a .out .now) (a .st)) (c .before .before .before .before .before .before .before .before .before .before .before .before .before .is-listed .ensures) (c .before .before .before .before .before .before .before .before .before .before .before .before .if1 .left) (c .before .before .before .before .before .before .before .before .before .before .before .value-at .ensures) (c .before .before .before .before .before .before .before .before .before .tag .given .1) (c .before .before .before .before .before .before .body .ensures ∙ ap body-of (c .before .before .before .before .before .before .before .behind .ensures)) (c .before .before .before .before .before .if3 .taken) (c .before .before .before .before .is-key .ensures) (c .before .before .before .if4 .left) (c .before .before .is-ref .ensures) (c .before .if5 .taken)) (c .before .before .before .before .before .before .before .before .before .before .before .before .before .before .before .before .before .before .pre)
 
-same-length-4 : tie.Need-same-length-4
-same-length-4 c = search needs
+same-length-5 : tie.Need-same-length-5
+same-length-5 c = search needs
 
-returns-4 : tie.Need-returns-4
-returns-4 c =
+returns-5 : tie.Need-returns-5
+returns-5 c =
     let a = c .before .before .before .before .before .before .before .before .before .before .before .before .before .before .before .before .before .before .before .before .before .args in
     c .before .before .space-and-cut4 .ensures ∙ sym (string-ref (opts (a .skip .now) (a .props .now)) (a .a .now) (at (a .out .now) (a .st)) (c .before .before .before .before .before .before .before .before .before .before .before .before .before .before .before .before .is-listed .ensures) (c .before .before .before .before .before .before .before .before .before .before .before .before .before .before .before .if1 .left) (c .before .before .before .before .before .before .before .before .before .before .before .before .before .before .value-at .ensures) (c .before .before .before .before .before .before .before .before .before .before .before .before .tag .given .1) (c .before .before .before .before .before .before .before .before .before .body .ensures ∙ ap body-of (c .before .before .before .before .before .before .before .before .before .before .behind .ensures)) (c .before .before .before .before .before .before .before .before .if3 .taken) (c .before .before .before .before .before .before .before .is-key .ensures) (c .before .before .before .before .before .before .if4 .left) (c .before .before .before .before .before .is-ref .ensures) (c .before .before .before .before .if5 .taken))
 
@@ -97,11 +105,11 @@ put-serialized-requires c κs =
     let a = c .before .before .before .before .before .before .before .before .before .before .before .before .before .before .before .before .before .before .args in
     subst Low (string-plain (opts (a .skip .now) (a .props .now)) (a .a .now) (at (a .out .now) (a .st)) (c .before .before .before .before .before .before .before .before .before .before .before .before .before .is-listed .ensures) (c .before .before .before .before .before .before .before .before .before .before .before .before .if1 .left) (c .before .before .before .before .before .before .before .before .before .before .before .value-at .ensures) (c .before .before .before .before .before .before .before .before .before .tag .given .1) (c .before .before .before .before .before .before .body .ensures ∙ ap body-of (c .before .before .before .before .before .before .before .behind .ensures)) (c .before .before .before .before .before .if3 .taken) (c .before .before .before .before .is-key .ensures) (c .before .before .before .if4 .left) (c .before .before .is-ref .ensures) (c .before .if5 .left)) (c .before .before .before .before .before .before .before .before .before .before .before .before .before .before .before .before .before .before .pre)
 
-same-length-5 : tie.Need-same-length-5
-same-length-5 c = search needs
+same-length-6 : tie.Need-same-length-6
+same-length-6 c = search needs
 
-returns-5 : tie.Need-returns-5
-returns-5 c =
+returns-6 : tie.Need-returns-6
+returns-6 c =
     let a = c .before .before .before .before .before .before .before .before .before .before .before .before .before .before .before .before .before .before .before .before .before .args in
     c .before .before .put-serialized .ensures ∙ sym (string-plain (opts (a .skip .now) (a .props .now)) (a .a .now) (at (a .out .now) (a .st)) (c .before .before .before .before .before .before .before .before .before .before .before .before .before .before .before .before .is-listed .ensures) (c .before .before .before .before .before .before .before .before .before .before .before .before .before .before .before .if1 .left) (c .before .before .before .before .before .before .before .before .before .before .before .before .before .before .value-at .ensures) (c .before .before .before .before .before .before .before .before .before .before .before .before .tag .given .1) (c .before .before .before .before .before .before .before .before .before .body .ensures ∙ ap body-of (c .before .before .before .before .before .before .before .before .before .before .behind .ensures)) (c .before .before .before .before .before .before .before .before .if3 .taken) (c .before .before .before .before .before .before .before .is-key .ensures) (c .before .before .before .before .before .before .if4 .left) (c .before .before .before .before .before .is-ref .ensures) (c .before .before .before .before .if5 .left))
 
@@ -110,21 +118,13 @@ container-strings-requires c κs =
     let a = c .before .before .before .before .before .before .before .before .before .before .before .before .before .before .before .args in
     subst Low (in-container (opts (a .skip .now) (a .props .now)) (a .a .now) (at (a .out .now) (a .st)) (c .before .before .before .before .before .before .before .before .before .before .is-listed .ensures) (c .before .before .before .before .before .before .before .before .before .if1 .left) (c .before .before .before .before .before .before .before .before .value-at .ensures) (c .before .before .before .before .before .before .tag .given .1) (c .before .before .before .body .ensures ∙ ap body-of (c .before .before .before .before .behind .ensures)) (c .before .if6 .taken)) (c .before .before .before .before .before .before .before .before .before .before .before .before .before .before .before .pre)
 
-same-length-6 : tie.Need-same-length-6
-same-length-6 c = search needs
-
-returns-6 : tie.Need-returns-6
-returns-6 c =
-    let a = c .before .before .before .before .before .before .before .before .before .before .before .before .before .before .before .before .before .before .args in
-    c .before .before .container-strings .ensures ∙ sym (in-container (opts (a .skip .now) (a .props .now)) (a .a .now) (at (a .out .now) (a .st)) (c .before .before .before .before .before .before .before .before .before .before .before .before .before .is-listed .ensures) (c .before .before .before .before .before .before .before .before .before .before .before .before .if1 .left) (c .before .before .before .before .before .before .before .before .before .before .before .value-at .ensures) (c .before .before .before .before .before .before .before .before .before .tag .given .1) (c .before .before .before .before .before .before .body .ensures ∙ ap body-of (c .before .before .before .before .before .before .before .behind .ensures)) (c .before .before .before .before .if6 .taken))
-
 same-length-7 : tie.Need-same-length-7
 same-length-7 c = search needs
 
 returns-7 : tie.Need-returns-7
 returns-7 c =
-    let a = c .before .before .before .before .before .before .before .before .before .before .before .before .before .before .before .args in
-    c .before .before .space-and-cut2 .ensures ∙ sym (absent-other (opts (a .skip .now) (a .props .now)) (a .a .now) (at (a .out .now) (a .st)) (c .before .before .before .before .before .before .before .before .before .before .is-listed .ensures) (c .before .before .before .before .before .before .before .before .before .if1 .left) (c .before .before .before .before .before .before .before .before .value-at .ensures) (c .before .before .before .before .before .before .enum-told .given .1) (c .before .before .before .before .before .is-boolean .ensures) (c .before .before .before .before .if2 .left))
+    let a = c .before .before .before .before .before .before .before .before .before .before .before .before .before .before .before .before .before .before .args in
+    c .before .before .container-strings .ensures ∙ sym (in-container (opts (a .skip .now) (a .props .now)) (a .a .now) (at (a .out .now) (a .st)) (c .before .before .before .before .before .before .before .before .before .before .before .before .before .is-listed .ensures) (c .before .before .before .before .before .before .before .before .before .before .before .before .if1 .left) (c .before .before .before .before .before .before .before .before .before .before .before .value-at .ensures) (c .before .before .before .before .before .before .before .before .before .tag .given .1) (c .before .before .before .before .before .before .body .ensures ∙ ap body-of (c .before .before .before .before .before .before .before .behind .ensures)) (c .before .before .before .before .if6 .taken))
 
 returns-8 : tie.Need-returns-8
 returns-8 c =
@@ -140,29 +140,29 @@ attribute-strings-spec =
     same-length
     returns
     value-at-requires
+    enum-known-tag
     enum-told
     is-boolean-requires
     put-space-escaped-name-requires
     same-length-2
     returns-2
     space-and-cut-requires-2
-    enum-known-tag
+    same-length-3
+    returns-3
     behind-requires
     body-requires
     is-key-requires
     space-and-cut-requires-3
-    same-length-3
-    returns-3
-    is-ref-requires
-    space-and-cut-requires-4
     same-length-4
     returns-4
-    put-serialized-requires
+    is-ref-requires
+    space-and-cut-requires-4
     same-length-5
     returns-5
-    container-strings-requires
+    put-serialized-requires
     same-length-6
     returns-6
+    container-strings-requires
     same-length-7
     returns-7
     returns-8)

@@ -12,20 +12,23 @@ use Rattle.visits.proofs.state.tag_value.Tie as tie
 value-at-requires : tie.Need-value-at-requires
 value-at-requires c κs = tt
 
+enum-known-tag : tie.Need-enum-known-tag
+enum-known-tag c = search needs
+
 enum-told : tie.Need-enum-told
 enum-told c = search needs
 
 slice-aggregate-result : tie.Need-slice-aggregate-result
 slice-aggregate-result c = search needs
 
-enum-known-tag : tie.Need-enum-known-tag
-enum-known-tag c = search needs
+returns : tie.Need-returns
+returns c = (λ k p. value-absent k p _ [] refl (sym (c .before .before .before .value-at .ensures) ∙ c .before .enum-told .given .1), omega arith)
 
 behind-requires : tie.Need-behind-requires
 behind-requires c κs = tt
 
-returns : tie.Need-returns
-returns c =
+returns-2 : tie.Need-returns-2
+returns-2 c =
     let v = c .before .before .before .before .before .value-at .ensures in
     let u = c .before .before .before .tag .given in
     let w = c .before .if1 .came in (
@@ -38,9 +41,6 @@ returns c =
 slice-aggregate-result-2 : tie.Need-slice-aggregate-result-2
 slice-aggregate-result-2 c = search needs
 
-returns-2 : tie.Need-returns-2
-returns-2 c = (λ k p. value-absent k p _ [] refl (sym (c .before .before .before .value-at .ensures) ∙ c .before .enum-told .given .1), omega arith)
-
 returns-3 : tie.Need-returns-3
 returns-3 c =
     let v = c .before .before .before .before .before .before .value-at .ensures in
@@ -52,11 +52,11 @@ tag-value-spec =
     tie.close
     (tie.spec
     value-at-requires
+    enum-known-tag
     enum-told
     slice-aggregate-result
-    enum-known-tag
-    behind-requires
     returns
-    slice-aggregate-result-2
+    behind-requires
     returns-2
+    slice-aggregate-result-2
     returns-3)
