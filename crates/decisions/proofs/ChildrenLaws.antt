@@ -1,15 +1,15 @@
--- What the code of src/children.rt learns. Main statements: `first-child`, `no-child`, `few-none`, `few-one`, `few-more`, `decided-start`,
--- `decided-60`, `decided-30`, `decided-other`, `decided-end`, `beside-text`, `beside-other`, `becomes-none`. Assumes nothing.
-use mathlib.Core.Path.{_≡_, refl, sym, ap, ap₂, _∙_, subst}
-use mathlib.Core.Bool.{Bool, true, false, _&&_, _||_, and-false}
-use mathlib.Core.Logic.{_⊎_, ⊎-elim}
-use Prim.Native.Nat.{ℕ, _+_, _≤_, _<_}
+-- What the code of src/children.rt learns. Main statements: `first-child`, `no-child`, `few-none`, `few-one`, `few-more`, `text-kept`,
+-- `text-blank`, `text-other`, `no-text`, `tag-counted`, `tag-passed`, `tag-other`, `no-tag`, `becomes-none`, `becomes-one`, `becomes-two`.
+-- Assumes nothing.
+use mathlib.Core.Path.{_≡_, refl, sym, ap, _∙_, subst}
+use mathlib.Core.Bool.{Bool, true, false, _||_, not}
+use Prim.Native.Nat.{ℕ, _+_, _≤_}
 use native.Mathlib.Omega.{arith}
 use native.Mathlib.Nat.{zero-add}
-use mathlib.Core.List.{List, [], _∷_}
-use lib.Dec.{T, leb, ltb, eqb, ltb→lt}
+use mathlib.Core.List.{[], _∷_}
+use lib.Dec.{T, leb, ltb, ltb→lt}
 use lib.ListN.{length}
-use borrow.Author.Tests.{le-leb, lt-leb, ne-eqb, leb-false}
+use borrow.Author.Tests.{le-leb, ne-eqb}
 use Rattle.field.specs.Bytes.{Bytes, pick, null?}
 use Rattle.field.specs.Row.{read, Ended}
 use Rattle.field.specs.Front.{tag-of, body-of, behind-of}
@@ -22,7 +22,7 @@ use Rattle.page.specs.Tree.{Contained, nothing-contained, contained, contained-
 use Rattle.spec.specs.Merge as M
 use Rattle.spec.specs.Merge.{text-count, serializable-count, becomes-template}
 use Rattle.spec.specs.Transform.{child, children}
-use Rattle.decisions.specs.At.{opts, element-at, serializable, is-none, few, becomes, FirstChild}
+use Rattle.decisions.specs.At.{opts, serializable, is-none, few, some-text, becomes, FirstChild}
 use Rattle.decisions.proofs.Series.{tested, children-none, children-60, children-52, children-30, children-31, children-61, children-other}
 use Rattle.decisions.proofs.Laws.{child-element, child-fragment, element-serializable}
 
@@ -97,135 +97,103 @@ module _ (s a : Bytes) (f : FirstChild s a) where
     pub few-more : (length b ≡ 0 → ⊥) → 2 ≡ few (children-in (read s))
     few-more h = sym (few-by ∙ ap (λ (x : Bool). pick x 1 2) (ap is-none (sym (g .same-children)) ∙ some-here b (g .child-first h)))
 
--- ---- whether children become a template: so many serializable tags and texts were passed, and cs is left
+-- ---- whether the text rule leaves something of a text
 
-unfoldable pub decided : ℕ → ℕ → List M.Child → Bool
-decided tags texts cs = leb 2 (tags + serializable-count cs) || (eqb (tags + serializable-count cs) 1 && leb 1 (texts + text-count cs))
+contained-silent : (c : Contained) (cs : P.Children) → some-text (contained-child c cs) ≡ some-text cs
+unfolding some-text contained-child
+contained-silent nothing-contained cs = refl
+contained-silent (contained e) cs = refl
 
--- the children that are left, as 000 sees them; the second list plays no part
-abbrev pub left : Bytes → Bytes → List M.Child
-left k s = children (opts k []) (children-in (read s))
+-- no field is left
+pub no-text : (s : Bytes) → Ended (read s) → false ≡ some-text (children-in (read s))
+unfolding some-text
+no-text s i = sym (ap some-text (children-none (read s) i))
 
-pub decided-start : (k s : Bytes) → decided 0 0 (left k s) ≡ becomes k (children-in (read s))
-unfolding decided becomes becomes-template
-decided-start k s = ap₂ (λ (n m : ℕ). leb 2 n || (eqb n 1 && leb 1 m)) (zero-add (serializable-count (left k s))) (zero-add (text-count (left k s)))
+module _ (s : Bytes) (t : ℕ) (e : t ≡ tag-of s) where
+  module _ (h : t ≡ 0x60) {b : Bytes} (q : b ≡ body-of s) {v : Bool} (g : v ≡ null? (jsx-text-to-str b false false)) where
+    text-here : some-text (children-in (read s)) ≡ (not v || some-text (children-in (read (behind-of s))))
+    unfolding some-text
+    text-here = ap some-text (children-60 s t e h) ∙ rw (g, q)
 
-module _ (tags texts : ℕ) (cs : List M.Child) where
-  pub decided-tags : 2 ≤ tags → true ≡ decided tags texts cs
-  unfolding decided
-  decided-tags h = rw (le-leb 2 (tags + serializable-count cs) (omega arith))
+    pub text-kept : v ≡ false → true ≡ some-text (children-in (read s))
+    text-kept z = sym (text-here ∙ rw z)
 
-  pub decided-both : 1 ≤ tags → 1 ≤ texts → true ≡ decided tags texts cs
-  unfolding decided
-  decided-both h l =
-      tested (tags + serializable-count cs) 1
-      (λ k. rw (le-leb 1 (texts + text-count cs) (omega arith), k))
-      λ n. rw (le-leb 2 (tags + serializable-count cs) (omega arith))
+    pub text-blank : v ≡ true → {r : Bytes} → r ≡ behind-of s → some-text (children-in (read r)) ≡ some-text (children-in (read s))
+    text-blank z {r} u = sym (text-here ∙ rw (z, u))
 
--- nothing is left
-module _ (tags texts : ℕ) (h : tags < 2) (l : (tags < 1) ⊎ (texts < 1)) where
-  none-left : decided tags texts [] ≡ false
-  unfolding decided serializable-count text-count
-  none-left =
-      rw (lt-leb 2 (tags + 0) (omega arith))
-      (⊎-elim (λ z. rw (ne-eqb (tags + 0) 1 (λ y. omega arith))) (λ z. rw (lt-leb 1 (texts + 0) (omega arith)) (and-false (eqb (tags + 0) 1))) l)
+  pub text-other : (t ≡ 256 → ⊥) → (t ≡ 0x60 → ⊥) → {r : Bytes} → r ≡ behind-of s → some-text (children-in (read r)) ≡ some-text (children-in (read s))
+  unfolding some-text
+  text-other h a {r} u =
+      ap (λ (x : Bytes). some-text (children-in (read x))) u ∙
+      (tested t 0x52 (λ z. sym (ap some-text (children-52 s t e z) ∙ contained-silent _ _)) λ c.
+      tested t 0x30 (λ z. ap some-text (sym (children-30 s t e z))) λ b.
+      tested t 0x31 (λ z. ap some-text (sym (children-31 s t e z))) λ d.
+      tested t 0x61 (λ z. ap some-text (sym (children-61 s t e z))) λ f.
+      ap some-text (sym (children-other s t e h a c b d f)))
 
-  pub decided-end : (k s : Bytes) → Ended (read s) → false ≡ decided tags texts (left k s)
-  unfolding children
-  decided-end k s i = sym (ap (λ (cs : P.Children). decided tags texts (children (opts k []) cs)) (children-none (read s) i) ∙ none-left)
+-- ---- how many serializable tags are left; the second list plays no part
 
--- two states that decide the same
-same-decided : (tags texts tags′ texts′ : ℕ) (cs ds : List M.Child) → tags + serializable-count cs ≡ tags′ + serializable-count ds → leb 1 (texts + text-count cs) ≡ leb 1 (texts′ + text-count ds) →
-    decided tags texts cs ≡ decided tags′ texts′ ds
-unfolding decided
-same-decided tags texts tags′ texts′ cs ds p q = ap₂ (λ (n : ℕ) (x : Bool). leb 2 n || (eqb n 1 && x)) p q
+abbrev pub tags-in : Bytes → P.Children → ℕ
+tags-in k cs = serializable-count (children (opts k []) cs)
 
-module _ (tags texts : ℕ) (cs : List M.Child) where
-  text-blank : (b : Bytes) → null? (jsx-text-to-str b false false) ≡ true → decided tags texts cs ≡ decided tags texts (M.text b ∷ cs)
-  unfolding serializable-count text-count
-  text-blank b h = same-decided tags texts tags texts cs (M.text b ∷ cs) refl (rw (h, zero-add (text-count cs)))
+contained-passed : (k : Bytes) (c : Contained) (cs : P.Children) → tags-in k (contained-child c cs) ≡ tags-in k cs
+unfolding children serializable-count contained-child
+contained-passed k nothing-contained cs = refl
+contained-passed k (contained e) cs = refl
 
-  text-full : (b : Bytes) → null? (jsx-text-to-str b false false) ≡ false → decided tags 1 cs ≡ decided tags texts (M.text b ∷ cs)
-  unfolding serializable-count text-count
-  text-full b h =
-      same-decided tags 1 tags texts cs (M.text b ∷ cs) refl
-      (rw (h, le-leb 1 (1 + text-count cs) (omega arith), le-leb 1 (texts + (1 + text-count cs)) (omega arith)))
-
-  tag-counted : (e : M.Element) → e .serializable ≡ true → decided (tags + 1) texts cs ≡ decided tags texts (M.element e ∷ cs)
-  unfolding serializable-count text-count
-  tag-counted e h = same-decided (tags + 1) texts tags texts cs (M.element e ∷ cs) (rw h (omega arith)) refl
-
-  tag-passed : (e : M.Element) → e .serializable ≡ false → decided tags texts cs ≡ decided tags texts (M.element e ∷ cs)
-  unfolding serializable-count text-count
-  tag-passed e h = same-decided tags texts tags texts cs (M.element e ∷ cs) (rw (h, zero-add (serializable-count cs))) refl
-
-module _ (k s : Bytes) (t : ℕ) (e : t ≡ tag-of s) (tags texts : ℕ) {b : Bytes} (q : b ≡ body-of s) {r : Bytes} (u : r ≡ behind-of s) where
-  module _ (h : t ≡ 0x60) {v : Bool} (g : v ≡ null? (jsx-text-to-str b false false)) where
-    left-60 : left k s ≡ M.text b ∷ left k r
-    unfolding children
-    left-60 = ap (children (opts k [])) (children-60 s t e h) ∙ rw (q, u)
-
-    pub decided-blank : v ≡ true → decided tags texts (left k r) ≡ decided tags texts (left k s)
-    decided-blank z = text-blank tags texts (left k r) b (sym g ∙ z) ∙ ap (decided tags texts) (sym left-60)
-
-    pub decided-text : v ≡ false → decided tags 1 (left k r) ≡ decided tags texts (left k s)
-    decided-text z = text-full tags texts (left k r) b (sym g ∙ z) ∙ ap (decided tags texts) (sym left-60)
-
-  module _ (h : t ≡ 0x30) {v : Bool} (g : v ≡ serializable k b) where
-    left-30 : left k s ≡ M.element (element-at k [] b) ∷ left k r
-    unfolding children
-    left-30 = ap (children (opts k [])) (children-30 s t e h) ∙ rw (q, u) (ap (λ (c : M.Child). c ∷ left k (behind-of s)) (child-element k [] (body-of s)))
-
-    pub decided-tag : v ≡ true → decided (tags + 1) texts (left k r) ≡ decided tags texts (left k s)
-    decided-tag z = tag-counted tags texts (left k r) (element-at k [] b) (element-serializable k [] b ∙ sym g ∙ z) ∙ ap (decided tags texts) (sym left-30)
-
-    pub decided-passed : v ≡ false → decided tags texts (left k r) ≡ decided tags texts (left k s)
-    decided-passed z = tag-passed tags texts (left k r) (element-at k [] b) (element-serializable k [] b ∙ sym g ∙ z) ∙ ap (decided tags texts) (sym left-30)
-
--- all else counts for nothing
-contained-passed : (k : Bytes) (tags texts : ℕ) (c : Contained) (cs : P.Children) → decided tags texts (children (opts k []) cs) ≡ decided tags texts (children (opts k []) (contained-child c cs))
-unfolding decided children serializable-count text-count contained-child
-contained-passed k tags texts nothing-contained cs = refl
-contained-passed k tags texts (contained e) cs = refl
-
-module _ (k s : Bytes) (t : ℕ) (e : t ≡ tag-of s) (tags texts : ℕ) {r : Bytes} (u : r ≡ behind-of s) where
-  pub decided-other : (t ≡ 256 → ⊥) → (t ≡ 0x60 → ⊥) → (t ≡ 0x30 → ⊥) → decided tags texts (left k r) ≡ decided tags texts (left k s)
-  unfolding decided children child serializable-count text-count
-  decided-other h a b =
-      let D : P.Children → Bool = λ (cs : P.Children). decided tags texts (children (opts k []) cs) in
-      ap (λ (x : Bytes). D (children-in (read x))) u ∙
-      (tested t 0x52 (λ z. contained-passed k tags texts _ _ ∙ ap D (sym (children-52 s t e z))) λ c.
-      tested t 0x31 (λ z. ap (λ (x : M.Child). decided tags texts (x ∷ left k (behind-of s))) (sym (child-fragment k [] (body-of s))) ∙ ap D (sym (children-31 s t e z))) λ d.
-      tested t 0x61 (λ z. ap D (sym (children-61 s t e z))) λ f.
-      ap D (sym (children-other s t e h a c b d f)))
-
--- ---- whether a serializable element is among the children: with a text beside them, one decides
-
-one-decides : (n m : ℕ) → (leb 2 (0 + n) || (eqb (0 + n) 1 && leb 1 (1 + m))) ≡ leb 1 n
-one-decides n m =
-    tested n 0 (λ k. rw k) λ a.
-    tested n 1 (λ k. rw (k, le-leb 1 (1 + m) (omega arith))) λ b.
-    rw (le-leb 2 (0 + n) (omega arith), le-leb 1 n (omega arith))
-
-pub beside-text : (cs : List M.Child) → decided 0 1 cs ≡ leb 1 (serializable-count cs)
-unfolding decided
-beside-text cs = one-decides (serializable-count cs) (text-count cs)
+pub no-tag : (k s : Bytes) → Ended (read s) → tags-in k (children-in (read s)) ≡ 0
+unfolding children serializable-count
+no-tag k s i = ap (tags-in k) (children-none (read s) i)
 
 module _ (k s : Bytes) (t : ℕ) (e : t ≡ tag-of s) {r : Bytes} (u : r ≡ behind-of s) where
-  beside-60 : t ≡ 0x60 → (v : Bool) → v ≡ null? (jsx-text-to-str (body-of s) false false) → decided 0 1 (left k r) ≡ decided 0 1 (left k s)
-  beside-60 h true g = decided-blank k s t e 0 1 refl u h g refl
-  beside-60 h false g = decided-text k s t e 0 1 refl u h g refl
+  module _ {b : Bytes} (q : b ≡ body-of s) (h : t ≡ 0x30) {v : Bool} (g : v ≡ serializable k b) where
+    tag-here : tags-in k (children-in (read s)) ≡ pick v 1 0 + tags-in k (children-in (read r))
+    unfolding children serializable-count
+    tag-here = rw (children-30 s t e h, child-element k [] (body-of s), element-serializable k [] (body-of s), g, q, u)
 
-  pub beside-other : (t ≡ 256 → ⊥) → (t ≡ 0x30 → ⊥) → decided 0 1 (left k r) ≡ decided 0 1 (left k s)
-  beside-other h a = tested t 0x60 (λ z. beside-60 z _ refl) λ b. decided-other k s t e 0 1 u h b a
+    pub tag-counted : v ≡ true → tags-in k (children-in (read s)) ≡ 1 + tags-in k (children-in (read r))
+    tag-counted z = tag-here ∙ rw z
 
-  pub beside-tag : {b : Bytes} → b ≡ body-of s → t ≡ 0x30 → {v : Bool} → v ≡ serializable k b → v ≡ true → true ≡ decided 0 1 (left k s)
-  beside-tag q h g z = decided-both 1 1 (left k r) (omega arith) (omega arith) ∙ decided-tag k s t e 0 1 q u h g z
+    pub tag-passed : v ≡ false → tags-in k (children-in (read s)) ≡ tags-in k (children-in (read r))
+    tag-passed z = tag-here ∙ rw (z, zero-add (tags-in k (children-in (read r))))
 
--- no template without one
-pub becomes-none : (k s : Bytes) → leb 1 (serializable-count (left k s)) ≡ false → false ≡ becomes k (children-in (read s))
-unfolding becomes becomes-template
-becomes-none k s h =
-    let n = serializable-count (left k s) in
-    let l = leb-false 1 n h in
-    rw (lt-leb 2 n (omega (arith, l)), ne-eqb n 1 (λ z. omega (arith, l)))
+  pub tag-other : (t ≡ 256 → ⊥) → (t ≡ 0x30 → ⊥) → tags-in k (children-in (read s)) ≡ tags-in k (children-in (read r))
+  unfolding children child serializable-count
+  tag-other h b =
+      (tested t 0x60 (λ z. ap (tags-in k) (children-60 s t e z)) λ a.
+      tested t 0x52 (λ z. ap (tags-in k) (children-52 s t e z) ∙ contained-passed k _ _) λ c.
+      tested t 0x31 (λ z. ap (tags-in k) (children-31 s t e z) ∙ ap (λ (x : M.Child). serializable-count (x ∷ children (opts k []) (children-in (read (behind-of s))))) (child-fragment k [] (body-of s))) λ d.
+      tested t 0x61 (λ z. ap (tags-in k) (children-61 s t e z)) λ f.
+      ap (tags-in k) (children-other s t e h a c b d f)) ∙
+      ap (λ (x : Bytes). tags-in k (children-in (read x))) (sym u)
+
+-- ---- whether they become a template
+
+some-more : (v : Bool) (n : ℕ) → leb 1 (pick v 0 1 + n) ≡ (not v || leb 1 n)
+some-more true n = rw zero-add
+some-more false n = le-leb 1 (1 + n) (omega arith)
+
+texts-some : (k : Bytes) (cs : P.Children) → leb 1 (text-count (children (opts k []) cs)) ≡ some-text cs
+unfolding some-text text-count children child
+texts-some k P.no-children = refl
+texts-some k (P.text-child b cs) =
+    let v = null? (jsx-text-to-str b false false) in
+    some-more v _ ∙ ap (λ (x : Bool). not v || x) (texts-some k cs)
+texts-some k (P.empty-child cs) = texts-some k cs
+texts-some k (P.container-child e cs) = texts-some k cs
+texts-some k (P.tag-child (P.element n as′ ds) cs) = texts-some k cs
+texts-some k (P.tag-child (P.fragment ds) cs) = texts-some k cs
+texts-some k (P.spread-child e cs) = texts-some k cs
+
+module _ (k : Bytes) (cs : P.Children) where
+  pub becomes-none : tags-in k cs ≡ 0 → false ≡ becomes k cs
+  unfolding becomes becomes-template
+  becomes-none h = rw h
+
+  pub becomes-one : tags-in k cs ≡ 1 → some-text cs ≡ becomes k cs
+  unfolding becomes becomes-template
+  becomes-one h = rw h (sym (texts-some k cs))
+
+  pub becomes-two : 2 ≤ tags-in k cs → true ≡ becomes k cs
+  unfolding becomes becomes-template
+  becomes-two h = rw (le-leb 2 (tags-in k cs) h)

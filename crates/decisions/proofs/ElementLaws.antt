@@ -1,7 +1,7 @@
 -- What the code of src/element.rt learns. Main statements: `upper-above`, `identifier-40`, `identifier-other`, `forbids-50`,
 -- `forbids-53`, `serializable-parts`, `component-other` and the like. Assumes nothing.
 use mathlib.Core.Path.{_≡_, refl, sym, ap, _∙_}
-use mathlib.Core.Bool.{Bool, true, false, _||_, not}
+use mathlib.Core.Bool.{Bool, true, false, _||_, not, and-false, and-true}
 use Prim.Native.Nat.{ℕ, _≤_, _<_}
 use native.Mathlib.Omega.{arith}
 use mathlib.Core.List.{[], _∷_}
@@ -102,11 +102,12 @@ module _ (k s : Bytes) (t : ℕ) (e : t ≡ tag-of s) where
     unfolding serializable serializable-by
     serializable-upper h = rw (name-is-identifier s t e a b q, ← upper, h)
 
-    module _ (low : u ≡ false) {v : Bool} (listed : v ≡ among n (names-of k)) where
-      pub serializable-listed : v ≡ true → false ≡ serializable k s
+    -- r lies behind the name
+    module _ (low : u ≡ false) {r : Bytes} (y : r ≡ behind-of s) {x : Bool} (z : x ≡ forbids (attributes-in (read r))) where
+      pub serializable-kept : x ≡ true → false ≡ serializable k s
       unfolding serializable serializable-by
-      serializable-listed h = rw (name-is-identifier s t e a b q, ← upper, low, ← listed, h)
+      serializable-kept h = rw (name-is-identifier s t e a b q, behind-name-at s, ← y, ← z, h, and-false (not (among n (names-of k))), and-false (not (first-upper n)))
 
-      pub serializable-rest : v ≡ false → {r : Bytes} → r ≡ behind-of s → {x : Bool} → x ≡ forbids (attributes-in (read r)) → serializable k s ≡ not x
+      pub serializable-rest : x ≡ false → {v : Bool} → v ≡ among n (names-of k) → not v ≡ serializable k s
       unfolding serializable serializable-by
-      serializable-rest h {r} y {x} z = rw (name-is-identifier s t e a b q, ← upper, low, ← listed, h, behind-name-at s, z, y)
+      serializable-rest h {v} listed = rw (name-is-identifier s t e a b q, behind-name-at s, ← y, ← z, h, ← upper, low, ← listed, and-true (not v))

@@ -5,9 +5,10 @@ use mathlib.Core.Path.{_≡_}
 use mathlib.Core.List.{List, [], _∷_}
 use lib.Dec.{T}
 use lib.ListN.{length}
-use Rattle.field.specs.Bytes.{Bytes, ascii, same, among, pick}
+use Rattle.field.specs.Bytes.{Bytes, ascii, same, among, pick, null?}
 use Rattle.field.specs.Row.{Row, end, loose, field, read}
 use Rattle.field.specs.Front.{tag-of}
+use Rattle.text.specs.Text.{jsx-text-to-str}
 use Rattle.names.specs.Names.{get-attr-name}
 use Rattle.page.specs.Check.{is-child}
 use Rattle.page.specs.Page as P
@@ -114,6 +115,15 @@ few (P.empty-child cs) = pick (is-none cs) 1 2
 few (P.container-child e cs) = pick (is-none cs) 1 2
 few (P.tag-child t cs) = pick (is-none cs) 1 2
 few (P.spread-child e cs) = pick (is-none cs) 1 2
+
+-- a text of which the text rule leaves something
+unfoldable pub some-text : P.Children → Bool
+some-text P.no-children = false
+some-text (P.text-child b cs) = not (null? (jsx-text-to-str b false false)) || some-text cs
+some-text (P.empty-child cs) = some-text cs
+some-text (P.container-child e cs) = some-text cs
+some-text (P.tag-child t cs) = some-text cs
+some-text (P.spread-child e cs) = some-text cs
 
 -- whether several children of a call become one template
 unfoldable pub becomes : Bytes → P.Children → Bool

@@ -1,14 +1,10 @@
 // A series of children. Fields that are no child are passed over, so that the fields behind an element's name may be given whole.
 ghost use mathlib.Core.Path.{_≡_};
-ghost use mathlib.Core.List.{[]};
 ghost use Prim.Native.Nat.{_≤_};
-ghost use lib.Dec.{leb};
 ghost use lib.ListN.{length};
 ghost use Rattle.field.specs.Row.{read};
 ghost use Rattle.page.specs.Tree.{children-in};
-ghost use Rattle.spec.specs.Merge.{serializable-count};
-ghost use Rattle.spec.specs.Transform.{children};
-ghost use Rattle.decisions.specs.At.{FirstChild, few, becomes, opts};
+ghost use Rattle.decisions.specs.At.{FirstChild, few, some-text, becomes};
 use crate::element::is_serializable;
 use field::reader::behind;
 use field::reader::body;
@@ -63,62 +59,19 @@ pub fn child_count(s: &[u8]) -> usize
     2
 }
 
-// Whether a serializable element is among the children. No text is looked into.
-fn has_html(skip: &[u8], s: &[u8]) -> bool
-    ensures { λ r. ⌜ r ≡ leb 1 (serializable-count (children (opts (now (skip .entry)) []) (children-in (read (now (s .entry)))))) ⌝ }
+// Whether the text rule leaves something of a text among the children.
+fn has_text(s: &[u8]) -> bool
+    ensures { λ r. ⌜ r ≡ some-text (children-in (read (now (s .entry)))) ⌝ }
 {
     let mut t = s;
     loop {
-        match tag_at(t) {
-            0x30 => {
-                let r = behind(t);
-                if is_serializable(skip, body(t)) {
-                    return true;
-                }
-                t = r;
-            }
-            256 => {
-                return false;
-            }
-            _ => {
-                let r = behind(t);
-                t = r;
-            }
-        }
-    }
-}
-
-// Whether serializable elements and texts that are not blank, counted, make one template.
-fn counts_template(skip: &[u8], s: &[u8]) -> bool
-    ensures { λ r. ⌜ r ≡ becomes (now (skip .entry)) (children-in (read (now (s .entry)))) ⌝ }
-{
-    let mut t = s;
-    let mut tags: usize = 0;
-    let mut texts: usize = 0;
-    loop {
-        if 2 <= tags {
-            return true;
-        }
-        if 1 <= tags && 1 <= texts {
-            return true;
-        }
         match tag_at(t) {
             0x60 => {
                 let r = behind(t);
                 if is_blank(body(t), false) {
                     t = r;
                 } else {
-                    texts = 1;
-                    t = r;
-                }
-            }
-            0x30 => {
-                let r = behind(t);
-                if is_serializable(skip, body(t)) {
-                    tags += 1;
-                    t = r;
-                } else {
-                    t = r;
+                    return true;
                 }
             }
             256 => {
@@ -132,12 +85,37 @@ fn counts_template(skip: &[u8], s: &[u8]) -> bool
     }
 }
 
-// Whether several children of a call become one template. A series of texts alone may be long and asked about often: it is not counted.
+// Whether several children of a call become one template. Texts are looked into only where one tag alone is serializable: a series of
+// texts may be long and asked about often.
 pub fn becomes_template(skip: &[u8], s: &[u8]) -> bool
     ensures { λ r. ⌜ r ≡ becomes (now (skip .entry)) (children-in (read (now (s .entry)))) ⌝ }
 {
-    if !has_html(skip, s) {
-        return false;
+    let mut t = s;
+    let mut tags: usize = 0;
+    loop {
+        match tag_at(t) {
+            0x30 => {
+                let r = behind(t);
+                if is_serializable(skip, body(t)) {
+                    if tags == 1 {
+                        return true;
+                    }
+                    tags = 1;
+                    t = r;
+                } else {
+                    t = r;
+                }
+            }
+            256 => {
+                if tags == 0 {
+                    return false;
+                }
+                return has_text(s);
+            }
+            _ => {
+                let r = behind(t);
+                t = r;
+            }
+        }
     }
-    counts_template(skip, s)
 }

@@ -54,7 +54,7 @@ fn keeps_from_serializing(s: &[u8]) -> bool
     }
 }
 
-// skip has the names of 02.
+// skip has the names of 02. They are looked at last: most options list none.
 pub fn is_serializable(skip: &[u8], b: &[u8]) -> bool
     ensures { λ r. ⌜ r ≡ serializable (now (skip .entry)) (now (b .entry)) ⌝ }
 {
@@ -66,13 +66,13 @@ pub fn is_serializable(skip: &[u8], b: &[u8]) -> bool
             if is_upper(n) {
                 return false;
             }
-            if lists(skip, n) {
-                return false;
-            }
             if keeps_from_serializing(behind(b)) {
                 return false;
             }
-            true
+            if skip.len() == 0 {
+                return true;
+            }
+            !lists(skip, n)
         }
     }
 }

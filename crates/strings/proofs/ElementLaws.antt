@@ -1,19 +1,23 @@
 -- Elements and children as they are written: a container among children, a closing tag, the loop over children, and an element piece by piece.
--- Main statements: `string-low`, `closed-end`, `last-child`, `Left`, `text-on` and the like, `left-end`, `gap-end`, `void-end`, `close-end`.
+-- Main statements: `string-low`, `byte-on`, `closing-low`, `last-child`, `Left`, `text-on` and the like, `left-end`, `gap-end`, `void-end`, `close-end`.
 -- Assumes nothing.
 use mathlib.Core.Path.{_≡_, refl, sym, ap, _∙_, subst}
 use Prim.Native.Nat.{ℕ, _+_, _*_, _≤_, _<_, _^_}
+use native.Mathlib.Numerals.{add-one}
 use native.Mathlib.Omega.{arith}
 use mathlib.Core.Bool.{Bool, true, false, _&&_}
 use mathlib.Core.List.{List, [], _∷_, _++_}
 use lib.Dec.{eqb}
-use lib.ListN.{length, take}
+use lib.ListN.{length, getD, take, length-append, length-take}
+use lib.Seq.{take-suc}
 use Rattle.field.specs.Bytes.{Bytes, pick}
 use Rattle.field.specs.Number.{number-of}
 use Rattle.field.specs.Row.{read, Ended}
 use Rattle.field.specs.Front.{tag-of, body-of, behind-of}
+use Rattle.field.specs.Put.{Wrote}
 use Rattle.field.proofs.Actions.{by, on, finish, room, keeps}
 use Rattle.field.proofs.FrontLaws.{body-less, behind-less}
+use Rattle.field.proofs.PutLaws.{wrote-then, wrote-is}
 use Rattle.text.specs.Escape.{escape-html}
 use Rattle.text.specs.Decimal.{decimal}
 use Rattle.text.specs.Text.{jsx-text-to-str}
@@ -25,8 +29,8 @@ use Rattle.spec.specs.Children.{children-to-string}
 use Rattle.decisions.specs.At.{opts, element-name, identifier-bytes, element-at, serializable, is-none, FirstChild, shape-of-contained}
 use Rattle.decisions.specs.declared.expr.Shape.the-variants as Form
 use Rattle.strings.specs.declared.writer.Open.{Open}
-use Rattle.strings.specs.Carve.{Carved, at, put-on, close, carve, contained-parts, Low}
-use Rattle.strings.proofs.CarveLaws.{carving, lows, size, same-size, put-on-append, put-low}
+use Rattle.strings.specs.Carve.{Carved, at, close, carve, contained-parts, Low}
+use Rattle.strings.proofs.CarveLaws.{carving, lows, size, same-size, put-low}
 use Rattle.strings.proofs.MergeLaws.{to-string-direct}
 use Rattle.strings.proofs.ShapeLaws.{child-string, child-number}
 use Rattle.strings.proofs.TreeLaws.{kids, attrs-at, parts-at, parts-60, parts-52, parts-30, parts-31, parts-none, parts-other, no-child-left, inner, void, not-void, element-gap, element-open}
@@ -40,35 +44,19 @@ module _ (o : Options) (c out : Bytes) (st : Open) (l : Low (carve (contained-pa
   pub number-low : {k : ℕ} → k ≡ number-of (take 8 v) → Form.Number ≡ shape-of-contained (contained-in (read c)) → st .head + 3 + st .len + length (decimal k) < 2 ^ 63
   number-low {k} q e = put-low out st (decimal k) (subst Low (child-number o c (at out st) b q e) l)
 
--- ---- a closing tag, in three goes
+-- ---- a name, byte by byte: the first i bytes of s are written
 
-module _ (n : Bytes) (w : Carved) where
-  abbrev closed : Carved
-  closed = carve (chars (60 ∷ 47 ∷ (n ++ (62 ∷ []))) ∷ []) w
+module _ {o o₁ : Bytes} {n a : ℕ} (s : Bytes) (i : ℕ) (h : i < length s) (w : Wrote o n (take i s) o₁ a) where
+  pub byte-low : n + length s < 2 ^ 63 → a + 1 < 2 ^ 64
+  byte-low l = omega (arith, w .end-is, length-take i s)
 
-  in-three : carve (chars (60 ∷ 47 ∷ []) ∷ chars n ∷ chars (62 ∷ []) ∷ []) w ≡ closed
-  unfolding carve
-  in-three = put-on-append n (62 ∷ []) (put-on (60 ∷ 47 ∷ []) w) ∙ put-on-append (60 ∷ 47 ∷ []) (n ++ (62 ∷ [])) w
+  pub byte-on : {o₂ : Bytes} {b : ℕ} → Wrote o₁ a (getD s i 0 ∷ []) o₂ b → Wrote o n (take (i + 1) s) o₂ b
+  byte-on v = wrote-is (rw (add-one, take-suc s i 0)) (wrote-then w v)
 
-  pub first-room : Low closed → Low (carve (chars (60 ∷ 47 ∷ []) ∷ []) w)
-  first-room l = room carving lows (chars (60 ∷ 47 ∷ []) ∷ []) in-three l
+-- ---- a closing tag: room for its bytes
 
-  module _ {w₁ : Carved} (e₁ : w₁ ≡ carve (chars (60 ∷ 47 ∷ []) ∷ []) w) where
-    in-two : carve (chars n ∷ chars (62 ∷ []) ∷ []) w₁ ≡ closed
-    in-two = on carving (chars (60 ∷ 47 ∷ []) ∷ []) in-three e₁
-
-    pub name-room : Low closed → Low (carve (chars n ∷ []) w₁)
-    name-room l = room carving lows (chars n ∷ []) in-two l
-
-    module _ {w₂ : Carved} (e₂ : w₂ ≡ carve (chars n ∷ []) w₁) where
-      in-one : carve (chars (62 ∷ []) ∷ []) w₂ ≡ closed
-      in-one = on carving (chars n ∷ []) in-two e₂
-
-      pub last-room : Low closed → Low (carve (chars (62 ∷ []) ∷ []) w₂)
-      last-room l = subst Low (sym in-one) l
-
-      pub closed-end : {w₃ : Carved} → w₃ ≡ carve (chars (62 ∷ []) ∷ []) w₂ → w₃ ≡ closed
-      closed-end e₃ = e₃ ∙ in-one
+pub closing-low : (n out : Bytes) (st : Open) → Low (carve (chars (60 ∷ 47 ∷ (n ++ (62 ∷ []))) ∷ []) (at out st)) → st .head + 3 + st .len + (length n + 3) < 2 ^ 63
+closing-low n out st l = omega (arith, put-low out st (60 ∷ 47 ∷ (n ++ (62 ∷ []))) l, length-append n (62 ∷ []))
 
 -- ---- whether a child follows
 

@@ -2,7 +2,10 @@
 // that the runs of a merge need no buffer.
 ghost use mathlib.Core.Path.{_≡_};
 ghost use mathlib.Core.Bool.{true, _&&_};
+ghost use Prim.Native.Nat.{_+_, _<_, _^_};
 ghost use mathlib.Core.List.{_∷_, [], _++_};
+ghost use lib.ListN.{length};
+ghost use Rattle.field.specs.Put.{Wrote};
 ghost use Rattle.field.specs.Row.{read};
 ghost use Rattle.text.specs.Escape.{escape-html};
 ghost use Rattle.page.specs.Tree.{children-in, contained-in};
@@ -26,9 +29,11 @@ use field::reader::behind;
 use field::reader::body;
 use field::reader::tag_at;
 use field::writer::put_byte;
+use field::writer::put_bytes;
 use names::is_void_element;
 use text::decimal::put_decimal;
 use text::escape::put_escaped;
+use text::escape::put_short_escaped;
 
 // `<name`
 fn put_open(out: &mut [u8], st: Open, n: &[u8]) -> Open
@@ -36,8 +41,25 @@ fn put_open(out: &mut [u8], st: Open, n: &[u8]) -> Open
     ensures { λ r. ⌜ at (now (out .exit)) r ≡ carve (chars (60 ∷ escape-html (now (n .entry))) ∷ []) (at (now (out .entry)) st) ⌝ }
 {
     let p = put_byte(out, st.head + 3 + st.len, b'<');
-    let q = put_escaped(out, p, n);
+    let q = put_short_escaped(out, p, n);
     ended(st, q)
+}
+
+// A name, which mostly has a few bytes: byte by byte that costs less.
+fn put_short(out: &mut [u8], at: usize, s: &[u8]) -> usize
+    requires { ⌜ at + length (now s) < 2 ^ 63 ⌝ }
+    ensures { λ r. ⌜ Wrote (now (out .entry)) at (now (s .entry)) (now (out .exit)) r ⌝ }
+{
+    if 8 <= s.len() {
+        return put_bytes(out, at, s);
+    }
+    let mut a = at;
+    let mut i: usize = 0;
+    while i < s.len() {
+        a = put_byte(out, a, s[i]);
+        i += 1;
+    }
+    a
 }
 
 // `</name>`
@@ -45,9 +67,11 @@ fn put_close(out: &mut [u8], st: Open, n: &[u8]) -> Open
     requires { ⌜ Low (carve (chars (60 ∷ 47 ∷ (now n ++ (62 ∷ []))) ∷ []) (at (now out) st)) ⌝ }
     ensures { λ r. ⌜ at (now (out .exit)) r ≡ carve (chars (60 ∷ 47 ∷ (now (n .entry) ++ (62 ∷ []))) ∷ []) (at (now (out .entry)) st) ⌝ }
 {
-    let a = put_chars(out, st, b"</");
-    let b = put_chars(out, a, n);
-    put_chars(out, b, b">")
+    let p = put_byte(out, st.head + 3 + st.len, b'<');
+    let q = put_byte(out, p, b'/');
+    let r = put_short(out, q, n);
+    let e = put_byte(out, r, b'>');
+    ended(st, e)
 }
 
 // A container among children, by its fields c.

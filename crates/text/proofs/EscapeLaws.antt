@@ -10,8 +10,8 @@ use native.Mathlib.Numerals.{add-one}
 use native.Mathlib.Omega.{arith}
 use mathlib.Core.List.{[], _∷_, _++_, append-assoc, append-nil}
 use lib.Dec.{eqb, ltb, eqb·suc-suc, eqb·zero-suc, lit<, lit≤}
-use lib.ListN.{length, getD, take, drop, length-append, take-append-drop}
-use lib.Seq.{take-suc, take-add}
+use lib.ListN.{length, getD, take, drop, length-append, length-drop, take-append-drop}
+use lib.Seq.{take-suc, take-add, take-all}
 use borrow.Author.Tests.{eq-eqb, eqb-true, ltb-true}
 use Rattle.field.specs.Bytes.{Bytes, AllBytes, ascii, pick, null?, same}
 use Rattle.text.specs.Escape.{escape-byte, escape-html, replace}
@@ -219,3 +219,13 @@ escaped-le s i =
     let whole = ap (λ (t : Bytes). length (escape-html t)) (take-append-drop i s) in
     let parts = ap (λ (t : Bytes). length t) (escape-append (take i s) (drop i s)) in
     omega (arith, length-append (escape-html (take i s)) (escape-html (drop i s)))
+
+-- ---- the loop of `put_short_escaped`: a plain byte, and all that is left
+
+pub escaped-plain : (s : Bytes) (i : ℕ) → i < length s → plain (getD s i 0) ≡ true → escape-html (take i s) ++ (getD s i 0 ∷ []) ≡ escape-html (take (i + 1) s)
+escaped-plain s i h e = ap {B = Bytes} (λ w. escape-html (take i s) ++ w) (sym (escape-plain (getD s i 0) e)) ∙ escaped-sign s i h
+
+pub escaped-rest : (s : Bytes) (i : ℕ) → i ≤ length s → escape-html (take i s) ++ escape-html (take (length s - i) (drop i s)) ≡ escape-html s
+escaped-rest s i h =
+    let all-left = take-all (length s - i) (drop i s) (rw length-drop (omega arith)) in
+    rw all-left (sym (escape-append (take i s) (drop i s)) ∙ ap {B = Bytes} escape-html (take-append-drop i s))

@@ -140,6 +140,27 @@ pub fn put_escaped(out: &mut [u8], at: usize, s: &[u8]) -> usize
     a
 }
 
+// The same of a name, which mostly has a few bytes: to look for a run would cost more than to test each.
+pub fn put_short_escaped(out: &mut [u8], at: usize, s: &[u8]) -> usize
+    requires { ⌜ at + length (escape-html (now s)) < 2 ^ 63 ⌝ }
+    ensures { λ r. ⌜ Wrote (now (out .entry)) at (escape-html (now (s .entry))) (now (out .exit)) r ⌝ }
+{
+    if 8 <= s.len() {
+        return put_escaped(out, at, s);
+    }
+    let mut a = at;
+    let mut i: usize = 0;
+    while i < s.len() {
+        let b = s[i];
+        if !is_plain(b) {
+            return put_escaped(out, a, &s[i..]);
+        }
+        a = put_byte(out, a, b);
+        i += 1;
+    }
+    a
+}
+
 // Whether escaping changes nothing.
 pub fn is_escaped(s: &[u8]) -> bool
     ensures { λ r. ⌜ r ≡ same (now (s .entry)) (escape-html (now (s .entry))) ⌝ }

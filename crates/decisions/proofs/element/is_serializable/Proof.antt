@@ -1,6 +1,7 @@
-use mathlib.Core.Path.{sym, ap, _∙_}
-use mathlib.Core.Bool.{not}
-use Rattle.decisions.proofs.ElementLaws.{serializable-41, serializable-42, serializable-upper, serializable-listed, serializable-rest}
+-- Where nothing is listed, nothing is looked up. Assumes nothing.
+use mathlib.Core.Path.{sym}
+use Rattle.decisions.proofs.IndexLaws.{listed-empty}
+use Rattle.decisions.proofs.ElementLaws.{serializable-41, serializable-42, serializable-upper, serializable-kept, serializable-rest}
 use Rattle.decisions.proofs.element.is_serializable.Statement.{statement}
 use Rattle.decisions.proofs.element.is_serializable.Tie as tie
 
@@ -14,13 +15,10 @@ is-upper-requires : tie.Need-is-upper-requires
 is-upper-requires c κs = tt
 
 returns : tie.Need-returns
-returns c = serializable-upper (c .before .before .before .before .before .before .before .args .skip .now) _ _ (c .before .before .before .before .tag-at .ensures .0) (c .before .before .before .match .rest .0 .1) (c .before .before .before .match .rest .1) (c .before .before .identifier .ensures) (c .before .is-upper .ensures) (c .if1 .taken)
-
-lists-requires : tie.Need-lists-requires
-lists-requires c κs = tt
-
-returns-2 : tie.Need-returns-2
-returns-2 c = serializable-listed (c .before .before .before .before .before .before .before .before .before .args .skip .now) _ _ (c .before .before .before .before .before .before .tag-at .ensures .0) (c .before .before .before .before .before .match .rest .0 .1) (c .before .before .before .before .before .match .rest .1) (c .before .before .before .before .identifier .ensures) (c .before .before .before .is-upper .ensures) (c .before .before .if1 .left) (c .before .lists .ensures) (c .if2 .taken)
+returns c =
+    let n = c .before .before in
+    let m = n .before in
+    serializable-upper (m .before .before .before .before .args .skip .now) _ _ (m .before .tag-at .ensures .0) (m .match .rest .0 .1) (m .match .rest .1) (n .identifier .ensures) (c .before .is-upper .ensures) (c .if1 .taken)
 
 behind-requires : tie.Need-behind-requires
 behind-requires c κs = tt
@@ -28,8 +26,25 @@ behind-requires c κs = tt
 keeps-from-serializing-requires : tie.Need-keeps-from-serializing-requires
 keeps-from-serializing-requires c κs = tt
 
+returns-2 : tie.Need-returns-2
+returns-2 c =
+    let k = c .before in
+    let u = k .before .before in
+    let n = u .before .before in
+    let m = n .before in
+    serializable-kept (m .before .before .before .before .args .skip .now) _ _ (m .before .tag-at .ensures .0) (m .match .rest .0 .1) (m .match .rest .1) (n .identifier .ensures) (u .before .is-upper .ensures) (u .if1 .left) (k .before .behind .ensures) (k .keeps-from-serializing .ensures) (c .if2 .taken)
+
 returns-3 : tie.Need-returns-3
-returns-3 c = ap not (sym (c .if3 .taken)) ∙ sym (serializable-rest (c .before .before .before .before .before .before .before .before .before .before .before .before .args .skip .now) _ _ (c .before .before .before .before .before .before .before .before .before .tag-at .ensures .0) (c .before .before .before .before .before .before .before .before .match .rest .0 .1) (c .before .before .before .before .before .before .before .before .match .rest .1) (c .before .before .before .before .before .before .before .identifier .ensures) (c .before .before .before .before .before .before .is-upper .ensures) (c .before .before .before .before .before .if1 .left) (c .before .before .before .before .lists .ensures) (c .before .before .before .if2 .left) (c .before .before .behind .ensures) (c .before .keeps-from-serializing .ensures))
+returns-3 c =
+    let k = c .before .before in
+    let u = k .before .before in
+    let n = u .before .before in
+    let m = n .before in
+    let args = m .before .before .before .before .args in
+    serializable-rest (args .skip .now) _ _ (m .before .tag-at .ensures .0) (m .match .rest .0 .1) (m .match .rest .1) (n .identifier .ensures) (u .before .is-upper .ensures) (u .if1 .left) (k .before .behind .ensures) (k .keeps-from-serializing .ensures) (c .before .if2 .left) (sym (listed-empty (n .identifier .result .now) (args .skip .now) (c .if3 .taken)))
+
+lists-requires : tie.Need-lists-requires
+lists-requires c κs = tt
 
 returns-4 : tie.Need-returns-4
 returns-4 c = serializable-41 (c .before .before .before .before .args .skip .now) _ _ (c .before .tag-at .ensures .0) (c .match .keys1)
@@ -38,7 +53,12 @@ returns-5 : tie.Need-returns-5
 returns-5 c = serializable-42 (c .before .before .before .before .args .skip .now) _ _ (c .before .tag-at .ensures .0) (c .match .keys2)
 
 returns-6 : tie.Need-returns-6
-returns-6 c = ap not (sym (c .if3 .left)) ∙ sym (serializable-rest (c .before .before .before .before .before .before .before .before .before .before .before .before .args .skip .now) _ _ (c .before .before .before .before .before .before .before .before .before .tag-at .ensures .0) (c .before .before .before .before .before .before .before .before .match .rest .0 .1) (c .before .before .before .before .before .before .before .before .match .rest .1) (c .before .before .before .before .before .before .before .identifier .ensures) (c .before .before .before .before .before .before .is-upper .ensures) (c .before .before .before .before .before .if1 .left) (c .before .before .before .before .lists .ensures) (c .before .before .before .if2 .left) (c .before .before .behind .ensures) (c .before .keeps-from-serializing .ensures))
+returns-6 c =
+    let k = c .before .before .before in
+    let u = k .before .before in
+    let n = u .before .before in
+    let m = n .before in
+    serializable-rest (m .before .before .before .before .args .skip .now) _ _ (m .before .tag-at .ensures .0) (m .match .rest .0 .1) (m .match .rest .1) (n .identifier .ensures) (u .before .is-upper .ensures) (u .if1 .left) (k .before .behind .ensures) (k .keeps-from-serializing .ensures) (c .before .before .if2 .left) (c .lists .ensures)
 
 pub is-serializable-spec : {M : Type 1} → statement M
 is-serializable-spec =
@@ -48,11 +68,11 @@ is-serializable-spec =
     identifier-requires
     is-upper-requires
     returns
-    lists-requires
-    returns-2
     behind-requires
     keeps-from-serializing-requires
+    returns-2
     returns-3
+    lists-requires
     returns-4
     returns-5
     returns-6)

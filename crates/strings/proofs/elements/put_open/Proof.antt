@@ -26,8 +26,8 @@ put-byte-requires c κs =
     let a = start .args in
     omega (arith, put-low (a .out .now) (a .st) (60 ∷ escape-html (a .n .now)) (start .pre))
 
-put-escaped-requires : tie.Need-put-escaped-requires
-put-escaped-requires c κs =
+put-short-escaped-requires : tie.Need-put-short-escaped-requires
+put-short-escaped-requires c κs =
     let p = c .before .before .before in
     let start = p .before .before .before .before .before .before in
     let a = start .args in
@@ -45,7 +45,7 @@ returns c =
     let p₂ = p₁ .before .before .before .before in
     let start = p₂ .before .before .before .before .before .before in
     let a = start .args in
-    put-is (a .out .now) (a .st) (c .ended .ensures) (wrote-then (p₂ .put-byte .ensures) (p₁ .put-escaped .ensures))
+    put-is (a .out .now) (a .st) (c .ended .ensures) (wrote-then (p₂ .put-byte .ensures) (p₁ .put-short-escaped .ensures))
 
 pub put-open-spec : {M : Type 1} → statement M
 put-open-spec =
@@ -54,7 +54,7 @@ put-open-spec =
     add-put-byte
     add-put-byte-2
     put-byte-requires
-    put-escaped-requires
+    put-short-escaped-requires
     ended-requires
     same-length
     returns)
