@@ -20,27 +20,14 @@ use Rattle.spec.specs.Children.{entries, children-to-expr}
 use Rattle.spec.specs.Transform.{children}
 use Rattle.decisions.specs.At.{opts}
 use Rattle.found.specs.Finds.{kids, entries-at, found-at, expr-at, element-entry, joined-of}
-use Rattle.found.specs.Steady.{stays, steady}
+use Rattle.found.specs.Steady.{steady}
 use Rattle.found.specs.declared.Joined.{Joined}
 use Rattle.found.specs.declared.Joined.the-variants as J
+use Rattle.found.proofs.SteadyLaws.{steady-length}
+use Rattle.found.proofs.WalkLaws.{not-null}
 use Rattle.found.proofs.MergeLaws.{run-entries, left-entries, Grows, left-blank, left-text, left-joined, left-more, left-apart, left-30, left-31, left-other, left-end}
 
--- ---- entries that stay are entries
-
-at-most-one : (b : Bool) → let n : ℕ = pick b 1 0 in n ≤ 1
-at-most-one true = omega arith
-at-most-one false = omega arith
-
-steady-few : (es : List Entry) → steady es ≤ length es
-unfolding steady
-steady-few [] = omega arith
-steady-few (e ∷ es) = omega (arith, at-most-one (stays e), steady-few es)
-
 -- ---- a run that has something is an entry
-
-not-null : (b c : Bytes) → null? c ≡ false → null? (b ++ c) ≡ false
-not-null [] c h = h
-not-null (x ∷ b) c h = refl
 
 still-some : (b c : Bytes) → null? b ≡ false → null? (b ++ c) ≡ false
 still-some [] c h = absurd (let z : _≡_ {A = ℕ} 0 1 = cc in omega arith)
@@ -136,7 +123,7 @@ module _ (skip s t heavy : Bytes) (run one : Bool) (k : Seen skip s t heavy run 
         l .least,
         one-is one z,
         g props,
-        steady-few (added skip props heavy),
+        steady-length (added skip props heavy),
       )
 
   module _ (r : Bytes) where
@@ -310,7 +297,7 @@ module _ (skip s t heavy : Bytes) (run one : Bool) (k : Seen skip s t heavy run 
 
     module _ (f : (props : Bytes) → 1 ≤ steady (added skip props b)) where
       pub fragment-seen : one ≡ false → Seen skip s r heavy false true
-      fragment-seen y = seen-apart skip s t heavy run one k r (λ props. added skip props b) (λ props buf. left-31 skip props t u e q buf h p) y λ props. omega (arith, f props, steady-few (added skip props b))
+      fragment-seen y = seen-apart skip s t heavy run one k r (λ props. added skip props b) (λ props buf. left-31 skip props t u e q buf h p) y λ props. omega (arith, f props, steady-length (added skip props b))
 
       pub fragment-many : one ≡ true → Several skip s
-      fragment-many y = many-apart skip s t heavy run one k r (λ props. added skip props b) (λ props buf. left-31 skip props t u e q buf h p) y λ props. omega (arith, f props, steady-few (added skip props b))
+      fragment-many y = many-apart skip s t heavy run one k r (λ props. added skip props b) (λ props buf. left-31 skip props t u e q buf h p) y λ props. omega (arith, f props, steady-length (added skip props b))

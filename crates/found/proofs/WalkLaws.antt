@@ -40,7 +40,7 @@ looked-start skip s {cur} e =
     subst (Looked skip s s false) (sym e)
     record { tail = tail-all s; within = omega arith; found = λ props. record { buf = []; so-far = []; run-is = refl; all-is = refl; enters = refl } }
 
-not-null : (b c : Bytes) → null? c ≡ false → null? (b ++ c) ≡ false
+pub not-null : (b c : Bytes) → null? c ≡ false → null? (b ++ c) ≡ false
 not-null [] c h = h
 not-null (x ∷ b) c h = refl
 
