@@ -1,14 +1,14 @@
 -- Laws of a text that is written piece by piece: each piece has room where the whole has; and of bytes stored one by one.
 -- Main statements: `room-for`, `wrote-more`; `store-four`, `store-five`, `store-six`.
 -- Assumes nothing.
-use mathlib.Core.Path.{_≡_, sym, ap, _∙_}
+use mathlib.Core.Path.{_≡_, ap, _∙_}
 use Prim.Native.Nat.{ℕ, _+_, _≤_, _<_}
 use native.Mathlib.Omega.{arith}
 use mathlib.Core.List.{[], _∷_, _++_}
 use lib.ListN.{length, set, length-append}
 use Rattle.field.specs.Bytes.{Bytes}
 use Rattle.field.specs.Put.{put, Wrote}
-use Rattle.field.proofs.PutLaws.{length-put, put-one, put-put, wrote-then, wrote-is}
+use Rattle.field.proofs.PutLaws.{wrote-then, wrote-is, store-more, store-three}
 
 -- what is written, and the next piece, are a front of the whole
 pub room-for : {o o₁ done front : Bytes} {at a m k : ℕ} (piece : Bytes) → Wrote o at done o₁ a → done ++ piece ≡ front → length front ≤ m → at + m < k → a + length piece < k
@@ -20,16 +20,8 @@ wrote-more w e v = wrote-is e (wrote-then w v)
 
 -- ---- bytes stored one by one, where all of them fit
 
--- one byte behind those that are written
-store-more : (o : Bytes) (at : ℕ) (w : Bytes) (b : ℕ) → at + length w < length o → set (put o at w) (at + length w) b ≡ put o at (w ++ (b ∷ []))
-store-more o at w b h = sym (put-one (put o at w) (at + length w) b (rw length-put h)) ∙ put-put o at w (b ∷ [])
-
 pub store-four : (o : Bytes) (at a b c d : ℕ) → at + 4 ≤ length o → set (set (set (set o at a) (at + 1) b) (at + 2) c) (at + 3) d ≡ put o at (a ∷ b ∷ c ∷ d ∷ [])
-store-four o at a b c d h =
-    let one = sym (put-one o at a (omega arith)) in
-    let two = ap {B = Bytes} (λ x. set x (at + 1) b) one ∙ store-more o at (a ∷ []) b (omega arith) in
-    let three = ap {B = Bytes} (λ x. set x (at + 2) c) two ∙ store-more o at (a ∷ b ∷ []) c (omega arith) in
-    ap {B = Bytes} (λ x. set x (at + 3) d) three ∙ store-more o at (a ∷ b ∷ c ∷ []) d (omega arith)
+store-four o at a b c d h = ap {B = Bytes} (λ x. set x (at + 3) d) (store-three o at a b c (omega arith)) ∙ store-more o at (a ∷ b ∷ c ∷ []) d (omega arith)
 
 pub store-five : (o : Bytes) (at a b c d e : ℕ) → at + 5 ≤ length o → set (set (set (set (set o at a) (at + 1) b) (at + 2) c) (at + 3) d) (at + 4) e ≡ put o at (a ∷ b ∷ c ∷ d ∷ e ∷ [])
 store-five o at a b c d e h = ap {B = Bytes} (λ x. set x (at + 4) e) (store-four o at a b c d (omega arith)) ∙ store-more o at (a ∷ b ∷ c ∷ d ∷ []) e (omega arith)
