@@ -119,6 +119,10 @@ all-append p (c ∷ a) b = rw (all-append p a b) (sym (and-assoc (p c) (all p a)
 pub scan-on : {r : ℕ} (p : ℕ → Bool) (s : Bytes) (i : ℕ) → i < length s → p (getD s i 0) ≡ true → r ≡ i + run p (drop i s) → i < r
 scan-on p s i h e q = omega (arith, rw (drop-cons s i 0, run-cons p (getD s i 0) (drop (suc i) s) e) at q)
 
+-- the same run looked for from its second byte on
+pub scan-back : {r : ℕ} (p : ℕ → Bool) (s : Bytes) (i : ℕ) → i < length s → p (getD s i 0) ≡ true → r ≡ i + 1 + run p (drop (i + 1) s) → r ≡ i + run p (drop i s)
+scan-back p s i h e q = q ∙ scan-step p s i h e refl
+
 -- ---- the last block, which may begin in front of the place
 
 run-whole : (p : ℕ → Bool) (t : Bytes) → all p t ≡ true → run p t ≡ length t

@@ -129,7 +129,8 @@ pub fn put_escaped(out: &mut [u8], at: usize, s: &[u8]) -> usize
     while i < s.len() {
         let b = s[i];
         if is_plain(b) {
-            let e = plain_end(s, i);
+            // the byte itself is known to be plain
+            let e = plain_end(s, i + 1);
             a = put_bytes(out, a, &s[i..e]);
             i = e;
         } else {

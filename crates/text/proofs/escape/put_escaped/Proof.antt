@@ -9,7 +9,7 @@ use Rattle.field.specs.Put.{Wrote}
 use Rattle.field.proofs.PutLaws.{wrote-none, wrote-is, wrote-length}
 use Rattle.text.specs.Escape.{escape-byte, escape-html}
 use Rattle.text.specs.Runs.{plain}
-use Rattle.text.proofs.RunLaws.{scan-le, scan-on}
+use Rattle.text.proofs.RunLaws.{scan-le, scan-back}
 use Rattle.text.proofs.WriteLaws.{room-for, wrote-more}
 use Rattle.text.proofs.EscapeLaws.{escaped-run, escaped-sign, escaped-le}
 use borrow.Author.Needs.{needs}
@@ -32,6 +32,9 @@ shared-slice-read-b c = omega arith
 is-plain-requires : tie.Need-is-plain-requires Inv-loop μ-loop
 is-plain-requires c κs = search needs
 
+add-plain-end : tie.Need-add-plain-end Inv-loop μ-loop
+add-plain-end c = omega arith
+
 plain-end-requires : tie.Need-plain-end-requires Inv-loop μ-loop
 plain-end-requires c κs = omega arith
 
@@ -39,30 +42,33 @@ sub-put-bytes : tie.Need-sub-put-bytes Inv-loop μ-loop
 sub-put-bytes c =
     let args = c .before .before .before .before .before .before .before .before .before .args in
     let loop = c .before .before .before .before .before .before .loop in
-    omega (arith, scan-le plain (args .s .now) (loop .i) (omega arith) (c .before .plain-end .ensures))
+    omega (arith, scan-le plain (args .s .now) (loop .i + 1) (omega arith) (c .before .plain-end .ensures))
 
 part-put-bytes-start : tie.Need-part-put-bytes-start Inv-loop μ-loop
 part-put-bytes-start c =
     let args = c .before .before .before .before .before .before .before .before .before .args in
     let loop = c .before .before .before .before .before .before .loop in
-    omega (arith, scan-le plain (args .s .now) (loop .i) (omega arith) (c .before .plain-end .ensures))
+    omega (arith, scan-le plain (args .s .now) (loop .i + 1) (omega arith) (c .before .plain-end .ensures))
 
 part-put-bytes-end : tie.Need-part-put-bytes-end Inv-loop μ-loop
 part-put-bytes-end c =
     let args = c .before .before .before .before .before .before .before .before .before .args in
     let loop = c .before .before .before .before .before .before .loop in
-    omega (arith, scan-le plain (args .s .now) (loop .i) (omega arith) (c .before .plain-end .ensures))
+    omega (arith, scan-le plain (args .s .now) (loop .i + 1) (omega arith) (c .before .plain-end .ensures))
 
 put-bytes-requires : tie.Need-put-bytes-requires Inv-loop μ-loop
 put-bytes-requires c κs =
     let args = c .before .before .before .before .before .before .before .before .before .before .args in
     let loop = c .before .before .before .before .before .before .before .loop in
     let plain-end′ = c .before .before .plain-end in
+    let if1 = c .before .before .before .if1 in
+    let is-plain′ = c .before .before .before .before .is-plain in
     let pre = c .before .before .before .before .before .before .before .before .before .before .pre in
     let s = args .s .now in
     let i = loop .i in
     let e = plain-end′ .result in
-    let h = room-for {k = 2 ^ 63} (take (e - i) (drop i s)) (loop .inv .1) (escaped-run s i e (plain-end′ .ensures)) (escaped-le s e) pre in
+    let run′ = scan-back plain s i (omega arith) (sym (is-plain′ .ensures) ∙ if1 .taken) (plain-end′ .ensures) in
+    let h = room-for {k = 2 ^ 63} (take (e - i) (drop i s)) (loop .inv .1) (escaped-run s i e run′) (escaped-le s e) pre in
     omega arith
 
 loop-less : tie.Need-loop-less Inv-loop μ-loop
@@ -70,20 +76,19 @@ loop-less c =
     let args = c .before .before .before .before .before .before .before .before .before .before .before .before .before .args in
     let loop = c .before .before .before .before .before .before .before .before .before .before .loop in
     let plain-end′ = c .before .before .before .before .before .plain-end in
-    let is-plain′ = c .before .before .before .before .before .before .before .is-plain in
-    let if1 = c .before .before .before .before .before .before .if1 in
-    let s = args .s .now in
-    let b = scan-le plain s (loop .i) (omega arith) (plain-end′ .ensures) in
-    omega (arith, scan-on plain s (loop .i) (omega arith) (sym (is-plain′ .ensures) ∙ if1 .taken) (plain-end′ .ensures))
+    omega (arith, scan-le plain (args .s .now) (loop .i + 1) (omega arith) (plain-end′ .ensures))
 
 loop-again : tie.Need-loop-again Inv-loop μ-loop
 loop-again c =
     let args = c .before .before .before .before .before .before .before .before .before .before .before .before .before .args in
     let loop = c .before .before .before .before .before .before .before .before .before .before .loop in
     let plain-end′ = c .before .before .before .before .before .plain-end in
+    let if1 = c .before .before .before .before .before .before .if1 in
+    let is-plain′ = c .before .before .before .before .before .before .before .is-plain in
     let s = args .s .now in
-    let b = scan-le plain s (loop .i) (omega arith) (plain-end′ .ensures) in
-    (b .1, wrote-more (loop .inv .1) (escaped-run s (loop .i) (plain-end′ .result) (plain-end′ .ensures)) (c .before .before .put-bytes .ensures))
+    let b = scan-le plain s (loop .i + 1) (omega arith) (plain-end′ .ensures) in
+    let run′ = scan-back plain s (loop .i) (omega arith) (sym (is-plain′ .ensures) ∙ if1 .taken) (plain-end′ .ensures) in
+    (b .1, wrote-more (loop .inv .1) (escaped-run s (loop .i) (plain-end′ .result) run′) (c .before .before .put-bytes .ensures))
 
 put-escape-requires : tie.Need-put-escape-requires Inv-loop μ-loop
 put-escape-requires c κs =
@@ -125,6 +130,7 @@ put-escaped-spec =
     loop-holds
     shared-slice-read-b
     is-plain-requires
+    add-plain-end
     plain-end-requires
     sub-put-bytes
     part-put-bytes-start
