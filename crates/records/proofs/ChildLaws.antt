@@ -1,5 +1,5 @@
 -- What children record. In a template only elements and fragments do, whichever way texts and containers were merged; in a call again only
--- these, each by a pass of its own. Main statements: `parts-within`, `twice-within`, `merged-called`, `found-few`, `found-array`,
+-- these, each by a pass of its own. Main statements: `parts-within`, `twice-within`, `merged-called`, `found-only`, `found-array`,
 -- `found-template`, `element-call`, `element-inner`. Assumes nothing.
 use mathlib.Core.Path.{_≡_, refl, sym, ap, _∙_, subst}
 use Prim.Native.Nat.{ℕ}
@@ -232,11 +232,14 @@ found-none [] h w = nothing-of w
 found-none (c ∷ []) h w = absurd (omega (arith, h))
 found-none (c ∷ c′ ∷ cs) h w = absurd (omega (arith, h))
 
-pub found-few : (cs : List Child) → few-of cs ≡ 1 → (w : Kept) → keep (found-pass (children-to-expr cs)) w ≡ keep (entries-pass (called cs)) w
+-- the only child, whatever it is, and one that records nothing
+pub found-only : (c : Child) (cs : List Child) → few-of (c ∷ cs) ≡ 1 → children-to-expr (c ∷ cs) ≡ one-child c
 unfolding few-of children-to-expr
-found-few [] h w = absurd (omega (arith, h))
-found-few (c ∷ []) h w = found-one c w
-found-few (c ∷ c′ ∷ cs) h w = absurd (omega (arith, h))
+found-only c [] h = refl
+found-only c (c′ ∷ cs) h = absurd (omega (arith, h))
+
+pub found-silent : (c : Child) → called (c ∷ []) ≡ [] → (w : Kept) → keep (found-pass (one-child c)) w ≡ w
+found-silent c h w = found-one c w ∙ ap (λ (es : List Entry). keep (entries-pass es) w) h ∙ called-none w
 
 module _ (cs : List Child) (w : Kept) where
   many : few-of cs ≡ 2 → children-to-expr cs ≡ many-children cs

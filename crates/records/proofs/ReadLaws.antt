@@ -1,34 +1,37 @@
 -- Elements and series of children as they stand in bytes: what the walk does at each tag, and what it goes by at an element.
 -- Main statements: `within-30`, `called-30` and the like; `serialize-call`, `serialize-template`, `serialize-kids`, `inner-call`, `inner-void`,
--- `inner-kids`, `serialize-none`, `inner-none`; `found-0`, `found-1`, `found-2`, `found-merged`. Assumes nothing.
+-- `inner-kids`, `serialize-none`, `inner-none`; `found-0`, `only-30`, `only-31`, `only-other`, `found-2`, `found-merged`. Assumes nothing.
 use mathlib.Core.Path.{_≡_, refl, sym, ap, _∙_, subst}
 use Prim.Native.Nat.{ℕ, _≤_}
 use native.Mathlib.Omega.{arith}
 use mathlib.Core.List.{List, [], _∷_, _++_}
 use mathlib.Core.Bool.{Bool, true, false}
+use lib.Dec.{T}
 use lib.ListN.{length}
+use borrow.Author.Tests.{ne-eqb}
 use Rattle.field.specs.Bytes.{Bytes, pick}
 use Rattle.field.specs.Row.{read, Ended, Next, nothing, no-field, next, next-of}
 use Rattle.field.specs.Front.{tag-of, body-of, behind-of, behind-by}
 use Rattle.field.proofs.RowLaws.{next-sizes}
 use Rattle.field.proofs.FrontLaws.{read-empty}
 use Rattle.names.specs.Names.{is-void-element}
+use Rattle.page.specs.Check.{is-child}
 use Rattle.page.specs.Page as P
 use Rattle.page.specs.Page.{Options}
-use Rattle.page.specs.Tree.{choose, children-in, Contained, nothing-contained, contained, contained-child}
+use Rattle.page.specs.Tree.{choose, children-in, expr-in, Contained, nothing-contained, contained, contained-child}
 use Rattle.spec.specs.Pass.{Mid, none}
 use Rattle.spec.specs.Output.{dynamic-exprs}
 use Rattle.spec.specs.Merge as M
 use Rattle.spec.specs.Merge.{Child, merge, long-run, short-runs, becomes-template}
 use Rattle.spec.specs.Attributes.{is-serializable}
-use Rattle.spec.specs.Children.{children-to-string, children-to-expr, entries, entries-pass, found-pass, to-call-expr, serialize-jsx, spliced}
+use Rattle.spec.specs.Children.{children-to-string, children-to-expr, entries, entries-pass, entry-pass, found-pass, one-child, to-call-expr, serialize-jsx, spliced}
 use Rattle.spec.specs.Transform.{element-of, fragment-of, shape-of, child, children, expr}
-use Rattle.decisions.specs.At.{opts, element-name, behind-name, identifier-bytes, attributes-at, children-at, element-at, serializable, is-none, few, becomes}
+use Rattle.decisions.specs.At.{opts, element-name, behind-name, identifier-bytes, attributes-at, children-at, element-at, serializable, is-none, few, becomes, FirstChild}
 use Rattle.decisions.proofs.Laws.{child-element, child-fragment, element-serializable, becomes-is}
 use Rattle.decisions.proofs.Series.{tested, behind-name-at, children-none, children-60, children-52, children-30, children-31, children-61, children-other}
 use Rattle.records.specs.Keep.{Kept, at, keep, write, bumped}
 use Rattle.records.proofs.KeepLaws.{keep-pure, keep-map, keep-gen}
-use Rattle.records.proofs.ChildLaws.{within, called, parts-within, merged-called, few-of, few-two, found-none, found-few, found-array, found-template, element-call, element-inner}
+use Rattle.records.proofs.ChildLaws.{within, called, parts-within, merged-called, few-of, few-two, found-none, found-only, found-silent, found-array, found-template, element-call, element-inner}
 
 -- what lies behind a field is no longer than what it stands in
 pub behind-shorter : (s : Bytes) {r : Bytes} → r ≡ behind-of s → length r ≤ length s
@@ -224,8 +227,43 @@ module _ (k p s : Bytes) {n : ℕ} (d : n ≡ few (children-in (read s))) (w : K
   pub found-0 : n ≡ 0 → keep (found-pass (children-to-expr (children-at k p (read s)))) w ≡ w
   found-0 h = found-none cs (count-is ∙ h) w
 
-  pub found-1 : n ≡ 1 → keep (found-pass (children-to-expr (children-at k p (read s)))) w ≡ keep (entries-pass (entries (merge false false [] (children-at k p (read s))))) w
-  found-1 h = found-few cs (count-is ∙ h) w ∙ sym (merged-called false false [] cs w)
+  -- the only child stands at a
+  module _ (h : n ≡ 1) {a : Bytes} (f : FirstChild s a) (t : ℕ) (e : t ≡ tag-of a) where
+    only : (c : Child) (ds : List Child) → children-at k p (read a) ≡ c ∷ ds → keep (found-pass (children-to-expr (children-at k p (read s)))) w ≡ keep (found-pass (one-child c)) w
+    only c ds q =
+        let j : cs ≡ c ∷ ds = ap (children (opts k p)) (sym (f .same-children)) ∙ q in
+        ap (λ (xs : List Child). keep (found-pass (children-to-expr xs)) w) j ∙ ap (λ (x : M.Found). keep (found-pass x) w) (found-only c ds (ap few-of (sym j) ∙ count-is ∙ h))
+
+    pub only-30 : t ≡ 0x30 → {b : Bytes} → b ≡ body-of a → keep (found-pass (children-to-expr (children-at k p (read s)))) w ≡ keep (serialize-jsx (element-at k p b)) w
+    unfolding one-child found-pass entry-pass
+    only-30 g v = only _ _ (kids-30 k p a t e refl g v)
+
+    pub only-31 : t ≡ 0x31 → {b : Bytes} → b ≡ body-of a → keep (found-pass (children-to-expr (children-at k p (read s)))) w ≡ keep (found-pass (children-to-expr (children-at k p (read b)))) w
+    unfolding one-child fragment-of
+    only-31 g v = only _ _ (kids-31 k p a t e refl g v)
+
+    silent : (c : Child) (ds : List Child) → called (c ∷ []) ≡ [] → children-at k p (read a) ≡ c ∷ ds → keep (found-pass (children-to-expr (children-at k p (read s)))) w ≡ w
+    silent c ds z q = only c ds q ∙ found-silent c z w
+
+    held : (x : Contained) (ds : P.Children) → children-in (read a) ≡ contained-child x ds → keep (found-pass (children-to-expr (children-at k p (read s)))) w ≡ w
+    unfolding child called contained-child
+    held nothing-contained ds q = silent M.empty (children (opts k p) ds) refl (ap (children (opts k p)) q)
+    held (contained x) ds q = silent (M.container (shape-of x) (expr (opts k p) x none)) (children (opts k p) ds) refl (ap (children (opts k p)) q)
+
+    some : length a ≡ 0 → ⊥
+    unfolding few
+    some z = let y : few (children-in (read s)) ≡ 0 = ap few (f .none-left z) in omega (arith, d, h, y)
+
+    -- neither an element nor a fragment
+    pub only-other : (t ≡ 0x30 → ⊥) → (t ≡ 0x31 → ⊥) → keep (found-pass (children-to-expr (children-at k p (read s)))) w ≡ w
+    unfolding child called
+    only-other y z =
+        let o = opts k p in
+        tested t 0x60 (λ g. silent (M.text (body-of a)) _ refl (ap (children o) (children-60 a t e g))) λ i.
+        tested t 0x52 (λ g. held _ _ (children-52 a t e g)) λ j.
+        tested t 0x61 (λ g. silent (M.spread (expr o (expr-in (read (body-of a))) none)) _ refl (ap (children o) (children-61 a t e g))) λ m.
+        let u : is-child t ≡ false = rw (ne-eqb t 0x60 i, ne-eqb t 0x52 j, ne-eqb t 0x30 y, ne-eqb t 0x31 z, ne-eqb t 0x61 m) in
+        absurd (subst T (ap is-child (sym e) ∙ u) (f .child-first some))
 
   module _ (a : n ≡ 0 → ⊥) (b : n ≡ 1 → ⊥) {z : Bool} (u : z ≡ becomes k (children-in (read s))) where
     count-2 : few-of cs ≡ 2

@@ -13,6 +13,7 @@ ghost use Rattle.strings.specs.Carve as C;
 ghost use Rattle.records.specs.Keep.{at, keep, write, begin, end-at, bumped, Low};
 use decisions::children::becomes_template;
 use decisions::children::child_count;
+use decisions::children::children_at;
 use decisions::element::identifier;
 use decisions::element::is_serializable;
 use field::reader::behind;
@@ -239,7 +240,18 @@ pub fn record_found<'a>(
             return st;
         }
         1 => {
-            return record_entries(skip, props, s, scratch, out, st);
+            let a = children_at(s);
+            match tag_at(a) {
+                0x30 => {
+                    return record_serialize(skip, props, body(a), scratch, out, st);
+                }
+                0x31 => {
+                    return record_found(skip, props, body(a), scratch, out, st);
+                }
+                _ => {
+                    return st;
+                }
+            }
         }
         _ => {
             if becomes_template(skip, s) {

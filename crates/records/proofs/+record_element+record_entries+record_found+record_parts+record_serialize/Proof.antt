@@ -16,7 +16,7 @@ use Rattle.field.proofs.FrontLaws.{body-less, behind-less}
 use Rattle.records.specs.Keep.{at, keep, Low}
 use Rattle.records.proofs.KeepLaws.{keep-low, length-kept, inner-low, outer-low, outer-is}
 use Rattle.records.proofs.ChildLaws.{within, called, parts-within, merged-called}
-use Rattle.records.proofs.ReadLaws.{behind-shorter, serialize-call, serialize-template, serialize-kids, serialize-none, inner-call, inner-void, inner-kids, inner-none, found-0, found-1, found-2, found-merged}
+use Rattle.records.proofs.ReadLaws.{behind-shorter, serialize-call, serialize-template, serialize-kids, serialize-none, inner-call, inner-void, inner-kids, inner-none, found-0, only-30, only-31, only-other, found-2, found-merged}
 use Rattle.records.proofs.WalkLaws.{test-failed, test-held, element-room, element-on, kids-room, kids-on, parts-past, parts-end, serialize-room, serialize-on, found-room, found-on, entries-past, entries-end}
 use borrow.Author.Needs.{needs}
 use borrow.Fn.Kinds.{In}
@@ -38,6 +38,7 @@ use Rattle.records.proofs.record_serialize.Kinds as record-serialize-ki
 use Rattle.records.proofs.+record_element+record_entries+record_found+record_parts+record_serialize.Lts-record_serialize as record-serialize-lts
 use Rattle.decisions.proofs.children.becomes_template.Reads as becomes-template-reads
 use Rattle.decisions.proofs.children.child_count.Reads as child-count-reads
+use Rattle.decisions.proofs.children.children_at.Reads as children-at-reads
 use Rattle.decisions.proofs.element.identifier.Reads as identifier-reads
 use Rattle.decisions.proofs.element.is_serializable.Reads as is-serializable-reads
 use Rattle.field.proofs.reader.behind.Reads as behind-reads
@@ -145,7 +146,7 @@ abbrev record-element-calls : ℕ → record-element-lts.Claims
 record-element-calls t = (behind-reads.Asked, behind-reads.Learnt, is-serializable-reads.Asked, is-serializable-reads.Learnt, record-found-below t, record-found.Post, identifier-reads.Asked, identifier-reads.Learnt, is-void-element-reads.Asked, is-void-element-reads.Learnt, record-parts-below t, record-parts.Post)
 
 abbrev record-found-calls : ℕ → record-found-lts.Claims
-record-found-calls t = (child-count-reads.Asked, child-count-reads.Learnt, record-entries-below t, record-entries.Post, becomes-template-reads.Asked, becomes-template-reads.Learnt, taken-reads.Asked, taken-reads.Learnt, record-parts-below t, record-parts.Post, write-merged-reads.Asked, write-merged-reads.Learnt)
+record-found-calls t = (child-count-reads.Asked, child-count-reads.Learnt, children-at-reads.Asked, children-at-reads.Learnt, tag-at-reads.Asked, tag-at-reads.Learnt, body-reads.Asked, body-reads.Learnt, record-serialize-below t, record-serialize.Post, record-found-below t, record-found.Post, becomes-template-reads.Asked, becomes-template-reads.Learnt, taken-reads.Asked, taken-reads.Learnt, record-parts-below t, record-parts.Post, write-merged-reads.Asked, write-merged-reads.Learnt, record-entries-below t, record-entries.Post)
 
 abbrev record-serialize-calls : ℕ → record-serialize-lts.Claims
 record-serialize-calls t = (behind-reads.Asked, behind-reads.Learnt, is-serializable-reads.Asked, is-serializable-reads.Learnt, record-found-below t, record-found.Post, taken-reads.Asked, taken-reads.Learnt, write-element-reads.Asked, write-element-reads.Learnt, identifier-reads.Asked, identifier-reads.Learnt, is-void-element-reads.Asked, is-void-element-reads.Learnt, record-parts-below t, record-parts.Post)
@@ -297,10 +298,21 @@ record-found-child-count-requires t c κs = tt
 record-found-returns : (t : ℕ) → record-found-lts.Need-returns (record-found-calls t) (record-found-at t) record-found.Post
 record-found-returns t c = sym (found-0 _ _ _ (c .before .child-count .ensures) _ (c .match .keys1))
 
-record-found-record-entries-requires : (t : ℕ) → record-found-lts.Need-record-entries-requires (record-found-calls t) (record-found-at t) record-found.Post
-record-found-record-entries-requires t c κs =
-    let a = c .before .before .before .before .before .before .before .before .before in
-    (omega (arith, a .pre .0), (a .pre .1 .0, (a .pre .1 .1 .0, subst Low (found-1 _ _ _ (c .before .before .before .child-count .ensures) _ (c .before .before .match .keys2)) (a .pre .1 .1 .1))))
+record-found-children-at-requires : (t : ℕ) → record-found-lts.Need-children-at-requires (record-found-calls t) (record-found-at t) record-found.Post
+record-found-children-at-requires t c κs = tt
+
+record-found-tag-at-requires : (t : ℕ) → record-found-lts.Need-tag-at-requires (record-found-calls t) (record-found-at t) record-found.Post
+record-found-tag-at-requires t c κs = tt
+
+record-found-body-requires : (t : ℕ) → record-found-lts.Need-body-requires (record-found-calls t) (record-found-at t) record-found.Post
+record-found-body-requires t c κs = tt
+
+record-found-record-serialize-requires : (t : ℕ) → record-found-lts.Need-record-serialize-requires (record-found-calls t) (record-found-at t) record-found.Post
+record-found-record-serialize-requires t c κs =
+    let a = c .before .before .before .before .before .before .before .before .before .before .before .before .before in
+    let i = c .before .before in
+    let l = body-less _ _ (i .before .before .tag-at .ensures .0) (λ z. omega (arith, i .before .match2 .keys1)) (i .body .ensures) in
+    (omega (arith, l, i .before .before .before .children-at .ensures .1, a .pre .0), (a .pre .1 .0, (omega (arith, l, i .before .before .before .children-at .ensures .1, a .pre .1 .1 .0), subst Low (only-30 _ _ _ (i .before .before .before .before .before .child-count .ensures) _ (i .before .before .before .before .match .keys2) (i .before .before .before .children-at .ensures .0) _ (i .before .before .tag-at .ensures .0) (i .before .match2 .keys1) (i .body .ensures)) (a .pre .1 .1 .1))))
 
 record-found-same-length : (t : ℕ) → record-found-lts.Need-same-length (record-found-calls t) (record-found-at t) record-found.Post
 record-found-same-length t c = search needs
@@ -311,7 +323,31 @@ record-found-same-length-2 t c = search needs
 record-found-returns-2 : (t : ℕ) → record-found-lts.Need-returns-2 (record-found-calls t) (record-found-at t) record-found.Post
 record-found-returns-2 t c =
     let i = c .before .before .before .before .before .before .before in
-    c .before .before .before .before .record-entries .ensures ∙ sym (found-1 _ _ _ (i .before .child-count .ensures) _ (i .match .keys2))
+    c .before .before .before .before .record-serialize .ensures ∙ sym (only-30 _ _ _ (i .before .before .before .before .before .child-count .ensures) _ (i .before .before .before .before .match .keys2) (i .before .before .before .children-at .ensures .0) _ (i .before .before .tag-at .ensures .0) (i .before .match2 .keys1) (i .body .ensures))
+
+record-found-body-requires-2 : (t : ℕ) → record-found-lts.Need-body-requires-2 (record-found-calls t) (record-found-at t) record-found.Post
+record-found-body-requires-2 t c κs = tt
+
+record-found-record-found-requires : (t : ℕ) → record-found-lts.Need-record-found-requires (record-found-calls t) (record-found-at t) record-found.Post
+record-found-record-found-requires t c κs =
+    let a = c .before .before .before .before .before .before .before .before .before .before .before .before .before in
+    let i = c .before .before in
+    let l = body-less _ _ (i .before .before .tag-at .ensures .0) (λ z. omega (arith, i .before .match2 .keys2)) (i .body2 .ensures) in
+    (omega (arith, l, i .before .before .before .children-at .ensures .1, a .pre .0), (a .pre .1 .0, (omega (arith, l, i .before .before .before .children-at .ensures .1, a .pre .1 .1 .0), subst Low (only-31 _ _ _ (i .before .before .before .before .before .child-count .ensures) _ (i .before .before .before .before .match .keys2) (i .before .before .before .children-at .ensures .0) _ (i .before .before .tag-at .ensures .0) (i .before .match2 .keys2) (i .body2 .ensures)) (a .pre .1 .1 .1))))
+
+record-found-same-length-3 : (t : ℕ) → record-found-lts.Need-same-length-3 (record-found-calls t) (record-found-at t) record-found.Post
+record-found-same-length-3 t c = search needs
+
+record-found-same-length-4 : (t : ℕ) → record-found-lts.Need-same-length-4 (record-found-calls t) (record-found-at t) record-found.Post
+record-found-same-length-4 t c = search needs
+
+record-found-returns-3 : (t : ℕ) → record-found-lts.Need-returns-3 (record-found-calls t) (record-found-at t) record-found.Post
+record-found-returns-3 t c =
+    let i = c .before .before .before .before .before .before .before in
+    c .before .before .before .before .record-found .ensures ∙ sym (only-31 _ _ _ (i .before .before .before .before .before .child-count .ensures) _ (i .before .before .before .before .match .keys2) (i .before .before .before .children-at .ensures .0) _ (i .before .before .tag-at .ensures .0) (i .before .match2 .keys2) (i .body2 .ensures))
+
+record-found-returns-4 : (t : ℕ) → record-found-lts.Need-returns-4 (record-found-calls t) (record-found-at t) record-found.Post
+record-found-returns-4 t c = sym (only-other _ _ _ (c .before .before .before .before .child-count .ensures) _ (c .before .before .before .match .keys2) (c .before .before .children-at .ensures .0) _ (c .before .tag-at .ensures .0) (c .match2 .rest .0 .1) (c .match2 .rest .1))
 
 record-found-becomes-template-requires : (t : ℕ) → record-found-lts.Need-becomes-template-requires (record-found-calls t) (record-found-at t) record-found.Post
 record-found-becomes-template-requires t c κs = tt
@@ -334,34 +370,34 @@ record-found-write-merged-requires t c κs =
     let m = c .before .before .before .before .before .before in
     (omega (arith, a .pre .1 .0), (a .pre .1 .1 .0, outer-low _ _ _ _ _ (found-merged _ _ _ (i .before .before .before .child-count .ensures) _ (i .before .before .match .rest .0 .1) (i .before .before .match .rest .1) (i .before .becomes-template .ensures) (i .if1 .taken)) (m .before .taken .ensures) (m .record-parts .ensures) (a .pre .1 .1 .1)))
 
-record-found-same-length-3 : (t : ℕ) → record-found-lts.Need-same-length-3 (record-found-calls t) (record-found-at t) record-found.Post
-record-found-same-length-3 t c = search needs
-
-record-found-same-length-4 : (t : ℕ) → record-found-lts.Need-same-length-4 (record-found-calls t) (record-found-at t) record-found.Post
-record-found-same-length-4 t c = search needs
-
-record-found-returns-3 : (t : ℕ) → record-found-lts.Need-returns-3 (record-found-calls t) (record-found-at t) record-found.Post
-record-found-returns-3 t c =
-    let i = c .before .before .before .before .before .before .before .before .before .before .before .before .before .before .before in
-    let m = c .before .before .before .before .before .before .before .before .before .before .before in
-    outer-is _ _ _ _ _ (found-merged _ _ _ (i .before .before .before .child-count .ensures) _ (i .before .before .match .rest .0 .1) (i .before .before .match .rest .1) (i .before .becomes-template .ensures) (i .if1 .taken)) (m .before .taken .ensures) (m .record-parts .ensures) (c .before .before .before .before .write-merged .ensures)
-
-record-found-record-entries-requires-2 : (t : ℕ) → record-found-lts.Need-record-entries-requires-2 (record-found-calls t) (record-found-at t) record-found.Post
-record-found-record-entries-requires-2 t c κs =
-    let a = c .before .before .before .before .before .before .before .before .before .before .before in
-    let i = c .before .before in
-    (omega (arith, a .pre .0), (a .pre .1 .0, (a .pre .1 .1 .0, subst Low (found-2 _ _ _ (i .before .before .before .child-count .ensures) _ (i .before .before .match .rest .0 .1) (i .before .before .match .rest .1) (i .before .becomes-template .ensures) (i .if1 .left)) (a .pre .1 .1 .1))))
-
 record-found-same-length-5 : (t : ℕ) → record-found-lts.Need-same-length-5 (record-found-calls t) (record-found-at t) record-found.Post
 record-found-same-length-5 t c = search needs
 
 record-found-same-length-6 : (t : ℕ) → record-found-lts.Need-same-length-6 (record-found-calls t) (record-found-at t) record-found.Post
 record-found-same-length-6 t c = search needs
 
-record-found-returns-4 : (t : ℕ) → record-found-lts.Need-returns-4 (record-found-calls t) (record-found-at t) record-found.Post
-record-found-returns-4 t c =
+record-found-returns-5 : (t : ℕ) → record-found-lts.Need-returns-5 (record-found-calls t) (record-found-at t) record-found.Post
+record-found-returns-5 t c =
+    let i = c .before .before .before .before .before .before .before .before .before .before .before .before .before .before .before in
+    let m = c .before .before .before .before .before .before .before .before .before .before .before in
+    outer-is _ _ _ _ _ (found-merged _ _ _ (i .before .before .before .child-count .ensures) _ (i .before .before .match .rest .0 .1) (i .before .before .match .rest .1) (i .before .becomes-template .ensures) (i .if1 .taken)) (m .before .taken .ensures) (m .record-parts .ensures) (c .before .before .before .before .write-merged .ensures)
+
+record-found-record-entries-requires : (t : ℕ) → record-found-lts.Need-record-entries-requires (record-found-calls t) (record-found-at t) record-found.Post
+record-found-record-entries-requires t c κs =
+    let a = c .before .before .before .before .before .before .before .before .before .before .before in
+    let i = c .before .before in
+    (omega (arith, a .pre .0), (a .pre .1 .0, (a .pre .1 .1 .0, subst Low (found-2 _ _ _ (i .before .before .before .child-count .ensures) _ (i .before .before .match .rest .0 .1) (i .before .before .match .rest .1) (i .before .becomes-template .ensures) (i .if1 .left)) (a .pre .1 .1 .1))))
+
+record-found-same-length-7 : (t : ℕ) → record-found-lts.Need-same-length-7 (record-found-calls t) (record-found-at t) record-found.Post
+record-found-same-length-7 t c = search needs
+
+record-found-same-length-8 : (t : ℕ) → record-found-lts.Need-same-length-8 (record-found-calls t) (record-found-at t) record-found.Post
+record-found-same-length-8 t c = search needs
+
+record-found-returns-6 : (t : ℕ) → record-found-lts.Need-returns-6 (record-found-calls t) (record-found-at t) record-found.Post
+record-found-returns-6 t c =
     let i = c .before .before .before .before .before .before .before in
-    c .before .before .before .before .record-entries2 .ensures ∙ sym (found-2 _ _ _ (i .before .before .before .child-count .ensures) _ (i .before .before .match .rest .0 .1) (i .before .before .match .rest .1) (i .before .becomes-template .ensures) (i .if1 .left))
+    c .before .before .before .before .record-entries .ensures ∙ sym (found-2 _ _ _ (i .before .before .before .child-count .ensures) _ (i .before .before .match .rest .0 .1) (i .before .before .match .rest .1) (i .before .becomes-template .ensures) (i .if1 .left))
 
 -- ---- children in a template
 
@@ -601,21 +637,30 @@ pub +record-element+record-entries+record-found+record-parts+record-serialize-sp
     record-found.Post
     (record-found-child-count-requires t)
     (record-found-returns t)
-    (record-found-record-entries-requires t)
+    (record-found-children-at-requires t)
+    (record-found-tag-at-requires t)
+    (record-found-body-requires t)
+    (record-found-record-serialize-requires t)
     (record-found-same-length t)
     (record-found-same-length-2 t)
     (record-found-returns-2 t)
+    (record-found-body-requires-2 t)
+    (record-found-record-found-requires t)
+    (record-found-same-length-3 t)
+    (record-found-same-length-4 t)
+    (record-found-returns-3 t)
+    (record-found-returns-4 t)
     (record-found-becomes-template-requires t)
     (record-found-taken-requires t)
     (record-found-record-parts-requires t)
     (record-found-write-merged-requires t)
-    (record-found-same-length-3 t)
-    (record-found-same-length-4 t)
-    (record-found-returns-3 t)
-    (record-found-record-entries-requires-2 t)
     (record-found-same-length-5 t)
     (record-found-same-length-6 t)
-    (record-found-returns-4 t))
+    (record-found-returns-5 t)
+    (record-found-record-entries-requires t)
+    (record-found-same-length-7 t)
+    (record-found-same-length-8 t)
+    (record-found-returns-6 t))
     (λ t. record-parts-lts.spec (record-parts-calls t)
     (record-parts-at t)
     record-parts.Post
