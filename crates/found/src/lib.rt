@@ -1,14 +1,15 @@
 // What the children of a call give, as one expression: what it is and where it stands, found without writing it.
 ghost use mathlib.Core.Path.{_≡_};
-ghost use Prim.Native.Nat.{_+_, _<_, _^_};
-ghost use lib.ListN.{length};
+ghost use Prim.Native.Nat.{_+_, _-_, _<_, _^_};
+ghost use lib.ListN.{length, drop};
 ghost use Rattle.field.specs.Bytes.{Bytes};
 ghost use Rattle.field.specs.Row.{read};
 ghost use Rattle.page.specs.Tree.{contained-in};
+ghost use Rattle.decisions.specs.At.{FirstChild};
 ghost use Rattle.found.specs.Finds.{Within, part, placed, Runs, Enters, Finds, Flattened, Spliced, FirstAt, item-count, joined-of, then-found, run-found, is-settled, entries-at, found-at};
 use crate::several::is_many;
 use decisions::children::becomes_template;
-use decisions::children::child_count;
+use decisions::children::children_at;
 use decisions::expr::Shape;
 use decisions::expr::shape_at;
 use field::reader::behind;
@@ -89,30 +90,30 @@ fn item_count(s: &[u8]) -> usize
     2
 }
 
-// Where the first child stands; the length where there is none.
-fn first_child(s: &[u8]) -> usize
-    ensures { λ r. ⌜ FirstAt (now (s .entry)) r ⌝ }
+// From the first child on; empty where there is none. Unlike that of `children_at`, its contract says where this stands.
+fn from_first(s: &[u8]) -> &[u8]
+    ensures { λ r. ⌜ FirstChild (now (s .entry)) (now r) × (now r ≡ drop (length (now (s .entry)) - length (now r)) (now (s .entry))) ⌝ }
 {
     let mut t = s;
     loop {
         match tag_at(t) {
             0x60 => {
-                return s.len() - t.len();
+                return t;
             }
             0x52 => {
-                return s.len() - t.len();
+                return t;
             }
             0x30 => {
-                return s.len() - t.len();
+                return t;
             }
             0x31 => {
-                return s.len() - t.len();
+                return t;
             }
             0x61 => {
-                return s.len() - t.len();
+                return t;
             }
             256 => {
-                return s.len();
+                return &s[..0];
             }
             _ => {
                 let r = behind(t);
@@ -120,6 +121,13 @@ fn first_child(s: &[u8]) -> usize
             }
         }
     }
+}
+
+// Where the first child stands; the length where there is none.
+fn first_child(s: &[u8]) -> usize
+    ensures { λ r. ⌜ FirstAt (now (s .entry)) r ⌝ }
+{
+    s.len() - from_first(s).len()
 }
 
 // The children in s as a place of that kind.
@@ -359,45 +367,43 @@ pub fn found_of(skip: &[u8], s: &[u8]) -> Found
     requires { ⌜ length (now s) < 2 ^ 62 ⌝ }
     ensures { λ r. ⌜ Within r (now (s .entry)) × ((props : Bytes) → Finds (now (skip .entry)) props (found-at (now (skip .entry)) props (now (s .entry))) (r .kind) (part (now (s .entry)) r)) ⌝ }
 {
-    match child_count(s) {
-        0 => nowhere(Kind::Nothing),
-        1 => {
-            let at = first_child(s);
-            let a = &s[at..];
-            let b = body(a);
-            match tag_at(a) {
-                0x60 => Found {
-                    kind: Kind::Text,
-                    from: at,
-                    len: a.len(),
-                },
-                0x52 => {
-                    if tag_at(b) == 256 {
-                        return nowhere(Kind::Nothing);
-                    }
-                    Found {
-                        kind: Kind::Expr,
-                        from: at + 3,
-                        len: b.len(),
-                    }
-                }
-                0x30 => Found {
-                    kind: Kind::Element,
-                    from: at,
-                    len: a.len(),
-                },
-                0x31 => inside(found_of(skip, b), at),
-                _ => nowhere(Kind::Nothing),
-            }
-        }
-        _ => {
-            if becomes_template(skip, s) {
-                return whole(Kind::Template, s);
-            }
-            if is_many(skip, s) {
-                return whole(Kind::Many, s);
-            }
-            flattened(s, entries_of(skip, s))
-        }
+    let a = from_first(s);
+    if a.len() == 0 {
+        return nowhere(Kind::Nothing);
     }
+    if children_at(behind(a)).len() == 0 {
+        let at = s.len() - a.len();
+        let b = body(a);
+        return match tag_at(a) {
+            0x60 => Found {
+                kind: Kind::Text,
+                from: at,
+                len: a.len(),
+            },
+            0x52 => {
+                if tag_at(b) == 256 {
+                    return nowhere(Kind::Nothing);
+                }
+                Found {
+                    kind: Kind::Expr,
+                    from: at + 3,
+                    len: b.len(),
+                }
+            }
+            0x30 => Found {
+                kind: Kind::Element,
+                from: at,
+                len: a.len(),
+            },
+            0x31 => inside(found_of(skip, b), at),
+            _ => nowhere(Kind::Nothing),
+        };
+    }
+    if becomes_template(skip, s) {
+        return whole(Kind::Template, s);
+    }
+    if is_many(skip, s) {
+        return whole(Kind::Many, s);
+    }
+    flattened(s, entries_of(skip, s))
 }

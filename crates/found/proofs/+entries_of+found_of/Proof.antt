@@ -5,8 +5,10 @@ use mathlib.Core.Path.{refl}
 use native.Mathlib.Omega.{arith}
 use lib.ListN.{length}
 use Rattle.field.proofs.FrontLaws.{behind-less, body-less}
+use Rattle.decisions.proofs.ChildrenLaws.{few-none, few-one, few-more}
 use Rattle.found.proofs.Places.{tail-room, stands-room, stands-body}
 use Rattle.found.proofs.KindLaws.{settled}
+use Rattle.found.proofs.FirstLaws.{first-room, first-place, first-slice}
 use Rattle.found.proofs.WalkLaws.{Looked, looked-start, looked-many, looked-end}
 use Rattle.found.proofs.StepLaws.{room-inside, step-blank, step-text, step-run, step-joined, step-more, step-expr, step-element, step-fragment, step-other}
 use Rattle.found.proofs.FoundLaws.{stands-inside, found-none, found-60, found-52, found-empty, found-30, found-31, found-61, found-template, found-several, found-many}
@@ -20,12 +22,12 @@ use Rattle.found.proofs.found_of.Reads as found-of
 use Rattle.found.proofs.found_of.Kinds as found-of-kinds
 use Rattle.found.proofs.+entries_of+found_of.Lts-found_of as found-of-lts
 use Rattle.decisions.proofs.children.becomes_template.Reads as becomes-template-reads
-use Rattle.decisions.proofs.children.child_count.Reads as child-count-reads
+use Rattle.decisions.proofs.children.children_at.Reads as children-at-reads
 use Rattle.field.proofs.reader.behind.Reads as behind-reads
 use Rattle.field.proofs.reader.body.Reads as body-reads
 use Rattle.field.proofs.reader.tag_at.Reads as tag-at-reads
-use Rattle.found.proofs.first_child.Reads as first-child-reads
 use Rattle.found.proofs.flattened.Reads as flattened-reads
+use Rattle.found.proofs.from_first.Reads as from-first-reads
 use Rattle.found.proofs.inside.Reads as inside-reads
 use Rattle.found.proofs.is_settled.Reads as is-settled-reads
 use Rattle.found.proofs.joined_at.Reads as joined-at-reads
@@ -70,7 +72,7 @@ abbrev entries-of-μ-loop : entries-of-lts.MeasureT-loop
 entries-of-μ-loop skip s t₀ run₀ cur₀ t run cur = length t
 
 abbrev found-of-calls : ℕ → found-of-lts.Claims
-found-of-calls t = (child-count-reads.Asked, child-count-reads.Learnt, nowhere-reads.Asked, nowhere-reads.Learnt, first-child-reads.Asked, first-child-reads.Learnt, body-reads.Asked, body-reads.Learnt, tag-at-reads.Asked, tag-at-reads.Learnt, found-of-below t, found-of.Post, inside-reads.Asked, inside-reads.Learnt, becomes-template-reads.Asked, becomes-template-reads.Learnt, whole-reads.Asked, whole-reads.Learnt, is-many-reads.Asked, is-many-reads.Learnt, entries-of-below t, entries-of.Post, flattened-reads.Asked, flattened-reads.Learnt)
+found-of-calls t = (from-first-reads.Asked, from-first-reads.Learnt, nowhere-reads.Asked, nowhere-reads.Learnt, behind-reads.Asked, behind-reads.Learnt, children-at-reads.Asked, children-at-reads.Learnt, body-reads.Asked, body-reads.Learnt, tag-at-reads.Asked, tag-at-reads.Learnt, found-of-below t, found-of.Post, inside-reads.Asked, inside-reads.Learnt, becomes-template-reads.Asked, becomes-template-reads.Learnt, whole-reads.Asked, whole-reads.Learnt, is-many-reads.Asked, is-many-reads.Learnt, entries-of-below t, entries-of.Post, flattened-reads.Asked, flattened-reads.Learnt)
 
 entries-of-nowhere-requires : (t : ℕ) → entries-of-lts.Need-nowhere-requires (entries-of-calls t) (entries-of-at t) entries-of.Post entries-of-Inv-loop entries-of-μ-loop
 entries-of-nowhere-requires t c κs = tt
@@ -239,23 +241,23 @@ entries-of-loop-less-9 t c = behind-less _ _ (c .before .before .tag-at .ensures
 entries-of-loop-again-9 : (t : ℕ) → entries-of-lts.Need-loop-again-9 (entries-of-calls t) (entries-of-at t) entries-of.Post entries-of-Inv-loop entries-of-μ-loop
 entries-of-loop-again-9 t c = step-other _ _ _ _ _ (c .before .before .before .before .before .loop .inv) _ (c .before .before .tag-at .ensures .0) (c .behind9 .ensures) (c .before .match .rest .1) (c .before .match .rest .0 .0 .0 .0 .1) (c .before .match .rest .0 .0 .0 .1) (c .before .match .rest .0 .0 .1) (c .before .match .rest .0 .1)
 
-found-of-child-count-requires : (t : ℕ) → found-of-lts.Need-child-count-requires (found-of-calls t) (found-of-at t) found-of.Post
-found-of-child-count-requires t c κs = tt
+found-of-from-first-requires : (t : ℕ) → found-of-lts.Need-from-first-requires (found-of-calls t) (found-of-at t) found-of.Post
+found-of-from-first-requires t c κs = tt
 
 found-of-nowhere-requires : (t : ℕ) → found-of-lts.Need-nowhere-requires (found-of-calls t) (found-of-at t) found-of.Post
 found-of-nowhere-requires t c κs = tt
 
-found-of-first-child-requires : (t : ℕ) → found-of-lts.Need-first-child-requires (found-of-calls t) (found-of-at t) found-of.Post
-found-of-first-child-requires t c κs = tt
+found-of-returns : (t : ℕ) → found-of-lts.Need-returns (found-of-calls t) (found-of-at t) found-of.Post
+found-of-returns t c = found-none _ _ (few-none _ _ (c .before .before .from-first .ensures .0) (c .before .if1 .taken)) refl (c .nowhere .ensures)
 
-found-of-sub-a : (t : ℕ) → found-of-lts.Need-sub-a (found-of-calls t) (found-of-at t) found-of.Post
-found-of-sub-a t c = c .first-child .ensures .inside
+found-of-behind-requires : (t : ℕ) → found-of-lts.Need-behind-requires (found-of-calls t) (found-of-at t) found-of.Post
+found-of-behind-requires t c κs = tt
 
-found-of-part-a-start : (t : ℕ) → found-of-lts.Need-part-a-start (found-of-calls t) (found-of-at t) found-of.Post
-found-of-part-a-start t c = search needs
+found-of-children-at-requires : (t : ℕ) → found-of-lts.Need-children-at-requires (found-of-calls t) (found-of-at t) found-of.Post
+found-of-children-at-requires t c κs = tt
 
-found-of-part-a-end : (t : ℕ) → found-of-lts.Need-part-a-end (found-of-calls t) (found-of-at t) found-of.Post
-found-of-part-a-end t c = search needs
+found-of-sub-at : (t : ℕ) → found-of-lts.Need-sub-at (found-of-calls t) (found-of-at t) found-of.Post
+found-of-sub-at t c = first-room _ _ (c .before .before .before .before .from-first .ensures)
 
 found-of-body-requires : (t : ℕ) → found-of-lts.Need-body-requires (found-of-calls t) (found-of-at t) found-of.Post
 found-of-body-requires t c κs = tt
@@ -269,20 +271,60 @@ found-of-tag-at-requires-2 t c κs = tt
 found-of-nowhere-requires-2 : (t : ℕ) → found-of-lts.Need-nowhere-requires-2 (found-of-calls t) (found-of-at t) found-of.Post
 found-of-nowhere-requires-2 t c κs = tt
 
-found-of-returns : (t : ℕ) → found-of-lts.Need-returns (found-of-calls t) (found-of-at t) found-of.Post
-found-of-returns t c = found-empty _ _ (c .before .before .before .before .before .before .before .before .before .child-count .ensures) (c .before .before .before .before .before .before .before .before .match .keys2) _ (c .before .before .before .before .before .before .before .first-child .ensures) refl _ (c .before .before .before .before .tag-at .ensures .0) (c .before .before .before .before .before .body .ensures) (c .before .before .before .match2 .keys2) (c .before .before .tag-at2 .ensures .1 (c .before .if1 .taken)) (c .nowhere2 .ensures)
+found-of-returns-2 : (t : ℕ) → found-of-lts.Need-returns-2 (found-of-calls t) (found-of-at t) found-of.Post
+found-of-returns-2 t c =
+    let p = c .before .before .before .before .before .before .before .before .before .before .from-first .ensures in
+    let o = few-one _ _ (c .before .before .before .before .before .before .before .before .before .before .from-first .ensures .0) (c .before .before .before .before .before .before .before .before .before .if1 .left) (c .before .before .before .before .before .before .before .before .behind .ensures) _ (c .before .before .before .before .before .before .before .children-at .ensures .0) (c .before .before .before .before .before .before .if2 .taken) in
+    found-empty _ _ o refl _ (first-place _ _ p) (first-slice _ _ p) _ (c .before .before .before .before .tag-at .ensures .0) (c .before .before .before .before .before .body .ensures) (c .before .before .before .match .keys2) (c .before .before .tag-at2 .ensures .1 (c .before .if3 .taken)) (c .nowhere2 .ensures)
 
-found-of-add-t16 : (t : ℕ) → found-of-lts.Need-add-t16 (found-of-calls t) (found-of-at t) found-of.Post
-found-of-add-t16 t c = omega (arith, c .before .before .before .before .before .before .before .before .before .before .before .pre .1, c .before .before .before .before .before .before .first-child .ensures .inside)
+found-of-add-t17 : (t : ℕ) → found-of-lts.Need-add-t17 (found-of-calls t) (found-of-at t) found-of.Post
+found-of-add-t17 t c = omega (arith, c .before .before .before .before .before .before .before .before .before .before .before .before .pre .1)
 
 found-of-found-of-requires : (t : ℕ) → found-of-lts.Need-found-of-requires (found-of-calls t) (found-of-at t) found-of.Post
-found-of-found-of-requires t c κs = (omega (arith, c .before .before .before .before .before .before .before .before .before .pre .0, stands-room _ _ _ (stands-inside (c .before .before .before .before .before .before .before .before .before .args .skip .now) _ (c .before .before .before .before .before .before .child-count .ensures) (c .before .before .before .before .before .match .keys2) _ (c .before .before .before .before .first-child .ensures) refl _ (c .before .tag-at .ensures .0) (c .before .before .body .ensures) (λ z. omega (arith, c .match2 .keys4)))), omega (arith, c .before .before .before .before .before .before .before .before .before .pre .1, stands-room _ _ _ (stands-inside (c .before .before .before .before .before .before .before .before .before .args .skip .now) _ (c .before .before .before .before .before .before .child-count .ensures) (c .before .before .before .before .before .match .keys2) _ (c .before .before .before .before .first-child .ensures) refl _ (c .before .tag-at .ensures .0) (c .before .before .body .ensures) (λ z. omega (arith, c .match2 .keys4)))))
+found-of-found-of-requires t c κs =
+    let p = c .before .before .before .before .before .before .before .from-first .ensures in
+    let o = few-one _ _ (c .before .before .before .before .before .before .before .from-first .ensures .0) (c .before .before .before .before .before .before .if1 .left) (c .before .before .before .before .before .behind .ensures) _ (c .before .before .before .before .children-at .ensures .0) (c .before .before .before .if2 .taken) in
+    let r = stands-room _ _ _ (stands-inside (c .before .before .before .before .before .before .before .before .before .before .args .skip .now) _ o refl _ (first-place _ _ p) (first-slice _ _ p) _ (c .before .tag-at .ensures .0) (c .before .before .body .ensures) (λ z. omega (arith, c .match .keys4))) in
+    (omega (arith, c .before .before .before .before .before .before .before .before .before .before .pre .0, r), omega (arith, c .before .before .before .before .before .before .before .before .before .before .pre .1, r))
 
 found-of-inside-requires : (t : ℕ) → found-of-lts.Need-inside-requires (found-of-calls t) (found-of-at t) found-of.Post
-found-of-inside-requires t c κs = omega (arith, c .before .before .before .before .before .before .before .before .before .before .pre .1, room-inside _ _ _ (stands-inside (c .before .before .before .before .before .before .before .before .before .before .args .skip .now) _ (c .before .before .before .before .before .before .before .child-count .ensures) (c .before .before .before .before .before .before .match .keys2) _ (c .before .before .before .before .before .first-child .ensures) refl _ (c .before .before .tag-at .ensures .0) (c .before .before .before .body .ensures) (λ z. omega (arith, c .before .match2 .keys4))) (c .found-of .result) (c .found-of .ensures .0))
+found-of-inside-requires t c κs =
+    let p = c .before .before .before .before .before .before .before .before .from-first .ensures in
+    let o = few-one _ _ (c .before .before .before .before .before .before .before .before .from-first .ensures .0) (c .before .before .before .before .before .before .before .if1 .left) (c .before .before .before .before .before .before .behind .ensures) _ (c .before .before .before .before .before .children-at .ensures .0) (c .before .before .before .before .if2 .taken) in
+    omega (arith, c .before .before .before .before .before .before .before .before .before .before .before .pre .1, room-inside _ _ _ (stands-inside (c .before .before .before .before .before .before .before .before .before .before .before .args .skip .now) _ o refl _ (first-place _ _ p) (first-slice _ _ p) _ (c .before .before .tag-at .ensures .0) (c .before .before .before .body .ensures) (λ z. omega (arith, c .before .match .keys4))) (c .found-of .result) (c .found-of .ensures .0))
 
 found-of-nowhere-requires-3 : (t : ℕ) → found-of-lts.Need-nowhere-requires-3 (found-of-calls t) (found-of-at t) found-of.Post
 found-of-nowhere-requires-3 t c κs = tt
+
+found-of-returns-3 : (t : ℕ) → found-of-lts.Need-returns-3 (found-of-calls t) (found-of-at t) found-of.Post
+found-of-returns-3 t c =
+    let p = c .before .before .before .before .before .before .before .from-first .ensures in
+    let o = few-one _ _ (c .before .before .before .before .before .before .before .from-first .ensures .0) (c .before .before .before .before .before .before .if1 .left) (c .before .before .before .before .before .behind .ensures) _ (c .before .before .before .before .children-at .ensures .0) (c .before .before .before .if2 .taken) in
+    found-60 _ _ o refl _ (first-place _ _ p) (first-slice _ _ p) _ (c .before .tag-at .ensures .0) (c .match .keys1)
+
+found-of-returns-4 : (t : ℕ) → found-of-lts.Need-returns-4 (found-of-calls t) (found-of-at t) found-of.Post
+found-of-returns-4 t c =
+    let p = c .before .before .before .before .before .before .before .before .before .from-first .ensures in
+    let o = few-one _ _ (c .before .before .before .before .before .before .before .before .before .from-first .ensures .0) (c .before .before .before .before .before .before .before .before .if1 .left) (c .before .before .before .before .before .before .before .behind .ensures) _ (c .before .before .before .before .before .before .children-at .ensures .0) (c .before .before .before .before .before .if2 .taken) in
+    found-52 _ _ o refl _ (first-place _ _ p) (first-slice _ _ p) _ (c .before .before .before .tag-at .ensures .0) (c .before .before .before .before .body .ensures) (c .before .before .match .keys2) _ (c .before .tag-at2 .ensures .0) (c .if3 .left)
+
+found-of-returns-5 : (t : ℕ) → found-of-lts.Need-returns-5 (found-of-calls t) (found-of-at t) found-of.Post
+found-of-returns-5 t c =
+    let p = c .before .before .before .before .before .before .before .from-first .ensures in
+    let o = few-one _ _ (c .before .before .before .before .before .before .before .from-first .ensures .0) (c .before .before .before .before .before .before .if1 .left) (c .before .before .before .before .before .behind .ensures) _ (c .before .before .before .before .children-at .ensures .0) (c .before .before .before .if2 .taken) in
+    found-30 _ _ o refl _ (first-place _ _ p) (first-slice _ _ p) _ (c .before .tag-at .ensures .0) (c .match .keys3)
+
+found-of-returns-6 : (t : ℕ) → found-of-lts.Need-returns-6 (found-of-calls t) (found-of-at t) found-of.Post
+found-of-returns-6 t c =
+    let p = c .before .before .before .before .before .before .before .before .before .from-first .ensures in
+    let o = few-one _ _ (c .before .before .before .before .before .before .before .before .before .from-first .ensures .0) (c .before .before .before .before .before .before .before .before .if1 .left) (c .before .before .before .before .before .before .before .behind .ensures) _ (c .before .before .before .before .before .before .children-at .ensures .0) (c .before .before .before .before .before .if2 .taken) in
+    found-31 _ _ o refl _ (first-place _ _ p) (first-slice _ _ p) _ (c .before .before .before .tag-at .ensures .0) (c .before .before .before .before .body .ensures) (c .before .before .match .keys4) (c .before .found-of .result) (c .before .found-of .ensures) (c .inside .ensures)
+
+found-of-returns-7 : (t : ℕ) → found-of-lts.Need-returns-7 (found-of-calls t) (found-of-at t) found-of.Post
+found-of-returns-7 t c =
+    let p = c .before .before .before .before .before .before .before .before .from-first .ensures in
+    let o = few-one _ _ (c .before .before .before .before .before .before .before .before .from-first .ensures .0) (c .before .before .before .before .before .before .before .if1 .left) (c .before .before .before .before .before .before .behind .ensures) _ (c .before .before .before .before .before .children-at .ensures .0) (c .before .before .before .before .if2 .taken) in
+    found-61 _ _ o refl _ (first-place _ _ p) (first-slice _ _ p) _ (c .before .before .tag-at .ensures .0) (c .before .match .rest .0 .0 .0 .1) (c .before .match .rest .0 .0 .1) (c .before .match .rest .0 .1) (c .before .match .rest .1) (c .nowhere3 .ensures)
 
 found-of-becomes-template-requires : (t : ℕ) → found-of-lts.Need-becomes-template-requires (found-of-calls t) (found-of-at t) found-of.Post
 found-of-becomes-template-requires t c κs = tt
@@ -290,8 +332,10 @@ found-of-becomes-template-requires t c κs = tt
 found-of-whole-requires : (t : ℕ) → found-of-lts.Need-whole-requires (found-of-calls t) (found-of-at t) found-of.Post
 found-of-whole-requires t c κs = tt
 
-found-of-returns-2 : (t : ℕ) → found-of-lts.Need-returns-2 (found-of-calls t) (found-of-at t) found-of.Post
-found-of-returns-2 t c = found-template _ _ (c .before .before .before .before .child-count .ensures) (c .before .before .before .match .rest .0 .1) (c .before .before .before .match .rest .1) (c .before .before .becomes-template .ensures) (c .before .if2 .taken) (c .whole .ensures)
+found-of-returns-8 : (t : ℕ) → found-of-lts.Need-returns-8 (found-of-calls t) (found-of-at t) found-of.Post
+found-of-returns-8 t c =
+    let o = few-more _ _ (c .before .before .before .before .before .before .before .from-first .ensures .0) (c .before .before .before .before .before .before .if1 .left) (c .before .before .before .before .before .behind .ensures) _ (c .before .before .before .before .children-at .ensures .0) (c .before .before .before .if2 .left) in
+    found-template _ _ o (λ z. omega arith) (λ z. omega arith) (c .before .before .becomes-template .ensures) (c .before .if4 .taken) (c .whole .ensures)
 
 found-of-is-many-requires : (t : ℕ) → found-of-lts.Need-is-many-requires (found-of-calls t) (found-of-at t) found-of.Post
 found-of-is-many-requires t c κs = tt
@@ -299,35 +343,21 @@ found-of-is-many-requires t c κs = tt
 found-of-whole-requires-2 : (t : ℕ) → found-of-lts.Need-whole-requires-2 (found-of-calls t) (found-of-at t) found-of.Post
 found-of-whole-requires-2 t c κs = tt
 
-found-of-returns-3 : (t : ℕ) → found-of-lts.Need-returns-3 (found-of-calls t) (found-of-at t) found-of.Post
-found-of-returns-3 t c = found-several _ _ (c .before .before .before .before .before .before .child-count .ensures) (c .before .before .before .before .before .match .rest .0 .1) (c .before .before .before .before .before .match .rest .1) (c .before .before .before .before .becomes-template .ensures) (c .before .before .before .if2 .left) (c .before .before .is-many .ensures (c .before .if3 .taken)) (c .whole2 .ensures)
+found-of-returns-9 : (t : ℕ) → found-of-lts.Need-returns-9 (found-of-calls t) (found-of-at t) found-of.Post
+found-of-returns-9 t c =
+    let o = few-more _ _ (c .before .before .before .before .before .before .before .before .before .from-first .ensures .0) (c .before .before .before .before .before .before .before .before .if1 .left) (c .before .before .before .before .before .before .before .behind .ensures) _ (c .before .before .before .before .before .before .children-at .ensures .0) (c .before .before .before .before .before .if2 .left) in
+    found-several _ _ o (λ z. omega arith) (λ z. omega arith) (c .before .before .before .before .becomes-template .ensures) (c .before .before .before .if4 .left) (c .before .before .is-many .ensures (c .before .if5 .taken)) (c .whole2 .ensures)
 
 found-of-entries-of-requires : (t : ℕ) → found-of-lts.Need-entries-of-requires (found-of-calls t) (found-of-at t) found-of.Post
-found-of-entries-of-requires t c κs = (omega (arith, c .before .before .before .before .before .before .before .before .pre .0), c .before .before .before .before .before .before .before .before .pre .1)
+found-of-entries-of-requires t c κs = (omega (arith, c .before .before .before .before .before .before .before .before .before .before .before .pre .0), c .before .before .before .before .before .before .before .before .before .before .before .pre .1)
 
 found-of-flattened-requires : (t : ℕ) → found-of-lts.Need-flattened-requires (found-of-calls t) (found-of-at t) found-of.Post
 found-of-flattened-requires t c κs = c .entries-of .ensures .0
 
-found-of-returns-4 : (t : ℕ) → found-of-lts.Need-returns-4 (found-of-calls t) (found-of-at t) found-of.Post
-found-of-returns-4 t c = found-none _ _ (c .before .before .child-count .ensures) (c .before .match .keys1) (c .nowhere .ensures)
-
-found-of-returns-5 : (t : ℕ) → found-of-lts.Need-returns-5 (found-of-calls t) (found-of-at t) found-of.Post
-found-of-returns-5 t c = found-60 _ _ (c .before .before .before .before .before .before .child-count .ensures) (c .before .before .before .before .before .match .keys2) _ (c .before .before .before .before .first-child .ensures) refl _ (c .before .tag-at .ensures .0) (c .match2 .keys1)
-
-found-of-returns-6 : (t : ℕ) → found-of-lts.Need-returns-6 (found-of-calls t) (found-of-at t) found-of.Post
-found-of-returns-6 t c = found-52 _ _ (c .before .before .before .before .before .before .before .before .child-count .ensures) (c .before .before .before .before .before .before .before .match .keys2) _ (c .before .before .before .before .before .before .first-child .ensures) refl _ (c .before .before .before .tag-at .ensures .0) (c .before .before .before .before .body .ensures) (c .before .before .match2 .keys2) _ (c .before .tag-at2 .ensures .0) (c .if1 .left)
-
-found-of-returns-7 : (t : ℕ) → found-of-lts.Need-returns-7 (found-of-calls t) (found-of-at t) found-of.Post
-found-of-returns-7 t c = found-30 _ _ (c .before .before .before .before .before .before .child-count .ensures) (c .before .before .before .before .before .match .keys2) _ (c .before .before .before .before .first-child .ensures) refl _ (c .before .tag-at .ensures .0) (c .match2 .keys3)
-
-found-of-returns-8 : (t : ℕ) → found-of-lts.Need-returns-8 (found-of-calls t) (found-of-at t) found-of.Post
-found-of-returns-8 t c = found-31 _ _ (c .before .before .before .before .before .before .before .before .child-count .ensures) (c .before .before .before .before .before .before .before .match .keys2) _ (c .before .before .before .before .before .before .first-child .ensures) refl _ (c .before .before .before .tag-at .ensures .0) (c .before .before .before .before .body .ensures) (c .before .before .match2 .keys4) (c .before .found-of .result) (c .before .found-of .ensures) (c .inside .ensures)
-
-found-of-returns-9 : (t : ℕ) → found-of-lts.Need-returns-9 (found-of-calls t) (found-of-at t) found-of.Post
-found-of-returns-9 t c = found-61 _ _ (c .before .before .before .before .before .before .before .child-count .ensures) (c .before .before .before .before .before .before .match .keys2) _ (c .before .before .before .before .before .first-child .ensures) refl _ (c .before .before .tag-at .ensures .0) (c .before .match2 .rest .0 .0 .0 .1) (c .before .match2 .rest .0 .0 .1) (c .before .match2 .rest .0 .1) (c .before .match2 .rest .1) (c .nowhere3 .ensures)
-
 found-of-returns-10 : (t : ℕ) → found-of-lts.Need-returns-10 (found-of-calls t) (found-of-at t) found-of.Post
-found-of-returns-10 t c = found-many _ _ (c .before .before .before .before .before .before .before .child-count .ensures) (c .before .before .before .before .before .before .match .rest .0 .1) (c .before .before .before .before .before .before .match .rest .1) (c .before .before .before .before .before .becomes-template .ensures) (c .before .before .before .before .if2 .left) (c .before .entries-of .result) (c .before .entries-of .ensures) (c .flattened .result) (c .flattened .ensures)
+found-of-returns-10 t c =
+    let o = few-more _ _ (c .before .before .before .before .before .before .before .before .before .before .from-first .ensures .0) (c .before .before .before .before .before .before .before .before .before .if1 .left) (c .before .before .before .before .before .before .before .before .behind .ensures) _ (c .before .before .before .before .before .before .before .children-at .ensures .0) (c .before .before .before .before .before .before .if2 .left) in
+    found-many _ _ o (λ z. omega arith) (λ z. omega arith) (c .before .before .before .before .before .becomes-template .ensures) (c .before .before .before .before .if4 .left) (c .before .entries-of .result) (c .before .entries-of .ensures) (c .flattened .result) (c .flattened .ensures)
 
 pub +entries-of+found-of-spec : {M : Type 1} → statement M
 +entries-of+found-of-spec = close μ-entries-of μ-found-of (λ t. entries-of-lts.spec (entries-of-calls t)
@@ -393,33 +423,32 @@ pub +entries-of+found-of-spec : {M : Type 1} → statement M
     λ t. found-of-lts.spec (found-of-calls t)
     (found-of-at t)
     found-of.Post
-    (found-of-child-count-requires t)
+    (found-of-from-first-requires t)
     (found-of-nowhere-requires t)
-    (found-of-first-child-requires t)
-    (found-of-sub-a t)
-    (found-of-part-a-start t)
-    (found-of-part-a-end t)
+    (found-of-returns t)
+    (found-of-behind-requires t)
+    (found-of-children-at-requires t)
+    (found-of-sub-at t)
     (found-of-body-requires t)
     (found-of-tag-at-requires t)
     (found-of-tag-at-requires-2 t)
     (found-of-nowhere-requires-2 t)
-    (found-of-returns t)
-    (found-of-add-t16 t)
+    (found-of-returns-2 t)
+    (found-of-add-t17 t)
     (found-of-found-of-requires t)
     (found-of-inside-requires t)
     (found-of-nowhere-requires-3 t)
-    (found-of-becomes-template-requires t)
-    (found-of-whole-requires t)
-    (found-of-returns-2 t)
-    (found-of-is-many-requires t)
-    (found-of-whole-requires-2 t)
     (found-of-returns-3 t)
-    (found-of-entries-of-requires t)
-    (found-of-flattened-requires t)
     (found-of-returns-4 t)
     (found-of-returns-5 t)
     (found-of-returns-6 t)
     (found-of-returns-7 t)
+    (found-of-becomes-template-requires t)
+    (found-of-whole-requires t)
     (found-of-returns-8 t)
+    (found-of-is-many-requires t)
+    (found-of-whole-requires-2 t)
     (found-of-returns-9 t)
+    (found-of-entries-of-requires t)
+    (found-of-flattened-requires t)
     (found-of-returns-10 t)
