@@ -1,12 +1,13 @@
--- What a caller of the export knows from its answer and its buffers alone. Main statements: `demand3-of-answer`, `behind-of-answer`,
--- `refused-of-answer`. Assumes nothing.
+-- What a caller of the export knows from its answer and its buffers alone. Main statements: `demand3-of-answer`, `kept-of-answer`,
+-- `behind-of-answer`, `refused-of-answer`. Assumes nothing.
 use Prim.Native.Nat.{ℕ}
 use mathlib.Core.Path.{_≡_}
 use lib.ListN.{length, take, drop}
 use Rattle.field.specs.Bytes.{Bytes, AllBytes}
 use Rattle.spec.specs.Answer.{outcome, zeros}
 use Rattle.spec.specs.Demand.{Demand3Bytes}
-use Rattle.spec.proofs.Export.{Answered, export-demand3, export-behind, export-refused}
+use Rattle.spec.specs.Kept.{KeptBytes}
+use Rattle.spec.proofs.Export.{Answered, export-demand3, export-kept, export-behind, export-refused}
 use Rattle.jsx_precompile.specs.declared.Answer.{Answer}
 use Rattle.jsx_precompile.specs.Run.{Answers}
 
@@ -30,6 +31,11 @@ module _ (page options scratch templates-out page-out : Bytes) (a : Answer) (scr
   pub demand3-of-answer : AllBytes page → a .number ≡ 0 → Demand3Bytes (take (a .«templates_bytes») templates-out′) (take (a .«page_bytes») page-out′) (a .templates)
   demand3-of-answer all z =
       export-demand3 page options (length scratch) templates-out page-out (a .number) (a .«templates_bytes») (a .«page_bytes») (a .templates) templates-out′ page-out′ answered all z
+
+  -- and 02's A9: each 74 and 79 of the page, outside the four places, stands in page out as often
+  pub kept-of-answer : AllBytes page → a .number ≡ 0 → KeptBytes page options (take (a .«page_bytes») page-out′)
+  kept-of-answer all z =
+      export-kept page options (length scratch) templates-out page-out (a .number) (a .«templates_bytes») (a .«page_bytes») (a .templates) templates-out′ page-out′ answered all z
 
   -- and the bytes behind them stay
   pub behind-of-answer : a .number ≡ 0 →

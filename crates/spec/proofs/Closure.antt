@@ -4,23 +4,22 @@
 use Prim.Native.Nat.{ℕ, suc, _+_, _≤_}
 use native.Mathlib.Omega.{arith}
 use mathlib.Core.Path.{_≡_, refl, sym, ap, ap₂, _∙_, subst₂}
-use mathlib.Core.Bool.{Bool, true, false, _&&_, _||_, not}
+use mathlib.Core.Bool.{Bool, true, false, not}
 use mathlib.Core.List.{List, [], _∷_, _++_}
 use lib.Dec.{T, eqb, eqb→eq}
-use lib.ListN.{length, length-append}
+use lib.ListN.{length}
 use Rattle.field.specs.Bytes.{Bytes}
 use Rattle.field.specs.Number.{big-endian}
-use Rattle.field.specs.Row.{Row, end, loose, field, Inside, only-bytes, fields-after, inside}
+use Rattle.field.specs.Row.{Row, end, field, Inside, only-bytes, fields-after, inside}
 use Rattle.field.proofs.RowLaws.{Shaped, FrontFits, front-full}
-use Rattle.spec.specs.Pass.{Template, Done, Pass, pure, both, bind, raise, join, long-if, Raw, Mid, none, node, raw, _⧺_, Part, chars, gap}
+use Rattle.spec.specs.Pass.{Template, Done, Pass, pure, both, bind, raise, Mid, none, node, raw, _⧺_, Part, chars, gap}
 use Rattle.spec.specs.Output.{gen-template, dynamic-exprs, strings-after, kinds-of}
 use Rattle.spec.specs.Visit.{visit-exprs, visit-inside, visit-after, leave, reaches-todo}
-use Rattle.spec.specs.Transform.{bit, stands}
-use Rattle.spec.specs.Demand.{kinds-in}
-use Rattle.spec.proofs.Good.{Test, recorded, called, called-row, numbered, Sound, AllSound, Kept, GoodVisit, Clean, GoodDone, GoodPass, GoodGap, GoodParts, FormedBy, no-tag, OneNode, OneField, Piece, literal, hole, piece-strings, piece-kinds}
+use Rattle.spec.specs.Transform.{stands}
+use Rattle.spec.proofs.Good.{Sound, AllSound, Kept, GoodVisit, Clean, GoodDone, GoodPass, GoodGap, GoodParts, FormedBy, no-tag, OneNode, OneField, Piece, literal, hole, piece-strings, piece-kinds}
 use Rattle.spec.proofs.Nested.{Neutral, sound-pieces}
-use Rattle.spec.proofs.Ledger.{or-either, neither, recorded-append, numbered-append, sound-append, span-first, kinds-append, stands-node, one-behind, then, kept-pure, kept-raised, kept-then}
-pub use Rattle.spec.proofs.Passes.{clean-weaken, still-weaken, still-none, still-node, still-raw, still-append, good-weaken, good-pure, good-both, good-raise-long, good-raise-todo, good-array, good-call}
+use Rattle.spec.proofs.Ledger.{neither, sound-append, kinds-append, stands-node, one-behind, then, kept-pure, kept-raised, kept-then}
+pub use Rattle.spec.proofs.Passes.{clean-weaken, still-weaken, still-none, still-node, still-raw, still-append, good-weaken, good-pure, good-both, good-raise}
 
 -- one expression: a field that is neither a jsxAttr call nor a choice, or a tag still to be visited
 unfoldable pub OneExpr : Mid → Type 0
@@ -39,14 +38,6 @@ one-kind k (node t f i none) o = ap (λ (b : Bool). b ∷ []) o
 one-kind k (node t f i (node u g j r)) o = absurd o
 one-kind k (node t f i (raw q r)) o = absurd o
 one-kind k (raw q r) o = absurd o
-
-one-kind-in : (x : Row) → OneField x → kinds-in x ≡ false ∷ []
-unfolding OneField kinds-in
-one-kind-in end o = absurd o
-one-kind-in (loose b) o = absurd o
-one-kind-in (field t f i end) o = ap (λ (b : Bool). b ∷ []) o
-one-kind-in (field t f i (loose b)) o = absurd o
-one-kind-in (field t f i (field u g j r)) o = absurd o
 
 -- what is formed by its tag's rule is shaped by it once it is visited
 formed-fits : (c : Inside) (f : Bytes) (i : Mid) (n : ℕ) → FormedBy c f i → FrontFits c f (visit-exprs i n .value)
@@ -112,19 +103,17 @@ module _ (Listed Fragments : Type 0) where
       }
 
   -- the pass of a template, by that of its dynamic expressions
-  template-kept : (n : ℕ) (d : Done Mid) (t : Template) (v : Mid) → t .number ≡ n → Sound t → Kept Listed Fragments (n + 1) d → Kept Listed Fragments n (record { value = v; taken = 1 + d .taken; templates = d .templates ++ (t ∷ []); flags = d .flags })
-  unfolding numbered AllSound
-  template-kept n d t v e s k =
+  template-kept : (d : Done Mid) (t : Template) (v : Mid) → Sound t → Kept Listed Fragments d → Kept Listed Fragments (record { value = v; taken = 1 + d .taken; templates = d .templates ++ (t ∷ []); flags = d .flags })
+  unfolding AllSound
+  template-kept d t v s k =
       record {
-        count = omega (arith, length-append (d .templates) (t ∷ []), k .count);
-        numbers = λ m. omega (arith, numbered-append m (d .templates) (t ∷ []), span-first n (d .taken) m, k .numbers m, ap (λ (x : ℕ). bit (eqb x m) 1) e);
         sound = sound-append (d .templates) (t ∷ []) (k .sound) (s, tt);
         listed = k .listed;
         fragments = k .fragments;
       }
 
   pub good-template : (ps : List Part) (qs : List Piece) (w : ℕ) → GoodParts Listed Fragments ps qs w → Neutral qs → GoodGap Listed Fragments (suc w) false (gen-template ps)
-  unfolding gen-template OneNode Clean FormedBy inside big-endian called recorded
+  unfolding gen-template OneNode Clean FormedBy inside big-endian
   good-template ps qs w g h =
       let all = parts-give ps qs w g in
       record {
@@ -135,8 +124,7 @@ module _ (Listed Fragments : Type 0) where
             let t : Template = record { number = n; strings = strings-after [] ps; kinds = kinds-of (r .value) } in
             let s : Sound t = subst₂ (λ (x : List Bytes) (y : List Bool). Sound (record { number = n; strings = x; kinds = y })) (all .strings []) (all .kinds (n + 1)) (sound-pieces n qs h) in
             record {
-              kept = template-kept n r t (node 0x90 (big-endian 2 n []) (r .value) none) refl s (d .kept);
-              balance = λ p. omega (arith, recorded-append p (r .templates) (t ∷ []), d .balance p);
+              kept = template-kept r t (node 0x90 (big-endian 2 n []) (r .value) none) s (d .kept);
               left-over = d .left-over;
               bound = omega arith;
               clean = (tt, tt, (d .left-over, 0, omega arith, d .clean, tt));
@@ -147,80 +135,72 @@ module _ (Listed Fragments : Type 0) where
   -- ---- visits
 
   -- a row of expressions, visited
-  pub record Visited (m : Mid) (w n : ℕ) (d : Done Row) : Type 0 where
-    pub kept : Kept Listed Fragments n d
-    pub balance : (p : Test) → called-row p (d .value) ≡ called p m + recorded p (d .templates)
+  pub record Visited (w : ℕ) (d : Done Row) : Type 0 where
+    pub kept : Kept Listed Fragments d
     pub bound : d .taken ≤ w
-    pub kinds : kinds-in (d .value) ≡ kinds-of m
     pub shaped : Shaped (d .value)
     pub no-element : T (not (d .flags .left)) → stands 0x30 (d .value) ≡ false
     pub no-fragment : T (not (d .flags .left)) → stands 0x31 (d .value) ≡ false
 
-  visited-none : (w n : ℕ) → Visited none w n (pure end n)
-  unfolding pure called called-row recorded kinds-in kinds-of Shaped stands
+  visited-none : (w n : ℕ) → Visited w (pure end n)
+  unfolding pure Shaped stands
   visited-none w n =
-      record { kept = kept-pure Listed Fragments end n; balance = λ p. refl; bound = omega arith; kinds = refl; shaped = tt; no-element = λ h. refl; no-fragment = λ h. refl }
+      record { kept = kept-pure Listed Fragments end n; bound = omega arith; shaped = tt; no-element = λ h. refl; no-fragment = λ h. refl }
 
-  visited-node : (t : ℕ) (f : Bytes) (i r : Mid) (a b w n : ℕ) (d e : Done Row) → T (no-tag t) → FrontFits (inside t) f (d .value) → a + b ≤ w → Visited i a n d → Visited r b (n + d .taken) e → Visited (node t f i r) w n (then (field t f (d .value) (e .value)) d e)
-  unfolding called called-row kinds-in kinds-of Shaped
-  visited-node t f i r a b w n d e k s h x y =
+  visited-node : (t : ℕ) (f : Bytes) (a b w : ℕ) (d e : Done Row) → T (no-tag t) → FrontFits (inside t) f (d .value) → a + b ≤ w → Visited a d → Visited b e → Visited w (then (field t f (d .value) (e .value)) d e)
+  unfolding Shaped
+  visited-node t f a b w d e k s h x y =
       let x′ = d .value in
       let y′ = e .value in
       let l = d .flags .left in
       let l′ = e .flags .left in
       let tags = neither (eqb t 0x30) (eqb t 0x31) k in
       record {
-        kept = kept-then Listed Fragments (field t f x′ y′) n d e (x .kept) (y .kept);
-        balance = λ p. omega (arith, ap (λ (z : List Bool). bit (eqb t 0x90 && p f z) 1) (x .kinds), x .balance p, y .balance p, recorded-append p (d .templates) (e .templates));
+        kept = kept-then Listed Fragments (field t f x′ y′) d e (x .kept) (y .kept);
         bound = omega arith;
-        kinds = ap (λ (z : List Bool). (eqb t 0x91 || eqb t 0x93) ∷ z) (y .kinds);
         shaped = (s, x .shaped, y .shaped);
         no-element = λ m. stands-node 0x30 t f x′ y′ (tags .0) (x .no-element (neither l l′ m .0)) (y .no-element (neither l l′ m .1));
         no-fragment = λ m. stands-node 0x31 t f x′ y′ (tags .1) (x .no-fragment (neither l l′ m .0)) (y .no-fragment (neither l l′ m .1));
       }
 
-  visited-raw : (q : Raw) (r : Mid) (a b w n : ℕ) (d e : Done Row) → a + b ≤ w → GoodVisit Listed Fragments a n d → Visited r b (n + d .taken) e → Visited (raw q r) w n (then (d .value ⧺ e .value) d e)
-  unfolding called kinds-of
-  visited-raw q r a b w n d e h x y =
+  visited-raw : (a b w : ℕ) (d e : Done Row) → a + b ≤ w → GoodVisit Listed Fragments a d → Visited b e → Visited w (then (d .value ⧺ e .value) d e)
+  visited-raw a b w d e h x y =
       let x′ = d .value in
       let y′ = e .value in
       let l = d .flags .left in
       let l′ = e .flags .left in
       let o = one-behind x′ y′ (x .one) in
       record {
-        kept = kept-then Listed Fragments (x′ ⧺ y′) n d e (x .kept) (y .kept);
-        balance = λ p. omega (arith, o .called-both p, x .balance p, y .balance p, recorded-append p (d .templates) (e .templates));
+        kept = kept-then Listed Fragments (x′ ⧺ y′) d e (x .kept) (y .kept);
         bound = omega arith;
-        kinds = o .kinds ∙ ap (λ (z : List Bool). false ∷ z) (y .kinds);
         shaped = o .shaped (x .shaped) (y .shaped);
         no-element = λ m. o .stands-not 0x30 (x .no-element (neither l l′ m .0)) (y .no-element (neither l l′ m .1));
         no-fragment = λ m. o .stands-not 0x31 (x .no-fragment (neither l l′ m .0)) (y .no-fragment (neither l l′ m .1));
       }
 
-  pub good-visits : (m : Mid) {w : ℕ} → Clean Listed Fragments m w → (n : ℕ) → Visited m w n (visit-exprs m n)
+  pub good-visits : (m : Mid) {w : ℕ} → Clean Listed Fragments m w → (n : ℕ) → Visited w (visit-exprs m n)
   unfolding Clean visit-exprs both
   good-visits none {w} c n = visited-none w n
   good-visits (node t f i r) {w} c n =
       let d = visit-exprs i n in
       let e = visit-exprs r (n + d .taken) in
-      visited-node t f i r (c .2 .0) (c .2 .1) w n d e (c .0) (formed-fits (inside t) f i n (c .1)) (c .2 .2) (good-visits i (c .2 .3) n) (good-visits r (c .2 .4) (n + d .taken))
+      visited-node t f (c .2 .0) (c .2 .1) w d e (c .0) (formed-fits (inside t) f i n (c .1)) (c .2 .2) (good-visits i (c .2 .3) n) (good-visits r (c .2 .4) (n + d .taken))
   good-visits (raw q r) {w} c n =
       let d = q .visited n in
       let e = visit-exprs r (n + d .taken) in
-      visited-raw q r (c .0) (c .1) w n d e (c .2) (c .3 .visits n) (good-visits r (c .4) (n + d .taken))
+      visited-raw (c .0) (c .1) w d e (c .2) (c .3 .visits n) (good-visits r (c .4) (n + d .taken))
 
   pub todo-listed : (m : Mid) (w : ℕ) → Clean Listed Fragments m w → T (reaches-todo m) → Listed
   unfolding reaches-todo
   todo-listed m w c h = good-visits m c 0 .kept .listed h
 
   -- one field in the first pass, visited in the second
-  good-then : (w n : ℕ) (d : Done Mid) (e : Done Row) (g : GoodDone Listed Fragments w n d) → Visited (d .value) (g .left-over) (n + d .taken) e → OneField (e .value) → GoodVisit Listed Fragments w n (then (e .value) d e)
-  good-then w n d e g v o =
+  good-then : (w : ℕ) (d : Done Mid) (e : Done Row) (g : GoodDone Listed Fragments w d) → Visited (g .left-over) e → OneField (e .value) → GoodVisit Listed Fragments w (then (e .value) d e)
+  good-then w d e g v o =
       let l = d .flags .left in
       let l′ = e .flags .left in
       record {
-        kept = kept-then Listed Fragments (e .value) n d e (g .kept) (v .kept);
-        balance = λ p. omega (arith, v .balance p, g .balance p, recorded-append p (d .templates) (e .templates));
+        kept = kept-then Listed Fragments (e .value) d e (g .kept) (v .kept);
         bound = omega arith;
         one = o;
         shaped = v .shaped;
@@ -228,7 +208,7 @@ module _ (Listed Fragments : Type 0) where
         no-fragment = λ m. v .no-fragment (neither l l′ m .1);
       }
 
-  inside-field : (m : Mid) {w : ℕ} → Clean Listed Fragments m w → OneNode false m → (n : ℕ) → Visited m w n (visit-inside m n) × OneField (visit-inside m n .value)
+  inside-field : (m : Mid) {w : ℕ} → Clean Listed Fragments m w → OneNode false m → (n : ℕ) → Visited w (visit-inside m n) × OneField (visit-inside m n .value)
   unfolding OneNode OneField visit-inside visit-exprs both pure
   inside-field none c o n = absurd o
   inside-field (node t f i none) c o n = (good-visits (node t f i none) c n, o)
@@ -238,13 +218,12 @@ module _ (Listed Fragments : Type 0) where
 
   -- ---- tags that are left, and the second pass after the first
 
-  pub good-leave : (b : Bool) {w : ℕ} → Fragments → (T b → Listed) → (n : ℕ) → GoodVisit Listed Fragments w n (leave b n)
-  unfolding leave raise pure called-row recorded OneField Shaped FrontFits inside stands
+  pub good-leave : (b : Bool) {w : ℕ} → Fragments → (T b → Listed) → (n : ℕ) → GoodVisit Listed Fragments w (leave b n)
+  unfolding leave raise pure OneField Shaped FrontFits inside stands
   good-leave b f l n =
       let none-taken = pure (field 0x30 [] end end) n in
       record {
-        kept = kept-raised Listed Fragments (record { unimplemented = b; left = true; long = false }) n none-taken l (λ t. f) (kept-pure Listed Fragments (field 0x30 [] end end) n);
-        balance = λ p. refl;
+        kept = kept-raised Listed Fragments (record { unimplemented = b; left = true; long = false }) none-taken l (λ t. f) (kept-pure Listed Fragments (field 0x30 [] end end) n);
         bound = omega arith;
         one = refl;
         shaped = (tt, tt, tt);
@@ -252,12 +231,11 @@ module _ (Listed Fragments : Type 0) where
         no-fragment = λ t. absurd t;
       }
 
-  pub good-null : {w : ℕ} (n : ℕ) → GoodVisit Listed Fragments w n (pure (field 0x73 [] end end) n)
-  unfolding pure called-row recorded OneField Shaped FrontFits inside stands
+  pub good-null : {w : ℕ} (n : ℕ) → GoodVisit Listed Fragments w (pure (field 0x73 [] end end) n)
+  unfolding pure OneField Shaped FrontFits inside stands
   good-null n =
       record {
         kept = kept-pure Listed Fragments (field 0x73 [] end end) n;
-        balance = λ p. refl;
         bound = omega arith;
         one = refl;
         shaped = (tt, tt, tt);
@@ -266,42 +244,39 @@ module _ (Listed Fragments : Type 0) where
       }
 
   -- the second pass after the first, where the first gives a field
-  pub good-after : {p : Pass Mid} {w : ℕ} → GoodGap Listed Fragments w false p → (n : ℕ) → GoodVisit Listed Fragments w n (visit-after p n)
+  pub good-after : {p : Pass Mid} {w : ℕ} → GoodGap Listed Fragments w false p → (n : ℕ) → GoodVisit Listed Fragments w (visit-after p n)
   unfolding visit-after bind
   good-after {p} {w} g n =
       let d = p n in
       let x = g .good n in
       let v = inside-field (d .value) (x .clean) (g .one n) (n + d .taken) in
-      good-then w n d (visit-inside (d .value) (n + d .taken)) x (v .0) (v .1)
+      good-then w d (visit-inside (d .value) (n + d .taken)) x (v .0) (v .1)
 
-  visited-alone : (q : Raw) (w n : ℕ) (d : Done Row) → GoodVisit Listed Fragments w n d → Visited (raw q none) w n d
-  unfolding called kinds-of
-  visited-alone q w n d g =
+  visited-alone : (w : ℕ) (d : Done Row) → GoodVisit Listed Fragments w d → Visited w d
+  visited-alone w d g =
       record {
         kept = g .kept;
-        balance = λ p. omega (arith, g .balance p);
         bound = g .bound;
-        kinds = one-kind-in (d .value) (g .one);
         shaped = g .shaped;
         no-element = g .no-element;
         no-fragment = g .no-fragment;
       }
 
-  inside-expr : Fragments → (m : Mid) {w : ℕ} → Clean Listed Fragments m w → OneExpr m → (n : ℕ) → Visited m w n (visit-inside m n) × OneField (visit-inside m n .value)
+  inside-expr : Fragments → (m : Mid) {w : ℕ} → Clean Listed Fragments m w → OneExpr m → (n : ℕ) → Visited w (visit-inside m n) × OneField (visit-inside m n .value)
   unfolding OneExpr Clean visit-inside
   inside-expr f none c o n = absurd o
   inside-expr f (node t g i r) c o n = inside-field (node t g i r) c o n
   inside-expr f (raw q none) {w} c o n =
-      let x : GoodVisit Listed Fragments w n (leave (q .unimplemented-inside) n) = good-leave (q .unimplemented-inside) f (c .3 .inside-listed) n in
-      (visited-alone q w n (leave (q .unimplemented-inside) n) x, x .one)
+      let x : GoodVisit Listed Fragments w (leave (q .unimplemented-inside) n) = good-leave (q .unimplemented-inside) f (c .3 .inside-listed) n in
+      (visited-alone w (leave (q .unimplemented-inside) n) x, x .one)
   inside-expr f (raw q (node t g i r)) c o n = absurd o
   inside-expr f (raw q (raw s r)) c o n = absurd o
 
   -- and where it may give a tag, which is left
-  pub good-after-any : {p : Pass Mid} {w : ℕ} → Fragments → GoodPass Listed Fragments w p → ((n : ℕ) → OneExpr (p n .value)) → (n : ℕ) → GoodVisit Listed Fragments w n (visit-after p n)
+  pub good-after-any : {p : Pass Mid} {w : ℕ} → Fragments → GoodPass Listed Fragments w p → ((n : ℕ) → OneExpr (p n .value)) → (n : ℕ) → GoodVisit Listed Fragments w (visit-after p n)
   unfolding visit-after bind
   good-after-any {p} {w} f g o n =
       let d = p n in
       let x = g n in
       let v = inside-expr f (d .value) (x .clean) (o n) (n + d .taken) in
-      good-then w n d (visit-inside (d .value) (n + d .taken)) x (v .0) (v .1)
+      good-then w d (visit-inside (d .value) (n + d .taken)) x (v .0) (v .1)

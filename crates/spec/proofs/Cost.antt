@@ -2,8 +2,8 @@
 -- each thing that 000's functions handle, with a budget: a field costs its header and its front, a tag still to be visited what its visit
 -- writes and takes, a template its record and its number. Closed under what passes are made of. Main statements: `template-costs`, `visit-costs`, `after-costs`.
 --
--- `Good` has budgets too, of numbers taken. Its walk needs names that are names, and carries kinds and nesting; this one holds of every
--- page, as the contracts of the code do, and its budgets fall at each field. So it is a walk of its own, over sizes alone.
+-- `EveryPass` has weights too, but texts, names and fields weigh nothing there. Here each byte is paid for, and budgets fall at each field
+-- and grow at each merge. So it is a walk of its own, over sizes alone.
 -- Assumes nothing.
 use Prim.Native.Nat.{ℕ, _+_, _≤_}
 use native.Mathlib.Omega.{arith}

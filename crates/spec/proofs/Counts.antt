@@ -14,7 +14,7 @@ use Rattle.spec.specs.Pass.{Template}
 use Rattle.spec.specs.Output.{template-row}
 use Rattle.spec.specs.Transform.{bit, templates-row}
 use Rattle.spec.specs.Demand.{begins, recorded-in, called-in, up-to}
-use Rattle.spec.proofs.Good.{Test, recorded, called-row, numbered, span}
+use Rattle.spec.proofs.Ledger.{Test, recorded, called-row, numbered, span}
 
 -- ---- a test counted as 1 or 0
 

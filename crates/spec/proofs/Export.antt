@@ -1,5 +1,5 @@
--- What a caller of the export knows from its answer and its buffers alone. Main statements: `export-demand3`, `export-bytes`,
--- `export-behind`, `export-refused`. Assumes nothing.
+-- What a caller of the export knows from its answer and its buffers alone. Main statements: `export-demand3`, `export-kept`,
+-- `export-bytes`, `export-behind`, `export-refused`. Assumes nothing.
 use Prim.Native.Nat.{ℕ, _+_, _≤_}
 use native.Mathlib.Nat.{zero-add}
 use mathlib.Core.Path.{_≡_, refl, sym, ap, ap₂, _∙_, subst}
@@ -16,8 +16,10 @@ use Rattle.page.specs.declared.Refusal.{Refusal}
 use Rattle.page.specs.declared.Refusal.the-variants as R
 use Rattle.spec.specs.Answer.{Written, Outcome, refused, accepted, outcome, number, templates-bytes, page-bytes, templates, zeros, templates-left, page-left}
 use Rattle.spec.specs.Demand.{Demand3Bytes}
+use Rattle.spec.specs.Kept.{KeptBytes}
 use Rattle.spec.proofs.Answers.{accepted-says, accepted-fits}
 use Rattle.spec.proofs.Lent.{demand3}
+use Rattle.spec.proofs.Kept.{kept-bytes}
 
 -- the equations that the export answers by: its number and counts, and every byte of both outs
 pub record Answered (x : Outcome) (templates-before page-before : Bytes) (n tb pb ts : ℕ) (templates-after page-after : Bytes) : Type 0 where
@@ -70,6 +72,11 @@ module _ (page options : Bytes) (scratch : ℕ) (templates-before page-before : 
     answered : Answered (accepted what) templates-before page-before n tb pb ts templates-after page-after
     fits : (length (what .templates-out) ≤ length templates-before) × (length (what .page-out) ≤ length page-before)
 
+  -- what is written stands in front of page out
+  page-front : (k : Placed) → k .what .page-out ≡ take pb page-after
+  unfolding page-bytes page-left
+  page-front k = sym (put-front page-before (k .what .page-out) (k .fits .1)) ∙ ap₂ take (sym (k .answered .page-bytes-is)) (sym (k .answered .page-out-is))
+
   placed : n ≡ 0 → Placed
   placed z =
       let k = zero-written (outcome page options scratch (length templates-before) (length page-before)) (sym (a .number-is) ∙ z) in
@@ -88,10 +95,15 @@ module _ (page options : Bytes) (scratch : ℕ) (templates-before page-before : 
       let w : Written = k .what in
       let b = k .answered in
       let et : w .templates-out ≡ take tb templates-after = sym (put-front templates-before (w .templates-out) (k .fits .0)) ∙ ap₂ take (sym (b .templates-bytes-is)) (sym (b .templates-out-is)) in
-      let ep : w .page-out ≡ take pb page-after = sym (put-front page-before (w .page-out) (k .fits .1)) ∙ ap₂ take (sym (b .page-bytes-is)) (sym (b .page-out-is)) in
       subst (λ (m : ℕ). Demand3Bytes (take tb templates-after) (take pb page-after) m) (sym (b .templates-is))
-      (subst (λ (y : Bytes). Demand3Bytes (take tb templates-after) y (w .templates)) ep
+      (subst (λ (y : Bytes). Demand3Bytes (take tb templates-after) y (w .templates)) (page-front k)
       (subst (λ (y : Bytes). Demand3Bytes y (w .page-out) (w .templates)) et (demand3 page options scratch (length templates-before) (length page-before) w all (k .outcome-is))))
+
+  -- the page's own expressions are kept in the first bytes of page out
+  pub export-kept : AllBytes page → n ≡ 0 → KeptBytes page options (take pb page-after)
+  export-kept all z =
+      let k = placed z in
+      subst (KeptBytes page options) (page-front k) (kept-bytes page options scratch (length templates-before) (length page-before) (k .what) all (k .outcome-is))
 
   -- what is written is bytes, where a buffer of bytes holds it
   pub export-bytes : (w : Written) → outcome page options scratch (length templates-before) (length page-before) ≡ accepted w → AllBytes templates-after → AllBytes page-after → AllBytes (w .templates-out) × AllBytes (w .page-out)

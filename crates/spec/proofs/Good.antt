@@ -1,52 +1,20 @@
--- What every pass of the transform keeps, as one predicate for each thing that 000's functions handle: numbers, calls and templates in
--- step, templates sound, tags within a budget, flags raised only with cause. Definitions for the proofs of demand 3 and of acceptance.
+-- What every pass of the transform keeps, as one predicate for each thing that 000's functions handle: templates sound, tags within a
+-- budget, flags raised only with cause. Definitions for the proofs of demand 3 and of acceptance; its counts are `Called`'s.
 -- Assumes nothing.
-use Prim.Native.Nat.{ℕ, zero, suc, _+_, _≤_}
+use Prim.Native.Nat.{ℕ, suc, _+_, _≤_}
 use mathlib.Core.Path.{_≡_}
-use mathlib.Core.Bool.{Bool, true, false, _&&_, _||_, not}
+use mathlib.Core.Bool.{Bool, false, _||_, not}
 use mathlib.Core.List.{List, [], _∷_, _++_}
 use lib.Dec.{T, eqb}
 use lib.ListN.{length}
 use Rattle.field.specs.Bytes.{Bytes}
-use Rattle.field.specs.Number.{big-endian}
 use Rattle.field.specs.Row.{Row, end, loose, field, Inside, only-bytes, fields-after, inside}
 use Rattle.field.proofs.RowLaws.{Shaped}
-use Rattle.spec.specs.declared.Flags.{Flags}
 use Rattle.spec.specs.Pass.{Template, Done, Pass, Raw, Mid, none, node, raw, Part, chars, gap}
-use Rattle.spec.specs.Output.{kinds-of}
-use Rattle.spec.specs.Transform.{bit, stands}
+use Rattle.spec.specs.Transform.{stands}
 use Rattle.spec.specs.Words.{WellNested, places, filled, AllFit}
-use Rattle.spec.specs.Demand.{kinds-in}
 
--- ---- templates recorded, templates called
-
--- a test on a number's bytes and on kinds
-abbrev pub Test : Type 0
-Test = Bytes → List Bool → Bool
-
-unfoldable pub recorded : Test → List Template → ℕ
-recorded p [] = 0
-recorded p (t ∷ ts) = bit (p (big-endian 2 (t .number) []) (t .kinds)) 1 + recorded p ts
-
-unfoldable pub called : Test → Mid → ℕ
-called p none = 0
-called p (node t f i r) = bit (eqb t 0x90 && p f (kinds-of i)) 1 + (called p i + called p r)
-called p (raw t r) = called p r
-
-unfoldable pub called-row : Test → Row → ℕ
-called-row p end = 0
-called-row p (loose b) = 0
-called-row p (field t f i r) = bit (eqb t 0x90 && p f (kinds-in i)) 1 + (called-row p i + called-row p r)
-
--- how many templates have the number m
-unfoldable pub numbered : ℕ → List Template → ℕ
-numbered m [] = 0
-numbered m (t ∷ ts) = bit (eqb (t .number) m) 1 + numbered m ts
-
--- 1 for the k numbers from n on, 0 for the others
-unfoldable pub span : (n k m : ℕ) → ℕ
-span n zero m = 0
-span n (suc k) m = bit (eqb n m) 1 + span (suc n) k m
+-- ---- templates
 
 -- a template whose dynamic expressions are of these kinds
 pub record Sound (t : Template) : Type 0 where
@@ -93,18 +61,15 @@ OneField (field t f i (field u g j r)) = ⊥
 -- ---- passes. `Listed`: some attribute is listed in 03. `Fragments`: some 31 stands in the page
 
 module _ (Listed Fragments : Type 0) where
-  -- what holds of a pass from the number n on, whatever its value
-  pub record Kept {A : Type 0} (n : ℕ) (d : Done A) : Type 0 where
-    pub count : length (d .templates) ≡ d .taken
-    pub numbers : (m : ℕ) → numbered m (d .templates) ≡ span n (d .taken) m
+  -- what holds of a pass, whatever its value
+  pub record Kept {A : Type 0} (d : Done A) : Type 0 where
     pub sound : AllSound (d .templates)
     pub listed : T (d .flags .unimplemented) → Listed
     pub fragments : T (d .flags .left) → Fragments
 
   -- the visit of a tag, which may take w numbers
-  pub record GoodVisit (w n : ℕ) (d : Done Row) : Type 0 where
-    pub kept : Kept n d
-    pub balance : (p : Test) → called-row p (d .value) ≡ recorded p (d .templates)
+  pub record GoodVisit (w : ℕ) (d : Done Row) : Type 0 where
+    pub kept : Kept d
     pub bound : d .taken ≤ w
     pub one : OneField (d .value)
     pub shaped : Shaped (d .value)
@@ -112,7 +77,7 @@ module _ (Listed Fragments : Type 0) where
     pub no-fragment : T (not (d .flags .left)) → stands 0x31 (d .value) ≡ false
 
   pub record GoodRaw (w : ℕ) (q : Raw) : Type 0 where
-    pub visits : (n : ℕ) → GoodVisit w n (q .visited n)
+    pub visits : (n : ℕ) → GoodVisit w (q .visited n)
     pub inside-listed : T (q .unimplemented-inside) → Listed
 
   -- expressions between the passes: formed fields, no 30 or 31 but those still to be visited, which may take w numbers between them
@@ -121,21 +86,19 @@ module _ (Listed Fragments : Type 0) where
   Clean (node t f i r) w = T (no-tag t) × FormedBy (inside t) f i × ((a : ℕ) × (b : ℕ) × (a + b ≤ w) × Clean i a × Clean r b)
   Clean (raw q r) w = (a : ℕ) × (b : ℕ) × (a + b ≤ w) × GoodRaw a q × Clean r b
 
-  -- and no template called in them
+  -- as a record, which shows its row and its weight
   pub record Still (w : ℕ) (m : Mid) : Type 0 where
     pub clean : Clean m w
-    pub uncalled : (p : Test) → called p m ≡ 0
 
-  pub record GoodDone (w n : ℕ) (d : Done Mid) : Type 0 where
-    pub kept : Kept n d
-    pub balance : (p : Test) → called p (d .value) ≡ recorded p (d .templates)
+  pub record GoodDone (w : ℕ) (d : Done Mid) : Type 0 where
+    pub kept : Kept d
     pub left-over : ℕ  -- what the tags still to be visited may take
     pub bound : d .taken + left-over ≤ w
     pub clean : Clean (d .value) left-over
 
   -- a first pass, which with the visits of what it leaves may take w numbers
   abbrev pub GoodPass : ℕ → Pass Mid → Type 0
-  GoodPass w p = (n : ℕ) → GoodDone w n (p n)
+  GoodPass w p = (n : ℕ) → GoodDone w (p n)
 
   -- a dynamic expression of that kind
   pub record GoodGap (w : ℕ) (b : Bool) (p : Pass Mid) : Type 0 where

@@ -1,14 +1,14 @@
--- The laws of what `Good` counts: templates recorded, called and numbered, of two rows and of two passes in a row.
+-- Templates recorded, called and numbered: what is counted, and its laws for two rows and for two passes in a row.
 -- Main statements: `recorded-append`, `called-append`, `span-add`, `one-behind`, `kept-then`.
 -- Assumes nothing.
 use Prim.Native.Nat.{ℕ, zero, suc, _+_}
 use native.Mathlib.Omega.{arith}
 use mathlib.Core.Path.{_≡_, refl, ap}
-use mathlib.Core.Bool.{Bool, true, false, _||_, not}
+use mathlib.Core.Bool.{Bool, true, false, _&&_, _||_, not}
 use mathlib.Core.List.{List, [], _∷_, _++_}
 use lib.Dec.{T, eqb}
-use lib.ListN.{length-append}
 use Rattle.field.specs.Bytes.{Bytes}
+use Rattle.field.specs.Number.{big-endian}
 use Rattle.field.specs.Row.{Row, end, loose, field}
 use Rattle.field.proofs.RowLaws.{Shaped}
 use Rattle.spec.specs.declared.Flags.{Flags}
@@ -16,7 +16,7 @@ use Rattle.spec.specs.Pass.{Template, Done, pure, join, Mid, none, node,
 use Rattle.spec.specs.Output.{kinds-of}
 use Rattle.spec.specs.Transform.{bit, stands}
 use Rattle.spec.specs.Demand.{kinds-in}
-use Rattle.spec.proofs.Good.{Test, recorded, called, called-row, numbered, span, AllSound, OneField, Kept}
+use Rattle.spec.proofs.Good.{AllSound, OneField, Kept}
 
 -- ---- tests
 
@@ -35,6 +35,36 @@ neither false b t = (tt, t)
 pub is-false : (a : Bool) → T (not a) → a ≡ false
 is-false true t = absurd t
 is-false false t = refl
+
+-- ---- templates recorded, templates called
+
+-- a test on a number's bytes and on kinds
+abbrev pub Test : Type 0
+Test = Bytes → List Bool → Bool
+
+unfoldable pub recorded : Test → List Template → ℕ
+recorded p [] = 0
+recorded p (t ∷ ts) = bit (p (big-endian 2 (t .number) []) (t .kinds)) 1 + recorded p ts
+
+unfoldable pub called : Test → Mid → ℕ
+called p none = 0
+called p (node t f i r) = bit (eqb t 0x90 && p f (kinds-of i)) 1 + (called p i + called p r)
+called p (raw t r) = called p r
+
+unfoldable pub called-row : Test → Row → ℕ
+called-row p end = 0
+called-row p (loose b) = 0
+called-row p (field t f i r) = bit (eqb t 0x90 && p f (kinds-in i)) 1 + (called-row p i + called-row p r)
+
+-- how many templates have the number m
+unfoldable pub numbered : ℕ → List Template → ℕ
+numbered m [] = 0
+numbered m (t ∷ ts) = bit (eqb (t .number) m) 1 + numbered m ts
+
+-- 1 for the k numbers from n on, 0 for the others
+unfoldable pub span : (n k m : ℕ) → ℕ
+span n zero m = 0
+span n (suc k) m = bit (eqb n m) 1 + span (suc n) k m
 
 -- ---- two lists of templates
 
@@ -81,10 +111,6 @@ unfolding called _+++_
 called-append p none y = omega arith
 called-append p (node t f i r) y = omega (arith, called-append p r y)
 called-append p (raw q r) y = called-append p r y
-
-pub uncalled-node : (p : Test) (t : ℕ) (f : Bytes) (i r : Mid) → T (not (eqb t 0x90)) → called p i ≡ 0 → called p r ≡ 0 → called p (node t f i r) ≡ 0
-unfolding called
-uncalled-node p t f i r k x y = rw (is-false (eqb t 0x90) k, x, y) refl
 
 pub kinds-append : (x y : Mid) → kinds-of (x +++ y) ≡ kinds-of x ++ kinds-of y
 unfolding kinds-of _+++_
@@ -136,28 +162,24 @@ abbrev pub raised : {A : Type 0} → Flags → Done A → Done A
 raised f d = record { value = d .value; taken = d .taken; templates = d .templates; flags = join f (d .flags) }
 
 module _ (Listed Fragments : Type 0) where
-  pub kept-pure : {A : Type 0} (v : A) (n : ℕ) → Kept Listed Fragments n (pure v n)
-  unfolding pure numbered span AllSound
-  kept-pure v n = record { count = refl; numbers = λ m. refl; sound = tt; listed = λ t. absurd t; fragments = λ t. absurd t }
+  pub kept-pure : {A : Type 0} (v : A) (n : ℕ) → Kept Listed Fragments (pure v n)
+  unfolding pure AllSound
+  kept-pure v n = record { sound = tt; listed = λ t. absurd t; fragments = λ t. absurd t }
 
-  pub kept-valued : {A B : Type 0} (v : B) (n : ℕ) (d : Done A) → Kept Listed Fragments n d → Kept Listed Fragments n (valued v d)
-  kept-valued v n d k = record { count = k .count; numbers = k .numbers; sound = k .sound; listed = k .listed; fragments = k .fragments }
+  pub kept-valued : {A B : Type 0} (v : B) (d : Done A) → Kept Listed Fragments d → Kept Listed Fragments (valued v d)
+  kept-valued v d k = record { sound = k .sound; listed = k .listed; fragments = k .fragments }
 
-  pub kept-raised : {A : Type 0} (f : Flags) (n : ℕ) (d : Done A) → (T (f .unimplemented) → Listed) → (T (f .left) → Fragments) → Kept Listed Fragments n d → Kept Listed Fragments n (raised f d)
-  kept-raised f n d l r k =
+  pub kept-raised : {A : Type 0} (f : Flags) (d : Done A) → (T (f .unimplemented) → Listed) → (T (f .left) → Fragments) → Kept Listed Fragments d → Kept Listed Fragments (raised f d)
+  kept-raised f d l r k =
       record {
-        count = k .count;
-        numbers = k .numbers;
         sound = k .sound;
         listed = or-either (f .unimplemented) (d .flags .unimplemented) l (k .listed);
         fragments = or-either (f .left) (d .flags .left) r (k .fragments);
       }
 
-  pub kept-then : {A B C : Type 0} (v : C) (n : ℕ) (d : Done A) (e : Done B) → Kept Listed Fragments n d → Kept Listed Fragments (n + d .taken) e → Kept Listed Fragments n (then v d e)
-  kept-then v n d e k l =
+  pub kept-then : {A B C : Type 0} (v : C) (d : Done A) (e : Done B) → Kept Listed Fragments d → Kept Listed Fragments e → Kept Listed Fragments (then v d e)
+  kept-then v d e k l =
       record {
-        count = omega (arith, length-append (d .templates) (e .templates), k .count, l .count);
-        numbers = λ m. omega (arith, numbered-append m (d .templates) (e .templates), span-add n (d .taken) (e .taken) m, k .numbers m, l .numbers m);
         sound = sound-append (d .templates) (e .templates) (k .sound) (l .sound);
         listed = or-either (d .flags .unimplemented) (e .flags .unimplemented) (k .listed) (l .listed);
         fragments = or-either (d .flags .left) (e .flags .left) (k .fragments) (l .fragments);

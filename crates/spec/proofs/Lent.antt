@@ -18,7 +18,9 @@ use Rattle.spec.specs.Transform.{transform, templates-row, page-out-row}
 use Rattle.spec.specs.Answer.{Written, accepted, outcome}
 use Rattle.spec.specs.Demand.{Demand3, Demand3Bytes}
 use Rattle.spec.proofs.Weight.{page-weight}
-use Rattle.spec.proofs.PageGood.{GoodPage, page-good}
+use Rattle.spec.proofs.PageGood.{page-good}
+use Rattle.spec.proofs.Closure.{Visited}
+use Rattle.spec.proofs.Called.{counted}
 use Rattle.spec.proofs.PageOut.{templates-shaped, page-shaped}
 use Rattle.spec.proofs.Within.{weight-within}
 use Rattle.spec.proofs.RowDemand.{row-demand3}
@@ -38,7 +40,7 @@ module _ (page options : Bytes) (scratch tr pr : ℕ) (w : Written) (all : AllBy
   exact : (page ≡ encode (page-in (read page))) × ModuleItemsOk (page-in (read page))
   exact = let q = read-exactly page (page-in (read page)) all .0 (says .inputs .page-fine, refl) in (q .0, q .1)
 
-  good : GoodPage (Unit {0}) (Unit {0}) (page-weight (page-in (read page))) (made page options)
+  good : Visited (Unit {0}) (Unit {0}) (page-weight (page-in (read page))) (made page options)
   good = page-good (Unit {0}) (Unit {0}) (options-in (read options)) (page-in (read page)) (exact .1) (λ t. tt) (λ t. tt)
 
   -- as many numbers as tags at most, and three bytes for each tag
@@ -57,13 +59,13 @@ module _ (page options : Bytes) (scratch tr pr : ℕ) (w : Written) (all : AllBy
   templates-read : read (w .templates-out) ≡ templates-row (made page options .templates)
   templates-read = ap (λ (v : Written). read (v .templates-out)) (sym (says .written-is)) ∙ read-back (templates-row (made page options .templates)) (templates-shaped (made page options .templates)) (short .0)
 
-  page-read : read (w .page-out) ≡ made-page page options
+  pub page-read : read (w .page-out) ≡ made-page page options
   page-read =
       ap (λ (v : Written). read (v .page-out)) (sym (says .written-is))
       ∙ read-back (made-page page options) (page-shaped (options-in (read options)) (made page options) (good .shaped)) (short .1)
 
   few : w .templates * 3 ≤ length page
-  few = omega (arith, count-is, taken-few, good .kept .count)
+  few = omega (arith, count-is, taken-few, counted (options-in (read options)) (page-in (read page)))
 
   demanded : Demand3 (read (w .templates-out)) (read (w .page-out)) (w .templates)
   demanded =

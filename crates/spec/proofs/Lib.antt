@@ -1,4 +1,5 @@
--- The table of marks, demand 3, acceptance, how long the outputs are at most, and that as many templates are called as recorded.
+-- The table of marks, demand 3, acceptance, how long the outputs are at most, that as many templates are called as recorded, and that the
+-- page's own expressions are kept.
 pub mod Marks
 pub mod Good
 pub mod Weight
@@ -9,7 +10,13 @@ pub mod Nested
 pub mod Ledger
 pub mod Passes
 pub mod Closure
-pub mod Walk
+pub mod Invariant
+pub mod Shapes
+pub mod EveryPass
+pub mod EveryPage
+pub mod Counting
+pub mod Called
+pub mod GoodInvariant
 pub mod PageGood
 pub mod Counts
 pub mod PageOut
@@ -19,10 +26,10 @@ pub mod Answers
 pub mod Lent
 pub mod Export
 pub mod Accept
+pub mod Kept
+pub mod KeptCases
+pub mod LostCases
 pub mod Cost
 pub mod CostWalk
 pub mod Growth
 pub mod Lenient
-pub mod Calls
-pub mod CallsWalk
-pub mod Called

@@ -17,7 +17,7 @@ use Rattle.spec.specs.Output.{strings-row, template-row}
 use Rattle.spec.specs.Visit.{visit-exprs}
 use Rattle.spec.specs.Transform.{bit, stands, is-statement, has-statement, before-statement, with-templates, helper-sum, with-import, page-out-row, templates-row, transform, module-items}
 use Rattle.spec.specs.Demand.{kinds-in, Helper, jsx, jsx-template, jsx-attr, jsx-escape, helper-tag, counts, sum-in, imported-in}
-use Rattle.spec.proofs.Good.{Test, called-row}
+use Rattle.spec.proofs.Ledger.{Test, called-row}
 
 -- ---- an 83 put in somewhere: one walk for whatever relates a row with the row that has it
 

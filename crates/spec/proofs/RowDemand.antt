@@ -16,8 +16,10 @@ use Rattle.spec.specs.Output.{strings-row, template-row}
 use Rattle.spec.specs.Transform.{bit, templates-row, page-out-row, transform}
 use Rattle.spec.specs.Words.{WellNested, places, filled, AllFit}
 use Rattle.spec.specs.Demand.{begins, templates-in, up-to, strings-in, kinds-in, AllTags, Each80, Each90, SoundTemplate, Suits, Demand3}
-use Rattle.spec.proofs.Good.{Test, recorded, called-row, span, Sound, AllSound}
-use Rattle.spec.proofs.PageGood.{GoodPage}
+use Rattle.spec.proofs.Good.{Sound, AllSound}
+use Rattle.spec.proofs.Ledger.{Test, recorded, called-row, span}
+use Rattle.spec.proofs.Closure.{Visited}
+use Rattle.spec.proofs.Called.{counted, numbers, balance}
 use Rattle.spec.proofs.Counts.{bit-true, bit-and, bit-no, span-above, span-once, span-up-to, begins-two, AllWithin, all-within, has-number, recorded-row, recorded-numbered, called-begins}
 use Rattle.spec.proofs.PageOut.{page-called, page-stands, page-imported}
 
@@ -172,21 +174,18 @@ module _ (page : Row) (all : List Template) (balance : (p : Test) → called-row
 
 -- ---- both outputs
 
-module _ (Listed Fragments : Type 0) (o : Options) (p : Page) (w : ℕ) (good : GoodPage Listed Fragments w (transform o p)) (few : transform o p .taken ≤ 65535) (none-left : T (not (transform o p .flags .left))) where
-  count-is : length (transform o p .templates) ≡ transform o p .taken
-  count-is = good .kept .count
-
+module _ (Listed Fragments : Type 0) (o : Options) (p : Page) (w : ℕ) (good : Visited Listed Fragments w (transform o p)) (few : transform o p .taken ≤ 65535) (none-left : T (not (transform o p .flags .left))) where
   within : AllWithin (transform o p .taken) (transform o p .templates)
-  within = all-within (transform o p .taken) (transform o p .templates) (λ m l. good .kept .numbers m ∙ span-above 1 (transform o p .taken) m (omega arith))
+  within = all-within (transform o p .taken) (transform o p .templates) (λ m l. numbers o p m ∙ span-above 1 (transform o p .taken) m (omega arith))
 
   recorded-is : (m : ℕ) → recorded (has-number m) (transform o p .templates) ≡ span 1 (transform o p .taken) m
-  recorded-is m = recorded-numbered m (transform o p .taken) (transform o p .templates) few within ∙ good .kept .numbers m
+  recorded-is m = recorded-numbered m (transform o p .taken) (transform o p .templates) few within ∙ numbers o p m
 
   up-to-count : (m : ℕ) → span 1 (transform o p .taken) m ≡ up-to m (length (transform o p .templates))
-  up-to-count m = span-up-to (transform o p .taken) m ∙ ap (up-to m) (sym count-is)
+  up-to-count m = span-up-to (transform o p .taken) m ∙ ap (up-to m) (sym (counted o p))
 
   balanced : (q : Test) → called-row q (page-out-row o (transform o p)) ≡ recorded q (transform o p .templates)
-  balanced q = page-called q o (transform o p) ∙ good .balance q
+  balanced q = page-called q o (transform o p) ∙ balance q o p
 
   pub row-demand3 : Demand3 (templates-row (transform o p .templates)) (page-out-row o (transform o p)) (length (transform o p .templates))
   row-demand3 =
