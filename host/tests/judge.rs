@@ -163,7 +163,7 @@ fn leaf(rng: &mut Rng) -> Vec<u8> {
 
 #[test]
 fn stored_answers() {
-    let stored = include_str!("../../oracle/vectors/judge.txt");
+    let stored = include_str!("../../crates/replay/stdin");
     for line in stored.lines() {
         let vector = Vector::parse(line).expect("twelve words");
         let [mut scratch, mut templates, mut out] =

@@ -15,6 +15,7 @@ pub mod exhaustive;
 pub mod field;
 pub mod generate;
 pub mod judge;
+pub mod kept;
 pub mod make;
 pub mod marks;
 pub mod show;

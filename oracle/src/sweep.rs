@@ -1,13 +1,15 @@
-//! Many seeds in a row: demand 3 on every accepted page, and what the seeds reached.
+//! Many seeds in a row: demand 3 and A9 on every accepted page, and what the seeds reached.
 
 use crate::answer::{LEAST_SCRATCH, NUMBERS, Refusal};
 use crate::arms;
 use crate::demand3;
+use crate::encode::Output;
 use crate::exhaustive;
 use crate::field::{self, Body, body_of};
 use crate::generate::rng::Rng;
 use crate::generate::{self, Case};
-use crate::judge::{Outcome, outcome_with, settle};
+use crate::judge::{outcome_with, settle};
+use crate::kept::{self, PLACES};
 use crate::show::show;
 use crate::shrink::shrink;
 use crate::transform::Copy;
@@ -33,6 +35,8 @@ pub struct Report {
     pub tags_in: [u64; 256],
     pub tags_out: [u64; 256],
     pub templates: u64,
+    pub kept: kept::Counts,
+    /// Of demand 3 or of A9.
     pub violations: u64,
     pub arms: bool,
 }
@@ -48,6 +52,7 @@ impl Report {
             tags_in: [0; 256],
             tags_out: [0; 256],
             templates: 0,
+            kept: kept::Counts::default(),
             violations: 0,
             arms,
         }
@@ -70,14 +75,16 @@ impl Report {
                 line(format!("arm {:9} line {at} {function}: {text}", arms::hits(i)));
             }
         }
-        line(format!("violations of demand 3: {}", self.violations));
+        line(format!("expressions kept {}; lost: {}", self.kept.kept, lost(&self.kept)));
+        line(format!("violations of demand 3 and A9: {}", self.violations));
         out
     }
 }
 
 impl Report {
     /// Where the seeds reached less than a generator must: in a million seeds every answer 100 times, 40 % accepted,
-    /// 1 % over 16 KB, 1 % deeper than 40, every live arm 1,000 times and no dead one; as much less for fewer seeds.
+    /// 1 % over 16 KB, 1 % deeper than 40, in each of A9's places 1,000 expressions lost, every live arm 1,000 times and
+    /// no dead one; as much less for fewer seeds.
     pub fn shortfalls(&self) -> Vec<String> {
         let due = |in_a_million: u64| self.seeds * in_a_million / 1_000_000;
         let mut out = vec![];
@@ -92,6 +99,9 @@ impl Report {
         need("accepted".into(), self.answers[0], due(400_000));
         need("over 16 KB".into(), self.large, due(10_000));
         need("deeper than 40".into(), self.deep, due(10_000));
+        for place in PLACES {
+            need(format!("lost as {place:?}"), self.kept.lost_in(place), due(1_000));
+        }
         if self.arms {
             for (arm, (line, ..)) in arms::ARMS.iter().enumerate() {
                 if !arms::is_dead(arm) {
@@ -103,6 +113,10 @@ impl Report {
         }
         out
     }
+}
+
+fn lost(counts: &kept::Counts) -> String {
+    PLACES.map(|place| format!("{place:?} {}", counts.lost_in(place))).join(", ")
 }
 
 fn tags(counts: &[u64; 256]) -> String {
@@ -158,9 +172,12 @@ fn one(seed: u64, settings: &Settings, report: &mut Report, lent: &mut Lent) {
         count_tags(&case.options, &mut report.tags_in);
         count_tags(&output.templates, &mut report.tags_out);
         count_tags(&output.page, &mut report.tags_out);
-        if let Some(words) = found(&outcome, seed) {
-            report.violations += 1;
-            print_violation(seed, &case, &words);
+        match check(&case.page, &case.options, output, seed) {
+            Ok(counts) => report.kept.add(counts),
+            Err(words) => {
+                report.violations += 1;
+                print_violation(seed, &case, &words);
+            }
         }
     }
 }
@@ -181,13 +198,19 @@ fn lent_right(number: u32, templates: usize, page: usize, lent: &Lent) -> bool {
     outs && all(&lent.scratch, scratch) && (number == 1) == (lent.scratch.len() < LEAST_SCRATCH)
 }
 
-fn found(outcome: &Outcome, seed: u64) -> Option<String> {
-    let output = outcome.as_ref().ok()?;
-    demand3::violation(&output.templates, &output.page, output.count, &mut Rng::new(!seed))
+/// What is wrong with the outputs of an accepted page, or how many of its expressions were kept and lost.
+fn check(page: &[u8], options: &[u8], output: &Output, seed: u64) -> Result<kept::Counts, String> {
+    match demand3::violation(&output.templates, &output.page, output.count, &mut Rng::new(!seed)) {
+        Some(words) => Err(format!("demand 3: {words}")),
+        None => kept::compare(page, options, &output.page).map_err(|words| format!("A9: {words}")),
+    }
 }
 
 fn print_violation(seed: u64, case: &Case, words: &str) {
-    let shows = |case: &Case| found(&outcome_with(Copy::Unchanged, &case.page, &case.options), seed).is_some();
+    let shows = |case: &Case| {
+        let outcome = outcome_with(Copy::Unchanged, &case.page, &case.options);
+        outcome.is_ok_and(|output| check(&case.page, &case.options, &output, seed).is_err())
+    };
     let small = shrink(case.clone(), shows);
     println!("seed {seed}: {words}\n{}{}", show(&small.options), show(&small.page));
 }
@@ -215,6 +238,7 @@ pub struct Small {
     pub accepted: u64,
     pub unimplemented: u64,
     pub tag_left: u64,
+    pub kept: kept::Counts,
     pub violations: u64,
 }
 
@@ -229,17 +253,25 @@ pub fn small(fields: usize) -> Small {
     let mut report = Small::default();
     exhaustive::small_pages(fields, &mut |page| {
         for options in &options {
-            let outcome = outcome_with(Copy::Unchanged, page, options);
             report.calls += 1;
-            match outcome {
-                Ok(_) => report.accepted += 1,
-                Err(Refusal::Unimplemented) => report.unimplemented += 1,
-                Err(Refusal::TagLeft) => report.tag_left += 1,
-                Err(other) => panic!("{other:?}\n{}", show(page)),
-            }
-            if let Some(words) = found(&outcome, report.calls) {
-                report.violations += 1;
-                println!("{words}\n{}{}", show(options), show(page));
+            let output = match outcome_with(Copy::Unchanged, page, options) {
+                Ok(output) => output,
+                Err(refusal) => {
+                    match refusal {
+                        Refusal::Unimplemented => report.unimplemented += 1,
+                        Refusal::TagLeft => report.tag_left += 1,
+                        other => panic!("{other:?}\n{}", show(page)),
+                    }
+                    continue;
+                }
+            };
+            report.accepted += 1;
+            match check(page, options, &output, report.calls) {
+                Ok(counts) => report.kept.add(counts),
+                Err(words) => {
+                    report.violations += 1;
+                    println!("{words}\n{}{}", show(options), show(page));
+                }
             }
         }
     });

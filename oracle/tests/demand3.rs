@@ -93,7 +93,9 @@ fn the_shrinker_finds_a_small_page() {
     let refused = |refusal: Refusal| move |case: &Case| outcome(&case.page, &case.options) == Err(refusal);
     for (refusal, smallest) in [(Refusal::TagLeft, 15), (Refusal::Unimplemented, 30), (Refusal::NumberTooLarge, 30)] {
         let shows = refused(refusal);
-        let case = (0..).map(generate::case).find(|case| shows(case) && case.page.len() > 100).unwrap();
+        // A page that is no row of fields shrinks by bytes alone, which leaves more of it.
+        let large = |case: &Case| case.page.len() > 100 && read(&case.page).is_some();
+        let case = (0..).map(generate::case).find(|case| shows(case) && large(case)).unwrap();
         let small = shrink(case, shows);
         assert!(small.page.len() <= smallest, "{refusal:?}: {}", oracle::show::show(&small.page));
     }

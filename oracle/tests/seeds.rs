@@ -1,6 +1,7 @@
-//! 50,000 seeds: demand 3, the lent bytes, and that the generator reaches what it must.
+//! 50,000 seeds: demand 3, A9, the lent bytes, and that the generator reaches what it must.
 
 use oracle::generate;
+use oracle::kept::PLACES;
 use oracle::sweep::{Settings, sweep};
 
 #[test]
@@ -10,6 +11,7 @@ fn fifty_thousand_seeds() {
     print!("{}", report.table());
     assert_eq!(report.violations, 0);
     assert_eq!(report.shortfalls(), Vec::<String>::new());
+    assert!(report.kept.kept > 0 && PLACES.iter().all(|place| report.kept.lost_in(*place) > 0), "{:?}", report.kept);
 }
 
 #[test]

@@ -97,6 +97,10 @@ pub fn attribute(rng: &mut Rng) -> String {
     }
 }
 
+pub fn key(rng: &mut Rng) -> String {
+    cased(rng, vec!["key"])
+}
+
 /// One of the names, now and then with a capital or in capitals.
 fn cased(rng: &mut Rng, names: Vec<&'static str>) -> String {
     let name = rng.pick(&names);

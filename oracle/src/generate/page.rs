@@ -120,6 +120,9 @@ impl Maker<'_> {
             }
             self.attribute(depth + 1);
         }
+        if self.rng.chance(4) {
+            self.keys(depth + 1);
+        }
         self.children(depth + 1);
     }
 
@@ -156,17 +159,33 @@ impl Maker<'_> {
         }
         self.field(0x50, |m| {
             m.attribute_name();
-            // With few names the attribute may be listed, and then a tag as its value is not dropped.
-            let weights = if m.shape.few_names.is_some() { &[20, 24, 34, 11, 11] } else { &[22, 27, 43, 4, 4] };
-            match m.rng.weighted(weights) {
-                0 => {}
-                1 => m.words(0x51),
-                2 => m.container(depth + 1),
-                3 if m.can_hold(depth + 1) => m.field(0x30, |m| m.element(depth + 1)),
-                4 if m.can_hold(depth + 1) => m.field(0x31, |m| m.children(depth + 2)),
-                _ => {}
-            }
+            m.attribute_value(depth);
         });
+    }
+
+    /// Several attributes that may read as `key`, of which a call keeps one value.
+    fn keys(&mut self, depth: usize) {
+        for _ in 0..self.rng.within(2, 3) {
+            self.field(0x50, |m| {
+                let name = names::key(m.rng);
+                m.leaf(0x40, name.as_bytes());
+                m.attribute_value(depth);
+            });
+        }
+    }
+
+    /// The value of an attribute at `depth`, or none.
+    fn attribute_value(&mut self, depth: usize) {
+        // With few names the attribute may be listed, and then a tag as its value is not dropped.
+        let weights = if self.shape.few_names.is_some() { &[20, 24, 34, 11, 11] } else { &[22, 27, 43, 4, 4] };
+        match self.rng.weighted(weights) {
+            0 => {}
+            1 => self.words(0x51),
+            2 => self.container(depth + 1),
+            3 if self.can_hold(depth + 1) => self.field(0x30, |m| m.element(depth + 1)),
+            4 if self.can_hold(depth + 1) => self.field(0x31, |m| m.children(depth + 2)),
+            _ => {}
+        }
     }
 
     fn attribute_name(&mut self) {
