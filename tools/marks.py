@@ -37,7 +37,13 @@ row("K7 <></>",page(F(0x31)),0,0,'[]',out(0,F(0x73),forms=False))
 row("K7 <><></></>",page(F(0x31,F(0x31))),10)
 row('K8 <Foo>a{"<"}<i/></Foo>',page(el("Foo",F(0x60,A("a")),F(0x52,F(0x70,A("<"))),el("i"))),0,1,form(1,"a&amp;lt;<i></i>"),out(3,F(0x94,name("Foo"),F(0x95,F(0x96,F(0x81,A("children")),tpl(1))))))
 row("K9 <a b={-0}/>",page(el("a",F(0x50,name("b"),F(0x52,F(0x75,N8(0)))))),0,1,form(1,'<a b="-0"></a>'),out(2,tpl(1)))
-row("K10 <p class={x}/>, class in 03",page(el("p",F(0x50,name("class"),F(0x52,src("x"))))),9,opt=F(3,F(0x20,A("class"))))
+# a container under a listed attribute (02, A1): K10, a full one, an empty one, and one that holds a tag
+def listed(c,tag,attr,value,passed,*more):
+    row(c,page(el(tag,F(0x50,name(attr),F(0x52,value)))),0,1+len(more),cat([form(1,"<%s "%tag,"></%s>"%tag),*more]),out(6,tpl(1,F(0x91,F(0x81,A(attr)),passed))),opt=F(3,F(0x20,A(attr))))
+listed("K10 <a b={-0}/>, b in 03","a","b",F(0x75,N8(0)),F(0x75,N8(0)))
+listed("<p class={x}/>, class in 03","p","class",src("x"),src("x"))
+listed("<p class={}/>, class in 03","p","class",'[]',F(0x73))
+listed("<p class={<i/>}/>, class in 03","p","class",el("i"),tpl(2),form(2,"<i></i>"))
 # the worked page of 01's card
 row("const a = <p class=\"t\">Hi {n}</p>;",F(1,F(0x12,F(0x20,A("const a = ")),el("p",F(0x50,name("class"),F(0x51,A("t"))),F(0x60,A("Hi ")),F(0x52,src("n"))),F(0x20,A(";")))),0,1,form(1,'<p class="t">Hi ','</p>'),
     cat([imp(10),F(0x83),F(0x12,F(0x20,A("const a = ")),tpl(1,F(0x92,src("n"))),F(0x20,A(";")))]))
@@ -116,9 +122,9 @@ fld t b = t ∷ (big-endian 2 (length b) [] ++ b)
 abbrev pub mark : Bytes → Bytes → ℕ → ℕ → ℕ → ℕ → ℕ → Bytes → Bytes → Mark
 mark p o d s r n f so po = record { page = p; options = o; scratch = d; templates-room = s; page-room = r; expected = record { number = n; templates = f; templates-out = so; page-out = po } }
 
-unfoldable pub Kept : List Mark → Type 0
-Kept [] = Unit {0}
-Kept (m ∷ ms) = (reply (outcome (m .page) (m .options) (m .scratch) (m .templates-room) (m .page-room)) ≡ m .expected) × Kept ms
+unfoldable pub AllHold : List Mark → Type 0
+AllHold [] = Unit {0}
+AllHold (m ∷ ms) = (reply (outcome (m .page) (m .options) (m .scratch) (m .templates-room) (m .page-room)) ≡ m .expected) × AllHold ms
 
 abbrev pub marks : List Mark
 marks =
@@ -129,7 +135,7 @@ use Prim.Native.Nat.{ℕ}
 use mathlib.Core.Path.{_≡_, refl}
 use Rattle.field.specs.Bytes.{Bytes}
 use Rattle.spec.specs.Answer.{Outcome}
-use Rattle.spec.specs.Marks.{marks, Kept, reply}
+use Rattle.spec.specs.Marks.{marks, AllHold, reply}
 %s
 
 -- all that an answer computes with
@@ -137,8 +143,8 @@ unfoldable pub computed : Bytes → Bytes → ℕ → ℕ → ℕ → Outcome
 unfolding %s
 computed p o d s q = outcome p o d s q
 
-pub k-table : Kept marks
-unfolding Kept computed reply
+pub k-table : AllHold marks
+unfolding AllHold computed reply
 k-table = %s
 """
 

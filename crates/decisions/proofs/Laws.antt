@@ -21,7 +21,8 @@ use Rattle.page.specs.Tree.{choose, boolean-in, expr-by, Contained, nothing-con
 use Rattle.spec.specs.Attributes.{first-upper, keeps-from-serializing, is-serializable}
 use Rattle.spec.specs.Merge as M
 use Rattle.spec.specs.Merge.{text-count, serializable-count, becomes-template}
-use Rattle.spec.specs.Transform.{element-of, fragment-of, element-raw, fragment-raw, shape-of, child, raw-tag, attributes, children}
+use Rattle.spec.specs.Visit.{visit-fragment}
+use Rattle.spec.specs.Transform.{element-of, fragment-of, element-raw, shape-of, child, raw-tag, attributes, children}
 use Rattle.decisions.specs.At.{opts, element-name, behind-name, element-at, forbids, serializable-by, serializable, becomes, value-of, shape-by, shape-of-contained}
 use Rattle.decisions.specs.declared.attribute.Value.{Value}
 use Rattle.decisions.specs.declared.attribute.Value.the-variants as Held
@@ -61,7 +62,7 @@ module _ (k p : Bytes) where
     unfolding child
     child-fragment = ap (child (opts k p)) (fragment-is (read b))
 
-    pub raw-fragment : raw-tag (opts k p) (fragment-in (read b)) ≡ fragment-raw (children (opts k p) (children-in (read b)))
+    pub raw-fragment : raw-tag (opts k p) (fragment-in (read b)) ≡ visit-fragment (children (opts k p) (children-in (read b)))
     unfolding raw-tag
     raw-fragment = ap (raw-tag (opts k p)) (fragment-is (read b))
 

@@ -66,10 +66,9 @@ module _ (w : Walk) (tr pr : ℕ) (b : Bytes) where
   cleared : {r : Refusal} → verdict-of w tr pr ≡ Refused r → Cleared r
   unfolding scratch-left
   cleared {r} h =
-      after-one Cleared _ _ (checked (not (w .seen .unimplemented)) R.Unimplemented refl)
-      (after-one Cleared _ _ (checked (not (w .seen .left)) R.TagLeft refl)
+      after-one Cleared _ _ (checked (not (w .seen .left)) R.TagLeft refl)
       (after-one Cleared _ _ (checked (not (w .seen .long)) R.OutputTooLong refl)
-      (after-one Cleared _ _ (checked (leb (w .templates) tr) R.TemplatesTooSmall refl) (unless-one Cleared (leb (w .page) pr) R.PageTooSmall refl))))
+      (after-one Cleared _ _ (checked (leb (w .templates) tr) R.TemplatesTooSmall refl) (unless-one Cleared (leb (w .page) pr) R.PageTooSmall refl)))
       h
 
 -- zeros go by the length alone

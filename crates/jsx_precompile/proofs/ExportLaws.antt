@@ -6,6 +6,8 @@ use Prim.Native.Nat.{ℕ, _≤_, _<_}
 use mathlib.Core.List.{[], _∷_}
 use lib.ListN.{length}
 use borrow.Author.Tests.{le-leb, lt-leb, eq-eqb, ne-eqb}
+use denote.Enum.Declared.{tagOf}
+use types.Run.{OneOf, miss}
 use Rattle.field.specs.Bytes.{Bytes, ascii}
 use Rattle.field.specs.Row.{Row, end, loose, field, read, Ended, fields-after, inside}
 use Rattle.field.specs.Front.{tag-of, body-of, behind-of}
@@ -17,6 +19,7 @@ use Rattle.page.specs.Check.{check-page, check-options}
 use Rattle.page.specs.Refusal.{after}
 use Rattle.page.specs.declared.Refusal.{Refusal}
 use Rattle.page.specs.declared.Refusal.the-variants as R
+use Rattle.page.proofs.Refusal.{the-type}
 use Rattle.page.specs.declared.Verdict.{Verdict}
 use Rattle.page.specs.declared.Verdict.the-variants.{Fine, Refused}
 use Rattle.spec.specs.Transform as T
@@ -53,36 +56,31 @@ module _ (page options : Bytes) (n : ℕ) where
         unfolding check-inputs after
         inputs-page h q = q ∙ rw (le-leb 65536 n a, le-leb (length page) 32768 b, le-leb (length options) 4096 d, ← e, h)
 
--- ---- 9 to 13
+-- ---- 10 to 13
 
 module _ (w : Walk) (tr pr : ℕ) where
-  pub outputs-todo : w .seen .unimplemented ≡ true → Refused R.Unimplemented ≡ verdict-of w tr pr
+  pub outputs-left : w .seen .left ≡ true → Refused R.TagLeft ≡ verdict-of w tr pr
   unfolding after
-  outputs-todo a = rw a
+  outputs-left b = rw b
 
-  module _ (a : w .seen .unimplemented ≡ false) where
-    pub outputs-left : w .seen .left ≡ true → Refused R.TagLeft ≡ verdict-of w tr pr
+  module _ (b : w .seen .left ≡ false) where
+    pub outputs-long : w .seen .long ≡ true → Refused R.OutputTooLong ≡ verdict-of w tr pr
     unfolding after
-    outputs-left b = rw (a, b)
+    outputs-long c = rw (b, c)
 
-    module _ (b : w .seen .left ≡ false) where
-      pub outputs-long : w .seen .long ≡ true → Refused R.OutputTooLong ≡ verdict-of w tr pr
+    module _ (c : w .seen .long ≡ false) where
+      pub outputs-templates : tr < w .templates → Refused R.TemplatesTooSmall ≡ verdict-of w tr pr
       unfolding after
-      outputs-long c = rw (a, b, c)
+      outputs-templates d = rw (b, c, lt-leb (w .templates) tr d)
 
-      module _ (c : w .seen .long ≡ false) where
-        pub outputs-templates : tr < w .templates → Refused R.TemplatesTooSmall ≡ verdict-of w tr pr
+      module _ (d : w .templates ≤ tr) where
+        pub outputs-page : pr < w .page → Refused R.PageTooSmall ≡ verdict-of w tr pr
         unfolding after
-        outputs-templates d = rw (a, b, c, lt-leb (w .templates) tr d)
+        outputs-page e = rw (b, c, le-leb (w .templates) tr d, lt-leb (w .page) pr e)
 
-        module _ (d : w .templates ≤ tr) where
-          pub outputs-page : pr < w .page → Refused R.PageTooSmall ≡ verdict-of w tr pr
-          unfolding after
-          outputs-page e = rw (a, b, c, le-leb (w .templates) tr d, lt-leb (w .page) pr e)
-
-          pub outputs-fine : w .page ≤ pr → Fine ≡ verdict-of w tr pr
-          unfolding after
-          outputs-fine e = rw (a, b, c, le-leb (w .templates) tr d, le-leb (w .page) pr e)
+        pub outputs-fine : w .page ≤ pr → Fine ≡ verdict-of w tr pr
+        unfolding after
+        outputs-fine e = rw (b, c, le-leb (w .templates) tr d, le-leb (w .page) pr e)
 
 -- ---- what is left of scratch
 
@@ -90,9 +88,21 @@ pub cleared-not : (b : Bytes) {r : Refusal} → r ≡ R.ScratchTooSmall → b �
 unfolding scratch-left
 cleared-not b e = sym (ap (λ (x : Refusal). scratch-left (refused x) b) e)
 
--- q is one of the others
-pub cleared-all : (b : Bytes) (q : Refusal) → scratch-left (refused q) b ≡ zeros b → {r : Refusal} → r ≡ q → {b′ : Bytes} → b′ ≡ zeros b → b′ ≡ scratch-left (refused r) b
-cleared-all b q h e d = d ∙ sym h ∙ sym (ap (λ (x : Refusal). scratch-left (refused x) b) e)
+-- every other refusal clears it
+pub cleared-all : (b : Bytes) (r : Refusal) → OneOf (1 ∷ 2 ∷ 3 ∷ 4 ∷ 5 ∷ 6 ∷ 7 ∷ 8 ∷ 9 ∷ 10 ∷ 11 ∷ []) (tagOf the-type r) → {b′ : Bytes} → b′ ≡ zeros b → b′ ≡ scratch-left (refused r) b
+unfolding scratch-left
+cleared-all b R.ScratchTooSmall h d = absurd (miss (1 ∷ 2 ∷ 3 ∷ 4 ∷ 5 ∷ 6 ∷ 7 ∷ 8 ∷ 9 ∷ 10 ∷ 11 ∷ []) 0 tt h)
+cleared-all b R.InputTooLong h d = d
+cleared-all b R.Truncated h d = d
+cleared-all b R.Misplaced h d = d
+cleared-all b R.BadName h d = d
+cleared-all b R.NotUtf8 h d = d
+cleared-all b R.NumberTooLarge h d = d
+cleared-all b R.TooDeep h d = d
+cleared-all b R.TagLeft h d = d
+cleared-all b R.OutputTooLong h d = d
+cleared-all b R.TemplatesTooSmall h d = d
+cleared-all b R.PageTooSmall h d = d
 
 -- ---- options
 

@@ -25,9 +25,9 @@ use Rattle.spec.specs.Merge as M
 use Rattle.spec.specs.Attributes as A
 use Rattle.spec.specs.Attributes.{first-upper, keeps-from-serializing, is-serializable, listed-attr, plain-attr, attr-parts, attrs-parts}
 use Rattle.spec.specs.Children.{children-to-string, to-call-expr, open-close, element-to-string-vec, serialize-jsx}
-use Rattle.spec.specs.Visit.{visit-exprs, visit-after, attributes-reach-todo, children-reach-todo}
+use Rattle.spec.specs.Visit.{visit-exprs, visit-after, visit-fragment}
 use Rattle.spec.specs.Transform as Row
-use Rattle.spec.specs.Transform.{bit, stands, helper-sum, with-import, with-templates, before-statement, templates-row, transform, element-of, fragment-of, element-raw, fragment-raw, shape-of, child, raw-tag, attributes, value, children, expr, items, pieces, module-items}
+use Rattle.spec.specs.Transform.{bit, stands, helper-sum, with-import, with-templates, before-statement, templates-row, transform, element-of, fragment-of, element-raw, shape-of, child, raw-tag, attributes, value, children, expr, items, pieces, module-items}
 use Rattle.spec.proofs.Ledger.{or-either, then, valued}
 use Rattle.spec.proofs.PageOut.{templates-related}
 use Rattle.decisions.specs.At.{opts}
@@ -74,7 +74,7 @@ module _ (o o′ : Options) (e : (n : Bytes) → among n (o .skip-serialize) ≡
   element-same n as′ cs = ap₂ made (serializable-same n as′) (parts-same n as′ cs)
     where
       made : Bool → List Part → M.Element
-      made b ps = record { serializable = b; to-string-vec = ps; to-call-expr = to-call-expr n as′ cs; unimplemented-inside = attributes-reach-todo as′ || children-reach-todo cs }
+      made b ps = record { serializable = b; to-string-vec = ps; to-call-expr = to-call-expr n as′ cs }
 
   mutual
     unfolding child
@@ -85,7 +85,7 @@ module _ (o o′ : Options) (e : (n : Bytes) → among n (o .skip-serialize) ≡
 
     raw-same : (t : P.Tag) → raw-tag o t ≡ raw-tag o′ t
     raw-same (P.element n as′ cs) = ap element-raw (ap₂ (element-of o n) (attributes-same as′) (children-same cs) ∙ element-same n (attributes o′ as′) (children o′ cs))
-    raw-same (P.fragment cs) = ap fragment-raw (children-same cs)
+    raw-same (P.fragment cs) = ap visit-fragment (children-same cs)
 
     attributes-same : (as′ : P.Attributes) → attributes o as′ ≡ attributes o′ as′
     attributes-same P.no-attributes = refl
@@ -177,7 +177,7 @@ module _ (o o′ : Options) (e : o .skip-serialize ≡ o′ .skip-serialize) whe
   html-same (P.element (namespaced n m) as′ cs) = refl
   html-same (P.fragment cs) = refl
 
-  tag-takes : (t : P.Tag) → T (tag-html o′ t) → (n : ℕ) → 1 ≤ raw-tag o′ t .visited n .taken
+  tag-takes : (t : P.Tag) → T (tag-html o′ t) → (n : ℕ) → 1 ≤ raw-tag o′ t n .taken
   unfolding tag-html child element-raw serialize-jsx
   tag-takes (P.element m as′ cs) h n = let x = element-of o′ m (attributes o′ as′) (children o′ cs) in template-takes (x .serializable) x n h
   tag-takes (P.fragment cs) h n = absurd h
@@ -187,7 +187,7 @@ module _ (o o′ : Options) (e : o .skip-serialize ≡ o′ .skip-serialize) whe
   pieces-take P.no-pieces h n = absurd h
   pieces-take (P.source-piece b ps) h n = rw (leaf-takes 0x20 b (pieces o′ ps) n) (pieces-take ps h n)
   pieces-take (P.tag-piece t ps) h n =
-      let d = raw-tag o′ t .visited n in
+      let d = raw-tag o′ t n in
       or-either (tag-html o t) (piece-html o ps) (λ x. omega (arith, tag-takes t (subst T (html-same t) x) n)) (λ x. omega (arith, pieces-take ps x (n + d .taken))) h
 
   module-takes : (p : Page) → T (has-html o p) → (n : ℕ) → 1 ≤ visit-exprs (module-items o′ p) n .taken
@@ -300,7 +300,6 @@ walked d r q =
             attr = stands 0x91 (d .value);
             escape = stands 0x92 (d .value);
             long = d .flags .long || (long-body (templates-row (d .templates)) || long-body (d .value));
-            unimplemented = d .flags .unimplemented;
             left = d .flags .left;
           };
     }
@@ -325,7 +324,7 @@ wrote-walked d r q t p a =
           later = 1 + d .taken;
           templates = k;
           page = q + length (bytes r);
-          seen = record { jsx = x; attr = y; escape = z; long = d .flags .long || (long-body (templates-row (d .templates)) || l); unimplemented = d .flags .unimplemented; left = d .flags .left };
+          seen = record { jsx = x; attr = y; escape = z; long = d .flags .long || (long-body (templates-row (d .templates)) || l); left = d .flags .left };
         })
 
 -- the items with the place, and without

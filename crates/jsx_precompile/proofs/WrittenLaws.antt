@@ -130,7 +130,6 @@ unfolding check-outputs
 verdict-is o d t p tr pr h =
     ap
     (λ (b : Bool).
-    after (unless (not (d .flags .unimplemented)) R.Unimplemented) λ _.
     after (unless (not (d .flags .left)) R.TagLeft) λ _.
     after (unless (not (d .flags .long || (long-body (templates-row (d .templates)) || b))) R.OutputTooLong) λ _.
     after (unless (leb (length (bytes (templates-row (d .templates)))) tr) R.TemplatesTooSmall) λ _.

@@ -94,7 +94,7 @@ has-html o (P.empty-item ∷ is) = has-html o is
 -- ---- the walk over the page
 
 abbrev pub started : ℕ → Walk
-started p = record { first = 1; later = 1; templates = 0; page = p; seen = record { jsx = false; attr = false; escape = false; long = false; unimplemented = false; left = false } }
+started p = record { first = 1; later = 1; templates = 0; page = p; seen = record { jsx = false; attr = false; escape = false; long = false; left = false } }
 
 -- the sum of the helpers called; a template was called where a number was taken
 abbrev pub sum-of : Walk → ℕ
@@ -129,15 +129,13 @@ written-page o d t p =
             attr = stands 0x91 (d .value);
             escape = stands 0x92 (d .value);
             long = d .flags .long || (long-body (templates-row (d .templates)) || long-body (d .value));
-            unimplemented = d .flags .unimplemented;
             left = d .flags .left;
           };
     })
 
--- 9 to 13 by the state
+-- 10 to 13 by the state
 abbrev pub verdict-of : Walk → (templates-room page-room : ℕ) → Verdict
 verdict-of w tr pr =
-    after (unless (not (w .seen .unimplemented)) R.Unimplemented) λ _.
     after (unless (not (w .seen .left)) R.TagLeft) λ _.
     after (unless (not (w .seen .long)) R.OutputTooLong) λ _.
     after (unless (leb (w .templates) tr) R.TemplatesTooSmall) λ _.

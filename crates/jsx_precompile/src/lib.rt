@@ -37,7 +37,6 @@ fn number_of(r: Refusal) -> u32
         Refusal::NotUtf8 => 6,
         Refusal::NumberTooLarge => 7,
         Refusal::TooDeep => 8,
-        Refusal::Unimplemented => 9,
         Refusal::TagLeft => 10,
         Refusal::OutputTooLong => 11,
         Refusal::TemplatesTooSmall => 12,
@@ -74,14 +73,11 @@ fn check_inputs<'a>(page: &'a [u8], options: &'a [u8], scratch: usize) -> Verdic
     }
 }
 
-// 9 to 13, by what the walk came upon.
+// 10 to 13, by what the walk came upon.
 fn check_outputs(w: Walk, templates_room: usize, page_room: usize) -> Verdict
     ensures { λ r. ⌜ r ≡ verdict-of w «templates_room» «page_room» ⌝ }
 {
     let seen = w.seen;
-    if seen.unimplemented {
-        return Verdict::Refused(Refusal::Unimplemented);
-    }
     if seen.left {
         return Verdict::Refused(Refusal::TagLeft);
     }
@@ -103,18 +99,7 @@ fn clear_scratch(r: Refusal, scratch: &mut [u8])
 {
     match r {
         Refusal::ScratchTooSmall => {}
-        Refusal::InputTooLong => clear(scratch),
-        Refusal::Truncated => clear(scratch),
-        Refusal::Misplaced => clear(scratch),
-        Refusal::BadName => clear(scratch),
-        Refusal::NotUtf8 => clear(scratch),
-        Refusal::NumberTooLarge => clear(scratch),
-        Refusal::TooDeep => clear(scratch),
-        Refusal::Unimplemented => clear(scratch),
-        Refusal::TagLeft => clear(scratch),
-        Refusal::OutputTooLong => clear(scratch),
-        Refusal::TemplatesTooSmall => clear(scratch),
-        Refusal::PageTooSmall => clear(scratch),
+        _ => clear(scratch),
     }
 }
 

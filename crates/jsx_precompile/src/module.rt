@@ -294,7 +294,6 @@ fn start(p: usize) -> Walk
         attr: false,
         escape: false,
         long: false,
-        unimplemented: false,
         left: false,
     };
     Walk {

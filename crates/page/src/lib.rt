@@ -26,9 +26,7 @@ pub enum Refusal {
     NumberTooLarge,
     // 8, too deep
     TooDeep,
-    // 9, unfinished
-    Unimplemented,
-    // 10, bare tag
+    // 10, bare tag; 9, unfinished, is never given again
     TagLeft,
     // 11, long
     OutputTooLong,

@@ -11,7 +11,7 @@ use Rattle.field.specs.Bytes.{Bytes, ascii, pick, same, among}
 use Rattle.names.specs.Names.{is-void-element, get-attr-name, is-boolean-attr}
 use Rattle.page.specs.Page.{Name, identifier, member, namespaced, Options}
 use Rattle.page.specs.Tree.{choose}
-use Rattle.spec.specs.Pass.{Pass, pure, raise, long-if, todo, Mid, none, node, raw, Part, chars, gap, over}
+use Rattle.spec.specs.Pass.{Pass, pure, raise, long-if, Mid, none, node, raw, Part, chars, gap, over}
 use Rattle.spec.specs.Output.{dynamic-exprs, gen-template, array-node}
 use Rattle.spec.specs.Merge.{Shape, string-shape, number-shape, boolean-shape, null-shape, literal-shape, minus-shape, other-shape, Entry, still, passed, Found, nothing-found, one-found, array-found, Element, Fragment, Child, text, empty, container, element, fragment, spread, flush, joined-text, merge, long-run, short-runs, becomes-template}
 use Rattle.spec.specs.Attributes as A
@@ -19,7 +19,7 @@ use Rattle.spec.specs.Attributes.{Attribute, Value, is-serializable, listed-att
 use Rattle.spec.specs.Children.{merged-parts, children-to-string, serialize-jsx, stills, found-of, sole-mid, sole, flattened, spliced, entries, one-child, many-children, children-to-expr, entry-pass, entries-pass, found-pass, call-node, to-call-expr, open-close, element-to-string-vec}
 use Rattle.decisions.specs.At.{identifier-bytes}
 use Rattle.records.specs.Keep.{Kept, at, keep, write, bumped}
-use Rattle.records.proofs.KeepLaws.{keep-pure, keep-map, keep-todo, keep-template, keep-gap, keep-entry, parts-append, entries-append}
+use Rattle.records.proofs.KeepLaws.{keep-pure, keep-map, keep-template, keep-gap, keep-entry, parts-append, entries-append}
 
 -- ---- what merging leaves
 
@@ -287,10 +287,6 @@ quiet-gap : (b : Bytes) (m : Mid) → Quiet (chars b ∷ gap (pure m) ∷ [])
 unfolding dynamic-exprs
 quiet-gap b m w = keep-gap (pure m) [] w ∙ keep-pure none (keep (pure m) w) ∙ keep-pure m w
 
-quiet-todo : (b : Bytes) (m : Mid) → Quiet (chars b ∷ gap (raise todo (pure m)) ∷ [])
-unfolding dynamic-exprs
-quiet-todo b m w = keep-gap (raise todo (pure m)) [] w ∙ keep-pure none (keep (raise todo (pure m)) w) ∙ keep-todo (pure m) w ∙ keep-pure m w
-
 quiet-pick : (b : Bool) (ps qs : List Part) → Quiet ps → Quiet qs → Quiet (pick b ps qs)
 quiet-pick true ps qs p q = p
 quiet-pick false ps qs p q = q
@@ -321,8 +317,8 @@ quiet-listed : (n : Bytes) (v : Value) → Quiet (listed-attr n v)
 unfolding listed-attr
 quiet-listed n A.absent = quiet-gap _ _
 quiet-listed n (A.string b) = quiet-gap _ _
-quiet-listed n A.empty = quiet-todo _ _
-quiet-listed n (A.container s m) = quiet-todo _ _
+quiet-listed n A.empty = quiet-gap _ _
+quiet-listed n (A.container s m) = quiet-gap _ _
 quiet-listed n (A.tag r) = quiet-gap _ _
 
 module _ (o : Options) where

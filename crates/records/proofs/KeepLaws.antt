@@ -10,7 +10,7 @@ use Rattle.field.specs.Row.{bytes, long-body}
 use Rattle.field.specs.Put.{put}
 use Rattle.field.proofs.PutLaws.{put-put, put-nil, length-put}
 use Rattle.field.proofs.Actions.{Action, Lows}
-use Rattle.spec.specs.Pass.{Template, Done, Pass, pure, map, both, raise, join, long-if, todo, Mid, none, _+++_, Part, chars, gap}
+use Rattle.spec.specs.Pass.{Template, Done, Pass, pure, map, both, raise, join, long-if, Mid, none, _+++_, Part, chars, gap}
 use Rattle.spec.specs.Output.{strings-after, kinds-of, dynamic-exprs, template-row, gen-template}
 use Rattle.spec.specs.Merge.{Entry}
 use Rattle.spec.specs.Children.{entry-pass, entries-pass}
@@ -55,11 +55,6 @@ keep-pure m w =
 pub keep-map : (f : Mid → Mid) (p : Pass Mid) (w : Kept) → keep (map f p) w ≡ keep p w
 unfolding keep map
 keep-map f p w = refl
-
--- `todo!` is no long run
-pub keep-todo : (p : Pass Mid) (w : Kept) → keep (raise todo p) w ≡ keep p w
-unfolding keep raise
-keep-todo p w = refl
 
 -- a run that is not long
 quiet : (p : Pass Mid) (w : Kept) → keep p w ≡ keep (raise (long-if false) p) w

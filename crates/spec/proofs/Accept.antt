@@ -1,6 +1,6 @@
 -- Acceptance: a page within the limits gets none of 1 to 8, without an 03 never 9, without a 31 never 10, and is accepted where nothing is
 -- too long and the outs are long enough; and nothing but pages is accepted. No transform that turns pages away meets this.
--- Main statements: `answer-late`, `never-early`, `never-unimplemented`, `never-tag-left`, `acceptance`, `accepted-is-page`. Assumes nothing.
+-- Main statements: `answer-late`, `never-early`, `never-tag-left`, `acceptance`, `accepted-is-page`. Assumes nothing.
 use Prim.Native.Nat.{ℕ, _≤_}
 use mathlib.Core.Path.{_≡_, refl, sym, ap, _∙_, subst}
 use mathlib.Core.Bool.{Bool, true, false, not}
@@ -26,8 +26,8 @@ use Rattle.spec.specs.Pass.{Done}
 use Rattle.spec.specs.Transform.{transform}
 use Rattle.spec.specs.Answer.{Written, Outcome, refused, accepted, check-outputs, decided, transformed, outcome}
 use Rattle.spec.specs.Acceptance.{has-fragment}
-use Rattle.spec.specs.Late.{written, templates-need, page-need, over-long, Late, unimplemented, tag-left, too-long, templates-small, page-small, taken}
-use Rattle.spec.proofs.PageGood.{lists-attributes, page-good}
+use Rattle.spec.specs.Late.{written, templates-need, page-need, over-long, Late, tag-left, too-long, templates-small, page-small, taken}
+use Rattle.spec.proofs.PageGood.{page-good}
 use Rattle.spec.proofs.Answers.{Inputs, fine-inputs, accepted-says}
 
 -- ---- what is transformed gets one of the late answers
@@ -41,27 +41,25 @@ tested : (b : Bool) → Tested b b
 tested true = holds tt
 tested false = fails tt
 
-late-by : (tr pr : ℕ) (o : Options) (d : Done Row) (u l g t p : Bool) → Tested (d .flags .unimplemented) u → Tested (d .flags .left) l → Tested (over-long o d) g → Tested (leb (templates-need d) tr) t → Tested (leb (page-need o d) pr) p →
+late-by : (tr pr : ℕ) (o : Options) (d : Done Row) (l g t p : Bool) → Tested (d .flags .left) l → Tested (over-long o d) g → Tested (leb (templates-need d) tr) t → Tested (leb (page-need o d) pr) p →
     Late tr pr o d
     (decided
-    (after (unless (not u) R.Unimplemented) λ _.
-    after (unless (not l) R.TagLeft) λ _.
+    (after (unless (not l) R.TagLeft) λ _.
     after (unless (not g) R.OutputTooLong) λ _.
     after (unless t R.TemplatesTooSmall) λ _. unless p R.PageTooSmall)
     λ _. accepted (written o d))
 unfolding decided after
-late-by tr pr o d true l g t p (holds hu) hl hg ht hp = unimplemented hu
-late-by tr pr o d false true g t p (fails hu) (holds hl) hg ht hp = tag-left hu hl
-late-by tr pr o d false false true t p (fails hu) (fails hl) (holds hg) ht hp = too-long hu hl hg
-late-by tr pr o d false false false false p (fails hu) (fails hl) (fails hg) (fails ht) hp = templates-small hu hl hg (nleb→lt (templates-need d) tr ht)
-late-by tr pr o d false false false true false (fails hu) (fails hl) (fails hg) (holds ht) (fails hp) = page-small hu hl hg (leb→le (templates-need d) tr ht) (nleb→lt (page-need o d) pr hp)
-late-by tr pr o d false false false true true (fails hu) (fails hl) (fails hg) (holds ht) (holds hp) = taken hu hl hg (leb→le (templates-need d) tr ht) (leb→le (page-need o d) pr hp)
+late-by tr pr o d true g t p (holds hl) hg ht hp = tag-left hl
+late-by tr pr o d false true t p (fails hl) (holds hg) ht hp = too-long hl hg
+late-by tr pr o d false false false p (fails hl) (fails hg) (fails ht) hp = templates-small hl hg (nleb→lt (templates-need d) tr ht)
+late-by tr pr o d false false true false (fails hl) (fails hg) (holds ht) (fails hp) = page-small hl hg (leb→le (templates-need d) tr ht) (nleb→lt (page-need o d) pr hp)
+late-by tr pr o d false false true true (fails hl) (fails hg) (holds ht) (holds hp) = taken hl hg (leb→le (templates-need d) tr ht) (leb→le (page-need o d) pr hp)
 
 pub transformed-late : (tr pr : ℕ) (o : Options) (d : Done Row) → Late tr pr o d (transformed tr pr o d)
 unfolding transformed check-outputs
 transformed-late tr pr o d =
-    late-by tr pr o d (d .flags .unimplemented) (d .flags .left) (over-long o d) (leb (templates-need d) tr) (leb (page-need o d) pr)
-    (tested (d .flags .unimplemented)) (tested (d .flags .left)) (tested (over-long o d)) (tested (leb (templates-need d) tr)) (tested (leb (page-need o d) pr))
+    late-by tr pr o d (d .flags .left) (over-long o d) (leb (templates-need d) tr) (leb (page-need o d) pr)
+    (tested (d .flags .left)) (tested (over-long o d)) (tested (leb (templates-need d) tr)) (tested (leb (page-need o d) pr))
 
 -- ---- what a late answer says
 
@@ -72,44 +70,33 @@ not-accepted : {C : Type 0} (n : Refusal) (w : Written) → accepted w ≡ refus
 not-accepted n w e = absurd (let z : _≡_ {A = ℕ} 0 1 = cc in omega arith)
 
 module _ {tr pr : ℕ} {o : Options} {d : Done Row} where
-  late-over-8 : {x : Outcome} → Late tr pr o d x → (n : Refusal) → x ≡ refused n → 9 ≤ refusal-number n
+  late-over-9 : {x : Outcome} → Late tr pr o d x → (n : Refusal) → x ≡ refused n → 10 ≤ refusal-number n
   unfolding refusal-number
-  late-over-8 (unimplemented u) n e = subst (λ (m : Refusal). 9 ≤ refusal-number m) (refusal-is R.Unimplemented n e) (omega arith)
-  late-over-8 (tag-left u l) n e = subst (λ (m : Refusal). 9 ≤ refusal-number m) (refusal-is R.TagLeft n e) (omega arith)
-  late-over-8 (too-long u l g) n e = subst (λ (m : Refusal). 9 ≤ refusal-number m) (refusal-is R.OutputTooLong n e) (omega arith)
-  late-over-8 (templates-small u l g t) n e = subst (λ (m : Refusal). 9 ≤ refusal-number m) (refusal-is R.TemplatesTooSmall n e) (omega arith)
-  late-over-8 (page-small u l g t p) n e = subst (λ (m : Refusal). 9 ≤ refusal-number m) (refusal-is R.PageTooSmall n e) (omega arith)
-  late-over-8 (taken u l g t p) n e = not-accepted n (written o d) e
+  late-over-9 (tag-left l) n e = subst (λ (m : Refusal). 10 ≤ refusal-number m) (refusal-is R.TagLeft n e) (omega arith)
+  late-over-9 (too-long l g) n e = subst (λ (m : Refusal). 10 ≤ refusal-number m) (refusal-is R.OutputTooLong n e) (omega arith)
+  late-over-9 (templates-small l g t) n e = subst (λ (m : Refusal). 10 ≤ refusal-number m) (refusal-is R.TemplatesTooSmall n e) (omega arith)
+  late-over-9 (page-small l g t p) n e = subst (λ (m : Refusal). 10 ≤ refusal-number m) (refusal-is R.PageTooSmall n e) (omega arith)
+  late-over-9 (taken l g t p) n e = not-accepted n (written o d) e
 
-  -- 9 is given only where `todo!` is reached, 10 only where a tag is left
-  late-unimplemented : {x : Outcome} → Late tr pr o d x → x ≡ refused R.Unimplemented → T (d .flags .unimplemented)
-  late-unimplemented (unimplemented u) e = u
-  late-unimplemented (tag-left u l) e = absurd (let z : _≡_ {A = ℕ} 0 1 = cc in omega arith)
-  late-unimplemented (too-long u l g) e = absurd (let z : _≡_ {A = ℕ} 0 1 = cc in omega arith)
-  late-unimplemented (templates-small u l g t) e = absurd (let z : _≡_ {A = ℕ} 0 1 = cc in omega arith)
-  late-unimplemented (page-small u l g t p) e = absurd (let z : _≡_ {A = ℕ} 0 1 = cc in omega arith)
-  late-unimplemented (taken u l g t p) e = not-accepted R.Unimplemented (written o d) e
-
+  -- 10 is given only where a tag is left
   late-tag-left : {x : Outcome} → Late tr pr o d x → x ≡ refused R.TagLeft → T (d .flags .left)
-  late-tag-left (unimplemented u) e = absurd (let z : _≡_ {A = ℕ} 0 1 = cc in omega arith)
-  late-tag-left (tag-left u l) e = l
-  late-tag-left (too-long u l g) e = absurd (let z : _≡_ {A = ℕ} 0 1 = cc in omega arith)
-  late-tag-left (templates-small u l g t) e = absurd (let z : _≡_ {A = ℕ} 0 1 = cc in omega arith)
-  late-tag-left (page-small u l g t p) e = absurd (let z : _≡_ {A = ℕ} 0 1 = cc in omega arith)
-  late-tag-left (taken u l g t p) e = not-accepted R.TagLeft (written o d) e
+  late-tag-left (tag-left l) e = l
+  late-tag-left (too-long l g) e = absurd (let z : _≡_ {A = ℕ} 0 1 = cc in omega arith)
+  late-tag-left (templates-small l g t) e = absurd (let z : _≡_ {A = ℕ} 0 1 = cc in omega arith)
+  late-tag-left (page-small l g t p) e = absurd (let z : _≡_ {A = ℕ} 0 1 = cc in omega arith)
+  late-tag-left (taken l g t p) e = not-accepted R.TagLeft (written o d) e
 
-  -- and nothing is left to refuse where none of 9 to 13 has its cause
-  late-taken : {x : Outcome} → Late tr pr o d x → (T (d .flags .unimplemented) → ⊥) → (T (d .flags .left) → ⊥) → T (not (over-long o d)) → templates-need d ≤ tr → page-need o d ≤ pr → x ≡ accepted (written o d)
-  late-taken (unimplemented u) hu hl hg ht hp = absurd (hu u)
-  late-taken (tag-left u l) hu hl hg ht hp = absurd (hl l)
-  late-taken (too-long u l g) hu hl hg ht hp = absurd (never (over-long o d) g hg)
+  -- and nothing is left to refuse where none of 10 to 13 has its cause
+  late-taken : {x : Outcome} → Late tr pr o d x → (T (d .flags .left) → ⊥) → T (not (over-long o d)) → templates-need d ≤ tr → page-need o d ≤ pr → x ≡ accepted (written o d)
+  late-taken (tag-left l) hl hg ht hp = absurd (hl l)
+  late-taken (too-long l g) hl hg ht hp = absurd (never (over-long o d) g hg)
     where
       never : (b : Bool) → T b → T (not b) → ⊥
       never true t f = f
       never false t f = t
-  late-taken (templates-small u l g t) hu hl hg ht hp = absurd (omega arith)
-  late-taken (page-small u l g t p) hu hl hg ht hp = absurd (omega arith)
-  late-taken (taken u l g t p) hu hl hg ht hp = refl
+  late-taken (templates-small l g t) hl hg ht hp = absurd (omega arith)
+  late-taken (page-small l g t p) hl hg ht hp = absurd (omega arith)
+  late-taken (taken l g t p) hl hg ht hp = refl
 
 -- ---- a page within the limits, with any options that are accepted
 
@@ -133,30 +120,22 @@ module _ (p : Page) (h : WithinLimits p) (o : Options) (k : OptionsOk o) (scratc
       subst (λ (y : Options). Late tr pr y (transform y p) (outcome (encode p) (encode-options o) scratch tr pr)) (q .1)
       (answer-late p h (encode-options o) (leb→le (length (encode-options o)) 4096 (k .4)) (q .0) scratch enough tr pr)
 
-  -- none of 1 to 8
-  pub never-early : (n : Refusal) → outcome (encode p) (encode-options o) scratch tr pr ≡ refused n → 9 ≤ refusal-number n
-  never-early n e = late-over-8 late n e
-
-  no-todo : o .skip-prop-serialize ≡ [] → T (transform o p .flags .unimplemented) → ⊥
-  unfolding WithinLimits lists-attributes
-  no-todo e = page-good ⊥ (Unit {0}) o p (h .0) (λ t. subst (λ (l : List Bytes). T (elim l [ [] ↦ false | n ∷ ns ↦ true ])) e t) (λ t. tt) .kept .listed
+  -- none of 1 to 8, and never 9
+  pub never-early : (n : Refusal) → outcome (encode p) (encode-options o) scratch tr pr ≡ refused n → 10 ≤ refusal-number n
+  never-early n e = late-over-9 late n e
 
   no-tag : has-fragment p ≡ false → T (transform o p .flags .left) → ⊥
   unfolding WithinLimits
-  no-tag e = page-good (Unit {0}) ⊥ o p (h .0) (λ t. tt) (λ t. subst T e t) .kept .fragments
-
-  -- without an 03 never 9
-  pub never-unimplemented : o .skip-prop-serialize ≡ [] → outcome (encode p) (encode-options o) scratch tr pr ≡ refused R.Unimplemented → ⊥
-  never-unimplemented n e = no-todo n (late-unimplemented late e)
+  no-tag e = page-good ⊥ o p (h .0) (λ t. subst T e t) .kept .fragments
 
   -- without a 31 never 10
   pub never-tag-left : has-fragment p ≡ false → outcome (encode p) (encode-options o) scratch tr pr ≡ refused R.TagLeft → ⊥
   never-tag-left n e = no-tag n (late-tag-left late e)
 
-  -- free of both, nothing over 65,535, the outs long enough: accepted
-  pub acceptance : o .skip-prop-serialize ≡ [] → has-fragment p ≡ false → T (not (over-long o (transform o p))) → templates-need (transform o p) ≤ tr → page-need o (transform o p) ≤ pr →
+  -- no tag left, nothing over 65,535, the outs long enough: accepted
+  pub acceptance : has-fragment p ≡ false → T (not (over-long o (transform o p))) → templates-need (transform o p) ≤ tr → page-need o (transform o p) ≤ pr →
       outcome (encode p) (encode-options o) scratch tr pr ≡ accepted (written o (transform o p))
-  acceptance a b g t q = late-taken late (no-todo a) (no-tag b) g t q
+  acceptance b g t q = late-taken late (no-tag b) g t q
 
 -- ---- and nothing else is accepted
 

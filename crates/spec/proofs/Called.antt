@@ -55,7 +55,7 @@ module _ (p : Test) where
   unfoldable Raws : Mid → Type 0
   Raws none = Unit {0}
   Raws (node t f i r) = Raws i × Raws r
-  Raws (raw q r) = ((n : ℕ) → TagVisited n (q .visited n)) × Raws r
+  Raws (raw q r) = ((n : ℕ) → TagVisited n (q n)) × Raws r
 
   -- expressions with k calls; nothing in them weighs
   record Holds (k : ℕ) (m : Mid) (w : ℕ) : Type 0 where
@@ -107,7 +107,7 @@ module _ (p : Test) where
   unfolding G.called Raws
   tag-holds x = record { first = 0; second = 0; spared = 0; sum = sym (x .weightless); spare = refl; one = part refl (x .raws .0, tt); rest = part (x .balance) (x .raws .1) }
 
-  raw-holds : {q : Raw} {r : Mid} {a b w : ℕ} → a + b ≡ w → (a ≡ 0) × ((n : ℕ) → TagVisited n (q .visited n)) → Holds 0 r b → Holds 0 (raw q r) w
+  raw-holds : {q : Raw} {r : Mid} {a b w : ℕ} → a + b ≡ w → (a ≡ 0) × ((n : ℕ) → TagVisited n (q n)) → Holds 0 r b → Holds 0 (raw q r) w
   unfolding G.called Raws
   raw-holds e x y = record { weightless = omega (arith, e, x .0, y .weightless); balance = y .balance; raws = (x .1, y .raws) }
 
@@ -132,7 +132,7 @@ module _ (p : Test) where
         kinds = ap (λ (z : List Bool). (eqb t 0x91 || eqb t 0x93) ∷ z) (y .kinds);
       }
   visits (raw q r) g n =
-      let d = q .visited n in
+      let d = q n in
       let e = visit-exprs r (n + d .taken) in
       let x = g .0 n in
       let y = visits r (g .1) (n + d .taken) in
@@ -220,10 +220,9 @@ module _ (p : Test) where
         pass-both = λ {p = q} {q = r} e g h n. both-first q r e n (g n) (h (n + q n .taken));
         pass-map = λ {p = q} {v} {w} f a k e g. unfold map in λ n. record { ledger = record { count = g n .ledger .count; each = g n .ledger .each }; held = k (q n .value) (recorded p (q n .templates)) v w e (g n .held) };
         pass-raise = λ f g. unfold raise in λ n. record { ledger = record { count = g n .ledger .count; each = g n .ledger .each }; held = g n .held };
-        pass-todo = λ x g. unfold raise in λ n. record { ledger = record { count = g n .ledger .count; each = g n .ledger .each }; held = record { weightless = x .weightless; balance = g n .held .balance; raws = g n .held .raws } };
         pass-template = λ ps g n. template-first ps n (g (n + 1));
         visit-done = λ g a. (g 0 .held .weightless, after g a);
-        visit-left = λ b. unfold leave raise in (refl, λ n. let v = leaf-visited 0x30 refl tt n in record { visited = record { ledger = record { count = v .visited .ledger .count; each = v .visited .ledger .each }; balance = v .visited .balance }; one = v .one });
+        visit-left = unfold leave raise in (refl, λ n. let v = leaf-visited 0x30 refl tt n in record { visited = record { ledger = record { count = v .visited .ledger .count; each = v .visited .ledger .each }; balance = v .visited .balance }; one = v .one });
         visit-null = (refl, leaf-visited 0x73 refl tt);
       }
 

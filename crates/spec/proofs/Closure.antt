@@ -14,7 +14,7 @@ use Rattle.field.specs.Row.{Row, end, field, Inside, only-bytes, fields-after, 
 use Rattle.field.proofs.RowLaws.{Shaped, FrontFits, front-full}
 use Rattle.spec.specs.Pass.{Template, Done, Pass, pure, both, bind, raise, Mid, none, node, raw, _⧺_, Part, chars, gap}
 use Rattle.spec.specs.Output.{gen-template, dynamic-exprs, strings-after, kinds-of}
-use Rattle.spec.specs.Visit.{visit-exprs, visit-inside, visit-after, leave, reaches-todo}
+use Rattle.spec.specs.Visit.{visit-exprs, visit-inside, visit-after, leave}
 use Rattle.spec.specs.Transform.{stands}
 use Rattle.spec.proofs.Good.{Sound, AllSound, Kept, GoodVisit, Clean, GoodDone, GoodPass, GoodGap, GoodParts, FormedBy, no-tag, OneNode, OneField, Piece, literal, hole, piece-strings, piece-kinds}
 use Rattle.spec.proofs.Nested.{Neutral, sound-pieces}
@@ -47,10 +47,10 @@ formed-fits only-bytes f (node t g i r) n h = absurd h
 formed-fits only-bytes f (raw q r) n h = absurd h
 formed-fits (fields-after k) f i n h = front-full k f (visit-exprs i n .value) (eqb→eq (length f) k h)
 
-module _ (Listed Fragments : Type 0) where
+module _ (Fragments : Type 0) where
   -- ---- parts
 
-  pub parts-weaken : (ps : List Part) (qs : List Piece) {v w : ℕ} → v ≤ w → GoodParts Listed Fragments ps qs v → GoodParts Listed Fragments ps qs w
+  pub parts-weaken : (ps : List Part) (qs : List Piece) {v w : ℕ} → v ≤ w → GoodParts Fragments ps qs v → GoodParts Fragments ps qs w
   unfolding GoodParts
   parts-weaken [] [] h g = tt
   parts-weaken [] (q ∷ qs) h g = absurd g
@@ -61,7 +61,7 @@ module _ (Listed Fragments : Type 0) where
   parts-weaken (gap p ∷ ps) (literal c ∷ qs) h g = absurd g
   parts-weaken (gap p ∷ ps) (hole k ∷ qs) h g = (g .0, g .1, omega arith, g .3, g .4)
 
-  pub parts-append : (ps ps′ : List Part) (qs qs′ : List Piece) (a b : ℕ) → GoodParts Listed Fragments ps qs a → GoodParts Listed Fragments ps′ qs′ b → GoodParts Listed Fragments (ps ++ ps′) (qs ++ qs′) (a + b)
+  pub parts-append : (ps ps′ : List Part) (qs qs′ : List Piece) (a b : ℕ) → GoodParts Fragments ps qs a → GoodParts Fragments ps′ qs′ b → GoodParts Fragments (ps ++ ps′) (qs ++ qs′) (a + b)
   unfolding GoodParts
   parts-append [] ps′ [] qs′ a b g h = parts-weaken ps′ qs′ (omega arith) h
   parts-append [] ps′ (q ∷ qs) qs′ a b g h = absurd g
@@ -76,13 +76,13 @@ module _ (Listed Fragments : Type 0) where
 
   -- what its parts give: dynamic expressions, their kinds, and the strings between them
   record PartsGive (ps : List Part) (qs : List Piece) (w : ℕ) : Type 0 where
-    good : GoodPass Listed Fragments w (dynamic-exprs ps)
+    good : GoodPass Fragments w (dynamic-exprs ps)
     kinds : (n : ℕ) → piece-kinds qs ≡ kinds-of (dynamic-exprs ps n .value)
     strings : (last : Bytes) → piece-strings last qs ≡ strings-after last ps
 
-  parts-give : (ps : List Part) (qs : List Piece) (w : ℕ) → GoodParts Listed Fragments ps qs w → PartsGive ps qs w
+  parts-give : (ps : List Part) (qs : List Piece) (w : ℕ) → GoodParts Fragments ps qs w → PartsGive ps qs w
   unfolding GoodParts dynamic-exprs piece-kinds piece-strings strings-after kinds-of pure both
-  parts-give [] [] w g = record { good = good-pure Listed Fragments (still-none Listed Fragments w); kinds = λ n. refl; strings = λ last. refl }
+  parts-give [] [] w g = record { good = good-pure Fragments (still-none Fragments w); kinds = λ n. refl; strings = λ last. refl }
   parts-give [] (q ∷ qs) w g = absurd g
   parts-give (chars b ∷ ps) [] w g = absurd g
   parts-give (chars b ∷ ps) (literal c ∷ qs) w g =
@@ -94,7 +94,7 @@ module _ (Listed Fragments : Type 0) where
   parts-give (gap p ∷ ps) (hole k ∷ qs) w g =
       let r = parts-give ps qs (g .1) (g .4) in
       record {
-        good = good-weaken Listed Fragments (g .2) (good-both Listed Fragments (g .3 .good) (r .good));
+        good = good-weaken Fragments (g .2) (good-both Fragments (g .3 .good) (r .good));
         kinds =
             λ n.
             let m = n + p n .taken in
@@ -103,16 +103,15 @@ module _ (Listed Fragments : Type 0) where
       }
 
   -- the pass of a template, by that of its dynamic expressions
-  template-kept : (d : Done Mid) (t : Template) (v : Mid) → Sound t → Kept Listed Fragments d → Kept Listed Fragments (record { value = v; taken = 1 + d .taken; templates = d .templates ++ (t ∷ []); flags = d .flags })
+  template-kept : (d : Done Mid) (t : Template) (v : Mid) → Sound t → Kept Fragments d → Kept Fragments (record { value = v; taken = 1 + d .taken; templates = d .templates ++ (t ∷ []); flags = d .flags })
   unfolding AllSound
   template-kept d t v s k =
       record {
         sound = sound-append (d .templates) (t ∷ []) (k .sound) (s, tt);
-        listed = k .listed;
         fragments = k .fragments;
       }
 
-  pub good-template : (ps : List Part) (qs : List Piece) (w : ℕ) → GoodParts Listed Fragments ps qs w → Neutral qs → GoodGap Listed Fragments (suc w) false (gen-template ps)
+  pub good-template : (ps : List Part) (qs : List Piece) (w : ℕ) → GoodParts Fragments ps qs w → Neutral qs → GoodGap Fragments (suc w) false (gen-template ps)
   unfolding gen-template OneNode Clean FormedBy inside big-endian
   good-template ps qs w g h =
       let all = parts-give ps qs w g in
@@ -136,7 +135,7 @@ module _ (Listed Fragments : Type 0) where
 
   -- a row of expressions, visited
   pub record Visited (w : ℕ) (d : Done Row) : Type 0 where
-    pub kept : Kept Listed Fragments d
+    pub kept : Kept Fragments d
     pub bound : d .taken ≤ w
     pub shaped : Shaped (d .value)
     pub no-element : T (not (d .flags .left)) → stands 0x30 (d .value) ≡ false
@@ -145,7 +144,7 @@ module _ (Listed Fragments : Type 0) where
   visited-none : (w n : ℕ) → Visited w (pure end n)
   unfolding pure Shaped stands
   visited-none w n =
-      record { kept = kept-pure Listed Fragments end n; bound = omega arith; shaped = tt; no-element = λ h. refl; no-fragment = λ h. refl }
+      record { kept = kept-pure Fragments end n; bound = omega arith; shaped = tt; no-element = λ h. refl; no-fragment = λ h. refl }
 
   visited-node : (t : ℕ) (f : Bytes) (a b w : ℕ) (d e : Done Row) → T (no-tag t) → FrontFits (inside t) f (d .value) → a + b ≤ w → Visited a d → Visited b e → Visited w (then (field t f (d .value) (e .value)) d e)
   unfolding Shaped
@@ -156,14 +155,14 @@ module _ (Listed Fragments : Type 0) where
       let l′ = e .flags .left in
       let tags = neither (eqb t 0x30) (eqb t 0x31) k in
       record {
-        kept = kept-then Listed Fragments (field t f x′ y′) d e (x .kept) (y .kept);
+        kept = kept-then Fragments (field t f x′ y′) d e (x .kept) (y .kept);
         bound = omega arith;
         shaped = (s, x .shaped, y .shaped);
         no-element = λ m. stands-node 0x30 t f x′ y′ (tags .0) (x .no-element (neither l l′ m .0)) (y .no-element (neither l l′ m .1));
         no-fragment = λ m. stands-node 0x31 t f x′ y′ (tags .1) (x .no-fragment (neither l l′ m .0)) (y .no-fragment (neither l l′ m .1));
       }
 
-  visited-raw : (a b w : ℕ) (d e : Done Row) → a + b ≤ w → GoodVisit Listed Fragments a d → Visited b e → Visited w (then (d .value ⧺ e .value) d e)
+  visited-raw : (a b w : ℕ) (d e : Done Row) → a + b ≤ w → GoodVisit Fragments a d → Visited b e → Visited w (then (d .value ⧺ e .value) d e)
   visited-raw a b w d e h x y =
       let x′ = d .value in
       let y′ = e .value in
@@ -171,14 +170,14 @@ module _ (Listed Fragments : Type 0) where
       let l′ = e .flags .left in
       let o = one-behind x′ y′ (x .one) in
       record {
-        kept = kept-then Listed Fragments (x′ ⧺ y′) d e (x .kept) (y .kept);
+        kept = kept-then Fragments (x′ ⧺ y′) d e (x .kept) (y .kept);
         bound = omega arith;
         shaped = o .shaped (x .shaped) (y .shaped);
         no-element = λ m. o .stands-not 0x30 (x .no-element (neither l l′ m .0)) (y .no-element (neither l l′ m .1));
         no-fragment = λ m. o .stands-not 0x31 (x .no-fragment (neither l l′ m .0)) (y .no-fragment (neither l l′ m .1));
       }
 
-  pub good-visits : (m : Mid) {w : ℕ} → Clean Listed Fragments m w → (n : ℕ) → Visited w (visit-exprs m n)
+  pub good-visits : (m : Mid) {w : ℕ} → Clean Fragments m w → (n : ℕ) → Visited w (visit-exprs m n)
   unfolding Clean visit-exprs both
   good-visits none {w} c n = visited-none w n
   good-visits (node t f i r) {w} c n =
@@ -186,21 +185,17 @@ module _ (Listed Fragments : Type 0) where
       let e = visit-exprs r (n + d .taken) in
       visited-node t f (c .2 .0) (c .2 .1) w d e (c .0) (formed-fits (inside t) f i n (c .1)) (c .2 .2) (good-visits i (c .2 .3) n) (good-visits r (c .2 .4) (n + d .taken))
   good-visits (raw q r) {w} c n =
-      let d = q .visited n in
+      let d = q n in
       let e = visit-exprs r (n + d .taken) in
       visited-raw (c .0) (c .1) w d e (c .2) (c .3 .visits n) (good-visits r (c .4) (n + d .taken))
 
-  pub todo-listed : (m : Mid) (w : ℕ) → Clean Listed Fragments m w → T (reaches-todo m) → Listed
-  unfolding reaches-todo
-  todo-listed m w c h = good-visits m c 0 .kept .listed h
-
   -- one field in the first pass, visited in the second
-  good-then : (w : ℕ) (d : Done Mid) (e : Done Row) (g : GoodDone Listed Fragments w d) → Visited (g .left-over) e → OneField (e .value) → GoodVisit Listed Fragments w (then (e .value) d e)
+  good-then : (w : ℕ) (d : Done Mid) (e : Done Row) (g : GoodDone Fragments w d) → Visited (g .left-over) e → OneField (e .value) → GoodVisit Fragments w (then (e .value) d e)
   good-then w d e g v o =
       let l = d .flags .left in
       let l′ = e .flags .left in
       record {
-        kept = kept-then Listed Fragments (e .value) d e (g .kept) (v .kept);
+        kept = kept-then Fragments (e .value) d e (g .kept) (v .kept);
         bound = omega arith;
         one = o;
         shaped = v .shaped;
@@ -208,7 +203,7 @@ module _ (Listed Fragments : Type 0) where
         no-fragment = λ m. v .no-fragment (neither l l′ m .1);
       }
 
-  inside-field : (m : Mid) {w : ℕ} → Clean Listed Fragments m w → OneNode false m → (n : ℕ) → Visited w (visit-inside m n) × OneField (visit-inside m n .value)
+  inside-field : (m : Mid) {w : ℕ} → Clean Fragments m w → OneNode false m → (n : ℕ) → Visited w (visit-inside m n) × OneField (visit-inside m n .value)
   unfolding OneNode OneField visit-inside visit-exprs both pure
   inside-field none c o n = absurd o
   inside-field (node t f i none) c o n = (good-visits (node t f i none) c n, o)
@@ -218,12 +213,12 @@ module _ (Listed Fragments : Type 0) where
 
   -- ---- tags that are left, and the second pass after the first
 
-  pub good-leave : (b : Bool) {w : ℕ} → Fragments → (T b → Listed) → (n : ℕ) → GoodVisit Listed Fragments w (leave b n)
+  pub good-leave : {w : ℕ} → Fragments → (n : ℕ) → GoodVisit Fragments w (leave n)
   unfolding leave raise pure OneField Shaped FrontFits inside stands
-  good-leave b f l n =
+  good-leave f n =
       let none-taken = pure (field 0x30 [] end end) n in
       record {
-        kept = kept-raised Listed Fragments (record { unimplemented = b; left = true; long = false }) none-taken l (λ t. f) (kept-pure Listed Fragments (field 0x30 [] end end) n);
+        kept = kept-raised Fragments (record { left = true; long = false }) none-taken (λ t. f) (kept-pure Fragments (field 0x30 [] end end) n);
         bound = omega arith;
         one = refl;
         shaped = (tt, tt, tt);
@@ -231,11 +226,11 @@ module _ (Listed Fragments : Type 0) where
         no-fragment = λ t. absurd t;
       }
 
-  pub good-null : {w : ℕ} (n : ℕ) → GoodVisit Listed Fragments w (pure (field 0x73 [] end end) n)
+  pub good-null : {w : ℕ} (n : ℕ) → GoodVisit Fragments w (pure (field 0x73 [] end end) n)
   unfolding pure OneField Shaped FrontFits inside stands
   good-null n =
       record {
-        kept = kept-pure Listed Fragments (field 0x73 [] end end) n;
+        kept = kept-pure Fragments (field 0x73 [] end end) n;
         bound = omega arith;
         one = refl;
         shaped = (tt, tt, tt);
@@ -244,7 +239,7 @@ module _ (Listed Fragments : Type 0) where
       }
 
   -- the second pass after the first, where the first gives a field
-  pub good-after : {p : Pass Mid} {w : ℕ} → GoodGap Listed Fragments w false p → (n : ℕ) → GoodVisit Listed Fragments w (visit-after p n)
+  pub good-after : {p : Pass Mid} {w : ℕ} → GoodGap Fragments w false p → (n : ℕ) → GoodVisit Fragments w (visit-after p n)
   unfolding visit-after bind
   good-after {p} {w} g n =
       let d = p n in
@@ -252,7 +247,7 @@ module _ (Listed Fragments : Type 0) where
       let v = inside-field (d .value) (x .clean) (g .one n) (n + d .taken) in
       good-then w d (visit-inside (d .value) (n + d .taken)) x (v .0) (v .1)
 
-  visited-alone : (w : ℕ) (d : Done Row) → GoodVisit Listed Fragments w d → Visited w d
+  visited-alone : (w : ℕ) (d : Done Row) → GoodVisit Fragments w d → Visited w d
   visited-alone w d g =
       record {
         kept = g .kept;
@@ -262,18 +257,18 @@ module _ (Listed Fragments : Type 0) where
         no-fragment = g .no-fragment;
       }
 
-  inside-expr : Fragments → (m : Mid) {w : ℕ} → Clean Listed Fragments m w → OneExpr m → (n : ℕ) → Visited w (visit-inside m n) × OneField (visit-inside m n .value)
+  inside-expr : Fragments → (m : Mid) {w : ℕ} → Clean Fragments m w → OneExpr m → (n : ℕ) → Visited w (visit-inside m n) × OneField (visit-inside m n .value)
   unfolding OneExpr Clean visit-inside
   inside-expr f none c o n = absurd o
   inside-expr f (node t g i r) c o n = inside-field (node t g i r) c o n
   inside-expr f (raw q none) {w} c o n =
-      let x : GoodVisit Listed Fragments w (leave (q .unimplemented-inside) n) = good-leave (q .unimplemented-inside) f (c .3 .inside-listed) n in
-      (visited-alone w (leave (q .unimplemented-inside) n) x, x .one)
+      let x : GoodVisit Fragments w (leave n) = good-leave f n in
+      (visited-alone w (leave n) x, x .one)
   inside-expr f (raw q (node t g i r)) c o n = absurd o
   inside-expr f (raw q (raw s r)) c o n = absurd o
 
   -- and where it may give a tag, which is left
-  pub good-after-any : {p : Pass Mid} {w : ℕ} → Fragments → GoodPass Listed Fragments w p → ((n : ℕ) → OneExpr (p n .value)) → (n : ℕ) → GoodVisit Listed Fragments w (visit-after p n)
+  pub good-after-any : {p : Pass Mid} {w : ℕ} → Fragments → GoodPass Fragments w p → ((n : ℕ) → OneExpr (p n .value)) → (n : ℕ) → GoodVisit Fragments w (visit-after p n)
   unfolding visit-after bind
   good-after-any {p} {w} f g o n =
       let d = p n in

@@ -37,7 +37,7 @@ written-size d = templates-size (d .templates) + length (bytes (d .value)) + d .
 -- the visit of a tag; one that is left costs the three bytes of its field
 pub record RawCosts (w : ℕ) (q : Raw) : Type 0 where
   pub left-costs : 3 ≤ w
-  pub visits-cost : (n : ℕ) → written-size (q .visited n) ≤ w
+  pub visits-cost : (n : ℕ) → written-size (q n) ≤ w
 
 -- expressions between the passes
 pub data Costs : Mid → ℕ → Type 0 where
@@ -214,13 +214,13 @@ visit-costs (node-costs {t = t} {f = f} {i = i} {r = r} a b k x y) n =
     let e = visit-exprs r (n + d .taken) in
     omega (arith, visit-costs x n, visit-costs y (n + d .taken), templates-append (d .templates) (e .templates), length-bytes t f (d .value) (e .value))
 visit-costs (raw-costs {q = q} {r = r} a b k x y) n =
-    let d = q .visited n in
+    let d = q n in
     let e = visit-exprs r (n + d .taken) in
     omega (arith, x .visits-cost n, visit-costs y (n + d .taken), templates-append (d .templates) (e .templates), row-append (d .value) (e .value))
 
-pub leave-costs : (b : Bool) {w : ℕ} → 3 ≤ w → (n : ℕ) → written-size (leave b n) ≤ w
+pub leave-costs : {w : ℕ} → 3 ≤ w → (n : ℕ) → written-size (leave n) ≤ w
 unfolding leave raise pure written-size bytes
-leave-costs b h n = omega (arith, no-templates, length-bytes 0x30 [] end end)
+leave-costs h n = omega (arith, no-templates, length-bytes 0x30 [] end end)
 
 pub null-costs : {w : ℕ} (n : ℕ) → 3 ≤ w → written-size (pure (field 0x73 [] end end) n) ≤ w
 unfolding pure written-size bytes
@@ -230,7 +230,7 @@ inside-costs : {m : Mid} {w : ℕ} → Costs m w → (n : ℕ) → written-size 
 unfolding visit-inside visit-exprs
 inside-costs none-costs n = visit-costs none-costs n
 inside-costs (node-costs a b k x y) n = visit-costs (node-costs a b k x y) n
-inside-costs (raw-costs {q = q} a b k x y) n = leave-costs (q .unimplemented-inside) (omega (arith, x .left-costs)) n
+inside-costs (raw-costs {q = q} a b k x y) n = leave-costs (omega (arith, x .left-costs)) n
 
 -- the second pass right after the first
 pub after-costs : {p : Pass Mid} {w : ℕ} → PassCosts w p → (n : ℕ) → written-size (visit-after p n) ≤ w

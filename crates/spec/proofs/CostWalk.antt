@@ -18,14 +18,14 @@ use Rattle.names.specs.Names.{AttrName, get-attr-name, is-void-element, is-bool
 use Rattle.page.specs.Number.{render}
 use Rattle.page.specs.Tree.{choose}
 use Rattle.page.specs.Page.{Name, identifier, member, namespaced, Options}
-use Rattle.spec.specs.Pass.{Pass, pure, raise, long-if, todo, Mid, none, node, _+++_, Part, chars, gap, over}
+use Rattle.spec.specs.Pass.{Pass, pure, raise, long-if, Mid, none, node, _+++_, Part, chars, gap, over}
 use Rattle.spec.specs.Output.{leaf, string-node, true-node, null-node, attr-node, choice-node, array-node, gen-template}
 use Rattle.spec.specs.Merge.{Shape, string-shape, number-shape, boolean-shape, null-shape, literal-shape, minus-shape, other-shape, Entry, still, passed, Found, nothing-found, one-found, array-found, Element, Fragment, Child, text, empty, container, element, fragment, spread, is-last, flush, joined-text, merge, long-run, short-runs, becomes-template}
 use Rattle.spec.specs.Attributes as A
 use Rattle.spec.specs.Attributes.{Value, Attribute, first-upper, is-serializable, serialize-attr, attr-gap, listed-attr, dynamic-attr, container-attr, plain-attr, attr-parts, attrs-parts, is-component, prop-of, props-of, key-from, key-of}
 use Rattle.spec.specs.Children.{maybe-wrap, merged-parts, children-to-string, serialize-jsx, stills, found-of, sole-mid, sole, flattened, spliced, entries, one-child, many-children, children-to-expr, entry-pass, entries-pass, found-pass, children-prop, props-node, members-row, name-expr, call-node, to-call-expr, open-close, element-to-string-vec}
-use Rattle.spec.specs.Visit.{visit-after, visit-found, visit-only-child, visit-fragment, reaches-todo}
-use Rattle.spec.specs.Transform.{element-of, fragment-of, element-raw, fragment-raw}
+use Rattle.spec.specs.Visit.{visit-after, visit-found, visit-only-child, visit-fragment}
+use Rattle.spec.specs.Transform.{element-of, fragment-of, element-raw}
 use Rattle.spec.proofs.Cost.{written-size, RawCosts, Costs, none-costs, node-costs, raw-costs, PassCosts, PartsCosts, no-parts, costs-weaken, costs-node, costs-raw, costs-leaf, costs-alone, costs-nest, costs-append, pass-weaken, pure-costs, both-costs, raise-costs, map-costs, parts-weaken, parts-append, parts-chars, parts-gap, template-costs, leave-costs, null-costs, after-costs}
 
 -- ---- budgets of children and attributes
@@ -153,9 +153,6 @@ gap-parts a h g = parts-chars (3 + a) (omega arith) (parts-gap a 0 (omega arith)
 attr-gap-costs : (n : Bytes) {m : Mid} {w : ℕ} (a : ℕ) → 10 + length n + a ≤ w → Costs m a → PartsCosts (attr-gap n m) w
 attr-gap-costs n a h x = gap-parts (6 + length n + a) (omega arith) (pure-costs (named-costs a (omega arith) x))
 
-todo-parts : (n : Bytes) {w : ℕ} → 13 + length n ≤ w → PartsCosts (chars (32 ∷ []) ∷ gap (raise todo (pure (attr-node n null-node))) ∷ []) w
-todo-parts n h = gap-parts (9 + length n) (omega arith) (raise-costs todo (pure-costs (named-costs 3 (omega arith) (costs-alone (omega arith)))))
-
 text-parts : {b : Bytes} {w : ℕ} → length b ≤ w → PartsCosts (chars b ∷ []) w
 text-parts h = parts-chars 0 (omega arith) no-parts
 
@@ -166,8 +163,8 @@ listed-attr-costs : (n : Bytes) (v : Value) {w : ℕ} (a : ℕ) → 20 + length 
 unfolding listed-attr ValueCosts
 listed-attr-costs n A.absent a h g = attr-gap-costs n 4 (omega arith) (true-costs (omega arith))
 listed-attr-costs n (A.string b) a h g = attr-gap-costs n (3 + length b) (omega arith) (costs-alone (omega arith))
-listed-attr-costs n A.empty a h g = todo-parts n (omega arith)
-listed-attr-costs n (A.container s m) a h g = todo-parts n (omega arith)
+listed-attr-costs n A.empty a h g = attr-gap-costs n 3 (omega arith) (costs-alone (omega arith))
+listed-attr-costs n (A.container s m) a h g = attr-gap-costs n a (omega arith) (g .1)
 listed-attr-costs n (A.tag r) a h g = attr-gap-costs n a (omega arith) (costs-raw a 0 (omega arith) g none-costs)
 
 dynamic-attr-costs : (n : Bytes) {m : Mid} {w : ℕ} (a : ℕ) → 20 + length n + a ≤ w → Costs m a → PartsCosts (dynamic-attr n m) w
@@ -565,11 +562,11 @@ pub element-raw-costs : {e : Element} {w : ℕ} → 3 ≤ w → ElementCosts w e
 unfolding element-raw
 element-raw-costs h g = record { left-costs = h; visits-cost = after-costs (g .serialized) }
 
-visit-found-costs : (b : Bool) {f : Found} {v w : ℕ} → 3 + v ≤ w → FoundCosts f v → (n : ℕ) → written-size (visit-found b f n) ≤ w
+visit-found-costs : {f : Found} {v w : ℕ} → 3 + v ≤ w → FoundCosts f v → (n : ℕ) → written-size (visit-found f n) ≤ w
 unfolding visit-found
-visit-found-costs b h nothing-costs n = leave-costs b (omega arith) n
-visit-found-costs b h (one-costs x) n = after-costs (found-pass-costs h (one-costs x)) n
-visit-found-costs b h (array-costs x) n = after-costs (found-pass-costs h (array-costs x)) n
+visit-found-costs h nothing-costs n = leave-costs (omega arith) n
+visit-found-costs h (one-costs x) n = after-costs (found-pass-costs h (one-costs x)) n
+visit-found-costs h (array-costs x) n = after-costs (found-pass-costs h (array-costs x)) n
 
 template-visit : {cs : List Child} {w : ℕ} (c : ℕ) → 14 + c ≤ w → ChildrenCosts 36 24 cs c → (n : ℕ) → written-size (visit-after (gen-template (children-to-string false cs)) n) ≤ w
 template-visit c h y n = after-costs (pass-weaken h (template-costs (string-costs false (once y)))) n
@@ -580,8 +577,8 @@ visit-only-costs (text t) c h y n = template-visit c h y n
 visit-only-costs empty c h y n = template-visit c h y n
 visit-only-costs (container s m) c h y n = template-visit c h y n
 visit-only-costs (element e) c h (more-children a b p x y) n = after-costs (pass-weaken (omega arith) (x .serialized)) n
-visit-only-costs (fragment f) c h (more-children a b p x y) n = visit-found-costs (f .unimplemented-inside) (omega arith) (x .found) n
-visit-only-costs (spread m) c h y n = leave-costs (reaches-todo m) (omega arith) n
+visit-only-costs (fragment f) c h (more-children a b p x y) n = visit-found-costs (omega arith) (x .found) n
+visit-only-costs (spread m) c h y n = leave-costs (omega arith) n
 
 visit-fragment-costs : (cs : List Child) {w : ℕ} (c : ℕ) → 14 + c ≤ w → ChildrenCosts 36 24 cs c → (n : ℕ) → written-size (visit-fragment cs n) ≤ w
 unfolding visit-fragment
@@ -589,6 +586,5 @@ visit-fragment-costs [] c h y n = null-costs n (omega arith)
 visit-fragment-costs (x ∷ []) c h y n = visit-only-costs x c h y n
 visit-fragment-costs (x ∷ x′ ∷ cs) c h y n = template-visit c h y n
 
-pub fragment-raw-costs : (cs : List Child) {w : ℕ} (c : ℕ) → 14 + c ≤ w → ChildrenCosts 36 24 cs c → RawCosts w (fragment-raw cs)
-unfolding fragment-raw
+pub fragment-raw-costs : (cs : List Child) {w : ℕ} (c : ℕ) → 14 + c ≤ w → ChildrenCosts 36 24 cs c → RawCosts w (visit-fragment cs)
 fragment-raw-costs cs c h y = record { left-costs = omega arith; visits-cost = visit-fragment-costs cs c h y }

@@ -10,7 +10,7 @@ use Rattle.field.specs.Bytes.{Bytes}
 use Rattle.field.specs.Row.{Row, end, field}
 use Rattle.page.specs.Page.{Options, Page}
 use Rattle.spec.specs.declared.Flags.{Flags}
-use Rattle.spec.specs.Pass.{Pass, pure, map, both, raise, todo, Raw, Mid, none, node, raw, _+++_, Part, chars, gap}
+use Rattle.spec.specs.Pass.{Pass, pure, map, both, raise, Raw, Mid, none, node, raw, _+++_, Part, chars, gap}
 use Rattle.spec.specs.Output.{dynamic-exprs, gen-template}
 use Rattle.spec.specs.Visit.{visit-after, leave}
 use Rattle.spec.specs.Transform.{module-items}
@@ -38,7 +38,7 @@ pub record Counting : Type 1 where
   pub mid-node : (t : ℕ) (f : Bytes) {i r : Mid} {j k l a b w : ℕ} → T (uncounted t) → j + k ≡ l → a + b ≡ w → MidOk j i a → MidOk k r b → MidOk l (node t f i r) w
   pub mid-literal : (b : Bytes) {r : Mid} {v w : ℕ} → literal b + v ≡ w → MidOk 0 r v → MidOk 0 (node 0x74 b none r) w
   pub mid-other : (i : Mid) {r : Mid} {a b w : ℕ} → other (sources i) + (a + b) ≡ w → MidOk 0 i a → MidOk 0 r b → MidOk 0 (node 0x79 [] i r) w
-  pub mid-raw : {q : Raw} {r : Mid} {a b w : ℕ} → a + b ≡ w → VisitOk (q .visited) a → MidOk 0 r b → MidOk 0 (raw q r) w
+  pub mid-raw : {q : Raw} {r : Mid} {a b w : ℕ} → a + b ≡ w → VisitOk q a → MidOk 0 r b → MidOk 0 (raw q r) w
   pub mid-append : {x y : Mid} {j k l a b w : ℕ} → j + k ≡ l → a + b ≡ w → MidOk j x a → MidOk k y b → MidOk l (x +++ y) w
   pub mid-nothing : {w : ℕ} → MidOk 0 none w → w ≡ 0
   pub mid-inner : {t : ℕ} {f : Bytes} {i : Mid} {w : ℕ} → T (eqb t 0x76 || eqb t 0x77) → MidOk 0 (node t f i none) w → MidOk 0 i w
@@ -49,14 +49,13 @@ pub record Counting : Type 1 where
   pub pass-both : {p q : Pass Mid} {a b w : ℕ} → a + b ≡ w → PassOk p a → PassOk q b → PassOk (both _+++_ p q) w
   pub pass-map : {p : Pass Mid} {v w : ℕ} (f : Mid → Mid) (a : ℕ) → ((m : Mid) (k b c : ℕ) → a + b ≡ c → MidOk k m b → MidOk k (f m) c) → a + v ≡ w → PassOk p v → PassOk (map f p) w
   pub pass-raise : {p : Pass Mid} {w : ℕ} (f : Flags) → PassOk p w → PassOk (raise f p) w
-  pub pass-todo : {p : Pass Mid} {m : Mid} {w : ℕ} → MidOk 0 m w → PassOk p 0 → PassOk (raise todo p) w
   pub pass-template : (ps : List Part) {w : ℕ} → PassOk (dynamic-exprs ps) w → PassOk (gen-template ps) w
   pub visit-done : {p : Pass Mid} {w : ℕ} → PassOk p w → ((n : ℕ) → Alone (p n .value)) → VisitOk (visit-after p) w
-  pub visit-left : (b : Bool) → VisitOk (leave b) 0
+  pub visit-left : VisitOk leave 0
   pub visit-null : VisitOk (pure (field 0x73 [] end end)) 0
 
 module _ (C : Counting) where
-  open Counting C using (literal, other, MidOk, PassOk, VisitOk, mid-none, mid-node, mid-literal, mid-other, mid-raw, mid-append, mid-nothing, mid-inner, mid-field, mid-tag, pass-pure, pass-both, pass-map, pass-raise, pass-todo, pass-template, visit-done, visit-left, visit-null)
+  open Counting C using (literal, other, MidOk, PassOk, VisitOk, mid-none, mid-node, mid-literal, mid-other, mid-raw, mid-append, mid-nothing, mid-inner, mid-field, mid-tag, pass-pure, pass-both, pass-map, pass-raise, pass-template, visit-done, visit-left, visit-null)
 
   -- with nothing to spare, a weight is another's
   exactly : (P : ℕ → Type 0) {a b w : ℕ} → a + b ≡ w → a ≡ 0 → P b → P w
@@ -92,7 +91,6 @@ module _ (C : Counting) where
         other = other;
         tag = 0;
         Spare = None;
-        Todo = Unit {0};
         Left = Unit {0};
         NameOk = λ n. Unit {0};
         MidOk = MidOk;
@@ -111,18 +109,16 @@ module _ (C : Counting) where
         mid-node = λ t f h g d e x y. mid-node t f (neither (eqb t 0x30 || eqb t 0x31) (eqb t 0x90 || (eqb t 0x74 || eqb t 0x79)) h .1) d e x y;
         mid-literal = mid-literal;
         mid-other = mid-other;
-        mid-raw = λ e x t y. mid-raw e x y;
+        mid-raw = mid-raw;
         mid-append = mid-append;
         mid-nothing = mid-nothing;
         mid-inner = mid-inner;
         mid-field = mid-field;
         mid-tag = mid-tag;
-        mid-todo = λ x t. tt;
         pass-pure = pass-pure;
         pass-both = pass-both;
         pass-map = pass-map;
-        pass-raise = λ f t l x. pass-raise f x;
-        pass-todo = λ t x y. pass-todo x y;
+        pass-raise = λ f l x. pass-raise f x;
         pass-template = λ ps {v} {w} e x. pass-template ps (exprs-ok ps w (exactly (PartsOk ps) e refl x));
         content-none = refl;
         content-text = λ t h x. x;
@@ -136,10 +132,10 @@ module _ (C : Counting) where
         opening-append = λ {ps} {qs} {a} {b} {c} {w} e s x y. parts-append ps qs a b w (omega (arith, e, s)) x y;
         visit-done = λ {p} x a. visit-done x λ n. field-alone (p n .value) (a n);
         visit-any = λ l x a. visit-done x a;
-        visit-left = λ l b t. visit-left b;
+        visit-left = λ l. visit-left;
         visit-null = visit-null;
       }
 
   pub every-page : (o : Options) (p : Page) → MidOk 0 (module-items o p) (in-page literal other o p)
   unfolding invariant
-  every-page o p = page-ok invariant refl (λ w e. e) tt tt (λ n. tt) o p
+  every-page o p = page-ok invariant refl (λ w e. e) tt (λ n. tt) o p

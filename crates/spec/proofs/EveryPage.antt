@@ -18,14 +18,14 @@ use Rattle.spec.specs.Kept.{own-pieces, in-tag, in-opening, in-call, in-
 use Rattle.spec.proofs.Good.{FormedBy}
 use Rattle.spec.proofs.Invariant.{Invariant}
 use Rattle.spec.proofs.Shapes.{is-text, Items, expr-alone, expr-bare, expr-items, pieces-sources}
-use Rattle.spec.proofs.EveryPass.{ExprOk, ElementOk, FragmentOk, ChildOk, ChildrenOk, ValueOk, AttributesOk, split, ListsTodo, NamedOk, element-ok, fragment-ok, element-visits, fragment-visits}
+use Rattle.spec.proofs.EveryPass.{ExprOk, ElementOk, FragmentOk, ChildOk, ChildrenOk, ValueOk, AttributesOk, split, NamedOk, element-ok, fragment-ok, element-visits, fragment-visits}
 
 nothing-behind : {a : ℕ} → a + 0 ≡ a
 nothing-behind = omega arith
 
 -- where a tag weighs nothing by itself, and nothing is asked of names and flags
-module _ (I : Invariant) (light : I .tag ≡ 0) (spares : (w : ℕ) → w ≡ 0 → I .Spare w) (todo-ok : I .Todo) (left-ok : I .Left) (names-ok : (n : Bytes) → I .NameOk n) (o : Options) where
-  open Invariant I using (literal, other, tag, Spare, Todo, MidOk, VisitOk, spare-none, mid-none, mid-node, mid-literal, mid-other, mid-raw)
+module _ (I : Invariant) (light : I .tag ≡ 0) (spares : (w : ℕ) → w ≡ 0 → I .Spare w) (left-ok : I .Left) (names-ok : (n : Bytes) → I .NameOk n) (o : Options) where
+  open Invariant I using (literal, other, tag, Spare, MidOk, VisitOk, spare-none, mid-none, mid-node, mid-literal, mid-other, mid-raw)
 
   text-weightless : (e : P.Expr) → T (is-text (shape-of e)) → in-expr literal other o e ≡ 0
   unfolding is-text shape-of in-expr
@@ -49,10 +49,6 @@ module _ (I : Invariant) (light : I .tag ≡ 0) (spares : (w : ℕ) → w ≡ 0 
   named (P.member ns) = tt
   named (P.namespaced n m) = tt
 
-  lists : ListsTodo I o
-  unfolding ListsTodo
-  lists n h = todo-ok
-
   lighten : {w : ℕ} → tag + w ≡ w
   lighten = omega (arith, light)
 
@@ -60,11 +56,11 @@ module _ (I : Invariant) (light : I .tag ≡ 0) (spares : (w : ℕ) → w ≡ 0 
     unfolding child in-tag ChildOk ChildrenOk ValueOk AttributesOk own-pieces FormedBy inside
 
     child-ok : (t : P.Tag) → ChildOk I (child o t) (in-tag literal other o t)
-    child-ok (P.element n as′ cs) = subst (ElementOk I _) lighten (element-ok I o lists n (named n) (attributes o as′) (children o cs) _ _ _ (attributes-ok as′ (not (is-component n))) (children-ok cs))
+    child-ok (P.element n as′ cs) = subst (ElementOk I _) lighten (element-ok I o n (named n) (attributes o as′) (children o cs) _ _ _ (attributes-ok as′ (not (is-component n))) (children-ok cs))
     child-ok (P.fragment cs) = subst (FragmentOk I _) lighten (fragment-ok I left-ok (children o cs) _ (children-ok cs))
 
-    tag-ok : (t : P.Tag) → VisitOk (raw-tag o t .visited) (in-tag literal other o t)
-    tag-ok (P.element n as′ cs) = subst (VisitOk _) lighten (element-visits I _ (element-ok I o lists n (named n) (attributes o as′) (children o cs) _ _ _ (attributes-ok as′ (not (is-component n))) (children-ok cs)))
+    tag-ok : (t : P.Tag) → VisitOk (raw-tag o t) (in-tag literal other o t)
+    tag-ok (P.element n as′ cs) = subst (VisitOk _) lighten (element-visits I _ (element-ok I o n (named n) (attributes o as′) (children o cs) _ _ _ (attributes-ok as′ (not (is-component n))) (children-ok cs)))
     tag-ok (P.fragment cs) = subst (VisitOk _) lighten (fragment-visits I left-ok (children o cs) _ (children-ok cs))
 
     attributes-ok : (as′ : P.Attributes) (norm : Bool) → AttributesOk I o norm (attributes o as′) (in-opening literal other o as′) (in-call literal other o norm as′)
@@ -77,7 +73,7 @@ module _ (I : Invariant) (light : I .tag ≡ 0) (spares : (w : ℕ) → w ≡ 0 
     value-ok (P.string-value b) = spare-none
     value-ok P.empty-value = spare-none
     value-ok (P.container-value e) = contained e (expr-ok e none nothing-behind mid-none)
-    value-ok (P.tag-value t) = (tag-ok t, λ h. todo-ok)
+    value-ok (P.tag-value t) = tag-ok t
 
     children-ok : (cs : P.Children) → ChildrenOk I (children o cs) (in-children literal other o cs)
     children-ok P.no-children = spare-none
@@ -85,7 +81,7 @@ module _ (I : Invariant) (light : I .tag ≡ 0) (spares : (w : ℕ) → w ≡ 0 
     children-ok (P.empty-child cs) = split I 0 (in-children literal other o cs) (omega arith) spare-none (children-ok cs)
     children-ok (P.container-child e cs) = split I (in-expr literal other o e) (in-children literal other o cs) refl (contained e (expr-ok e none nothing-behind mid-none)) (children-ok cs)
     children-ok (P.tag-child t cs) = split I (in-tag literal other o t) (in-children literal other o cs) refl (child-ok t) (children-ok cs)
-    children-ok (P.spread-child e cs) = split I 0 (in-children literal other o cs) (omega arith) (spare-none, λ h. todo-ok) (children-ok cs)
+    children-ok (P.spread-child e cs) = split I 0 (in-children literal other o cs) (omega arith) spare-none (children-ok cs)
 
     -- in front of others
     expr-ok : (e : P.Expr) (r : Mid) {v w : ℕ} → in-expr literal other o e + v ≡ w → MidOk 0 r v → MidOk 0 (expr o e r) w
@@ -97,7 +93,7 @@ module _ (I : Invariant) (light : I .tag ≡ 0) (spares : (w : ℕ) → w ≡ 0 
     expr-ok (P.minus-literal n) r k x = mid-node 0x75 _ tt tt (omega arith) k mid-none x
     expr-ok (P.array-literal is) r k x = mid-node 0x76 _ tt tt (omega arith) k (items-ok is) x
     expr-ok (P.other-expr ps) r k x = mid-other (pieces o ps) (rw (pieces-sources o ps) (omega arith)) (pieces-ok ps) x
-    expr-ok (P.tag-expr t) r k x = mid-raw k (tag-ok t) (λ h. todo-ok) x
+    expr-ok (P.tag-expr t) r k x = mid-raw k (tag-ok t) x
 
     items-ok : (is : P.Items) → MidOk 0 (items o is) (in-items literal other o is)
     items-ok P.no-items = mid-none
@@ -108,7 +104,7 @@ module _ (I : Invariant) (light : I .tag ≡ 0) (spares : (w : ℕ) → w ≡ 0 
     pieces-ok : (ps : P.Pieces) → MidOk 0 (pieces o ps) (in-pieces literal other o ps)
     pieces-ok P.no-pieces = mid-none
     pieces-ok (P.source-piece b ps) = mid-node 0x20 b tt tt (omega arith) (omega arith) mid-none (pieces-ok ps)
-    pieces-ok (P.tag-piece t ps) = mid-raw refl (tag-ok t) (λ h. todo-ok) (pieces-ok ps)
+    pieces-ok (P.tag-piece t ps) = mid-raw refl (tag-ok t) (pieces-ok ps)
 
   pub page-ok : (p : Page) → MidOk 0 (module-items o p) (in-page literal other o p)
   unfolding module-items in-page FormedBy inside

@@ -15,14 +15,14 @@ use Rattle.names.specs.Names.{get-attr-name, is-void-element, is-boolean-attr}
 use Rattle.page.specs.Tree.{choose}
 use Rattle.page.specs.Page as P
 use Rattle.page.specs.Page.{Name, identifier, member, namespaced, Options}
-use Rattle.spec.specs.Pass.{Pass, pure, map, raise, long-if, todo, Mid, none, node, raw, _+++_, Part, chars, gap, over}
+use Rattle.spec.specs.Pass.{Pass, pure, map, raise, long-if, Mid, none, node, raw, _+++_, Part, chars, gap, over}
 use Rattle.spec.specs.Output.{leaf, array-node, null-node, attr-node, gen-template}
 use Rattle.spec.specs.Merge.{Shape, string-shape, number-shape, boolean-shape, null-shape, literal-shape, minus-shape, other-shape, Entry, still, passed, Found, nothing-found, one-found, array-found, Element, Fragment, Child, text, empty, container, element, fragment, spread, flush, joined-text, merge, long-run, short-runs, becomes-template}
 use Rattle.spec.specs.Attributes as A
 use Rattle.spec.specs.Attributes.{Value, Attribute, first-upper, keeps-from-serializing, is-serializable, serialize-attr, attr-gap, listed-attr, dynamic-attr, container-attr, plain-attr, attr-parts, attrs-parts, is-component, prop-of, props-of, key-from, key-of}
 use Rattle.spec.specs.Children.{maybe-wrap, merged-parts, children-to-string, serialize-jsx, stills, found-of, sole-mid, sole, flattened, spliced, entries, one-child, many-children, children-to-expr, entry-pass, entries-pass, found-pass, children-prop, props-node, members-row, name-expr, call-node, to-call-expr, open-close, element-to-string-vec}
-use Rattle.spec.specs.Visit.{visit-after, leave, reaches-todo, attributes-reach-todo, children-reach-todo, visit-found, visit-only-child, visit-fragment}
-use Rattle.spec.specs.Transform.{element-of, fragment-of, element-raw, fragment-raw, value, children, items}
+use Rattle.spec.specs.Visit.{visit-after, leave, visit-found, visit-only-child, visit-fragment}
+use Rattle.spec.specs.Transform.{element-of, fragment-of, element-raw, value, children, items}
 use Rattle.spec.specs.Kept.{is-tag, has-value, listed, reads-key, key-follows, is-void, in-opening, in-call}
 use Rattle.spec.proofs.Nested.{escape-free, boolean-free, attr-free}
 use Rattle.spec.proofs.Good.{FormedBy, OneNode}
@@ -31,7 +31,7 @@ use Rattle.spec.proofs.Invariant.{Split, Alone, AloneField, plain, Inva
 use Rattle.spec.proofs.Shapes.{chosen, or-left, or-right, and-right, is-text, Items, is-bare, FreeTexts, free-nil, merge-free}
 
 module _ (I : Invariant) where
-  open Invariant I using (literal, other, tag, Spare, Todo, Left, NameOk, MidOk, PassOk, Content, Opening, VisitOk, spare-sum, spare-none, spare-tag, mid-spare, pass-spare, content-spare, visit-spare, mid-none, mid-node, mid-literal, mid-other, mid-raw, mid-append, mid-nothing, mid-inner, mid-field, mid-tag, mid-todo, pass-pure, pass-both, pass-map, pass-raise, pass-todo, pass-template, content-none, content-text, content-gap, content-append, content-void, content-element, opening-none, opening-text, opening-gap, opening-append, visit-done, visit-any, visit-left, visit-null)
+  open Invariant I using (literal, other, tag, Spare, Left, NameOk, MidOk, PassOk, Content, Opening, VisitOk, spare-sum, spare-none, spare-tag, mid-spare, pass-spare, content-spare, visit-spare, mid-none, mid-node, mid-literal, mid-other, mid-raw, mid-append, mid-nothing, mid-inner, mid-field, mid-tag, pass-pure, pass-both, pass-map, pass-raise, pass-template, content-none, content-text, content-gap, content-append, content-void, content-element, opening-none, opening-text, opening-gap, opening-append, visit-done, visit-any, visit-left, visit-null)
 
   -- ---- what holds of children and attributes
 
@@ -60,13 +60,11 @@ module _ (I : Invariant) where
     pub parts : Content (e .to-string-vec) w
     pub serialized : PassOk (serialize-jsx e) w
     pub alone : (n : ℕ) → AloneField (serialize-jsx e n .value)
-    pub inside : T (e .unimplemented-inside) → Todo
 
   pub record FragmentOk (f : Fragment) (w : ℕ) : Type 0 where
     pub left : Left
     pub parts : Content (f .to-string) w
     pub found : FoundOk (f .to-expr) w
-    pub inside : T (f .unimplemented-inside) → Todo
 
   unfoldable pub ChildOk : Child → ℕ → Type 0
   ChildOk (text t) w = Spare w
@@ -74,7 +72,7 @@ module _ (I : Invariant) where
   ChildOk (container s m) w = ExprOk s m w
   ChildOk (element e) w = ElementOk e w
   ChildOk (fragment f) w = FragmentOk f w
-  ChildOk (spread m) w = Spare w × (T (reaches-todo m) → Todo)
+  ChildOk (spread m) w = Spare w
 
   unfoldable pub ChildrenOk : List Child → ℕ → Type 0
   ChildrenOk [] w = Spare w
@@ -85,7 +83,7 @@ module _ (I : Invariant) where
   ValueOk (A.string b) w = Spare w
   ValueOk A.empty w = Spare w
   ValueOk (A.container s m) w = ExprOk s m w
-  ValueOk (A.tag r) w = VisitOk (r .visited) w × (T (r .unimplemented-inside) → Todo)
+  ValueOk (A.tag r) w = VisitOk r w
 
   -- an attribute in front of others: what it adds in an opening tag and in a call, unless it is lost there
   pub record Attached (One : ℕ → Type 0) (Rest : ℕ → ℕ → Type 0) (lost-opening lost-call : Bool) (v w : ℕ) : Type 0 where
@@ -149,9 +147,9 @@ module _ (I : Invariant) where
   child-spare (text t) a b w e s g = spare-sum e s g
   child-spare empty a b w e s g = spare-sum e s g
   child-spare (container h m) a b w e s g = record { held = mid-spare e s (g .held); alone = g .alone; bare = g .bare; items = g .items; texts = λ t. spare-sum e s (g .texts t) }
-  child-spare (element x) a b w e s g = record { parts = content-spare e s (g .parts); serialized = pass-spare e s (g .serialized); alone = g .alone; inside = g .inside }
-  child-spare (fragment f) a b w e s g = record { left = g .left; parts = content-spare e s (g .parts); found = found-spare (f .to-expr) a b w e s (g .found); inside = g .inside }
-  child-spare (spread m) a b w e s g = (spare-sum e s (g .0), g .1)
+  child-spare (element x) a b w e s g = record { parts = content-spare e s (g .parts); serialized = pass-spare e s (g .serialized); alone = g .alone }
+  child-spare (fragment f) a b w e s g = record { left = g .left; parts = content-spare e s (g .parts); found = found-spare (f .to-expr) a b w e s (g .found) }
+  child-spare (spread m) a b w e s g = spare-sum e s g
 
   children-spare : (cs : List Child) (a b w : ℕ) → a + b ≡ w → Spare a → ChildrenOk cs b → ChildrenOk cs w
   unfolding ChildrenOk
@@ -177,6 +175,10 @@ module _ (I : Invariant) where
   unfolding FormedBy inside
   string-leaf b = leaf-ok 0x70 b tt tt
 
+  null-leaf : MidOk 0 (leaf 0x73 []) 0
+  unfolding FormedBy inside
+  null-leaf = leaf-ok 0x73 [] tt tt
+
   true-leaf : MidOk 0 (leaf 0x72 (1 ∷ [])) 0
   unfolding FormedBy inside
   true-leaf = leaf-ok 0x72 (1 ∷ []) tt tt
@@ -198,21 +200,17 @@ module _ (I : Invariant) where
   attr-leaf-ok : (n : Bytes) {m : Mid} {w : ℕ} → Spare w → MidOk 0 m 0 → Opening (attr-gap n m) w
   attr-leaf-ok n {w = w} s x = attr-gap-ok n (mid-spare {a = w} (omega arith) s x)
 
-  todo-ok : (n : Bytes) {m : Mid} {w : ℕ} → Todo → MidOk 0 m w → Opening (chars (32 ∷ []) ∷ gap (raise todo (pure (attr-node n null-node))) ∷ []) w
-  unfolding pure raise OneNode FormedBy inside
-  todo-ok n l x = opening-gap (pass-todo l x (pass-pure (attr-ok n (leaf-ok 0x73 [] tt tt)))) λ k. refl
-
   dynamic-ok : (n : Bytes) {m : Mid} {w : ℕ} → MidOk 0 m w → Opening (dynamic-attr n m) w
   unfolding dynamic-attr pure OneNode FormedBy inside
   dynamic-ok n {m} {w} x = chosen (λ ps. Opening ps w) (is-boolean-attr n) (λ _. opening-gap (pass-pure (nest-ok 0x93 tt tt (mid-append (omega arith) (omega arith) x (leaf-ok 0x81 n tt tt)))) λ k. refl) (attr-gap-ok n x)
 
-  listed-ok : (n : Bytes) (x : Value) (w : ℕ) → Todo → ValueOk x w → Opening (listed-attr n x) w
+  listed-ok : (n : Bytes) (x : Value) (w : ℕ) → ValueOk x w → Opening (listed-attr n x) w
   unfolding listed-attr ValueOk
-  listed-ok n A.absent w l g = attr-leaf-ok n g true-leaf
-  listed-ok n (A.string b) w l g = attr-leaf-ok n g (string-leaf b)
-  listed-ok n A.empty w l g = todo-ok n l (none-ok g)
-  listed-ok n (A.container s m) w l g = todo-ok n l (g .held)
-  listed-ok n (A.tag r) w l g = attr-gap-ok n (mid-raw {b = 0} (omega arith) (g .0) (g .1) mid-none)
+  listed-ok n A.absent w g = attr-leaf-ok n g true-leaf
+  listed-ok n (A.string b) w g = attr-leaf-ok n g (string-leaf b)
+  listed-ok n A.empty w g = attr-leaf-ok n g null-leaf
+  listed-ok n (A.container s m) w g = attr-gap-ok n (g .held)
+  listed-ok n (A.tag r) w g = attr-gap-ok n (mid-raw {b = 0} (omega arith) g mid-none)
 
   written-ok : (n b : Bytes) {w : ℕ} → Spare w → Opening (chars (serialize-attr n b) ∷ []) w
   unfolding serialize-attr
@@ -243,21 +241,17 @@ module _ (I : Invariant) where
   plain-ok n (A.container s m) w g = container-ok n s g
   plain-ok n (A.tag r) w g = opening-none spare-none
 
-  -- what 03 lists, it lists
-  unfoldable pub ListsTodo : Options → Type 0
-  ListsTodo o = (n : Bytes) → T (among n (o .skip-prop-serialize)) → Todo
-
-  attrs-ok : (o : Options) → ListsTodo o → (norm : Bool) (as′ : List Attribute) (v w : ℕ) → AttributesOk o norm as′ v w → T (not (keeps-from-serializing as′)) → Opening (attrs-parts o as′) v
-  unfolding attrs-parts attr-parts AttributesOk keeps-from-serializing ListsTodo
-  attrs-ok o l norm [] v w g h = opening-none (g .0)
-  attrs-ok o l norm (A.attribute n x ∷ as′) v w g h =
-      opening-append (g .in-opening) (g .opening-spare) (on (listed o n) (l (get-attr-name n false)))
-      (attrs-ok o l norm as′ (g .opening) (g .call) (g .rest) (neither (same (get-attr-name n false) (ascii "dangerouslySetInnerHTML")) (keeps-from-serializing as′) h .1))
+  attrs-ok : (o : Options) (norm : Bool) (as′ : List Attribute) (v w : ℕ) → AttributesOk o norm as′ v w → T (not (keeps-from-serializing as′)) → Opening (attrs-parts o as′) v
+  unfolding attrs-parts attr-parts AttributesOk keeps-from-serializing
+  attrs-ok o norm [] v w g h = opening-none (g .0)
+  attrs-ok o norm (A.attribute n x ∷ as′) v w g h =
+      opening-append (g .in-opening) (g .opening-spare) (on (listed o n))
+      (attrs-ok o norm as′ (g .opening) (g .call) (g .rest) (neither (same (get-attr-name n false) (ascii "dangerouslySetInnerHTML")) (keeps-from-serializing as′) h .1))
     where
-      on : (b : Bool) → (T b → Todo) → Opening (pick b (listed-attr (get-attr-name n false) x) (plain-attr (get-attr-name n true) x)) (pick (not b && is-tag x) 0 (g .own))
-      on true t = listed-ok (get-attr-name n false) x (g .own) (t tt) (g .holds)
-      on false t = plain-ok (get-attr-name n true) x (g .own) (g .holds)
-  attrs-ok o l norm (A.spread m ∷ as′) v w g h = absurd h
+      on : (b : Bool) → Opening (pick b (listed-attr (get-attr-name n false) x) (plain-attr (get-attr-name n true) x)) (pick (not b && is-tag x) 0 (g .own))
+      on true = listed-ok (get-attr-name n false) x (g .own) (g .holds)
+      on false = plain-ok (get-attr-name n true) x (g .own) (g .holds)
+  attrs-ok o norm (A.spread m ∷ as′) v w g h = absurd h
 
   -- ---- attributes in a call
 
@@ -353,7 +347,7 @@ module _ (I : Invariant) where
       on other-shape x joined kept = kept
   merge-ok esc par buf (element c ∷ cs) w g = flush-ok buf _ w (again g (merge-ok esc par [] cs (g .second) (g .rest)))
   merge-ok esc par buf (fragment f ∷ cs) w g = flush-ok buf _ w (again g (merge-ok esc par [] cs (g .second) (g .rest)))
-  merge-ok esc par buf (spread m ∷ cs) w g = merge-ok esc par buf cs w (lighter (children-spare cs) g (g .one .0))
+  merge-ok esc par buf (spread m ∷ cs) w g = merge-ok esc par buf cs w (lighter (children-spare cs) g (g .one))
 
   short-ok : (cs : List Child) (w : ℕ) → ChildrenOk cs w → ChildrenOk (short-runs cs) w
   unfolding short-runs ChildrenOk ChildOk
@@ -389,7 +383,7 @@ module _ (I : Invariant) where
   merged-ok (container s m ∷ cs) w g h = put g (content-gap refl (pass-pure (wrap-ok s (g .one) .0)) (λ n. wrap-ok s (g .one) .1) (merged-ok cs (g .second) (g .rest) h))
   merged-ok (element c ∷ cs) w g h = put g (content-append refl (g .one .parts) (merged-ok cs (g .second) (g .rest) h))
   merged-ok (fragment f ∷ cs) w g h = put g (content-append refl (g .one .parts) (merged-ok cs (g .second) (g .rest) h))
-  merged-ok (spread m ∷ cs) w g h = merged-ok cs w (lighter (children-spare cs) g (g .one .0)) h
+  merged-ok (spread m ∷ cs) w g h = merged-ok cs w (lighter (children-spare cs) g (g .one)) h
 
   string-ok : (par : Bool) (cs : List Child) (w : ℕ) → ChildrenOk cs w → Content (children-to-string par cs) w
   unfolding children-to-string
@@ -457,7 +451,7 @@ module _ (I : Invariant) where
   entries-ok (element c ∷ cs) w g = more g (g .one .serialized, g .one .alone) (entries-ok cs (g .second) (g .rest))
   entries-ok (fragment f ∷ cs) w g =
       entries-spare (spliced (f .to-expr) ++ entries cs) (g .spared) (g .first + g .second) w (omega (arith, g .sum)) (g .spare) (entries-append (spliced (f .to-expr)) (entries cs) (g .first) (g .second) _ refl (spliced-ok (f .to-expr) (g .first) (g .one .found)) (entries-ok cs (g .second) (g .rest)))
-  entries-ok (spread m ∷ cs) w g = entries-ok cs w (lighter (children-spare cs) g (g .one .0))
+  entries-ok (spread m ∷ cs) w g = entries-ok cs w (lighter (children-spare cs) g (g .one))
 
   one-child-ok : (c : Child) (w : ℕ) → ChildOk c w → FoundOk (one-child c) w
   unfolding one-child ChildOk FoundOk EntryOk
@@ -466,7 +460,7 @@ module _ (I : Invariant) where
   one-child-ok (container s m) w g = found-of-ok m w (g .held) (g .alone) (g .items)
   one-child-ok (element e) w g = (g .serialized, g .alone)
   one-child-ok (fragment f) w g = g .found
-  one-child-ok (spread m) w g = g .0
+  one-child-ok (spread m) w g = g
 
   many-ok : (cs : List Child) (w : ℕ) → ChildrenOk cs w → FoundOk (many-children cs) (tag + w)
   unfolding many-children choose FoundOk EntryOk raise gen-template AloneField
@@ -474,7 +468,7 @@ module _ (I : Invariant) where
     where
       on : (b : Bool) → ChildrenOk (merge false false [] cs) w →
           FoundOk (choose b (λ _. one-found (passed (raise (long-if (long-run (merge false false [] cs))) (gen-template (children-to-string false (short-runs (merge false false [] cs))))))) λ _. flattened (entries (merge false false [] cs))) (tag + w)
-      on true h = (pass-raise (long-if (long-run (merge false false [] cs))) (λ t. absurd t) (λ t. absurd t) (pass-template _ refl (string-ok false _ w (short-ok (merge false false [] cs) w h))), λ n. tt)
+      on true h = (pass-raise (long-if (long-run (merge false false [] cs))) (λ t. absurd t) (pass-template _ refl (string-ok false _ w (short-ok (merge false false [] cs) w h))), λ n. tt)
       on false h = found-spare (flattened (entries (merge false false [] cs))) tag w _ refl spare-tag (flattened-ok (entries (merge false false [] cs)) w (entries-ok (merge false false [] cs) w h))
 
   to-expr-ok : (cs : List Child) (w : ℕ) → ChildrenOk cs w → FoundOk (children-to-expr cs) (tag + w)
@@ -552,28 +546,6 @@ module _ (I : Invariant) where
   unfolding to-call-expr map call-node AloneField
   call-alone n as′ cs k = tt
 
-  -- ---- `todo!` inside a tag that is left
-
-  attributes-todo : (o : Options) (norm : Bool) (as′ : List Attribute) (v w : ℕ) → AttributesOk o norm as′ v w → T (attributes-reach-todo as′) → Todo
-  unfolding attributes-reach-todo AttributesOk ValueOk
-  attributes-todo o norm [] v w g t = absurd t
-  attributes-todo o norm (A.attribute n A.absent ∷ as′) v w g t = attributes-todo o norm as′ (g .opening) (g .call) (g .rest) t
-  attributes-todo o norm (A.attribute n (A.string b) ∷ as′) v w g t = attributes-todo o norm as′ (g .opening) (g .call) (g .rest) t
-  attributes-todo o norm (A.attribute n A.empty ∷ as′) v w g t = attributes-todo o norm as′ (g .opening) (g .call) (g .rest) t
-  attributes-todo o norm (A.attribute n (A.container s m) ∷ as′) v w g t = or-either (reaches-todo m) (attributes-reach-todo as′) (mid-todo (g .holds .held)) (attributes-todo o norm as′ (g .opening) (g .call) (g .rest)) t
-  attributes-todo o norm (A.attribute n (A.tag r) ∷ as′) v w g t = or-either (r .unimplemented-inside) (attributes-reach-todo as′) (g .holds .1) (attributes-todo o norm as′ (g .opening) (g .call) (g .rest)) t
-  attributes-todo o norm (A.spread m ∷ as′) v w g t = or-either (reaches-todo m) (attributes-reach-todo as′) (mid-todo (g .holds)) (attributes-todo o norm as′ (g .opening) (g .call) (g .rest)) t
-
-  pub children-todo : (cs : List Child) (w : ℕ) → ChildrenOk cs w → T (children-reach-todo cs) → Todo
-  unfolding children-reach-todo ChildrenOk ChildOk
-  children-todo [] w g t = absurd t
-  children-todo (text b ∷ cs) w g t = children-todo cs (g .second) (g .rest) t
-  children-todo (empty ∷ cs) w g t = children-todo cs (g .second) (g .rest) t
-  children-todo (container s m ∷ cs) w g t = or-either (reaches-todo m) (children-reach-todo cs) (mid-todo (g .one .held)) (children-todo cs (g .second) (g .rest)) t
-  children-todo (element e ∷ cs) w g t = or-either (e .unimplemented-inside) (children-reach-todo cs) (g .one .inside) (children-todo cs (g .second) (g .rest)) t
-  children-todo (fragment f ∷ cs) w g t = or-either (f .unimplemented-inside) (children-reach-todo cs) (g .one .inside) (children-todo cs (g .second) (g .rest)) t
-  children-todo (spread m ∷ cs) w g t = or-either (reaches-todo m) (children-reach-todo cs) (g .one .1) (children-todo cs (g .second) (g .rest)) t
-
   -- ---- elements and fragments
 
   unfoldable pub NamedOk : Name → Type 0
@@ -581,12 +553,12 @@ module _ (I : Invariant) where
   NamedOk (member ns) = Unit {0}
   NamedOk (namespaced n m) = Unit {0}
 
-  open-close-ok : (o : Options) → ListsTodo o → (n : Bytes) → NameOk n → (norm : Bool) (as′ : List Attribute) (cs : List Child) (v a w : ℕ) → AttributesOk o norm as′ v a → T (not (keeps-from-serializing as′)) → ChildrenOk cs w → Content (open-close o n as′ cs) (v + pick (is-void-element n) 0 w)
+  open-close-ok : (o : Options) (n : Bytes) → NameOk n → (norm : Bool) (as′ : List Attribute) (cs : List Child) (v a w : ℕ) → AttributesOk o norm as′ v a → T (not (keeps-from-serializing as′)) → ChildrenOk cs w → Content (open-close o n as′ cs) (v + pick (is-void-element n) 0 w)
   unfolding open-close
-  open-close-ok o l n ok norm as′ cs v a w g k h = on (is-void-element n) refl
+  open-close-ok o n ok norm as′ cs v a w g k h = on (is-void-element n) refl
     where
       at : Opening (attrs-parts o as′) v
-      at = attrs-ok o l norm as′ v a g k
+      at = attrs-ok o norm as′ v a g k
 
       on : (b : Bool) → is-void-element n ≡ b →
           Content (chars (60 ∷ escape-html n) ∷ (attrs-parts o as′ ++ (chars (62 ∷ []) ∷ pick b [] (children-to-string true cs ++ (chars (60 ∷ 47 ∷ (n ++ (62 ∷ []))) ∷ []))))) (v + pick b 0 w)
@@ -596,36 +568,33 @@ module _ (I : Invariant) where
   call-parts : {p : Pass Mid} {w : ℕ} → PassOk p w → ((n : ℕ) → AloneField (p n .value)) → Content (gap p ∷ []) w
   call-parts x a = content-gap {b = 0} (omega arith) x a content-none
 
-  pub element-ok : (o : Options) → ListsTodo o → (n : Name) → NamedOk n → (as′ : List Attribute) (cs : List Child) (v a w : ℕ) → AttributesOk o (not (is-component n)) as′ v a → ChildrenOk cs w →
+  pub element-ok : (o : Options) (n : Name) → NamedOk n → (as′ : List Attribute) (cs : List Child) (v a w : ℕ) → AttributesOk o (not (is-component n)) as′ v a → ChildrenOk cs w →
       ElementOk (element-of o n as′ cs) (tag + pick (is-serializable o n as′) (v + pick (is-void n) 0 w) (a + w))
   unfolding element-of serialize-jsx element-to-string-vec is-serializable choose gen-template AloneField NamedOk
-  element-ok o l (identifier n) ok as′ cs v a w g h = on (is-serializable o (identifier n) as′) λ t. and-right (not (first-upper n) && not (among n (o .skip-serialize))) (not (keeps-from-serializing as′)) t
+  element-ok o (identifier n) ok as′ cs v a w g h = on (is-serializable o (identifier n) as′) λ t. and-right (not (first-upper n) && not (among n (o .skip-serialize))) (not (keeps-from-serializing as′)) t
     where
-      todos : T (attributes-reach-todo as′ || children-reach-todo cs) → Todo
-      todos = or-either (attributes-reach-todo as′) (children-reach-todo cs) (attributes-todo o (not (is-component (identifier n))) as′ v a g) (children-todo cs w h)
-
       on : (b : Bool) → (T b → T (not (keeps-from-serializing as′))) →
           ElementOk
-          (record { serializable = b; to-string-vec = choose b (λ _. open-close o n as′ cs) λ _. gap (to-call-expr (identifier n) as′ cs) ∷ []; to-call-expr = to-call-expr (identifier n) as′ cs; unimplemented-inside = attributes-reach-todo as′ || children-reach-todo cs })
+          (record { serializable = b; to-string-vec = choose b (λ _. open-close o n as′ cs) λ _. gap (to-call-expr (identifier n) as′ cs) ∷ []; to-call-expr = to-call-expr (identifier n) as′ cs })
           (tag + pick b (v + pick (is-void-element n) 0 w) (a + w))
       on true k =
-          let parts = open-close-ok o l n ok (not (is-component (identifier n))) as′ cs v a w g (k tt) h in
-          record { parts = content-spare refl spare-tag parts; serialized = pass-template (open-close o n as′ cs) refl parts; alone = λ n. tt; inside = todos }
+          let parts = open-close-ok o n ok (not (is-component (identifier n))) as′ cs v a w g (k tt) h in
+          record { parts = content-spare refl spare-tag parts; serialized = pass-template (open-close o n as′ cs) refl parts; alone = λ n. tt }
       on false k =
           let call = call-ok o (identifier n) as′ cs v a w g h in
-          record { parts = call-parts call (call-alone (identifier n) as′ cs); serialized = call; alone = call-alone (identifier n) as′ cs; inside = todos }
-  element-ok o l (member ns) ok as′ cs v a w g h =
+          record { parts = call-parts call (call-alone (identifier n) as′ cs); serialized = call; alone = call-alone (identifier n) as′ cs }
+  element-ok o (member ns) ok as′ cs v a w g h =
       let call = call-ok o (member ns) as′ cs v a w g h in
-      record { parts = call-parts call (call-alone (member ns) as′ cs); serialized = call; alone = call-alone (member ns) as′ cs; inside = or-either (attributes-reach-todo as′) (children-reach-todo cs) (attributes-todo o (not (is-component (member ns))) as′ v a g) (children-todo cs w h) }
-  element-ok o l (namespaced n m) ok as′ cs v a w g h =
+      record { parts = call-parts call (call-alone (member ns) as′ cs); serialized = call; alone = call-alone (member ns) as′ cs }
+  element-ok o (namespaced n m) ok as′ cs v a w g h =
       let call = call-ok o (namespaced n m) as′ cs v a w g h in
-      record { parts = call-parts call (call-alone (namespaced n m) as′ cs); serialized = call; alone = call-alone (namespaced n m) as′ cs; inside = or-either (attributes-reach-todo as′) (children-reach-todo cs) (attributes-todo o (not (is-component (namespaced n m))) as′ v a g) (children-todo cs w h) }
+      record { parts = call-parts call (call-alone (namespaced n m) as′ cs); serialized = call; alone = call-alone (namespaced n m) as′ cs }
 
   pub fragment-ok : Left → (cs : List Child) (w : ℕ) → ChildrenOk cs w → FragmentOk (fragment-of cs) (tag + w)
   unfolding fragment-of
-  fragment-ok z cs w h = record { left = z; parts = content-spare refl spare-tag (string-ok false cs w h); found = to-expr-ok cs w h; inside = children-todo cs w h }
+  fragment-ok z cs w h = record { left = z; parts = content-spare refl spare-tag (string-ok false cs w h); found = to-expr-ok cs w h }
 
-  pub element-visits : (e : Element) {w : ℕ} → ElementOk e w → VisitOk (element-raw e .visited) w
+  pub element-visits : (e : Element) {w : ℕ} → ElementOk e w → VisitOk (element-raw e) w
   unfolding element-raw
   element-visits e g = visit-done (g .serialized) (g .alone)
 
@@ -633,15 +602,15 @@ module _ (I : Invariant) where
   unfolding gen-template AloneField
   template-visits cs w g = visit-done (pass-template (children-to-string false cs) refl (string-ok false cs w g)) λ n. tt
 
-  left-visits : Left → (b : Bool) {w : ℕ} → (T b → Todo) → Spare w → VisitOk (leave b) w
-  left-visits z b {w} l s = visit-spare {a = w} (omega arith) s (visit-left z b l)
+  left-visits : Left → {w : ℕ} → Spare w → VisitOk leave w
+  left-visits z {w} s = visit-spare {a = w} (omega arith) s (visit-left z)
 
-  found-visits : Left → (b : Bool) (f : Found) (w : ℕ) → (T b → Todo) → FoundOk f w → VisitOk (visit-found b f) w
+  found-visits : Left → (f : Found) (w : ℕ) → FoundOk f w → VisitOk (visit-found f) w
   unfolding visit-found found-pass entry-pass FoundOk EntryOk pure map AloneField
-  found-visits z b nothing-found w l g = left-visits z b l g
-  found-visits z b (one-found (still m)) w l g = visit-any z (found-pass-ok (one-found (still m)) w g) λ n. g .1
-  found-visits z b (one-found (passed p)) w l g = visit-done (found-pass-ok (one-found (passed p)) w g) (g .1)
-  found-visits z b (array-found es) w l g = visit-done (found-pass-ok (array-found es) w g) λ n. tt
+  found-visits z nothing-found w g = left-visits z g
+  found-visits z (one-found (still m)) w g = visit-any z (found-pass-ok (one-found (still m)) w g) λ n. g .1
+  found-visits z (one-found (passed p)) w g = visit-done (found-pass-ok (one-found (passed p)) w g) (g .1)
+  found-visits z (array-found es) w g = visit-done (found-pass-ok (array-found es) w g) λ n. tt
 
   only-visits : Left → (c : Child) (w : ℕ) → ChildrenOk (c ∷ []) w → VisitOk (visit-only-child c) (tag + w)
   unfolding visit-only-child ChildrenOk ChildOk
@@ -649,11 +618,11 @@ module _ (I : Invariant) where
   only-visits z empty w g = template-visits (empty ∷ []) w g
   only-visits z (container s m) w g = template-visits (container s m ∷ []) w g
   only-visits z (element e) w g = let x = only (child-spare (element e)) g (g .rest) in visit-spare refl spare-tag (visit-done (x .serialized) (x .alone))
-  only-visits z (fragment f) w g = let x = only (child-spare (fragment f)) g (g .rest) in visit-spare refl spare-tag (found-visits z (f .unimplemented-inside) (f .to-expr) w (x .inside) (x .found))
-  only-visits z (spread m) w g = let x = only (child-spare (spread m)) g (g .rest) in visit-spare refl spare-tag (left-visits z (reaches-todo m) (x .1) (x .0))
+  only-visits z (fragment f) w g = let x = only (child-spare (fragment f)) g (g .rest) in visit-spare refl spare-tag (found-visits z (f .to-expr) w (x .found))
+  only-visits z (spread m) w g = let x = only (child-spare (spread m)) g (g .rest) in visit-spare refl spare-tag (left-visits z x)
 
-  pub fragment-visits : Left → (cs : List Child) (w : ℕ) → ChildrenOk cs w → VisitOk (fragment-raw cs .visited) (tag + w)
-  unfolding fragment-raw visit-fragment ChildrenOk
+  pub fragment-visits : Left → (cs : List Child) (w : ℕ) → ChildrenOk cs w → VisitOk (visit-fragment cs) (tag + w)
+  unfolding visit-fragment ChildrenOk
   fragment-visits z [] w g = visit-spare {b = 0} (omega arith) (spare-sum refl spare-tag g) visit-null
   fragment-visits z (c ∷ []) w g = only-visits z c w g
   fragment-visits z (c ∷ c′ ∷ cs) w g = template-visits (c ∷ c′ ∷ cs) w g

@@ -42,7 +42,6 @@ never-zero R.BadName e = omega arith
 never-zero R.NotUtf8 e = omega arith
 never-zero R.NumberTooLarge e = omega arith
 never-zero R.TooDeep e = omega arith
-never-zero R.Unimplemented e = omega arith
 never-zero R.TagLeft e = omega arith
 never-zero R.OutputTooLong e = omega arith
 never-zero R.TemplatesTooSmall e = omega arith

@@ -58,13 +58,12 @@ OneField (field t f i end) = attr-like t ≡ false
 OneField (field t f i (loose b)) = ⊥
 OneField (field t f i (field u g j r)) = ⊥
 
--- ---- passes. `Listed`: some attribute is listed in 03. `Fragments`: some 31 stands in the page
+-- ---- passes. `Fragments`: some 31 stands in the page
 
-module _ (Listed Fragments : Type 0) where
+module _ (Fragments : Type 0) where
   -- what holds of a pass, whatever its value
   pub record Kept {A : Type 0} (d : Done A) : Type 0 where
     pub sound : AllSound (d .templates)
-    pub listed : T (d .flags .unimplemented) → Listed
     pub fragments : T (d .flags .left) → Fragments
 
   -- the visit of a tag, which may take w numbers
@@ -77,8 +76,7 @@ module _ (Listed Fragments : Type 0) where
     pub no-fragment : T (not (d .flags .left)) → stands 0x31 (d .value) ≡ false
 
   pub record GoodRaw (w : ℕ) (q : Raw) : Type 0 where
-    pub visits : (n : ℕ) → GoodVisit w (q .visited n)
-    pub inside-listed : T (q .unimplemented-inside) → Listed
+    pub visits : (n : ℕ) → GoodVisit w (q n)
 
   -- expressions between the passes: formed fields, no 30 or 31 but those still to be visited, which may take w numbers between them
   unfoldable pub Clean : Mid → ℕ → Type 0
@@ -121,7 +119,7 @@ piece-kinds [] = []
 piece-kinds (literal b ∷ ps) = piece-kinds ps
 piece-kinds (hole k ∷ ps) = k ∷ piece-kinds ps
 
-module _ (Listed Fragments : Type 0) where
+module _ (Fragments : Type 0) where
   -- parts whose gaps are good, of the kinds that the pieces name
   unfoldable pub GoodParts : List Part → List Piece → ℕ → Type 0
   GoodParts [] [] w = Unit {0}
@@ -131,4 +129,4 @@ module _ (Listed Fragments : Type 0) where
   GoodParts (chars b ∷ ps) (hole k ∷ qs) w = ⊥
   GoodParts (gap p ∷ ps) [] w = ⊥
   GoodParts (gap p ∷ ps) (literal c ∷ qs) w = ⊥
-  GoodParts (gap p ∷ ps) (hole k ∷ qs) w = (a : ℕ) × (b : ℕ) × (a + b ≤ w) × GoodGap Listed Fragments a k p × GoodParts ps qs b
+  GoodParts (gap p ∷ ps) (hole k ∷ qs) w = (a : ℕ) × (b : ℕ) × (a + b ≤ w) × GoodGap Fragments a k p × GoodParts ps qs b

@@ -11,12 +11,12 @@ use Rattle.field.specs.Row.{Row, inside}
 use Rattle.text.specs.Escape.{escape-html}
 use Rattle.names.specs.Names.{is-void-element}
 use Rattle.page.specs.Check.{is-name}
-use Rattle.spec.specs.Pass.{Done, Pass, map, todo, Raw, Mid, none, node, raw, Part, chars, gap}
+use Rattle.spec.specs.Pass.{Done, Pass, map, Raw, Mid, none, node, raw, Part, chars, gap}
 use Rattle.spec.specs.Words.{free}
 use Rattle.spec.proofs.Good.{GoodVisit, Clean, Still, GoodPass, GoodGap, GoodParts, FormedBy, OneNode, Piece, literal, hole}
 use Rattle.spec.proofs.Ledger.{neither, is-false, kept-valued}
 use Rattle.spec.proofs.Nested.{Neutral, InTag, neutral-nil, neutral-append, neutral-text, neutral-hole, neutral-void, neutral-element, in-tag-nil, in-tag-append, in-tag-text, in-tag-hole, escape-name}
-use Rattle.spec.proofs.Closure.{OneExpr, still-weaken, still-none, still-node, still-raw, still-append, good-weaken, good-pure, good-both, good-raise, good-template, parts-weaken, parts-append, todo-listed, good-after, good-after-any, good-leave, good-null}
+use Rattle.spec.proofs.Closure.{OneExpr, still-weaken, still-none, still-node, still-raw, still-append, good-weaken, good-pure, good-both, good-raise, good-template, parts-weaken, parts-append, good-after, good-after-any, good-leave, good-null}
 use Rattle.spec.proofs.Invariant.{Alone, AloneField, Invariant}
 
 -- what stands alone is one expression
@@ -38,23 +38,23 @@ alone-expr (raw q none) h = tt
 alone-expr (raw q (node t f i r)) h = absurd h
 alone-expr (raw q (raw s r)) h = absurd h
 
-module _ (Listed Fragments : Type 0) where
+module _ (Fragments : Type 0) where
   -- ---- parts
 
   -- parts that are content, however they are filled
   pub record Content (ps : List Part) (w : ℕ) : Type 0 where
     pub pieces : List Piece
-    pub good : GoodParts Listed Fragments ps pieces w
+    pub good : GoodParts Fragments ps pieces w
     pub neutral : Neutral pieces
 
   -- parts that stand in an opening tag
   pub record Opening (ps : List Part) (w : ℕ) : Type 0 where
     pub pieces : List Piece
-    pub good : GoodParts Listed Fragments ps pieces w
+    pub good : GoodParts Fragments ps pieces w
     pub in-tag : InTag pieces
 
   pub content-weaken : {ps : List Part} {v w : ℕ} → v ≤ w → Content ps v → Content ps w
-  content-weaken {ps} h c = record { pieces = c .pieces; good = parts-weaken Listed Fragments ps (c .pieces) h (c .good); neutral = c .neutral }
+  content-weaken {ps} h c = record { pieces = c .pieces; good = parts-weaken Fragments ps (c .pieces) h (c .good); neutral = c .neutral }
 
   pub content-nil : (w : ℕ) → Content [] w
   unfolding GoodParts
@@ -64,7 +64,7 @@ module _ (Listed Fragments : Type 0) where
   content-append {ps} {qs} {a} {b} {w} h x y =
       record {
         pieces = x .pieces ++ y .pieces;
-        good = parts-weaken Listed Fragments (ps ++ qs) (x .pieces ++ y .pieces) h (parts-append Listed Fragments ps qs (x .pieces) (y .pieces) a b (x .good) (y .good));
+        good = parts-weaken Fragments (ps ++ qs) (x .pieces ++ y .pieces) h (parts-append Fragments ps qs (x .pieces) (y .pieces) a b (x .good) (y .good));
         neutral = neutral-append (x .neutral) (y .neutral);
       }
 
@@ -72,7 +72,7 @@ module _ (Listed Fragments : Type 0) where
   unfolding GoodParts
   content-text t {ps} {w} h x = record { pieces = literal t ∷ x .pieces; good = (refl, x .good); neutral = neutral-append (neutral-text t h) (x .neutral) }
 
-  pub content-gap : {p : Pass Mid} {ps : List Part} {a b w : ℕ} → a + b ≤ w → GoodGap Listed Fragments a false p → Content ps b → Content (gap p ∷ ps) w
+  pub content-gap : {p : Pass Mid} {ps : List Part} {a b w : ℕ} → a + b ≤ w → GoodGap Fragments a false p → Content ps b → Content (gap p ∷ ps) w
   unfolding GoodParts
   content-gap {p} {ps} {a} {b} {w} h g x = record { pieces = hole false ∷ x .pieces; good = (a, b, h, g, x .good); neutral = neutral-append neutral-hole (x .neutral) }
 
@@ -84,7 +84,7 @@ module _ (Listed Fragments : Type 0) where
   opening-append {ps} {qs} {a} {b} {w} h x y =
       record {
         pieces = x .pieces ++ y .pieces;
-        good = parts-weaken Listed Fragments (ps ++ qs) (x .pieces ++ y .pieces) h (parts-append Listed Fragments ps qs (x .pieces) (y .pieces) a b (x .good) (y .good));
+        good = parts-weaken Fragments (ps ++ qs) (x .pieces ++ y .pieces) h (parts-append Fragments ps qs (x .pieces) (y .pieces) a b (x .good) (y .good));
         in-tag = in-tag-append (x .in-tag) (y .in-tag);
       }
 
@@ -94,7 +94,7 @@ module _ (Listed Fragments : Type 0) where
   opening-text b w h = record { pieces = literal (32 ∷ b) ∷ []; good = (refl, tt); in-tag = in-tag-text b h }
 
   -- a space and a gap
-  pub opening-gap : {p : Pass Mid} {w : ℕ} → GoodGap Listed Fragments w true p → Opening (chars (32 ∷ []) ∷ gap p ∷ []) w
+  pub opening-gap : {p : Pass Mid} {w : ℕ} → GoodGap Fragments w true p → Opening (chars (32 ∷ []) ∷ gap p ∷ []) w
   unfolding GoodParts
   opening-gap {p} {w} g = record { pieces = literal (32 ∷ []) ∷ hole true ∷ []; good = (refl, (w, 0, omega arith, g, tt)); in-tag = in-tag-hole }
 
@@ -104,7 +104,7 @@ module _ (Listed Fragments : Type 0) where
   void-content {ps} n ok e {a} x c =
       record {
         pieces = literal (60 ∷ n) ∷ (x .pieces ++ (literal (62 ∷ []) ∷ []));
-        good = (ap (λ (b : Bytes). 60 ∷ b) (escape-name n ok), parts-append Listed Fragments ps (chars (62 ∷ []) ∷ []) (x .pieces) (literal (62 ∷ []) ∷ []) a c (x .good) (refl, tt));
+        good = (ap (λ (b : Bytes). 60 ∷ b) (escape-name n ok), parts-append Fragments ps (chars (62 ∷ []) ∷ []) (x .pieces) (literal (62 ∷ []) ∷ []) a c (x .good) (refl, tt));
         neutral = neutral-void n ok e (x .in-tag);
       }
 
@@ -115,10 +115,10 @@ module _ (Listed Fragments : Type 0) where
   element-content {ps} {qs} n ok e {a} {c} x y =
       let close : List Part = chars (60 ∷ 47 ∷ (n ++ (62 ∷ []))) ∷ [] in
       let closed : List Piece = literal (60 ∷ 47 ∷ (n ++ (62 ∷ []))) ∷ [] in
-      let back = parts-weaken Listed Fragments (qs ++ close) (y .pieces ++ closed) {v = c + 0} {w = c} (omega arith) (parts-append Listed Fragments qs close (y .pieces) closed c 0 (y .good) (refl, tt)) in
+      let back = parts-weaken Fragments (qs ++ close) (y .pieces ++ closed) {v = c + 0} {w = c} (omega arith) (parts-append Fragments qs close (y .pieces) closed c 0 (y .good) (refl, tt)) in
       record {
         pieces = literal (60 ∷ n) ∷ (x .pieces ++ (literal (62 ∷ []) ∷ (y .pieces ++ closed)));
-        good = (ap (λ (b : Bytes). 60 ∷ b) (escape-name n ok), parts-append Listed Fragments ps (chars (62 ∷ []) ∷ (qs ++ close)) (x .pieces) (literal (62 ∷ []) ∷ (y .pieces ++ closed)) a c (x .good) (refl, back));
+        good = (ap (λ (b : Bytes). 60 ∷ b) (escape-name n ok), parts-append Fragments ps (chars (62 ∷ []) ∷ (qs ++ close)) (x .pieces) (literal (62 ∷ []) ∷ (y .pieces ++ closed)) a c (x .good) (refl, back));
         neutral = neutral-element n ok e (x .in-tag) (y .neutral);
       }
 
@@ -129,11 +129,11 @@ module _ (Listed Fragments : Type 0) where
     pub first-weight : ℕ
     pub rest-weight : ℕ
     pub split-within : first-weight + rest-weight ≤ w
-    pub first : Still Listed Fragments first-weight (node t f i none)
-    pub held : Still Listed Fragments first-weight i
-    pub rest : Still Listed Fragments rest-weight r
+    pub first : Still Fragments first-weight (node t f i none)
+    pub held : Still Fragments first-weight i
+    pub rest : Still Fragments rest-weight r
 
-  pub split : (t : ℕ) (f : Bytes) (i r : Mid) (w : ℕ) → Still Listed Fragments w (node t f i r) → Parted t f i r w
+  pub split : (t : ℕ) (f : Bytes) (i r : Mid) (w : ℕ) → Still Fragments w (node t f i r) → Parted t f i r w
   unfolding Clean
   split t f i r w x =
       let c = x .clean in
@@ -147,7 +147,7 @@ module _ (Listed Fragments : Type 0) where
       }
 
   -- a tag in front of a row
-  pub split-raw : (q : Raw) (r : Mid) (w : ℕ) → Still Listed Fragments w (raw q r) → (a : ℕ) × (b : ℕ) × (a + b ≤ w) × Still Listed Fragments a (raw q none) × Still Listed Fragments b r
+  pub split-raw : (q : Raw) (r : Mid) (w : ℕ) → Still Fragments w (raw q r) → (a : ℕ) × (b : ℕ) × (a + b ≤ w) × Still Fragments a (raw q none) × Still Fragments b r
   unfolding Clean
   split-raw q r w x =
       let c = x .clean in
@@ -155,18 +155,18 @@ module _ (Listed Fragments : Type 0) where
 
   -- ---- passes and visits
 
-  pub good-map : {p : Pass Mid} {v w : ℕ} (f : Mid → Mid) (a : ℕ) → ((m : Mid) (k b c : ℕ) → a + b ≡ c → Still Listed Fragments b m → Still Listed Fragments c (f m)) → a + v ≡ w → GoodPass Listed Fragments v p → GoodPass Listed Fragments w (map f p)
+  pub good-map : {p : Pass Mid} {v w : ℕ} (f : Mid → Mid) (a : ℕ) → ((m : Mid) (k b c : ℕ) → a + b ≡ c → Still Fragments b m → Still Fragments c (f m)) → a + v ≡ w → GoodPass Fragments v p → GoodPass Fragments w (map f p)
   unfolding map
   good-map {p} f a k e g n =
       let d = g n in
       record {
-        kept = kept-valued Listed Fragments (f (p n .value)) (p n) (d .kept);
+        kept = kept-valued Fragments (f (p n .value)) (p n) (d .kept);
         left-over = a + d .left-over;
         bound = omega (arith, e, d .bound);
         clean = k (p n .value) 0 (d .left-over) (a + d .left-over) refl (record { clean = d .clean }) .clean;
       }
 
-  pub visit-weaken : {d : Done Row} {v w : ℕ} → v ≤ w → GoodVisit Listed Fragments v d → GoodVisit Listed Fragments w d
+  pub visit-weaken : {d : Done Row} {v w : ℕ} → v ≤ w → GoodVisit Fragments v d → GoodVisit Fragments w d
   visit-weaken h g = record { kept = g .kept; bound = omega (arith, g .bound); one = g .one; shaped = g .shaped; no-element = g .no-element; no-fragment = g .no-fragment }
 
   unfoldable pub good-invariant : Invariant
@@ -177,38 +177,35 @@ module _ (Listed Fragments : Type 0) where
         other = λ bs. 0;
         tag = 1;
         Spare = λ w. Unit {0};
-        Todo = Listed;
         Left = Fragments;
         NameOk = λ n. T (is-name n);
-        MidOk = λ k m w. Still Listed Fragments w m;
-        PassOk = λ p w. GoodPass Listed Fragments w p;
+        MidOk = λ k m w. Still Fragments w m;
+        PassOk = λ p w. GoodPass Fragments w p;
         Content = Content;
         Opening = Opening;
-        VisitOk = λ p w. (n : ℕ) → GoodVisit Listed Fragments w (p n);
+        VisitOk = λ p w. (n : ℕ) → GoodVisit Fragments w (p n);
         spare-sum = λ e x y. tt;
         spare-none = tt;
         spare-tag = tt;
-        mid-spare = λ e s x. still-weaken Listed Fragments (omega (arith, e)) x;
-        pass-spare = λ e s x. good-weaken Listed Fragments (omega (arith, e)) x;
+        mid-spare = λ e s x. still-weaken Fragments (omega (arith, e)) x;
+        pass-spare = λ e s x. good-weaken Fragments (omega (arith, e)) x;
         content-spare = λ e s x. content-weaken (omega (arith, e)) x;
         visit-spare = λ e s x n. visit-weaken (omega (arith, e)) (x n);
-        mid-none = still-none Listed Fragments 0;
-        mid-node = λ t f h g d e x y. still-weaken Listed Fragments (omega (arith, e)) (still-node Listed Fragments t f (neither (eqb t 0x30 || eqb t 0x31) (eqb t 0x90 || (eqb t 0x74 || eqb t 0x79)) h .0) g x y);
-        mid-literal = λ b e x. still-weaken Listed Fragments (omega (arith, e)) (still-node Listed Fragments 0x74 b tt tt (still-none Listed Fragments 0) x);
-        mid-other = λ i e x y. still-weaken Listed Fragments (omega (arith, e)) (still-node Listed Fragments 0x79 [] tt tt x y);
-        mid-raw = λ e x t y. still-weaken Listed Fragments (omega (arith, e)) (still-raw Listed Fragments (record { visits = x; inside-listed = t }) y);
-        mid-append = λ d e x y. still-weaken Listed Fragments (omega (arith, e)) (still-append Listed Fragments x y);
+        mid-none = still-none Fragments 0;
+        mid-node = λ t f h g d e x y. still-weaken Fragments (omega (arith, e)) (still-node Fragments t f (neither (eqb t 0x30 || eqb t 0x31) (eqb t 0x90 || (eqb t 0x74 || eqb t 0x79)) h .0) g x y);
+        mid-literal = λ b e x. still-weaken Fragments (omega (arith, e)) (still-node Fragments 0x74 b tt tt (still-none Fragments 0) x);
+        mid-other = λ i e x y. still-weaken Fragments (omega (arith, e)) (still-node Fragments 0x79 [] tt tt x y);
+        mid-raw = λ e x y. still-weaken Fragments (omega (arith, e)) (still-raw Fragments (record { visits = x }) y);
+        mid-append = λ d e x y. still-weaken Fragments (omega (arith, e)) (still-append Fragments x y);
         mid-nothing = λ x. tt;
-        mid-inner = λ {t} {f} {i} {w} h x. let k = split t f i none w x in still-weaken Listed Fragments (omega (arith, k .split-within)) (k .held);
+        mid-inner = λ {t} {f} {i} {w} h x. let k = split t f i none w x in still-weaken Fragments (omega (arith, k .split-within)) (k .held);
         mid-field = λ {t} {f} {i} {r} {w} x. let k = split t f i r w x in record { first = k .first-weight; second = k .rest-weight; spared = w - (k .first-weight + k .rest-weight); sum = omega (arith, k .split-within); spare = tt; one = k .first; rest = k .rest };
         mid-tag = λ {q} {r} {w} x. let k = split-raw q r w x in record { first = k .0; second = k .1; spared = w - (k .0 + k .1); sum = omega (arith, k .2); spare = tt; one = k .3; rest = k .4 };
-        mid-todo = λ {m} {w} x t. todo-listed Listed Fragments m w (x .clean) t;
-        pass-pure = good-pure Listed Fragments;
-        pass-both = λ e g h. good-weaken Listed Fragments (omega (arith, e)) (good-both Listed Fragments g h);
+        pass-pure = good-pure Fragments;
+        pass-both = λ e g h. good-weaken Fragments (omega (arith, e)) (good-both Fragments g h);
         pass-map = good-map;
-        pass-raise = λ f t l g. good-raise Listed Fragments f t l g;
-        pass-todo = λ t x g. good-weaken Listed Fragments (omega arith) (good-raise Listed Fragments todo (λ h. t) (λ h. absurd h) g);
-        pass-template = λ ps {v} {w} e c. good-weaken Listed Fragments (omega (arith, e)) (good-template Listed Fragments ps (c .pieces) v (c .good) (c .neutral) .good);
+        pass-raise = λ f l g. good-raise Fragments f l g;
+        pass-template = λ ps {v} {w} e c. good-weaken Fragments (omega (arith, e)) (good-template Fragments ps (c .pieces) v (c .good) (c .neutral) .good);
         content-none = content-nil 0;
         content-text = content-text;
         content-gap = λ {p} e g a x. content-gap (omega (arith, e)) (record { good = g; one = λ n. field-node (p n .value) (a n) }) x;
@@ -219,8 +216,8 @@ module _ (Listed Fragments : Type 0) where
         opening-text = λ b {w} s h. opening-text b w h;
         opening-gap = λ g a. opening-gap (record { good = g; one = a });
         opening-append = λ e s x y. opening-append (omega (arith, e)) x y;
-        visit-done = λ {p} g a. good-after Listed Fragments (record { good = g; one = λ n. field-node (p n .value) (a n) });
-        visit-any = λ {p} z g a. good-after-any Listed Fragments z g λ n. alone-expr (p n .value) (a n);
-        visit-left = λ z b t. good-leave Listed Fragments b z t;
-        visit-null = good-null Listed Fragments;
+        visit-done = λ {p} g a. good-after Fragments (record { good = g; one = λ n. field-node (p n .value) (a n) });
+        visit-any = λ {p} z g a. good-after-any Fragments z g λ n. alone-expr (p n .value) (a n);
+        visit-left = good-leave Fragments;
+        visit-null = good-null Fragments;
       }

@@ -11,9 +11,9 @@ use Rattle.field.specs.Row.{Row, end, field, inside}
 use Rattle.text.specs.Escape.{escape-html}
 use Rattle.names.specs.Names.{is-void-element}
 use Rattle.spec.specs.declared.Flags.{Flags}
-use Rattle.spec.specs.Pass.{Pass, pure, map, both, raise, todo, Raw, Mid, none, node, raw, _+++_, Part, chars, gap}
+use Rattle.spec.specs.Pass.{Pass, pure, map, both, raise, Raw, Mid, none, node, raw, _+++_, Part, chars, gap}
 use Rattle.spec.specs.Output.{gen-template}
-use Rattle.spec.specs.Visit.{visit-after, leave, reaches-todo}
+use Rattle.spec.specs.Visit.{visit-after, leave}
 use Rattle.spec.specs.Words.{free}
 use Rattle.spec.proofs.Good.{FormedBy, OneNode}
 
@@ -64,8 +64,7 @@ pub record Invariant : Type 1 where
   pub other : List Bytes → ℕ
   pub tag : ℕ
   pub Spare : ℕ → Type 0
-  -- `todo!` may be reached, a tag may be left, and what names of serialized elements are
-  pub Todo : Type 0
+  -- a tag may be left, and what names of serialized elements are
   pub Left : Type 0
   pub NameOk : Bytes → Type 0
   -- expressions with so many template calls, a first pass, parts as content and in an opening tag, the visit of a tag; the last number is the weight
@@ -86,20 +85,18 @@ pub record Invariant : Type 1 where
   pub mid-node : (t : ℕ) (f : Bytes) {i r : Mid} {j k l a b w : ℕ} → T (plain t) → FormedBy (inside t) f i → j + k ≡ l → a + b ≡ w → MidOk j i a → MidOk k r b → MidOk l (node t f i r) w
   pub mid-literal : (b : Bytes) {r : Mid} {v w : ℕ} → literal b + v ≡ w → MidOk 0 r v → MidOk 0 (node 0x74 b none r) w
   pub mid-other : (i : Mid) {r : Mid} {a b w : ℕ} → other (sources i) + (a + b) ≡ w → MidOk 0 i a → MidOk 0 r b → MidOk 0 (node 0x79 [] i r) w
-  pub mid-raw : {q : Raw} {r : Mid} {a b w : ℕ} → a + b ≡ w → VisitOk (q .visited) a → (T (q .unimplemented-inside) → Todo) → MidOk 0 r b → MidOk 0 (raw q r) w
+  pub mid-raw : {q : Raw} {r : Mid} {a b w : ℕ} → a + b ≡ w → VisitOk q a → MidOk 0 r b → MidOk 0 (raw q r) w
   pub mid-append : {x y : Mid} {j k l a b w : ℕ} → j + k ≡ l → a + b ≡ w → MidOk j x a → MidOk k y b → MidOk l (x +++ y) w
   -- and taken apart again, where a call's children are an array
   pub mid-nothing : {w : ℕ} → MidOk 0 none w → Spare w
   pub mid-inner : {t : ℕ} {f : Bytes} {i : Mid} {w : ℕ} → T (eqb t 0x76 || eqb t 0x77) → MidOk 0 (node t f i none) w → MidOk 0 i w
   pub mid-field : {t : ℕ} {f : Bytes} {i r : Mid} {w : ℕ} → MidOk 0 (node t f i r) w → Split Spare (MidOk 0 (node t f i none)) (MidOk 0 r) w
   pub mid-tag : {q : Raw} {r : Mid} {w : ℕ} → MidOk 0 (raw q r) w → Split Spare (MidOk 0 (raw q none)) (MidOk 0 r) w
-  pub mid-todo : {m : Mid} {w : ℕ} → MidOk 0 m w → T (reaches-todo m) → Todo
-  -- first passes; where `todo!` is reached the page is refused, whatever is lost
+  -- first passes
   pub pass-pure : {m : Mid} {w : ℕ} → MidOk 0 m w → PassOk (pure m) w
   pub pass-both : {p q : Pass Mid} {a b w : ℕ} → a + b ≡ w → PassOk p a → PassOk q b → PassOk (both _+++_ p q) w
   pub pass-map : {p : Pass Mid} {v w : ℕ} (f : Mid → Mid) (a : ℕ) → ((m : Mid) (k b c : ℕ) → a + b ≡ c → MidOk k m b → MidOk k (f m) c) → a + v ≡ w → PassOk p v → PassOk (map f p) w
-  pub pass-raise : {p : Pass Mid} {w : ℕ} (f : Flags) → (T (f .unimplemented) → Todo) → (T (f .left) → Left) → PassOk p w → PassOk (raise f p) w
-  pub pass-todo : {p : Pass Mid} {m : Mid} {w : ℕ} → Todo → MidOk 0 m w → PassOk p 0 → PassOk (raise todo p) w
+  pub pass-raise : {p : Pass Mid} {w : ℕ} (f : Flags) → (T (f .left) → Left) → PassOk p w → PassOk (raise f p) w
   pub pass-template : (ps : List Part) {v w : ℕ} → tag + v ≡ w → Content ps v → PassOk (gen-template ps) w
   -- parts
   pub content-none : Content [] 0
@@ -116,5 +113,5 @@ pub record Invariant : Type 1 where
   -- visits
   pub visit-done : {p : Pass Mid} {w : ℕ} → PassOk p w → ((n : ℕ) → AloneField (p n .value)) → VisitOk (visit-after p) w
   pub visit-any : {p : Pass Mid} {w : ℕ} → Left → PassOk p w → ((n : ℕ) → Alone (p n .value)) → VisitOk (visit-after p) w
-  pub visit-left : Left → (b : Bool) → (T b → Todo) → VisitOk (leave b) 0
+  pub visit-left : Left → VisitOk leave 0
   pub visit-null : VisitOk (pure (field 0x73 [] end end)) 0

@@ -24,17 +24,16 @@ use Rattle.spec.proofs.Ledger.{neither}
 use Rattle.spec.proofs.Invariant.{Split, Alone, sources}
 use Rattle.spec.proofs.Counting.{None, uncounted, Counting, every-page}
 
--- ---- pages that are not refused
+-- ---- pages in which no tag is left
 
-pub record Unflagged (f : Flags) : Type 0 where
-  pub implemented : T (not (f .unimplemented))
-  pub none-left : T (not (f .left))
+abbrev Unflagged : Flags → Type 0
+Unflagged f = T (not (f .left))
 
 unflagged-left : (f g : Flags) → Unflagged (join f g) → Unflagged f
-unflagged-left f g c = record { implemented = neither (f .unimplemented) (g .unimplemented) (c .implemented) .0; none-left = neither (f .left) (g .left) (c .none-left) .0 }
+unflagged-left f g c = neither (f .left) (g .left) c .0
 
 unflagged-right : (f g : Flags) → Unflagged (join f g) → Unflagged g
-unflagged-right f g c = record { implemented = neither (f .unimplemented) (g .unimplemented) (c .implemented) .1; none-left = neither (f .left) (g .left) (c .none-left) .1 }
+unflagged-right f g c = neither (f .left) (g .left) c .1
 
 -- ---- source pieces of a row
 
@@ -85,12 +84,12 @@ module _ (literal : Bytes → ℕ) (other : List Bytes → ℕ) where
   data Holds : Mid → ℕ → Type 0 where
     none-holds : {w : ℕ} → w ≡ 0 → Holds none w
     node-holds : {t : ℕ} {f : Bytes} {i r : Mid} {w : ℕ} (a b : ℕ) → at-field literal other t f (sources i) + (a + b) ≡ w → Holds i a → Holds r b → Holds (node t f i r) w
-    raw-holds : {q : Raw} {r : Mid} {w : ℕ} (a b : ℕ) → a + b ≡ w → ((n : ℕ) → Unflagged (q .visited n .flags) → Visited a (q .visited n)) → Holds r b → Holds (raw q r) w
+    raw-holds : {q : Raw} {r : Mid} {w : ℕ} (a b : ℕ) → a + b ≡ w → ((n : ℕ) → Unflagged (q n .flags) → Visited a (q n)) → Holds r b → Holds (raw q r) w
 
   holds-node : {t : ℕ} {f : Bytes} {i r : Mid} {w : ℕ} (a b : ℕ) → at-field literal other t f (sources i) + (a + b) ≡ w → Holds i a → Holds r b → Holds (node t f i r) w
   holds-node a b e x y = node-holds a b e x y
 
-  holds-raw : {q : Raw} {r : Mid} {w : ℕ} (a b : ℕ) → a + b ≡ w → ((n : ℕ) → Unflagged (q .visited n .flags) → Visited a (q .visited n)) → Holds r b → Holds (raw q r) w
+  holds-raw : {q : Raw} {r : Mid} {w : ℕ} (a b : ℕ) → a + b ≡ w → ((n : ℕ) → Unflagged (q n .flags) → Visited a (q n)) → Holds r b → Holds (raw q r) w
   holds-raw a b e x y = raw-holds a b e x y
 
   holds-append : {x y : Mid} {a b w : ℕ} → a + b ≡ w → Holds x a → Holds y b → Holds (x +++ y) w
@@ -136,7 +135,7 @@ module _ (literal : Bytes → ℕ) (other : List Bytes → ℕ) where
       let k = ap (at-field literal other t f) (u .pieces) in
       record { count = omega (arith, e, k, u .count, v .count); pieces = pieces-behind t f (v .pieces) }
   visits (raw-holds {q = q} {r = r} a b e x y) n c =
-      let d = q .visited n in
+      let d = q n in
       let s = visit-exprs r (n + d .taken) in
       let u = x n (unflagged-left (d .flags) (s .flags) c) in
       let v = visits y (n + d .taken) (unflagged-right (d .flags) (s .flags) c) in
@@ -155,7 +154,7 @@ module _ (literal : Bytes → ℕ) (other : List Bytes → ℕ) where
       on false h = refl
   inside (node t f i (node u g j r)) x a n c = absurd a
   inside (node t f i (raw q r)) x a n c = absurd a
-  inside (raw q r) x a n c = absurd (c .none-left)
+  inside (raw q r) x a n c = absurd c
 
   counting : Counting
   counting =
@@ -178,11 +177,10 @@ module _ (literal : Bytes → ℕ) (other : List Bytes → ℕ) where
         pass-pure = λ x. unfold pure in λ n c. x;
         pass-both = λ {p} {q} e g h. unfold both in λ n c. let d = p n in let s = q (n + d .taken) in holds-append e (g n (unflagged-left (d .flags) (s .flags) c)) (h (n + d .taken) (unflagged-right (d .flags) (s .flags) c));
         pass-map = λ {p} {v} {w} f a k e g. unfold map in λ n c. k (p n .value) 0 v w e (g n c);
-        pass-raise = λ f g. unfold raise in λ n c. g n (unflagged-right f _ c);
-        pass-todo = λ x g. unfold raise in λ n c. absurd (c .implemented);
+        pass-raise = λ {p} f g. unfold raise in λ n c. g n (unflagged-right f (p n .flags) c);
         pass-template = λ ps {w} g. unfold gen-template in λ n c. holds-node w 0 (omega arith) (g (n + 1) c) (none-holds refl);
         visit-done = λ {p} g a. unfold visit-after bind in λ n c. let d = p n in let s = visit-inside (d .value) (n + d .taken) in let v = inside (d .value) (g n (unflagged-left (d .flags) (s .flags) c)) (a n) (n + d .taken) (unflagged-right (d .flags) (s .flags) c) in record { count = v .count; no-pieces = v .no-pieces };
-        visit-left = λ b. unfold leave raise in λ n c. absurd (c .none-left);
+        visit-left = unfold leave raise in λ n c. absurd c;
         visit-null = unfold pure in-row texts-in choose in λ n c. record { count = refl; no-pieces = refl };
       }
 
@@ -216,7 +214,6 @@ kept-bytes page options scratch tr pr w all e =
     let o = options-in (read options) in
     let p = page-in (read page) in
     let says = accepted-says page options scratch tr pr w e in
-    let unflagged : Unflagged (transform o p .flags) = record { implemented = says .outputs .implemented; none-left = says .outputs .none-left } in
     let out = sym (page-read page options scratch tr pr w all e) in
-    let both-ways : (l : Bytes → ℕ) (x : List Bytes → ℕ) → in-row l x (read (w .page-out)) ≡ in-page l x o p = λ l x. subst (λ (r : Row). in-row l x r ≡ in-page l x o p) out (kept l x o p unflagged) in
+    let both-ways : (l : Bytes → ℕ) (x : List Bytes → ℕ) → in-row l x (read (w .page-out)) ≡ in-page l x o p = λ l x. subst (λ (r : Row). in-row l x r ≡ in-page l x o p) out (kept l x o p (says .outputs .none-left)) in
     record { literals = λ b. both-ways (λ c. bit (same b c) 1) (λ cs. 0); others = λ bs. both-ways (λ c. 0) (λ cs. bit (same-pieces bs cs) 1) }

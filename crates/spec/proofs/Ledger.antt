@@ -161,26 +161,20 @@ valued v d = record { value = v; taken = d .taken; templates = d .templates; fla
 abbrev pub raised : {A : Type 0} → Flags → Done A → Done A
 raised f d = record { value = d .value; taken = d .taken; templates = d .templates; flags = join f (d .flags) }
 
-module _ (Listed Fragments : Type 0) where
-  pub kept-pure : {A : Type 0} (v : A) (n : ℕ) → Kept Listed Fragments (pure v n)
+module _ (Fragments : Type 0) where
+  pub kept-pure : {A : Type 0} (v : A) (n : ℕ) → Kept Fragments (pure v n)
   unfolding pure AllSound
-  kept-pure v n = record { sound = tt; listed = λ t. absurd t; fragments = λ t. absurd t }
+  kept-pure v n = record { sound = tt; fragments = λ t. absurd t }
 
-  pub kept-valued : {A B : Type 0} (v : B) (d : Done A) → Kept Listed Fragments d → Kept Listed Fragments (valued v d)
-  kept-valued v d k = record { sound = k .sound; listed = k .listed; fragments = k .fragments }
+  pub kept-valued : {A B : Type 0} (v : B) (d : Done A) → Kept Fragments d → Kept Fragments (valued v d)
+  kept-valued v d k = record { sound = k .sound; fragments = k .fragments }
 
-  pub kept-raised : {A : Type 0} (f : Flags) (d : Done A) → (T (f .unimplemented) → Listed) → (T (f .left) → Fragments) → Kept Listed Fragments d → Kept Listed Fragments (raised f d)
-  kept-raised f d l r k =
-      record {
-        sound = k .sound;
-        listed = or-either (f .unimplemented) (d .flags .unimplemented) l (k .listed);
-        fragments = or-either (f .left) (d .flags .left) r (k .fragments);
-      }
+  pub kept-raised : {A : Type 0} (f : Flags) (d : Done A) → (T (f .left) → Fragments) → Kept Fragments d → Kept Fragments (raised f d)
+  kept-raised f d r k = record { sound = k .sound; fragments = or-either (f .left) (d .flags .left) r (k .fragments) }
 
-  pub kept-then : {A B C : Type 0} (v : C) (d : Done A) (e : Done B) → Kept Listed Fragments d → Kept Listed Fragments e → Kept Listed Fragments (then v d e)
+  pub kept-then : {A B C : Type 0} (v : C) (d : Done A) (e : Done B) → Kept Fragments d → Kept Fragments e → Kept Fragments (then v d e)
   kept-then v d e k l =
       record {
         sound = sound-append (d .templates) (e .templates) (k .sound) (l .sound);
-        listed = or-either (d .flags .unimplemented) (e .flags .unimplemented) (k .listed) (l .listed);
         fragments = or-either (d .flags .left) (e .flags .left) (k .fragments) (l .fragments);
       }

@@ -174,7 +174,7 @@ module _ (page : Row) (all : List Template) (balance : (p : Test) → called-row
 
 -- ---- both outputs
 
-module _ (Listed Fragments : Type 0) (o : Options) (p : Page) (w : ℕ) (good : Visited Listed Fragments w (transform o p)) (few : transform o p .taken ≤ 65535) (none-left : T (not (transform o p .flags .left))) where
+module _ (Fragments : Type 0) (o : Options) (p : Page) (w : ℕ) (good : Visited Fragments w (transform o p)) (few : transform o p .taken ≤ 65535) (none-left : T (not (transform o p .flags .left))) where
   within : AllWithin (transform o p .taken) (transform o p .templates)
   within = all-within (transform o p .taken) (transform o p .templates) (λ m l. numbers o p m ∙ span-above 1 (transform o p .taken) m (omega arith))
 

@@ -29,10 +29,9 @@ pub data Outcome : Type 0 where
   refused : Refusal → Outcome
   accepted : Written → Outcome
 
--- 9, 10 and 11, over the whole; then 12 and 13
+-- 10 and 11, over the whole; then 12 and 13
 unfoldable pub check-outputs : (templates-room page-room : ℕ) → Flags → (templates page : Row) → Verdict
 check-outputs tr pr f t p =
-    after (unless (not (f .unimplemented)) R.Unimplemented) λ _.
     after (unless (not (f .left)) R.TagLeft) λ _.
     after (unless (not (f .long || (long-body t || long-body p))) R.OutputTooLong) λ _.
     after (unless (leb (length (bytes t)) tr) R.TemplatesTooSmall) λ _.
@@ -47,7 +46,7 @@ transformed tr pr o d =
     decided (check-outputs tr pr (d .flags) (templates-row (d .templates)) (page-out-row o d))
     λ _. accepted (record { templates-out = bytes (templates-row (d .templates)); page-out = bytes (page-out-row o d); templates = length (d .templates) })
 
--- 1 and 2 first, then 3 to 8 of options and page, then 9 to 13
+-- 1 and 2 first, then 3 to 8 of options and page, then 10 to 13
 unfoldable pub check-inputs : (page options : Bytes) (scratch : ℕ) → Verdict
 check-inputs page options scratch =
     after (unless (leb 65536 scratch) R.ScratchTooSmall) λ _.
@@ -101,7 +100,6 @@ scratch-left (refused R.BadName) b = zeros b
 scratch-left (refused R.NotUtf8) b = zeros b
 scratch-left (refused R.NumberTooLarge) b = zeros b
 scratch-left (refused R.TooDeep) b = zeros b
-scratch-left (refused R.Unimplemented) b = zeros b
 scratch-left (refused R.TagLeft) b = zeros b
 scratch-left (refused R.OutputTooLong) b = zeros b
 scratch-left (refused R.TemplatesTooSmall) b = zeros b

@@ -8,7 +8,7 @@ use Rattle.text.specs.Text.{normalize-lit-str}
 use Rattle.names.specs.Names.{AttrName, get-attr-name, is-boolean-attr}
 use Rattle.page.specs.Number.{render}
 use Rattle.page.specs.Page.{Name, identifier, member, namespaced, Options}
-use Rattle.spec.specs.Pass.{Pass, pure, raise, todo, Raw, Mid, none, node, raw, _+++_, Part, chars, gap}
+use Rattle.spec.specs.Pass.{Pass, pure, Raw, Mid, none, node, raw, _+++_, Part, chars, gap}
 use Rattle.spec.specs.Output.{leaf, string-node, true-node, null-node, attr-node, choice-node, prop-node}
 use Rattle.spec.specs.Merge.{Shape, string-shape, number-shape, boolean-shape, null-shape, literal-shape, minus-shape, other-shape}
 
@@ -51,12 +51,12 @@ serialize-attr n v = 32 ∷ (escape-html n ++ (61 ∷ 34 ∷ (escape-html v ++ (
 abbrev pub attr-gap : Bytes → Mid → List Part
 attr-gap n e = chars (32 ∷ []) ∷ gap (pure (attr-node n e)) ∷ []
 
--- an attribute that is listed in 03; a container there is `todo!`
+-- an attribute that is listed in 03. 02, A1: where 000 stops at a container (`todo!`) its expression is passed, and null for an empty one
 unfoldable pub listed-attr : Bytes → Value → List Part
 listed-attr n absent = attr-gap n true-node
 listed-attr n (string b) = attr-gap n (string-node b)
-listed-attr n empty = chars (32 ∷ []) ∷ gap (raise todo (pure (attr-node n null-node))) ∷ []
-listed-attr n (container s m) = chars (32 ∷ []) ∷ gap (raise todo (pure (attr-node n null-node))) ∷ []
+listed-attr n empty = attr-gap n null-node
+listed-attr n (container s m) = attr-gap n m
 listed-attr n (tag r) = attr-gap n (raw r none)
 
 -- an expression that is no literal to be written out: a choice for a boolean attribute

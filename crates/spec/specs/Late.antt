@@ -24,11 +24,10 @@ page-need o d = length (bytes (page-out-row o d))
 abbrev pub over-long : Options → Done Row → Bool
 over-long o d = d .flags .long || (long-body (templates-row (d .templates)) || long-body (page-out-row o d))
 
--- 01, Limits: 9 to 13 over the whole, the lower number first; taken where none is given
+-- 01, Limits: 10 to 13 over the whole, the lower number first; taken where none is given
 pub data Late (templates-room page-room : ℕ) (o : Options) (d : Done Row) : Outcome → Type 0 where
-  unimplemented : T (d .flags .unimplemented) → Late templates-room page-room o d (refused R.Unimplemented)
-  tag-left : T (not (d .flags .unimplemented)) → T (d .flags .left) → Late templates-room page-room o d (refused R.TagLeft)
-  too-long : T (not (d .flags .unimplemented)) → T (not (d .flags .left)) → T (over-long o d) → Late templates-room page-room o d (refused R.OutputTooLong)
-  templates-small : T (not (d .flags .unimplemented)) → T (not (d .flags .left)) → T (not (over-long o d)) → templates-room < templates-need d → Late templates-room page-room o d (refused R.TemplatesTooSmall)
-  page-small : T (not (d .flags .unimplemented)) → T (not (d .flags .left)) → T (not (over-long o d)) → templates-need d ≤ templates-room → page-room < page-need o d → Late templates-room page-room o d (refused R.PageTooSmall)
-  taken : T (not (d .flags .unimplemented)) → T (not (d .flags .left)) → T (not (over-long o d)) → templates-need d ≤ templates-room → page-need o d ≤ page-room → Late templates-room page-room o d (accepted (written o d))
+  tag-left : T (d .flags .left) → Late templates-room page-room o d (refused R.TagLeft)
+  too-long : T (not (d .flags .left)) → T (over-long o d) → Late templates-room page-room o d (refused R.OutputTooLong)
+  templates-small : T (not (d .flags .left)) → T (not (over-long o d)) → templates-room < templates-need d → Late templates-room page-room o d (refused R.TemplatesTooSmall)
+  page-small : T (not (d .flags .left)) → T (not (over-long o d)) → templates-need d ≤ templates-room → page-room < page-need o d → Late templates-room page-room o d (refused R.PageTooSmall)
+  taken : T (not (d .flags .left)) → T (not (over-long o d)) → templates-need d ≤ templates-room → page-need o d ≤ page-room → Late templates-room page-room o d (accepted (written o d))

@@ -35,9 +35,9 @@ fld t b = t ∷ (big-endian 2 (length b) [] ++ b)
 abbrev pub mark : Bytes → Bytes → ℕ → ℕ → ℕ → ℕ → ℕ → Bytes → Bytes → Mark
 mark p o d s r n f so po = record { page = p; options = o; scratch = d; templates-room = s; page-room = r; expected = record { number = n; templates = f; templates-out = so; page-out = po } }
 
-unfoldable pub Kept : List Mark → Type 0
-Kept [] = Unit {0}
-Kept (m ∷ ms) = (reply (outcome (m .page) (m .options) (m .scratch) (m .templates-room) (m .page-room)) ≡ m .expected) × Kept ms
+unfoldable pub AllHold : List Mark → Type 0
+AllHold [] = Unit {0}
+AllHold (m ∷ ms) = (reply (outcome (m .page) (m .options) (m .scratch) (m .templates-room) (m .page-room)) ≡ m .expected) × AllHold ms
 
 abbrev pub marks : List Mark
 marks =
@@ -63,8 +63,14 @@ marks =
     mark (fld 0x01 (fld 0x12 (fld 0x30 ((fld 0x40 (ascii "Foo")) ++ ((fld 0x60 (ascii "a")) ++ ((fld 0x52 (fld 0x70 (ascii "<"))) ++ (fld 0x30 (fld 0x40 (ascii "i"))))))))) [] 65536 65536 65536 0 1 (fld 0x80 ((0 ∷ 1 ∷ []) ++ (fld 0x81 (ascii "a&amp;lt;<i></i>")))) ((fld 0x82 ((fld 0x81 (ascii "react/jsx-runtime")) ++ (3 ∷ []))) ++ ((fld 0x83 []) ++ (fld 0x12 (fld 0x94 ((fld 0x40 (ascii "Foo")) ++ (fld 0x95 (fld 0x96 ((fld 0x81 (ascii "children")) ++ (fld 0x90 (0 ∷ 1 ∷ [])))))))))) ∷
     -- K9 <a b={-0}/>
     mark (fld 0x01 (fld 0x12 (fld 0x30 ((fld 0x40 (ascii "a")) ++ (fld 0x50 ((fld 0x40 (ascii "b")) ++ (fld 0x52 (fld 0x75 (0 ∷ 0 ∷ 0 ∷ 0 ∷ 0 ∷ 0 ∷ 0 ∷ 0 ∷ []))))))))) [] 65536 65536 65536 0 1 (fld 0x80 ((0 ∷ 1 ∷ []) ++ (fld 0x81 (ascii "<a b=\"-0\"></a>")))) ((fld 0x82 ((fld 0x81 (ascii "react/jsx-runtime")) ++ (2 ∷ []))) ++ ((fld 0x83 []) ++ (fld 0x12 (fld 0x90 (0 ∷ 1 ∷ []))))) ∷
-    -- K10 <p class={x}/>, class in 03
-    mark (fld 0x01 (fld 0x12 (fld 0x30 ((fld 0x40 (ascii "p")) ++ (fld 0x50 ((fld 0x40 (ascii "class")) ++ (fld 0x52 (fld 0x79 (fld 0x20 (ascii "x")))))))))) (fld 0x03 (fld 0x20 (ascii "class"))) 65536 65536 65536 9 0 [] [] ∷
+    -- K10 <a b={-0}/>, b in 03
+    mark (fld 0x01 (fld 0x12 (fld 0x30 ((fld 0x40 (ascii "a")) ++ (fld 0x50 ((fld 0x40 (ascii "b")) ++ (fld 0x52 (fld 0x75 (0 ∷ 0 ∷ 0 ∷ 0 ∷ 0 ∷ 0 ∷ 0 ∷ 0 ∷ []))))))))) (fld 0x03 (fld 0x20 (ascii "b"))) 65536 65536 65536 0 1 (fld 0x80 ((0 ∷ 1 ∷ []) ++ ((fld 0x81 (ascii "<a ")) ++ (fld 0x81 (ascii "></a>"))))) ((fld 0x82 ((fld 0x81 (ascii "react/jsx-runtime")) ++ (6 ∷ []))) ++ ((fld 0x83 []) ++ (fld 0x12 (fld 0x90 ((0 ∷ 1 ∷ []) ++ (fld 0x91 ((fld 0x81 (ascii "b")) ++ (fld 0x75 (0 ∷ 0 ∷ 0 ∷ 0 ∷ 0 ∷ 0 ∷ 0 ∷ 0 ∷ []))))))))) ∷
+    -- <p class={x}/>, class in 03
+    mark (fld 0x01 (fld 0x12 (fld 0x30 ((fld 0x40 (ascii "p")) ++ (fld 0x50 ((fld 0x40 (ascii "class")) ++ (fld 0x52 (fld 0x79 (fld 0x20 (ascii "x")))))))))) (fld 0x03 (fld 0x20 (ascii "class"))) 65536 65536 65536 0 1 (fld 0x80 ((0 ∷ 1 ∷ []) ++ ((fld 0x81 (ascii "<p ")) ++ (fld 0x81 (ascii "></p>"))))) ((fld 0x82 ((fld 0x81 (ascii "react/jsx-runtime")) ++ (6 ∷ []))) ++ ((fld 0x83 []) ++ (fld 0x12 (fld 0x90 ((0 ∷ 1 ∷ []) ++ (fld 0x91 ((fld 0x81 (ascii "class")) ++ (fld 0x79 (fld 0x20 (ascii "x")))))))))) ∷
+    -- <p class={}/>, class in 03
+    mark (fld 0x01 (fld 0x12 (fld 0x30 ((fld 0x40 (ascii "p")) ++ (fld 0x50 ((fld 0x40 (ascii "class")) ++ (fld 0x52 []))))))) (fld 0x03 (fld 0x20 (ascii "class"))) 65536 65536 65536 0 1 (fld 0x80 ((0 ∷ 1 ∷ []) ++ ((fld 0x81 (ascii "<p ")) ++ (fld 0x81 (ascii "></p>"))))) ((fld 0x82 ((fld 0x81 (ascii "react/jsx-runtime")) ++ (6 ∷ []))) ++ ((fld 0x83 []) ++ (fld 0x12 (fld 0x90 ((0 ∷ 1 ∷ []) ++ (fld 0x91 ((fld 0x81 (ascii "class")) ++ (fld 0x73 [])))))))) ∷
+    -- <p class={<i/>}/>, class in 03
+    mark (fld 0x01 (fld 0x12 (fld 0x30 ((fld 0x40 (ascii "p")) ++ (fld 0x50 ((fld 0x40 (ascii "class")) ++ (fld 0x52 (fld 0x30 (fld 0x40 (ascii "i")))))))))) (fld 0x03 (fld 0x20 (ascii "class"))) 65536 65536 65536 0 2 ((fld 0x80 ((0 ∷ 1 ∷ []) ++ ((fld 0x81 (ascii "<p ")) ++ (fld 0x81 (ascii "></p>"))))) ++ (fld 0x80 ((0 ∷ 2 ∷ []) ++ (fld 0x81 (ascii "<i></i>"))))) ((fld 0x82 ((fld 0x81 (ascii "react/jsx-runtime")) ++ (6 ∷ []))) ++ ((fld 0x83 []) ++ (fld 0x12 (fld 0x90 ((0 ∷ 1 ∷ []) ++ (fld 0x91 ((fld 0x81 (ascii "class")) ++ (fld 0x90 (0 ∷ 2 ∷ []))))))))) ∷
     -- const a = <p class="t">Hi {n}</p>;
     mark (fld 0x01 (fld 0x12 ((fld 0x20 (ascii "const a = ")) ++ ((fld 0x30 ((fld 0x40 (ascii "p")) ++ ((fld 0x50 ((fld 0x40 (ascii "class")) ++ (fld 0x51 (ascii "t")))) ++ ((fld 0x60 (ascii "Hi ")) ++ (fld 0x52 (fld 0x79 (fld 0x20 (ascii "n")))))))) ++ (fld 0x20 (ascii ";")))))) [] 65536 65536 65536 0 1 (fld 0x80 ((0 ∷ 1 ∷ []) ++ ((fld 0x81 (ascii "<p class=\"t\">Hi ")) ++ (fld 0x81 (ascii "</p>"))))) ((fld 0x82 ((fld 0x81 (ascii "react/jsx-runtime")) ++ (10 ∷ []))) ++ ((fld 0x83 []) ++ (fld 0x12 ((fld 0x20 (ascii "const a = ")) ++ ((fld 0x90 ((0 ∷ 1 ∷ []) ++ (fld 0x92 (fld 0x79 (fld 0x20 (ascii "n")))))) ++ (fld 0x20 (ascii ";"))))))) ∷
     -- 83 before the first 10 or 12

@@ -31,18 +31,16 @@ pub data Found : Type 0 where
   one-found : Entry → Found
   array-found : List Entry → Found
 
--- an element: is_serializable, serialize_jsx_element_to_string_vec, serialize_jsx_to_call_expr; whether `todo!` stands inside where it is left
+-- an element: is_serializable, serialize_jsx_element_to_string_vec, serialize_jsx_to_call_expr
 pub record Element : Type 0 where
   pub serializable : Bool
   pub to-string-vec : List Part
   pub to-call-expr : Pass Mid
-  pub unimplemented-inside : Bool
 
--- a fragment: serialize_jsx_children_to_string, serialize_jsx_children_to_expr; as above
+-- a fragment: serialize_jsx_children_to_string, serialize_jsx_children_to_expr
 pub record Fragment : Type 0 where
   pub to-string : List Part
   pub to-expr : Found
-  pub unimplemented-inside : Bool
 
 pub data Child : Type 0 where
   text : Bytes → Child

@@ -10,10 +10,10 @@ use Rattle.field.specs.Row.{Row, end, loose, field}
 use Rattle.spec.specs.declared.Flags.{Flags}
 
 abbrev pub no-flags : Flags
-no-flags = record { unimplemented = false; left = false; long = false }
+no-flags = record { left = false; long = false }
 
 abbrev pub join : Flags → Flags → Flags
-join f g = record { unimplemented = f .unimplemented || g .unimplemented; left = f .left || g .left; long = f .long || g .long }
+join f g = record { left = f .left || g .left; long = f .long || g .long }
 
 -- 01, Form: its number and its static strings; for each dynamic expression whether it is a jsxAttr call or a choice, which no 80 holds
 pub record Template : Type 0 where
@@ -56,15 +56,11 @@ unfoldable pub raise : {A : Type 0} → Flags → Pass A → Pass A
 raise f p n = let r = p n in record { value = r .value; taken = r .taken; templates = r .templates; flags = join f (r .flags) }
 
 abbrev pub long-if : Bool → Flags
-long-if b = record { unimplemented = false; left = false; long = b }
+long-if b = record { left = false; long = b }
 
-abbrev pub todo : Flags
-todo = record { unimplemented = true; left = false; long = false }
-
--- a tag that stands as an expression: its visit, and whether 000 would reach `todo!` inside it where it is left
-pub record Raw : Type 0 where
-  pub visited : Pass Row
-  pub unimplemented-inside : Bool
+-- a tag that stands as an expression: its visit
+abbrev pub Raw : Type 0
+Raw = Pass Row
 
 -- a row of expressions after the first pass: fields, and tags that are still to be visited
 pub data Mid : Type 0 where

@@ -15,27 +15,18 @@ use Rattle.spec.specs.Output.{leaf, string-node, null-node, template-row
 use Rattle.spec.specs.Merge as M
 use Rattle.spec.specs.Attributes as A
 use Rattle.spec.specs.Children.{children-to-string, children-to-expr, to-call-expr, element-to-string-vec, serialize-jsx}
-use Rattle.spec.specs.Visit.{visit-exprs, visit-after, visit-fragment, attributes-reach-todo, children-reach-todo}
+use Rattle.spec.specs.Visit.{visit-exprs, visit-after, visit-fragment}
 
 -- an element and a fragment by what they hold
 unfoldable pub element-of : Options → P.Name → List A.Attribute → List M.Child → M.Element
-element-of o n as′ cs =
-    record {
-      serializable = A.is-serializable o n as′;
-      to-string-vec = element-to-string-vec o n as′ cs;
-      to-call-expr = to-call-expr n as′ cs;
-      unimplemented-inside = attributes-reach-todo as′ || children-reach-todo cs;
-    }
+element-of o n as′ cs = record { serializable = A.is-serializable o n as′; to-string-vec = element-to-string-vec o n as′ cs; to-call-expr = to-call-expr n as′ cs }
 
 unfoldable pub fragment-of : List M.Child → M.Fragment
-fragment-of cs = record { to-string = children-to-string false cs; to-expr = children-to-expr cs; unimplemented-inside = children-reach-todo cs }
+fragment-of cs = record { to-string = children-to-string false cs; to-expr = children-to-expr cs }
 
--- the same as an expression
+-- an element as an expression
 unfoldable pub element-raw : M.Element → Raw
-element-raw e = record { visited = visit-after (serialize-jsx e); unimplemented-inside = e .unimplemented-inside }
-
-unfoldable pub fragment-raw : List M.Child → Raw
-fragment-raw cs = record { visited = visit-fragment cs; unimplemented-inside = children-reach-todo cs }
+element-raw e = visit-after (serialize-jsx e)
 
 unfoldable pub shape-of : P.Expr → M.Shape
 shape-of (P.string-literal b) = M.string-shape b
@@ -57,7 +48,7 @@ module _ (o : Options) where
 
     pub raw-tag : P.Tag → Raw
     raw-tag (P.element n as′ cs) = element-raw (element-of o n (attributes as′) (children cs))
-    raw-tag (P.fragment cs) = fragment-raw (children cs)
+    raw-tag (P.fragment cs) = visit-fragment (children cs)
 
     pub attributes : P.Attributes → List A.Attribute
     attributes P.no-attributes = []

@@ -35,14 +35,14 @@ use Rattle.found.specs.declared.Kind.the-variants as K
 use Rattle.walk.specs.declared.attribute.Gap.{Gap}
 use Rattle.walk.specs.declared.attribute.Gap.the-variants as G
 use Rattle.walk.specs.declared.state.Walk.{Walk}
-use Rattle.walk.specs.See.{World, at, see, act, passed, to-page, begun, wrap, wrap-if, todo-if, props-closed, Low}
+use Rattle.walk.specs.See.{World, at, see, act, passed, to-page, begun, wrap, wrap-if, props-closed, Low}
 use Rattle.walk.specs.Plan.{Plan, prop-gap, plan-by, plan-front, plan-back, attr-plan, prop-plan, key-string, key-held}
 use Rattle.walk.proofs.SeeLaws.{Grows, grows-same, grows-then, see-grows, begun-grows, wrap-grows, low-back, low-is, see-none, see-node, see-rest, see-page, see-state, see-templates-length, see-page-length, plain, lift, lift-world, lift-wrap, lift-wrap-if, lift-begun, lift-props-closed}
 use Rattle.walk.proofs.ActLaws.{see-append, act-grows, act-pure, act-map-pure, passed-see, passed-props-closed, call-named, call-props, children-begun, call-closed, act-call-none, act-call-some, act-to-call, is-none, template-stands, raised-stands, call-stands, array-stands}
 use Rattle.walk.proofs.GapLaws.{plan-mid, plan-done, prop-plan-is, plan-front-same, plan-back-same, plan-held-same, key-is, key-string-same}
 use Rattle.visits.specs.Visiting.{expr-at, found-out, is-found}
 use Rattle.visits.proofs.FieldLaws.{field-begin, field-inner, field-close, field-done}
-use Rattle.visits.proofs.PartLaws.{passed-plan, no-todo, plan-is, front-at, back-at, front-page, back-grows}
+use Rattle.visits.proofs.PartLaws.{passed-plan, plan-is, front-at, back-at, front-page, back-grows}
 
 -- ---- whether the children give something
 
@@ -495,26 +495,9 @@ unfolding plan-by
 stands-text t f f′ G.Nothing n v v′ = refl
 stands-text t f f′ (G.True norm) n v v′ = refl
 stands-text t f f′ (G.String norm) n v v′ = refl
-stands-text t f f′ G.Todo n v v′ = refl
+stands-text t f f′ G.Null n v v′ = refl
 stands-text t f f′ (G.Attr norm) n v v′ = refl
 stands-text t f f′ G.Choice n v v′ = refl
-
--- a property never reaches `todo!`
-prop-todo : (norm : Bool) (n : AttrName) (v : P.Value) (t : ℕ) (f : Bytes → Bytes) (y : A.Value) → plan-by t f (prop-gap norm n v) n y .todo ≡ false
-unfolding prop-gap plan-by
-prop-todo norm n P.absent t f y = refl
-prop-todo norm n (P.string-value b) t f y = either (same (get-attr-name n norm) (ascii "key"))
-  where
-    either : (z : Bool) → plan-by t f (pick z G.Nothing (G.String norm)) n y .todo ≡ false
-    either true = refl
-    either false = refl
-prop-todo norm n P.empty-value t f y = refl
-prop-todo norm n (P.container-value e) t f y = either (same (get-attr-name n norm) (ascii "key"))
-  where
-    either : (z : Bool) → plan-by t f (pick z G.Nothing (G.Attr norm)) n y .todo ≡ false
-    either true = refl
-    either false = refl
-prop-todo norm n (P.tag-value g) t f y = refl
 
 module _ (skip props : Bytes) (norm : Bool) (s : Bytes) (n : ℕ) (e : n ≡ tag-of s) (w : World) {total : World} (g : see (props-in skip props norm s) w ≡ total) where
   -- a is the fields of a 50, and u the gap that it leaves
@@ -541,11 +524,8 @@ module _ (skip props : Bytes) (norm : Bool) (s : Bytes) (n : ℕ) (e : n ≡ tag
     prop-is : plan-back plan (w .st .page) (see (plan .held) (plan-front plan w)) ≡ see property w
     prop-is =
         let x = see (plan-mid plan) w in
-        let d : plan .todo ≡ false = ap (λ (y : Gap). plan-by 0x96 normalize-lit-str y attr-name held-value .todo) k ∙ prop-todo norm attr-name (value-in (read a)) 0x96 normalize-lit-str held-value in
         sym (plan-is 0x96 normalize-lit-str attr-name held-value w u)
-        ∙ passed-plan (plan-mid plan) (plan .todo) x
-        ∙ ap (λ (b : Bool). todo-if b x) d
-        ∙ no-todo x
+        ∙ passed-plan (plan-mid plan) x
         ∙ ap (λ (m : Mid). see m w) (ap (λ (y : Gap). plan-mid (plan-by 0x96 normalize-lit-str y attr-name held-value)) k ∙ sym (prop-plan-is (opts skip props) norm attr-name (value-in (read a))))
 
     prop-low : Low (total .st) → Low (plan-back plan (w .st .page) (see (plan .held) (plan-front plan w)) .st)

@@ -7,4 +7,3 @@ pub mod CallLaws
 pub mod VisitLaws
 pub mod FoundLaws
 pub mod EntryLaws
-pub mod TodoLaws

@@ -18,7 +18,7 @@ use Rattle.names.specs.Names.{AttrName, is-void-element}
 use Rattle.page.specs.Page.{Name, identifier, member, namespaced, Options}
 use Rattle.page.specs.Tree.{choose, attributes-in, attr-name-in, value-in, contained-in, Contained}
 use Rattle.spec.specs.Pass as S
-use Rattle.spec.specs.Pass.{Done, Pass, pure, Mid, node, _+++_, Part, chars, gap}
+use Rattle.spec.specs.Pass.{no-flags, Done, Pass, pure, Mid, node, _+++_, Part, chars, gap}
 use Rattle.spec.specs.Output.{dynamic-exprs, gen-template}
 use Rattle.spec.specs.Merge.{joined-text, Child, text, empty, container, element, fragment, spread, flush, merge}
 use Rattle.spec.specs.Attributes as A
@@ -36,7 +36,7 @@ use Rattle.records.proofs.ReadLaws.{behind-shorter}
 use Rattle.walk.specs.declared.attribute.Gap.{Gap}
 use Rattle.walk.specs.declared.attribute.Gap.the-variants as G
 use Rattle.walk.specs.declared.state.Walk.{Walk}
-use Rattle.walk.specs.See.{World, at, see, act, passed, begun, numbered, wrap, wrap-if, begun-if, todo-if, to-page, Low}
+use Rattle.walk.specs.See.{World, at, see, act, passed, begun, numbered, wrap, wrap-if, begun-if, to-page, Low}
 use Rattle.walk.specs.Plan.{Plan, plan-by, plan-front, plan-back, attr-plan, attr-gap, gap-wraps, gap-held}
 use Rattle.walk.proofs.SeeLaws.{see-node, Grows, see-grows, low-back, low-is, grows-same, grows-then, wrap-grows, at-see, lift-world}
 use Rattle.walk.proofs.ActLaws.{see-append, act-pure, act-gen-template, act-no-parts, act-chars, act-gap, act-dynamic-append, act-grows, act-templates-length, act-page-length, passed-see}
@@ -304,42 +304,30 @@ module _ (skip props s : Bytes) (n : ℕ) (e : n ≡ tag-of s) (w : World) {tota
 
 -- ---- what an attribute leaves, by its plan
 
--- a pass that takes no number: it may reach `todo!`
-pub passed-plan : (m : Mid) (b : Bool) (x : World) → passed (record { value = m; taken = 0; templates = []; flags = record { unimplemented = b; left = false; long = false } }) x ≡ todo-if b x
-passed-plan m b x =
+-- a pass that takes no number
+pub passed-plan : (m : Mid) (x : World) → passed (record { value = m; taken = 0; templates = []; flags = no-flags }) x ≡ x
+passed-plan m x =
     let k : x .st .first + 0 ≡ x .st .first = omega arith in
-    λ i. todo-if b
-    (at (x .templates) (x .page)
+    λ i. at (x .templates) (x .page)
     (record {
       first = k i;
       later = x .st .later;
       templates = x .st .templates;
       page = x .st .page;
-      seen = record { jsx = x .st .seen .jsx; attr = x .st .seen .attr; escape = x .st .seen .escape; long = x .st .seen .long; unimplemented = x .st .seen .unimplemented; left = or-false (x .st .seen .left) i };
-    }))
-
-pub no-todo : (x : World) → todo-if false x ≡ x
-no-todo x =
-    λ i. at (x .templates) (x .page)
-    (record {
-      first = x .st .first;
-      later = x .st .later;
-      templates = x .st .templates;
-      page = x .st .page;
-      seen = record { jsx = x .st .seen .jsx; attr = x .st .seen .attr; escape = x .st .seen .escape; long = x .st .seen .long; unimplemented = or-false (x .st .seen .unimplemented) i; left = x .st .seen .left };
+      seen = record { jsx = x .st .seen .jsx; attr = x .st .seen .attr; escape = x .st .seen .escape; long = x .st .seen .long; left = or-false (x .st .seen .left) i };
     })
 
 -- the field of it
-module _ (t : ℕ) (f h z : Mid) (b : Bool) (w : World) where
+module _ (t : ℕ) (f h z : Mid) (w : World) where
   abbrev field-done : Done Mid
-  field-done = plan-done (record { stands = true; todo = b; tag = t; front = f; held = h; behind = z })
+  field-done = plan-done (record { stands = true; tag = t; front = f; held = h; behind = z })
 
-  field-is : passed field-done (see (node t [] (f +++ (h +++ z)) S.none) w) ≡ wrap t (w .st .page) (see z (see h (todo-if b (see f (begun w)))))
+  field-is : passed field-done (see (node t [] (f +++ (h +++ z)) S.none) w) ≡ wrap t (w .st .page) (see z (see h (see f (begun w))))
   field-is =
       let q = w .st .page in
       let x = see f (begun w) in
       ap (passed field-done) (see-node t (f +++ (h +++ z)) w ∙ ap (wrap t q) (see-append f (h +++ z) (begun w) ∙ see-append h z x))
-      ∙ ap (wrap t q) (passed-see field-done z (see h x) ∙ ap (see z) (passed-see field-done h x ∙ ap (see h) (passed-plan (field-done .value) b x)))
+      ∙ ap (wrap t q) (passed-see field-done z (see h x) ∙ ap (see z) (passed-see field-done h x ∙ ap (see h) (passed-plan (field-done .value) x)))
 
 module _ (t : ℕ) (text : Bytes → Bytes) (n : AttrName) (v : A.Value) (w : World) where
   abbrev pub plan-of : Gap → Plan
@@ -347,12 +335,12 @@ module _ (t : ℕ) (text : Bytes → Bytes) (n : AttrName) (v : A.Value) (w : Wo
 
   pub plan-is : (g : Gap) → passed (plan-done (plan-of g)) (see (plan-mid (plan-of g)) w) ≡ plan-back (plan-of g) (w .st .page) (see (plan-of g .held) (plan-front (plan-of g) w))
   unfolding plan-by
-  plan-is G.Nothing = passed-plan S.none false (see S.none w) ∙ no-todo (see S.none w)
-  plan-is (G.True norm) = field-is t _ _ _ false w
-  plan-is (G.String norm) = field-is t _ _ _ false w
-  plan-is G.Todo = field-is t _ _ _ true w
-  plan-is (G.Attr norm) = field-is t _ _ _ false w
-  plan-is G.Choice = field-is 0x93 _ _ _ false w
+  plan-is G.Nothing = passed-plan S.none (see S.none w)
+  plan-is (G.True norm) = field-is t _ _ _ w
+  plan-is (G.String norm) = field-is t _ _ _ w
+  plan-is G.Null = field-is t _ _ _ w
+  plan-is (G.Attr norm) = field-is t _ _ _ w
+  plan-is G.Choice = field-is 0x93 _ _ _ w
 
 -- both ends, shown of page out alone
 module _ (o : Bytes) (t : ℕ) (text : Bytes → Bytes) (n : AttrName) (v : A.Value) (p : Bytes) (s : Walk) where
@@ -362,18 +350,18 @@ module _ (o : Bytes) (t : ℕ) (text : Bytes → Bytes) (n : AttrName) (v : A.Va
   pub front-at : (g : Gap) → at o (plan-front (plan-by-gap g) (at [] p s) .page) (plan-front (plan-by-gap g) (at [] p s) .st) ≡ plan-front (plan-by-gap g) (at o p s)
   unfolding plan-by
   front-at G.Nothing = refl
-  front-at (G.True norm) = ap (todo-if false) (at-see o _ refl p (to-page (s .page + 3) s))
-  front-at (G.String norm) = ap (todo-if false) (at-see o _ refl p (to-page (s .page + 3) s))
-  front-at G.Todo = ap (todo-if true) (at-see o _ refl p (to-page (s .page + 3) s))
-  front-at (G.Attr norm) = ap (todo-if false) (at-see o _ refl p (to-page (s .page + 3) s))
-  front-at G.Choice = ap (todo-if false) (at-see o _ refl p (to-page (s .page + 3) s))
+  front-at (G.True norm) = at-see o _ refl p (to-page (s .page + 3) s)
+  front-at (G.String norm) = at-see o _ refl p (to-page (s .page + 3) s)
+  front-at G.Null = at-see o _ refl p (to-page (s .page + 3) s)
+  front-at (G.Attr norm) = at-see o _ refl p (to-page (s .page + 3) s)
+  front-at G.Choice = at-see o _ refl p (to-page (s .page + 3) s)
 
   pub back-at : (q : ℕ) (g : Gap) → at o (plan-back (plan-by-gap g) q (at [] p s) .page) (plan-back (plan-by-gap g) q (at [] p s) .st) ≡ plan-back (plan-by-gap g) q (at o p s)
   unfolding plan-by
   back-at q G.Nothing = refl
   back-at q (G.True norm) = ap (wrap t q) (at-see o _ refl p s)
   back-at q (G.String norm) = ap (wrap t q) (at-see o _ refl p s)
-  back-at q G.Todo = ap (wrap t q) (at-see o _ refl p s)
+  back-at q G.Null = ap (wrap t q) (at-see o _ refl p s)
   back-at q (G.Attr norm) = ap (wrap t q) (at-see o _ refl p s)
   back-at q G.Choice = ap (wrap 0x93 q) (at-see o _ refl p s)
 
@@ -382,14 +370,14 @@ unfolding plan-by
 stands-same t f G.Nothing n v v′ = refl
 stands-same t f (G.True norm) n v v′ = refl
 stands-same t f (G.String norm) n v v′ = refl
-stands-same t f G.Todo n v v′ = refl
+stands-same t f G.Null n v v′ = refl
 stands-same t f (G.Attr norm) n v v′ = refl
 stands-same t f G.Choice n v v′ = refl
 
 module _ (p : Plan) (w : World) where
   pub front-page : p .stands ≡ true → w .st .page + 3 ≤ plan-front p w .st .page
   front-page h =
-      subst (λ (b : Bool). w .st .page + 3 ≤ pick b (todo-if (p .todo) (see (p .front) (begun w))) w .st .page) (sym h)
+      subst (λ (b : Bool). w .st .page + 3 ≤ pick b (see (p .front) (begun w)) w .st .page) (sym h)
       (omega (arith, see-grows (p .front) (begun w) .g-page))
 
   pub back-grows : (q : ℕ) → Grows w (plan-back p q w)

@@ -26,8 +26,8 @@ use Rattle.spec.specs.Output.{leaf, gen-template, dynamic-exprs}
 use Rattle.spec.specs.Merge as M
 use Rattle.spec.specs.Merge.{nothing-found, one-found, array-found}
 use Rattle.spec.specs.Children.{children-to-string, serialize-jsx, found-of, entry-pass, found-pass, children-to-expr, call-node, to-call-expr}
-use Rattle.spec.specs.Visit.{visit-exprs, visit-inside, visit-after, visit-found, visit-only-child, visit-fragment, leave, reaches-todo, children-reach-todo}
-use Rattle.spec.specs.Transform.{templates-row, stands, element-of, fragment-of, element-raw, fragment-raw, shape-of, raw-tag, expr, children, child}
+use Rattle.spec.specs.Visit.{visit-exprs, visit-inside, visit-after, visit-found, visit-only-child, visit-fragment, leave}
+use Rattle.spec.specs.Transform.{templates-row, stands, element-of, fragment-of, element-raw, shape-of, raw-tag, expr, children, child}
 use Rattle.decisions.specs.At.{opts, element-at, children-at, is-none, few, FirstChild}
 use Rattle.decisions.proofs.Series.{tested, any-front, children-61, contained-field, expr-70, expr-71, expr-72, expr-74, expr-75, expr-76, expr-79, expr-30, expr-31}
 use Rattle.strings.proofs.TreeLaws.{held, kids-60, kids-52, kids-30, kids-31}
@@ -43,7 +43,7 @@ use Rattle.walk.specs.Plan.{contained-mid}
 use Rattle.walk.specs.See.{World, at, wrote, see, passed, act, numbered, wrap, left, Low}
 use Rattle.walk.proofs.SeeLaws.{Split, wrote-then, lift, lift-left, low-is}
 use Rattle.walk.proofs.ActLaws.{see-raw, after-fields, passed-see, act-gen-template, act-grows, act-first}
-use Rattle.visits.specs.Visiting.{Place, expr-at, held-at, element-mid, fragment-mid, tag-inside, untagged-kind, found-out, recording, entered, enter, with-first, returned, Given, Untagged}
+use Rattle.visits.specs.Visiting.{Place, expr-at, held-at, element-mid, fragment-mid, untagged-kind, found-out, recording, entered, enter, with-first, returned, Given, Untagged}
 use Rattle.visits.proofs.FieldLaws.{template-begin, template-inner, template-close, template-done}
 
 -- ---- a visit
@@ -61,7 +61,7 @@ inside-exprs (node t f i r) n h = refl
 inside-exprs (raw q r) n h = absurd (false≢true (sym h))
 
 -- a tag is seen by its visit alone
-pub see-visited : (q q′ : Raw) (w : World) → q .visited (w .st .later) ≡ q′ .visited (w .st .later) → see (raw q none) w ≡ see (raw q′ none) w
+pub see-visited : (q q′ : Raw) (w : World) → q (w .st .later) ≡ q′ (w .st .later) → see (raw q none) w ≡ see (raw q′ none) w
 unfolding see visit-exprs both pure
 see-visited q q′ w e = ap (λ (d : Done Row). wrote (record { value = d .value ⧺ end; taken = d .taken + 0; templates = d .templates ++ []; flags = join (d .flags) no-flags }) w) e
 
@@ -98,18 +98,17 @@ module _ (p : Pass Mid) (w : World) where
                     attr = or-false (s .attr) i;
                     escape = or-false (s .escape) i;
                     long = s .long || (r .flags .long || or-false (long-body (templates-row (r .templates))) i);
-                    unimplemented = s .unimplemented || r .flags .unimplemented;
                     left = s .left || r .flags .left;
                   };
             };
       }
 
 -- q is visited as what p gives, which is no tag
-module _ (q : Raw) (p : Pass Mid) (w : World) (v : q .visited (w .st .later) ≡ visit-after p (w .st .later)) (h : is-raw (p (w .st .later) .value) ≡ false) where
+module _ (q : Raw) (p : Pass Mid) (w : World) (v : q (w .st .later) ≡ visit-after p (w .st .later)) (h : is-raw (p (w .st .later) .value) ≡ false) where
   pub see-visit : see (raw q none) w ≡ returned (w .st .first) (act p (enter (recorded-by p w) w))
   unfolding visit-after bind act see keep taken-by
   see-visit =
-      let a : Raw = record { visited = visit-after p; unimplemented-inside = false } in
+      let a : Raw = visit-after p in
       let r = p (w .st .later) in
       let d = visit-exprs (r .value) (w .st .later + r .taken) in
       see-visited q a w v
@@ -138,7 +137,7 @@ module _ (q : Raw) (p : Pass Mid) (w : World) (v : q .visited (w .st .later) ≡
       record { low-first = omega (arith, act-first p (enter (recorded-by p w) w), g .g-later, m .low-later); low-later = m .low-later; low-templates = m .low-templates; low-page = m .low-page }
 
 -- the same in the words of the code: rs is what `records_of` gives, k what the record walk leaves, and x where both passes begin
-module _ (q : Raw) (p : Pass Mid) (o g : Bytes) (st : Walk) (v : q .visited (st .later) ≡ visit-after p (st .later)) (h : is-raw (p (st .later) .value) ≡ false) {rs : Records} (e : rs ≡ recording st) where
+module _ (q : Raw) (p : Pass Mid) (o g : Bytes) (st : Walk) (v : q (st .later) ≡ visit-after p (st .later)) (h : is-raw (p (st .later) .value) ≡ false) {rs : Records} (e : rs ≡ recording st) where
   pub visit-recorded : Low (see (raw q none) (at o g st) .st) → K.Low (keep p (K.at o rs))
   visit-recorded l = subst (λ (z : Records). K.Low (keep p (K.at o z))) (sym e) (record-low q p (at o g st) v h l)
 
@@ -159,7 +158,7 @@ unfolding gen-template
 template-untagged ps n = refl
 
 abbrev pub template-raw : (skip props s : Bytes) → Raw
-template-raw skip props s = record { visited = visit-after (gen-template (children-to-string false (children-at skip props (read s)))); unimplemented-inside = false }
+template-raw skip props s = visit-after (gen-template (children-to-string false (children-at skip props (read s))))
 
 module _ (skip props s o g : Bytes) (st : Walk) {rs : Records} (e : rs ≡ recording st) where
   abbrev parts : List Part
@@ -199,18 +198,18 @@ module _ (skip props s o g : Bytes) (st : Walk) {rs : Records} (e : rs ≡ recor
 
 -- ---- a tag that is left
 
-pub see-left : (i b : Bool) (w : World) → see (raw (record { visited = leave b; unimplemented-inside = i }) none) w ≡ left b w
+pub see-left : (w : World) → see (raw leave none) w ≡ left w
 unfolding left leave raise pure _⧺_
-see-left i b w = see-raw (record { visited = leave b; unimplemented-inside = i }) w refl
+see-left w = see-raw leave w refl
 
 -- in the words of `leave`
-module _ (m : Mid) (b : Bool) (o g : Bytes) (st : Walk) (e : see m (at o g st) ≡ left b (at o g st)) where
-  pub left-room : Low (see m (at o g st) .st) → Low (left b (at [] g st) .st)
+module _ (m : Mid) (o g : Bytes) (st : Walk) (e : see m (at o g st) ≡ left (at o g st)) where
+  pub left-room : Low (see m (at o g st) .st) → Low (left (at [] g st) .st)
   unfolding left
   left-room l = low-is (sym e) l
 
-  pub left-done : (g₁ : Bytes) (r : Walk) → at [] g₁ r ≡ left b (at [] g st) → at o g₁ r ≡ see m (at o g st)
-  left-done g₁ r d = lift-left o g g₁ st r b d ∙ sym e
+  pub left-done : (g₁ : Bytes) (r : Walk) → at [] g₁ r ≡ left (at [] g st) → at o g₁ r ≡ see m (at o g st)
+  left-done g₁ r d = lift-left o g g₁ st r d ∙ sym e
 
 -- ---- what a first pass gives is no tag
 
@@ -222,7 +221,7 @@ element-untagged skip props b n = on (element-at skip props b .serializable)
     on true = refl
     on false = refl
 
-element-visited : (e : M.Element) (n : ℕ) → element-raw e .visited n ≡ visit-after (serialize-jsx e) n
+element-visited : (e : M.Element) (n : ℕ) → element-raw e n ≡ visit-after (serialize-jsx e) n
 unfolding element-raw
 element-visited e n = refl
 
@@ -299,7 +298,7 @@ rest-untagged F.Item b h = tt
 rest-untagged F.Hole b h = tt
 
 abbrev pub given-raw : (skip props s : Bytes) → Raw
-given-raw skip props s = record { visited = visit-after (found-pass (children-to-expr (children-at skip props (read s)))); unimplemented-inside = false }
+given-raw skip props s = visit-after (found-pass (children-to-expr (children-at skip props (read s))))
 
 module _ (skip props s : Bytes) (f : Place) (j : Given skip props s f) (u : Untagged skip props s f) (o g : Bytes) (st : Walk) {rs : Records} (e : rs ≡ recording st) where
   pub given-recorded : Low (see (raw (given-raw skip props s) none) (at o g st) .st) → K.Low (keep (found-pass (children-to-expr (children-at skip props (read s)))) (K.at o rs))
@@ -317,7 +316,7 @@ module _ (skip props s : Bytes) (f : Place) (j : Given skip props s f) (u : Unta
 -- ---- a fragment in a fragment, by what its children give
 
 abbrev pub found-raw : (skip props s : Bytes) → Raw
-found-raw skip props s = record { visited = visit-found (children-reach-todo (children-at skip props (read s))) (children-to-expr (children-at skip props (read s))); unimplemented-inside = false }
+found-raw skip props s = visit-found (children-to-expr (children-at skip props (read s)))
 
 -- the bytes of a tag
 record TagAt (c : Bytes) : Type 0 where
@@ -335,12 +334,12 @@ tagged c h =
     tested t 0x31 (λ k. tag-at c (fragment-in (read (body-of c))) 0x31 k (λ z. omega (arith, z)) (expr-31 c t refl k)) λ b.
     absurd (false≢true (let z : (eqb t 0x30 || eqb t 0x31) ≡ false = rw (ne-eqb t 0x30 a, ne-eqb t 0x31 b) in sym z ∙ h))
 
-module _ (o : Options) (b : Bool) (n : ℕ) where
-  left-tag : (t : P.Tag) → visit-found b (found-of (expr o (P.tag-expr t) none)) n ≡ leave (raw-tag o t .unimplemented-inside) n
+module _ (o : Options) (n : ℕ) where
+  left-tag : (t : P.Tag) → visit-found (found-of (expr o (P.tag-expr t) none)) n ≡ leave n
   unfolding visit-found expr found-of visit-after found-pass entry-pass pure bind visit-inside leave raise
   left-tag t = refl
 
-  visit-expr : (e : P.Expr) → visit-found b (found-of (expr o e none)) n ≡ visit-after (found-pass (found-of (expr o e none))) n
+  visit-expr : (e : P.Expr) → visit-found (found-of (expr o e none)) n ≡ visit-after (found-pass (found-of (expr o e none))) n
   unfolding visit-found expr found-of
   visit-expr (P.string-literal c) = refl
   visit-expr (P.number-literal m) = refl
@@ -352,43 +351,36 @@ module _ (o : Options) (b : Bool) (n : ℕ) where
   visit-expr (P.other-expr ps) = refl
   visit-expr (P.tag-expr t) = refl
 
-module _ (skip props b : Bytes) (i : Bool) (n : ℕ) where
-  visit-given : (x : M.Found) (k : Kind) → Finds skip props x k b → untagged-kind k b → visit-found i x n ≡ visit-after (found-pass x) n
+module _ (skip props b : Bytes) (n : ℕ) where
+  visit-given : (x : M.Found) (k : Kind) → Finds skip props x k b → untagged-kind k b → visit-found x n ≡ visit-after (found-pass x) n
   unfolding visit-found
   visit-given x F.Nothing e u = absurd u
-  visit-given x F.Empty e u = subst (λ (y : M.Found). visit-found i y n ≡ visit-after (found-pass y) n) (sym e) refl
-  visit-given x F.Many e u = subst (λ (y : M.Found). visit-found i y n ≡ visit-after (found-pass y) n) (sym (e .0)) refl
-  visit-given x F.Run e u = subst (λ (y : M.Found). visit-found i y n ≡ visit-after (found-pass y) n) (sym (e .found-is)) refl
-  visit-given x F.Text e u = subst (λ (y : M.Found). visit-found i y n ≡ visit-after (found-pass y) n) (sym e) refl
-  visit-given x F.Element e u = subst (λ (y : M.Found). visit-found i y n ≡ visit-after (found-pass y) n) (sym (e .0)) refl
-  visit-given x F.Template e u = subst (λ (y : M.Found). visit-found i y n ≡ visit-after (found-pass y) n) (sym e) refl
-  visit-given x F.Expr e u = subst (λ (y : M.Found). visit-found i y n ≡ visit-after (found-pass y) n) (sym e) (visit-expr (opts skip props) i n (expr-in (read b)))
+  visit-given x F.Empty e u = subst (λ (y : M.Found). visit-found y n ≡ visit-after (found-pass y) n) (sym e) refl
+  visit-given x F.Many e u = subst (λ (y : M.Found). visit-found y n ≡ visit-after (found-pass y) n) (sym (e .0)) refl
+  visit-given x F.Run e u = subst (λ (y : M.Found). visit-found y n ≡ visit-after (found-pass y) n) (sym (e .found-is)) refl
+  visit-given x F.Text e u = subst (λ (y : M.Found). visit-found y n ≡ visit-after (found-pass y) n) (sym e) refl
+  visit-given x F.Element e u = subst (λ (y : M.Found). visit-found y n ≡ visit-after (found-pass y) n) (sym (e .0)) refl
+  visit-given x F.Template e u = subst (λ (y : M.Found). visit-found y n ≡ visit-after (found-pass y) n) (sym e) refl
+  visit-given x F.Expr e u = subst (λ (y : M.Found). visit-found y n ≡ visit-after (found-pass y) n) (sym e) (visit-expr (opts skip props) n (expr-in (read b)))
   visit-given x F.Item e u = absurd e
-  visit-given x F.Hole e u = subst (λ (y : M.Found). visit-found i y n ≡ visit-after (found-pass y) n) (sym e) refl
+  visit-given x F.Hole e u = subst (λ (y : M.Found). visit-found y n ≡ visit-after (found-pass y) n) (sym e) refl
 
 module _ (skip props s : Bytes) (f : Place) (e : Finds skip props (children-to-expr (children-at skip props (read s))) (f .kind) (part s f)) (w : World) where
   found-by : (k : Kind) → f .kind ≡ k → Finds skip props (children-to-expr (children-at skip props (read s))) k (part s f)
   found-by k h = subst (λ (y : Kind). Finds skip props (children-to-expr (children-at skip props (read s))) y (part s f)) h e
 
-  pub found-nothing : f .kind ≡ F.Nothing → {b : Bool} → b ≡ children-reach-todo (children-at skip props (read s)) → see (raw (found-raw skip props s) none) w ≡ left b w
+  pub found-nothing : f .kind ≡ F.Nothing → see (raw (found-raw skip props s) none) w ≡ left w
   unfolding visit-found
-  found-nothing h {b} q =
-      see-visited (found-raw skip props s) (record { visited = leave b; unimplemented-inside = false }) w
-      (ap (λ (x : M.Found). visit-found (children-reach-todo (children-at skip props (read s))) x (w .st .later)) (found-by F.Nothing h) ∙ ap (λ (x : Bool). leave x (w .st .later)) (sym q))
-      ∙ see-left false b w
+  found-nothing h = see-visited (found-raw skip props s) leave w (ap (λ (x : M.Found). visit-found x (w .st .later)) (found-by F.Nothing h)) ∙ see-left w
 
   module _ (h : f .kind ≡ F.Expr) {c : Bytes} (q : c ≡ part s f) where
-    pub found-tag : {t : Bool} → t ≡ (eqb (tag-of c) 0x30 || eqb (tag-of c) 0x31) → t ≡ true → {b : Bool} → b ≡ tag-inside skip props (contained-in (read c)) →
-        see (raw (found-raw skip props s) none) w ≡ left b w
-    unfolding tag-inside
-    found-tag k l {b} d =
+    pub found-tag : {t : Bool} → t ≡ (eqb (tag-of c) 0x30 || eqb (tag-of c) 0x31) → t ≡ true → see (raw (found-raw skip props s) none) w ≡ left w
+    found-tag k l =
         let g = tagged c (sym k ∙ l) in
-        let i = children-reach-todo (children-at skip props (read s)) in
-        see-visited (found-raw skip props s) (record { visited = leave b; unimplemented-inside = false }) w
-        (ap (λ (x : M.Found). visit-found i x (w .st .later)) (found-by F.Expr h ∙ (ap (λ (x : Bytes). found-of (expr-at skip props x)) (sym q) ∙ ap (λ (x : P.Expr). found-of (expr (opts skip props) x none)) (g .expr-is)))
-        ∙ left-tag (opts skip props) i (w .st .later) (g .the-tag)
-        ∙ ap (λ (x : Bool). leave x (w .st .later)) (sym (d ∙ ap (tag-inside skip props) (g .contained-is))))
-        ∙ see-left false b w
+        see-visited (found-raw skip props s) leave w
+        (ap (λ (x : M.Found). visit-found x (w .st .later)) (found-by F.Expr h ∙ (ap (λ (x : Bytes). found-of (expr-at skip props x)) (sym q) ∙ ap (λ (x : P.Expr). found-of (expr (opts skip props) x none)) (g .expr-is)))
+        ∙ left-tag (opts skip props) (w .st .later) (g .the-tag))
+        ∙ see-left w
 
     pub expr-no-tag : {t : Bool} → t ≡ (eqb (tag-of c) 0x30 || eqb (tag-of c) 0x31) → t ≡ false → Untagged skip props s f
     expr-no-tag k l = subst (λ (y : Kind). untagged-kind y (part s f)) (sym h) (subst (λ (x : Bytes). (eqb (tag-of x) 0x30 || eqb (tag-of x) 0x31) ≡ false) q (sym k ∙ l))
@@ -396,7 +388,7 @@ module _ (skip props s : Bytes) (f : Place) (e : Finds skip props (children-to-e
   pub found-given : Untagged skip props s f → see (raw (found-raw skip props s) none) w ≡ see (raw (given-raw skip props s) none) w
   found-given u =
       see-visited (found-raw skip props s) (given-raw skip props s) w
-      (visit-given skip props (part s f) (children-reach-todo (children-at skip props (read s))) (w .st .later) (children-to-expr (children-at skip props (read s))) (f .kind) e u)
+      (visit-given skip props (part s f) (w .st .later) (children-to-expr (children-at skip props (read s))) (f .kind) e u)
 
 -- ---- a fragment
 
@@ -454,25 +446,17 @@ module _ (n : ℕ) where
   fragment-held skip props (contained e) [] = refl
   fragment-held skip props (contained e) (d ∷ cs) = refl
 
--- where braces hold nothing no `todo!` is reached, either
-pub reaches-held : (o : Options) (r : Row) → reaches-todo (contained-mid o (contained-in r)) ≡ reaches-todo (expr o (expr-in r) none)
-unfolding reaches-todo contained-mid contained-in expr-in expr visit-exprs pure both
-reaches-held o end = refl
-reaches-held o (loose b) = refl
-reaches-held o (field t f i r) = refl
-
 module _ (skip props s : Bytes) (w : World) {n : ℕ} (e : n ≡ few (children-in (read s))) where
   count : n ≡ few-of (children-at skip props (read s))
   count = e ∙ few-is (opts skip props) (children-in (read s))
 
   pub fragment-null : n ≡ 0 → see (fragment-mid skip props s) w ≡ see (leaf 0x73 []) w
-  unfolding fragment-raw see visit-exprs both pure _⧺_
-  fragment-null h = see-visited (fragment-raw (children-at skip props (read s))) (record { visited = pure (field 0x73 [] end end); unimplemented-inside = false }) w (fragment-0 (w .st .later) (children-at skip props (read s)) (sym count ∙ h))
+  unfolding see visit-exprs both pure _⧺_
+  fragment-null h = see-visited (visit-fragment (children-at skip props (read s))) (pure (field 0x73 [] end end)) w (fragment-0 (w .st .later) (children-at skip props (read s)) (sym count ∙ h))
 
   pub fragment-several : (n ≡ 0 → ⊥) → (n ≡ 1 → ⊥) → see (fragment-mid skip props s) w ≡ see (raw (template-raw skip props s) none) w
-  unfolding fragment-raw
   fragment-several x y =
-      see-visited (fragment-raw (children-at skip props (read s))) (template-raw skip props s) w
+      see-visited (visit-fragment (children-at skip props (read s))) (template-raw skip props s) w
       (fragment-2 (w .st .later) (children-at skip props (read s)) (λ z. x (count ∙ z)) (λ z. y (count ∙ z)))
 
   -- an only child, which stands in front of a
@@ -486,25 +470,24 @@ module _ (skip props s : Bytes) (w : World) {n : ℕ} (e : n ≡ few (children-i
         ap (λ (x : List M.Child). visit-fragment x (w .st .later)) j ∙ fragment-1 (w .st .later) c cs (ap few-of (sym j) ∙ (sym count ∙ h))
 
     pub fragment-element : t ≡ 0x30 → see (fragment-mid skip props s) w ≡ see (element-mid skip props b) w
-    unfolding fragment-raw element-raw visit-only-child
+    unfolding element-raw visit-only-child
     fragment-element z =
-        see-visited (fragment-raw (children-at skip props (read s))) (element-raw (element-at skip props b)) w
+        see-visited (visit-fragment (children-at skip props (read s))) (element-raw (element-at skip props b)) w
         (only-child (M.element (element-at skip props b)) (children-at skip props (read (behind-of a))) (kids-30 skip props a t k q refl z))
 
     pub fragment-fragment : t ≡ 0x31 → see (fragment-mid skip props s) w ≡ see (raw (found-raw skip props b) none) w
-    unfolding fragment-raw fragment-of visit-only-child
+    unfolding fragment-of visit-only-child
     fragment-fragment z =
-        see-visited (fragment-raw (children-at skip props (read s))) (found-raw skip props b) w
+        see-visited (visit-fragment (children-at skip props (read s))) (found-raw skip props b) w
         (only-child (M.fragment (fragment-of (children-at skip props (read b)))) (children-at skip props (read (behind-of a))) (kids-31 skip props a t k q refl z))
 
-    pub fragment-spread : t ≡ 0x61 → {i : Bool} → i ≡ reaches-todo (held-at skip props b) → see (fragment-mid skip props s) w ≡ left i w
-    unfolding fragment-raw visit-only-child children
-    fragment-spread z {i} d =
+    pub fragment-spread : t ≡ 0x61 → see (fragment-mid skip props s) w ≡ left w
+    unfolding visit-only-child children
+    fragment-spread z =
         let g = ap (children (opts skip props)) (children-61 a t k z) in
-        see-visited (fragment-raw (children-at skip props (read s))) (record { visited = leave i; unimplemented-inside = false }) w
-        (only-child (M.spread (expr (opts skip props) (expr-in (read (body-of a))) none)) (children-at skip props (read (behind-of a))) g
-        ∙ ap (λ (x : Bool). leave x (w .st .later)) (sym (d ∙ (reaches-held (opts skip props) (read b) ∙ ap (λ (x : Bytes). reaches-todo (expr (opts skip props) (expr-in (read x)) none)) q))))
-        ∙ see-left false i w
+        see-visited (visit-fragment (children-at skip props (read s))) leave w
+        (only-child (M.spread (expr (opts skip props) (expr-in (read (body-of a))) none)) (children-at skip props (read (behind-of a))) g)
+        ∙ see-left w
 
     some-left : length a ≡ 0 → ⊥
     unfolding few
@@ -523,9 +506,8 @@ module _ (skip props s : Bytes) (w : World) {n : ℕ} (e : n ≡ few (children-i
     by-tag u g spread-child-tag x y z = absurd (z refl)
 
     pub fragment-only : (t ≡ 0x30 → ⊥) → (t ≡ 0x31 → ⊥) → (t ≡ 0x61 → ⊥) → see (fragment-mid skip props s) w ≡ see (raw (template-raw skip props s) none) w
-    unfolding fragment-raw
     fragment-only x y z =
-        see-visited (fragment-raw (children-at skip props (read s))) (template-raw skip props s) w
+        see-visited (visit-fragment (children-at skip props (read s))) (template-raw skip props s) w
         (subst (λ (cs : List M.Child). visit-fragment cs (w .st .later) ≡ visit-after (gen-template (children-to-string false cs)) (w .st .later)) kids-same
         (by-tag (tag-of a) refl (child-tag (tag-of a) (f .child-first some-left)) (λ j. x (k ∙ j)) (λ j. y (k ∙ j)) (λ j. z (k ∙ j))))
 

@@ -12,11 +12,12 @@ use Rattle.page.specs.Page as P
 use Rattle.page.specs.Page.{Options}
 use Rattle.page.specs.Tree.{expr-in, items-in, pieces-in, contained-in, Contained, nothing-contained, contained}
 use Rattle.spec.specs.Pass as S
-use Rattle.spec.specs.Pass.{Pass, Raw, Mid, raw}
+use Rattle.spec.specs.Pass.{Pass, Mid, raw}
 use Rattle.spec.specs.Merge.{Found}
-use Rattle.spec.specs.Children.{spliced, entries-pass, found-pass, children-to-expr}
-use Rattle.spec.specs.Attributes as A
-use Rattle.spec.specs.Transform.{expr, items, pieces, element-raw, fragment-raw, raw-tag}
+use Rattle.spec.specs.Output.{gen-template}
+use Rattle.spec.specs.Children.{children-to-string, spliced, entries-pass, found-pass, children-to-expr}
+use Rattle.spec.specs.Visit.{visit-after, visit-found, visit-fragment}
+use Rattle.spec.specs.Transform.{expr, items, pieces, element-raw}
 use Rattle.decisions.specs.At.{opts, element-at, children-at}
 use Rattle.found.specs.Finds as Finds
 use Rattle.found.specs.declared.Found as D
@@ -52,28 +53,17 @@ module _ (skip props : Bytes) where
   element-mid b = raw (element-raw (element-at skip props b)) S.none
 
   abbrev pub fragment-mid : Bytes → Mid
-  fragment-mid s = raw (fragment-raw (children-at skip props (read s))) S.none
+  fragment-mid s = raw (visit-fragment (children-at skip props (read s))) S.none
 
-  -- a tag that is left: whether `todo!` stands inside
-  unfoldable pub tag-inside : Contained → Bool
-  tag-inside nothing-contained = false
-  tag-inside (contained (P.string-literal b)) = false
-  tag-inside (contained (P.number-literal n)) = false
-  tag-inside (contained (P.boolean-literal b)) = false
-  tag-inside (contained P.null-literal) = false
-  tag-inside (contained (P.other-literal b)) = false
-  tag-inside (contained (P.minus-literal n)) = false
-  tag-inside (contained (P.array-literal is)) = false
-  tag-inside (contained (P.other-expr ps)) = false
-  tag-inside (contained (P.tag-expr t)) = raw-tag (opts skip props) t .unimplemented-inside
+  -- a fragment's children as a template; what they give, where they stand in a fragment, and where that is no tag
+  abbrev pub template-mid : Bytes → Mid
+  template-mid s = raw (visit-after (gen-template (children-to-string false (children-at skip props (read s))))) S.none
 
--- a tag as an attribute's value
-unfoldable pub value-inside : A.Value → Bool
-value-inside A.absent = false
-value-inside (A.string b) = false
-value-inside A.empty = false
-value-inside (A.container s m) = false
-value-inside (A.tag r) = r .unimplemented-inside
+  abbrev pub found-mid : Bytes → Mid
+  found-mid s = raw (visit-found (children-to-expr (children-at skip props (read s)))) S.none
+
+  abbrev pub given-mid : Bytes → Mid
+  given-mid s = raw (visit-after (found-pass (children-to-expr (children-at skip props (read s))))) S.none
 
 -- what children give, as one expression, or spliced into an array
 unfoldable pub found-out : (splice : Bool) → Found → Pass Mid
@@ -118,7 +108,7 @@ entered k s =
       later = k .next;
       templates = k .place;
       page = s .page;
-      seen = record { jsx = s .seen .jsx; attr = s .seen .attr; escape = s .seen .escape; long = k .long; unimplemented = s .seen .unimplemented; left = s .seen .left };
+      seen = record { jsx = s .seen .jsx; attr = s .seen .attr; escape = s .seen .escape; long = k .long; left = s .seen .left };
     }
 
 abbrev pub enter : K.Kept → World → World
@@ -130,10 +120,6 @@ with-first n s = record { first = n; later = s .later; templates = s .templates;
 
 abbrev pub returned : ℕ → World → World
 returned n w = at (w .templates) (w .page) (with-first n (w .st))
-
--- a walk that writes nothing
-abbrev pub fresh : Walk
-fresh = record { first = 0; later = 0; templates = 0; page = 0; seen = record { jsx = false; attr = false; escape = false; long = false; unimplemented = false; left = false } }
 
 -- what found_of answers for the children in s
 pub record Given (skip props s : Bytes) (f : Place) : Type 0 where

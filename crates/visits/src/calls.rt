@@ -1,29 +1,22 @@
 // The cycle: expression, element, children and call. An `on_` function is a visit of 000 (visit_mut_expr), a `to_` function one that
 // serializes (serialize_jsx_to_call_expr); both are short, since the toolchain names the cycle by all of them.
 ghost use mathlib.Core.Path.{_≡_};
-ghost use mathlib.Core.Bool.{true, false};
+ghost use mathlib.Core.Bool.{false};
 ghost use mathlib.Core.List.{[]};
-ghost use Prim.Native.Nat.{_+_, _≤_, _<_, _^_};
-ghost use lib.ListN.{length};
 ghost use Rattle.field.specs.Row.{read};
-ghost use Rattle.page.specs.Tree.{contained-in};
-ghost use Rattle.spec.specs.Pass.{none, raw};
 ghost use Rattle.spec.specs.Merge.{merge};
-ghost use Rattle.spec.specs.Output.{dynamic-exprs, gen-template};
+ghost use Rattle.spec.specs.Output.{dynamic-exprs};
 ghost use Rattle.spec.specs.Attributes.{attrs-parts, props-of};
-ghost use Rattle.spec.specs.Children.{serialize-jsx, children-to-string, children-to-expr, entries, entries-pass, found-pass};
-ghost use Rattle.spec.specs.Visit.{visit-after, visit-found, reaches-todo, attributes-reach-todo, children-reach-todo};
+ghost use Rattle.spec.specs.Children.{serialize-jsx, children-to-string, children-to-expr, entries, entries-pass};
 ghost use Rattle.decisions.specs.At.{opts, element-at, attributes-at, children-at};
 ghost use Rattle.walk.specs.See.{at, see, act};
-ghost use Rattle.visits.specs.Visiting.{expr-at, held-at, items-at, pieces-at, element-mid, fragment-mid, tag-inside, found-out, Given, Untagged, Room};
-use crate::state::fresh;
+ghost use Rattle.visits.specs.Visiting.{expr-at, held-at, items-at, pieces-at, element-mid, fragment-mid, template-mid, found-mid, given-mid, found-out, Given, Untagged, Room};
 use crate::state::is_found;
 use crate::state::is_tag;
 use crate::state::place;
 use crate::state::recorded;
 use crate::state::records_of;
 use crate::state::returned;
-use crate::state::tag_value;
 use decisions::children::child_count;
 use decisions::children::children_at;
 use decisions::element::is_component;
@@ -230,8 +223,8 @@ fn on_template<'a>(
     page: &mut [u8],
     st: Walk,
 ) -> Walk
-    requires { ⌜ Room (now scratch) (now s) (see (raw (record { visited = visit-after (gen-template (children-to-string false (children-at (now skip) (now props) (read (now s))))); unimplemented-inside = false }) none) (at (now templates) (now page) st)) ⌝ }
-    ensures { λ r. ⌜ at (now (templates .exit)) (now (page .exit)) r ≡ see (raw (record { visited = visit-after (gen-template (children-to-string false (children-at (now (skip .entry)) (now (props .entry)) (read (now (s .entry)))))); unimplemented-inside = false }) none) (at (now (templates .entry)) (now (page .entry)) st) ⌝ }
+    requires { ⌜ Room (now scratch) (now s) (see (template-mid (now skip) (now props) (now s)) (at (now templates) (now page) st)) ⌝ }
+    ensures { λ r. ⌜ at (now (templates .exit)) (now (page .exit)) r ≡ see (template-mid (now (skip .entry)) (now (props .entry)) (now (s .entry))) (at (now (templates .entry)) (now (page .entry)) st) ⌝ }
 {
     let first = st.first;
     let p = st.page;
@@ -263,10 +256,7 @@ fn on_fragment<'a>(
             match tag_at(a) {
                 0x30 => on_jsx(skip, props, b, scratch, templates, page, st),
                 0x31 => on_found(skip, props, b, scratch, templates, page, st),
-                0x61 => {
-                    let todo = held_todo(skip, props, b, scratch);
-                    leave(page, st, todo)
-                }
+                0x61 => leave(page, st),
                 _ => on_template(skip, props, s, scratch, templates, page, st),
             }
         }
@@ -284,21 +274,17 @@ fn on_found<'a>(
     page: &mut [u8],
     st: Walk,
 ) -> Walk
-    requires { ⌜ Room (now scratch) (now s) (see (raw (record { visited = visit-found (children-reach-todo (children-at (now skip) (now props) (read (now s)))) (children-to-expr (children-at (now skip) (now props) (read (now s)))); unimplemented-inside = false }) none) (at (now templates) (now page) st)) ⌝ }
-    ensures { λ r. ⌜ at (now (templates .exit)) (now (page .exit)) r ≡ see (raw (record { visited = visit-found (children-reach-todo (children-at (now (skip .entry)) (now (props .entry)) (read (now (s .entry))))) (children-to-expr (children-at (now (skip .entry)) (now (props .entry)) (read (now (s .entry))))); unimplemented-inside = false }) none) (at (now (templates .entry)) (now (page .entry)) st) ⌝ }
+    requires { ⌜ Room (now scratch) (now s) (see (found-mid (now skip) (now props) (now s)) (at (now templates) (now page) st)) ⌝ }
+    ensures { λ r. ⌜ at (now (templates .exit)) (now (page .exit)) r ≡ see (found-mid (now (skip .entry)) (now (props .entry)) (now (s .entry))) (at (now (templates .entry)) (now (page .entry)) st) ⌝ }
 {
     let f = found_of(skip, s);
     let kind = f.kind;
     match kind {
-        Kind::Nothing => {
-            let todo = child_todo(skip, props, s, scratch);
-            leave(page, st, todo)
-        }
+        Kind::Nothing => leave(page, st),
         Kind::Expr => {
             let c = place(s, f);
             if is_tag(c) {
-                let todo = tag_todo(skip, props, c, scratch);
-                return leave(page, st, todo);
+                return leave(page, st);
             }
             on_given(skip, props, s, f, scratch, templates, page, st)
         }
@@ -317,8 +303,8 @@ fn on_given<'a>(
     page: &mut [u8],
     st: Walk,
 ) -> Walk
-    requires { ⌜ (Given (now skip) (now props) (now s) f × Untagged (now skip) (now props) (now s) f) × Room (now scratch) (now s) (see (raw (record { visited = visit-after (found-pass (children-to-expr (children-at (now skip) (now props) (read (now s))))); unimplemented-inside = false }) none) (at (now templates) (now page) st)) ⌝ }
-    ensures { λ r. ⌜ at (now (templates .exit)) (now (page .exit)) r ≡ see (raw (record { visited = visit-after (found-pass (children-to-expr (children-at (now (skip .entry)) (now (props .entry)) (read (now (s .entry)))))); unimplemented-inside = false }) none) (at (now (templates .entry)) (now (page .entry)) st) ⌝ }
+    requires { ⌜ (Given (now skip) (now props) (now s) f × Untagged (now skip) (now props) (now s) f) × Room (now scratch) (now s) (see (given-mid (now skip) (now props) (now s)) (at (now templates) (now page) st)) ⌝ }
+    ensures { λ r. ⌜ at (now (templates .exit)) (now (page .exit)) r ≡ see (given-mid (now (skip .entry)) (now (props .entry)) (now (s .entry))) (at (now (templates .entry)) (now (page .entry)) st) ⌝ }
 {
     let first = st.first;
     let k = record_found(skip, props, s, scratch, templates, records_of(st));
@@ -668,125 +654,6 @@ fn to_entries<'a>(
             }
             256 => {
                 return flush(page, cur, run);
-            }
-            _ => {
-                let r = behind(t);
-                t = r;
-            }
-        }
-    }
-}
-
-// Whether `todo!` is reached in an expression of a tag that is left: the visit, with nothing written.
-fn held_todo<'a>(skip: &'a [u8], props: &'a [u8], c: &'a [u8], scratch: &mut [u8]) -> bool
-    requires { ⌜ (65536 ≤ length (now scratch)) × (length (now c) < 2 ^ 32) ⌝ }
-    ensures { λ r. ⌜ r ≡ reaches-todo (held-at (now (skip .entry)) (now (props .entry)) (now (c .entry))) ⌝ }
-{
-    let mut none = [0u8; 1];
-    let mut nothing = [0u8; 1];
-    let w = on_held(
-        skip,
-        props,
-        c,
-        scratch,
-        &mut none[..0],
-        &mut nothing[..0],
-        fresh(),
-    );
-    let s = w.seen;
-    s.unimplemented
-}
-
-// Whether it is in the tag in front.
-fn tag_todo<'a>(skip: &'a [u8], props: &'a [u8], c: &'a [u8], scratch: &mut [u8]) -> bool
-    requires { ⌜ (65536 ≤ length (now scratch)) × (length (now c) < 2 ^ 32) ⌝ }
-    ensures { λ r. ⌜ r ≡ tag-inside (now (skip .entry)) (now (props .entry)) (contained-in (read (now (c .entry)))) ⌝ }
-{
-    let b = body(c);
-    match tag_at(c) {
-        0x30 => {
-            let rest = behind(b);
-            if attrs_todo(skip, props, rest, scratch) {
-                return true;
-            }
-            child_todo(skip, props, rest, scratch)
-        }
-        0x31 => child_todo(skip, props, b, scratch),
-        _ => false,
-    }
-}
-
-// In attributes.
-fn attrs_todo<'a>(skip: &'a [u8], props: &'a [u8], s: &'a [u8], scratch: &mut [u8]) -> bool
-    requires { ⌜ (65536 ≤ length (now scratch)) × (length (now s) < 2 ^ 32) ⌝ }
-    ensures { λ r. ⌜ r ≡ attributes-reach-todo (attributes-at (now (skip .entry)) (now (props .entry)) (read (now (s .entry)))) ⌝ }
-{
-    let mut t = s;
-    loop {
-        match tag_at(t) {
-            0x50 => {
-                let a = body(t);
-                if held_todo(skip, props, key_held(a), scratch) {
-                    return true;
-                }
-                if tag_todo(skip, props, tag_value(a), scratch) {
-                    return true;
-                }
-                let r = behind(t);
-                t = r;
-            }
-            0x53 => {
-                if held_todo(skip, props, body(t), scratch) {
-                    return true;
-                }
-                let r = behind(t);
-                t = r;
-            }
-            _ => {
-                return false;
-            }
-        }
-    }
-}
-
-// In children.
-fn child_todo<'a>(skip: &'a [u8], props: &'a [u8], s: &'a [u8], scratch: &mut [u8]) -> bool
-    requires { ⌜ (65536 ≤ length (now scratch)) × (length (now s) < 2 ^ 32) ⌝ }
-    ensures { λ r. ⌜ r ≡ children-reach-todo (children-at (now (skip .entry)) (now (props .entry)) (read (now (s .entry)))) ⌝ }
-{
-    let mut t = s;
-    loop {
-        match tag_at(t) {
-            0x52 => {
-                if held_todo(skip, props, body(t), scratch) {
-                    return true;
-                }
-                let r = behind(t);
-                t = r;
-            }
-            0x61 => {
-                if held_todo(skip, props, body(t), scratch) {
-                    return true;
-                }
-                let r = behind(t);
-                t = r;
-            }
-            0x30 => {
-                if tag_todo(skip, props, t, scratch) {
-                    return true;
-                }
-                let r = behind(t);
-                t = r;
-            }
-            0x31 => {
-                if tag_todo(skip, props, t, scratch) {
-                    return true;
-                }
-                let r = behind(t);
-                t = r;
-            }
-            256 => {
-                return false;
             }
             _ => {
                 let r = behind(t);

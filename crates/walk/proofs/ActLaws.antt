@@ -18,7 +18,7 @@ use Rattle.text.specs.Text.{normalize-lit-str}
 use Rattle.names.specs.Names.{get-attr-name}
 use Rattle.page.specs.Page as P
 use Rattle.page.specs.Page.{Name, Options}
-use Rattle.spec.specs.Pass.{Done, Pass, pure, map, both, bind, raise, join, long-if, todo, Raw, Mid, none, node, raw, _+++_, _⧺_, Part, chars, gap}
+use Rattle.spec.specs.Pass.{Done, Pass, pure, map, both, bind, raise, join, long-if, Raw, Mid, none, node, raw, _+++_, _⧺_, Part, chars, gap}
 use Rattle.spec.specs.Output.{leaf, string-node, null-node, prop-node, dynamic-exprs, gen-template}
 use Rattle.spec.specs.Merge.{Entry, still, Found, nothing-found, one-found, array-found, Child, text, empty, container, element, fragment, spread}
 use Rattle.spec.specs.Attributes as Held
@@ -27,7 +27,7 @@ use Rattle.spec.specs.Children.{stills, found-of, spliced, entry-pass, entries-
 use Rattle.spec.specs.Visit.{visit-exprs, visit-inside, visit-after, visit-found, visit-only-child, visit-fragment, leave}
 use Rattle.spec.specs.Transform.{stands, expr, raw-tag, items, pieces}
 use Rattle.spec.specs.declared.Flags.{Flags}
-use Rattle.walk.specs.See.{World, at, wrote, see, passed, act, to-page, begun, numbered, wrap, todo-if, props-closed}
+use Rattle.walk.specs.See.{World, at, wrote, see, passed, act, to-page, begun, numbered, wrap, props-closed}
 use Rattle.walk.proofs.SeeLaws.{Split, wrote-then, wrote-last, fronted, see-none, see-front, see-rest, see-node, see-page, Grows}
 
 -- ---- rows in which tags stand
@@ -54,24 +54,24 @@ split-fields (field t f i r) y =
 module _ (q : Raw) (w : World) where
   -- a visit, without loose bytes
   fields-of : Done Row
-  fields-of = let d = q .visited (w .st .later) in record { value = d .value ⧺ end; taken = d .taken; templates = d .templates; flags = d .flags }
+  fields-of = let d = q (w .st .later) in record { value = d .value ⧺ end; taken = d .taken; templates = d .templates; flags = d .flags }
 
   see-fields : see (raw q none) w ≡ wrote fields-of w
   unfolding see visit-exprs pure both fields-of
-  see-fields = let d = q .visited (w .st .later) in wrote-last (d .value ⧺ end) (d .taken) (d .templates) (d .flags) w
+  see-fields = let d = q (w .st .later) in wrote-last (d .value ⧺ end) (d .taken) (d .templates) (d .flags) w
 
   pub see-raw-rest : (r : Mid) → see (raw q r) w ≡ see r (see (raw q none) w)
   unfolding see visit-exprs both fields-of
   see-raw-rest r =
-      let d = q .visited (w .st .later) in
+      let d = q (w .st .later) in
       let e = visit-exprs r (w .st .later + d .taken) in
       wrote-then fields-of e (d .value ⧺ e .value) (split-fields (d .value) (e .value)) w ∙ ap (see r) (sym see-fields)
 
   -- a tag alone: what its visit writes
-  pub see-raw : q .visited (w .st .later) .value ⧺ end ≡ q .visited (w .st .later) .value → see (raw q none) w ≡ wrote (q .visited (w .st .later)) w
+  pub see-raw : q (w .st .later) .value ⧺ end ≡ q (w .st .later) .value → see (raw q none) w ≡ wrote (q (w .st .later)) w
   unfolding fields-of
   see-raw h =
-      let d = q .visited (w .st .later) in
+      let d = q (w .st .later) in
       see-fields ∙ ap (λ (x : Row). wrote (record { value = x; taken = d .taken; templates = d .templates; flags = d .flags }) w) h
 
 pub see-append : (a b : Mid) (w : World) → see (a +++ b) w ≡ see b (see a w)
@@ -92,7 +92,7 @@ unfolding visit-exprs pure both _⧺_
 visit-fields none n = refl
 visit-fields (node t f i r) n = ap (field t f (visit-exprs i n .value)) (visit-fields r (n + visit-exprs i n .taken))
 visit-fields (raw q r) n =
-    let d = q .visited n in
+    let d = q n in
     let e = visit-exprs r (n + d .taken) in
     fields-append (d .value) (e .value) end ∙ ap (λ (x : Row). d .value ⧺ x) (visit-fields r (n + d .taken))
 
@@ -106,11 +106,11 @@ pub after-fields : (p : Pass Mid) (n : ℕ) → visit-after p n .value ⧺ end �
 unfolding visit-after bind
 after-fields p n = inside-fields (p n .value) (n + p n .taken)
 
-found-fields : (b : Bool) (f : Found) (n : ℕ) → visit-found b f n .value ⧺ end ≡ visit-found b f n .value
+found-fields : (f : Found) (n : ℕ) → visit-found f n .value ⧺ end ≡ visit-found f n .value
 unfolding visit-found leave raise pure _⧺_
-found-fields b nothing-found n = refl
-found-fields b (one-found e) n = after-fields (found-pass (one-found e)) n
-found-fields b (array-found es) n = after-fields (found-pass (array-found es)) n
+found-fields nothing-found n = refl
+found-fields (one-found e) n = after-fields (found-pass (one-found e)) n
+found-fields (array-found es) n = after-fields (found-pass (array-found es)) n
 
 child-fields : (c : Child) (n : ℕ) → visit-only-child c n .value ⧺ end ≡ visit-only-child c n .value
 unfolding visit-only-child leave raise pure _⧺_
@@ -118,7 +118,7 @@ child-fields (text t) n = after-fields _ n
 child-fields empty n = after-fields _ n
 child-fields (container s m) n = after-fields _ n
 child-fields (element e) n = after-fields (serialize-jsx e) n
-child-fields (fragment f) n = found-fields (f .unimplemented-inside) (f .to-expr) n
+child-fields (fragment f) n = found-fields (f .to-expr) n
 child-fields (spread m) n = refl
 
 pub fragment-fields : (cs : List Child) (n : ℕ) → visit-fragment cs n .value ⧺ end ≡ visit-fragment cs n .value
@@ -136,16 +136,16 @@ or-swap false true false = refl
 or-swap false false true = refl
 or-swap false false false = refl
 
--- the state with another first number and other flags
-abbrev reset : World → ℕ → Bool → Bool → World
-reset w n a b =
+-- the state with another first number and another flag
+abbrev reset : World → ℕ → Bool → World
+reset w n b =
     at (w .templates) (w .page)
     (record {
       first = n;
       later = w .st .later;
       templates = w .st .templates;
       page = w .st .page;
-      seen = record { jsx = w .st .seen .jsx; attr = w .st .seen .attr; escape = w .st .seen .escape; long = w .st .seen .long; unimplemented = a; left = b };
+      seen = record { jsx = w .st .seen .jsx; attr = w .st .seen .attr; escape = w .st .seen .escape; long = w .st .seen .long; left = b };
     })
 
 module _ (d : Done Mid) where
@@ -153,17 +153,13 @@ module _ (d : Done Mid) where
   unfolding see
   passed-see m w =
       let f = visit-exprs m (w .st .later) .flags in
-      λ i. reset (see m w) (w .st .first + d .taken) (or-swap (w .st .seen .unimplemented) (f .unimplemented) (d .flags .unimplemented) i) (or-swap (w .st .seen .left) (f .left) (d .flags .left) i)
+      λ i. reset (see m w) (w .st .first + d .taken) (or-swap (w .st .seen .left) (f .left) (d .flags .left) i)
 
   pub passed-wrap : (t p : ℕ) (w : World) → passed d (wrap t p w) ≡ wrap t p (passed d w)
   passed-wrap t p w = refl
 
   pub passed-begun : (w : World) → passed d (begun w) ≡ begun (passed d w)
   passed-begun w = refl
-
-  pub passed-todo-if : (b : Bool) (w : World) → passed d (todo-if b w) ≡ todo-if b (passed d w)
-  passed-todo-if b w =
-      λ i. reset w (w .st .first + d .taken) (or-swap (w .st .seen .unimplemented) b (d .flags .unimplemented) i) (w .st .seen .left || d .flags .left)
 
   passed-pick : (b : Bool) (x y : World) → passed d (pick b x y) ≡ pick b (passed d x) (passed d y)
   passed-pick true x y = refl
@@ -180,7 +176,7 @@ passed-none : (m : Mid) (n : ℕ) (w : World) → passed (pure m n) w ≡ w
 unfolding pure
 passed-none m n w =
     let k : w .st .first + 0 ≡ w .st .first = omega arith in
-    λ i. reset w (k i) (or-false (w .st .seen .unimplemented) i) (or-false (w .st .seen .left) i)
+    λ i. reset w (k i) (or-false (w .st .seen .left) i)
 
 -- ---- passes
 
@@ -193,20 +189,6 @@ pub act-map-pure : (f : Mid → Mid) (m : Mid) (w : World) → act (map f (pure 
 unfolding act map pure
 act-map-pure f m w = act-pure (f m) w
 
-or-first : (s a b : Bool) → (s || (a || b)) ≡ ((s || b) || a)
-or-first s a b = sym (or-assoc s a b) ∙ or-swap s a b
-
--- flags, where no tag is left
-pub act-raise : (f : Flags) (p : Pass Mid) (w : World) → f .left ≡ false → act (raise f p) w ≡ todo-if (f .unimplemented) (act p w)
-unfolding act raise
-act-raise f p w h =
-    let d = p (w .st .first) in
-    let x = see (d .value) w in
-    λ i. reset x (x .st .first + d .taken) (or-first (x .st .seen .unimplemented) (f .unimplemented) (d .flags .unimplemented) i) (x .st .seen .left || (h i || d .flags .left))
-
-pub act-todo : (p : Pass Mid) (w : World) → act (raise todo p) w ≡ todo-if true (act p w)
-act-todo p w = act-raise todo p w refl
-
 pub act-long : (b : Bool) (p : Pass Mid) (w : World) → act (raise (long-if b) p) w ≡ act p w
 unfolding act raise
 act-long b p w = refl
@@ -215,7 +197,7 @@ passed-join : (c d : Done Mid) (v : Mid) (w : World) →
     passed (record { value = v; taken = c .taken + d .taken; templates = c .templates ++ d .templates; flags = join (c .flags) (d .flags) }) w ≡ passed d (passed c w)
 passed-join c d v w =
     let n : w .st .first + (c .taken + d .taken) ≡ w .st .first + c .taken + d .taken = omega arith in
-    λ i. reset w (n i) (sym (or-assoc (w .st .seen .unimplemented) (c .flags .unimplemented) (d .flags .unimplemented)) i) (sym (or-assoc (w .st .seen .left) (c .flags .left) (d .flags .left)) i)
+    λ i. reset w (n i) (sym (or-assoc (w .st .seen .left) (c .flags .left) (d .flags .left)) i)
 
 pub act-both : (p q : Pass Mid) (w : World) → act (both _+++_ p q) w ≡ act q (act p w)
 unfolding act both see
@@ -252,7 +234,7 @@ module _ (ps : List Part) (w : World) where
       let x = wrap 0x90 (w .st .page) (see (d .value) (fronted b w)) in
       let n : w .st .first + (1 + d .taken) ≡ w .st .first + 1 + d .taken = omega arith in
       ap (passed (gen-template ps (w .st .first))) (see-front 0x90 b (d .value) w)
-      ∙ (λ i. reset x (n i) (x .st .seen .unimplemented || d .flags .unimplemented) (x .st .seen .left || d .flags .left))
+      ∙ (λ i. reset x (n i) (x .st .seen .left || d .flags .left))
       ∙ ap (λ (y : World). wrap 0x90 (w .st .page) (passed d (see (d .value) y))) numbered-is
 
 pub act-no-parts : (w : World) → act (dynamic-exprs []) w ≡ w

@@ -37,7 +37,7 @@ use Rattle.decisions.proofs.Laws.{string-held}
 use Rattle.walk.specs.declared.attribute.Gap.{Gap}
 use Rattle.walk.specs.declared.attribute.Gap.the-variants as G
 use Rattle.walk.specs.declared.state.Walk.{Walk}
-use Rattle.walk.specs.See.{World, at, see, to-page, begun, wrap, todo-if, props-closed, literal, namespaced-leaf, Low}
+use Rattle.walk.specs.See.{World, at, see, to-page, begun, wrap, props-closed, literal, namespaced-leaf, Low}
 use Rattle.walk.specs.Plan.{string-of, plan-by, plan-front, plan-back, key-string}
 use Rattle.walk.proofs.SeeLaws.{see-none, see-grows, see-page-length}
 use Rattle.walk.proofs.LeafLaws.{low-world, low-seen, pick-true, pick-false, leaf-room, leaf-close, leaf-is, low-as, done-as, front-low, rest-is}
@@ -195,37 +195,6 @@ module _ (q : ℕ) (o : Bytes) (st : Walk) where
 
 -- ---- what an attribute leaves, by its gap
 
--- `todo!` was not reached
-todo-none : (w : World) → todo-if false w ≡ w
-todo-none w =
-    let s = w .st .seen in
-    λ i. at (w .templates) (w .page) (record {
-      first = w .st .first;
-      later = w .st .later;
-      templates = w .st .templates;
-      page = w .st .page;
-      seen = record { jsx = s .jsx; attr = s .attr; escape = s .escape; long = s .long; unimplemented = or-false (s .unimplemented) i; left = s .left };
-    })
-
-pub todo-is : {o : Bytes} {r : Walk} {w : World} → at [] o r ≡ w →
-    at [] o (record {
-      first = r .first;
-      later = r .later;
-      templates = r .templates;
-      page = r .page;
-      seen = record { jsx = r .seen .jsx; attr = r .seen .attr; escape = r .seen .escape; long = r .seen .long; unimplemented = true; left = r .seen .left };
-    }) ≡ todo-if true w
-todo-is {o} {r} {w} g =
-    let s = r .seen in
-    (λ i. at [] o (record {
-      first = r .first;
-      later = r .later;
-      templates = r .templates;
-      page = r .page;
-      seen = record { jsx = s .jsx; attr = s .attr; escape = s .escape; long = s .long; unimplemented = sym (or-true (s .unimplemented)) i; left = s .left };
-    }))
-    ∙ ap (todo-if true) g
-
 module _ (t : ℕ) (text : Bytes → Bytes) (g : Gap) (n : AttrName) (v : A.Value) (w : World) where
   front-by : {h : Gap} → g ≡ h → plan-front (plan-by t text g n v) w ≡ plan-front (plan-by t text h n v) w
   front-by e = ap (λ (x : Gap). plan-front (plan-by t text x n v) w) e
@@ -236,28 +205,24 @@ module _ (t : ℕ) (text : Bytes → Bytes) (g : Gap) (n : AttrName) (v : A.Valu
 
   pub front-true : {norm : Bool} → g ≡ G.True norm → plan-front (plan-by t text g n v) w ≡ see (node 0x81 (get-attr-name n norm) none true-node) (begun w)
   unfolding plan-by
-  front-true {norm} e = front-by e ∙ todo-none (see (node 0x81 (get-attr-name n norm) none true-node) (begun w))
+  front-true e = front-by e
 
   pub front-string : {norm : Bool} → g ≡ G.String norm → {b : Bytes} → b ≡ string-of v → plan-front (plan-by t text g n v) w ≡ see (node 0x81 (get-attr-name n norm) none (string-node (text b))) (begun w)
   unfolding plan-by
   front-string {norm} e {b} q =
-      front-by e ∙ todo-none (see (node 0x81 (get-attr-name n norm) none (string-node (text (string-of v)))) (begun w))
-      ∙ ap (λ (x : Bytes). see (node 0x81 (get-attr-name n norm) none (string-node (text x))) (begun w)) (sym q)
+      front-by e ∙ ap (λ (x : Bytes). see (node 0x81 (get-attr-name n norm) none (string-node (text x))) (begun w)) (sym q)
 
-  pub front-todo : g ≡ G.Todo → plan-front (plan-by t text g n v) w ≡ todo-if true (see (node 0x81 (get-attr-name n false) none null-node) (begun w))
+  pub front-null : g ≡ G.Null → plan-front (plan-by t text g n v) w ≡ see (node 0x81 (get-attr-name n false) none null-node) (begun w)
   unfolding plan-by
-  front-todo e = front-by e
-
-  pub front-todo-low : g ≡ G.Todo → Low (plan-front (plan-by t text g n v) w .st) → Low (see (node 0x81 (get-attr-name n false) none null-node) (begun w) .st)
-  front-todo-low e l = low-seen (low-world (front-todo e) l)
+  front-null e = front-by e
 
   pub front-attr : {norm : Bool} → g ≡ G.Attr norm → plan-front (plan-by t text g n v) w ≡ see (leaf 0x81 (get-attr-name n norm)) (begun w)
   unfolding plan-by
-  front-attr {norm} e = front-by e ∙ todo-none (see (leaf 0x81 (get-attr-name n norm)) (begun w))
+  front-attr e = front-by e
 
   pub front-choice : g ≡ G.Choice → plan-front (plan-by t text g n v) w ≡ begun w
   unfolding plan-by
-  front-choice e = front-by e ∙ todo-none (see none (begun w)) ∙ see-none (begun w)
+  front-choice e = front-by e ∙ see-none (begun w)
 
   -- it stands, and ends with a head u behind x
   module _ (p : ℕ) where
@@ -282,9 +247,9 @@ module _ (t : ℕ) (text : Bytes → Bytes) (g : Gap) (n : AttrName) (v : A.Valu
     unfolding plan-by
     back-string e = (stands-by e, back-by e ∙ ap (wrap t p) (see-none w))
 
-    pub back-todo : g ≡ G.Todo → Ends t w
+    pub back-null : g ≡ G.Null → Ends t w
     unfolding plan-by
-    back-todo e = (stands-by e, back-by e ∙ ap (wrap t p) (see-none w))
+    back-null e = (stands-by e, back-by e ∙ ap (wrap t p) (see-none w))
 
     pub back-attr : {norm : Bool} → g ≡ G.Attr norm → Ends t w
     unfolding plan-by

@@ -12,7 +12,7 @@ use Rattle.text.specs.Text.{normalize-lit-str}
 use Rattle.page.specs.Page as P
 use Rattle.page.specs.Page.{Options}
 use Rattle.page.specs.Tree.{Contained, nothing-contained, contained}
-use Rattle.spec.specs.Pass.{Done, pure, both, raise, Mid, none, node, raw, _+++_, chars, gap}
+use Rattle.spec.specs.Pass.{no-flags, Done, pure, both, Mid, none, node, raw, _+++_, chars, gap}
 use Rattle.spec.specs.Output.{string-node, true-node, attr-node, choice-node, prop-node, dynamic-exprs}
 use Rattle.spec.specs.Merge as M
 use Rattle.spec.specs.Merge.{joined-text}
@@ -25,7 +25,7 @@ use Rattle.decisions.specs.At.{opts}
 use Rattle.strings.specs.Carve.{child-parts, contained-parts}
 use Rattle.walk.specs.declared.attribute.Gap.{Gap}
 use Rattle.walk.specs.declared.attribute.Gap.the-variants as G
-use Rattle.walk.specs.See.{World, see, begun, todo-if}
+use Rattle.walk.specs.See.{World, see, begun}
 use Rattle.walk.specs.Plan.{Plan, dynamic-gap, shape-gap, listed-gap, plain-gap, attr-gap, prop-gap, string-of, held-of, plan-by, plan-front, plan-back, key-string, key-held, shape-leaves, shape-wraps, gap-wraps, gap-held}
 
 -- ---- the fields of a plan, as the first pass gives them
@@ -41,32 +41,32 @@ abbrev pub plan-mid : Plan → Mid
 plan-mid p = pick (p .stands) (node (p .tag) [] (p .front +++ (p .held +++ p .behind)) none) none
 
 abbrev pub plan-done : Plan → Done Mid
-plan-done p = record { value = plan-mid p; taken = 0; templates = []; flags = record { unimplemented = p .todo; left = false; long = false } }
+plan-done p = record { value = plan-mid p; taken = 0; templates = []; flags = no-flags }
 
 -- in an opening tag
 module _ (o : Options) (n : AttrName) (k : ℕ) where
   abbrev attr-done : Gap → A.Value → Done Mid
   attr-done g v = plan-done (plan-by 0x91 (λ b. b) g n v)
 
+  -- a field of its own for what is held, or none
+  held-plan : (norm : Bool) (s : M.Shape) (m : Mid) → dynamic-exprs (A.attr-gap (get-attr-name n norm) m) k ≡ attr-done (G.Attr norm) (A.container s m)
+  unfolding dynamic-exprs plan-by held-of pure both _+++_
+  held-plan norm s m = ap (λ (x : Mid). pure (attr-node (get-attr-name n norm) x) k) (sym (append-none m))
+
   listed-plan : (v : P.Value) → dynamic-exprs (listed-attr (get-attr-name n false) (value o v)) k ≡ attr-done (listed-gap v) (value o v)
-  unfolding dynamic-exprs listed-attr listed-gap plan-by value string-of held-of pure both raise _+++_
+  unfolding dynamic-exprs listed-attr listed-gap plan-by value string-of held-of pure both _+++_
   listed-plan P.absent = refl
   listed-plan (P.string-value b) = refl
   listed-plan P.empty-value = refl
-  listed-plan (P.container-value e) = refl
+  listed-plan (P.container-value e) = held-plan false (shape-of e) (expr o e none)
   listed-plan (P.tag-value t) = refl
-
-  -- a field of its own for what is held, or none
-  held-plan : (s : M.Shape) (m : Mid) → dynamic-exprs (A.attr-gap (get-attr-name n true) m) k ≡ attr-done (G.Attr true) (A.container s m)
-  unfolding dynamic-exprs plan-by held-of pure both _+++_
-  held-plan s m = ap (λ (x : Mid). pure (attr-node (get-attr-name n true) x) k) (sym (append-none m))
 
   dynamic-plan : (s : M.Shape) (m : Mid) (b : Bool) →
       dynamic-exprs (pick b (chars (32 ∷ []) ∷ gap (pure (choice-node m (get-attr-name n true))) ∷ []) (A.attr-gap (get-attr-name n true) m)) k
       ≡ attr-done (pick b G.Choice (G.Attr true)) (A.container s m)
   unfolding dynamic-exprs plan-by held-of pure both _+++_
   dynamic-plan s m true = refl
-  dynamic-plan s m false = held-plan s m
+  dynamic-plan s m false = held-plan true s m
 
   boolean-plan : (s : M.Shape) (m : Mid) (x b : Bool) →
       dynamic-exprs (pick x (pick b (chars (32 ∷ get-attr-name n true) ∷ []) []) (pick x (chars (32 ∷ []) ∷ gap (pure (choice-node m (get-attr-name n true))) ∷ []) (A.attr-gap (get-attr-name n true) m))) k
@@ -74,7 +74,7 @@ module _ (o : Options) (n : AttrName) (k : ℕ) where
   unfolding dynamic-exprs plan-by pure
   boolean-plan s m true true = refl
   boolean-plan s m true false = refl
-  boolean-plan s m false b = held-plan s m
+  boolean-plan s m false b = held-plan true s m
 
   container-plan : (s : M.Shape) (m : Mid) → dynamic-exprs (container-attr (get-attr-name n true) s m) k ≡ attr-done (shape-gap (get-attr-name n true) s) (A.container s m)
   unfolding dynamic-exprs container-attr dynamic-attr shape-gap dynamic-gap plan-by pure
@@ -166,26 +166,24 @@ key-string-same o p (P.tag-value t) = refl
 
 pub record SamePlan (p q : Plan) : Type 0 where
   pub same-stands : p .stands ≡ q .stands
-  pub same-todo : p .todo ≡ q .todo
   pub same-tag : p .tag ≡ q .tag
   pub same-front : p .front ≡ q .front
   pub same-behind : p .behind ≡ q .behind
 
 pub plan-same : (o p : Options) (t : ℕ) (text : Bytes → Bytes) (g : Gap) (n : AttrName) (x : P.Value) → SamePlan (plan-by t text g n (value o x)) (plan-by t text g n (value p x))
 unfolding plan-by
-plan-same o p t text G.Nothing n x = record { same-stands = refl; same-todo = refl; same-tag = refl; same-front = refl; same-behind = refl }
-plan-same o p t text (G.True norm) n x = record { same-stands = refl; same-todo = refl; same-tag = refl; same-front = refl; same-behind = refl }
+plan-same o p t text G.Nothing n x = record { same-stands = refl; same-tag = refl; same-front = refl; same-behind = refl }
+plan-same o p t text (G.True norm) n x = record { same-stands = refl; same-tag = refl; same-front = refl; same-behind = refl }
 plan-same o p t text (G.String norm) n x =
     record {
       same-stands = refl;
-      same-todo = refl;
       same-tag = refl;
       same-front = ap (λ (b : Bytes). node 0x81 (get-attr-name n norm) none (string-node (text b))) (string-same o p x);
       same-behind = refl;
     }
-plan-same o p t text G.Todo n x = record { same-stands = refl; same-todo = refl; same-tag = refl; same-front = refl; same-behind = refl }
-plan-same o p t text (G.Attr norm) n x = record { same-stands = refl; same-todo = refl; same-tag = refl; same-front = refl; same-behind = refl }
-plan-same o p t text G.Choice n x = record { same-stands = refl; same-todo = refl; same-tag = refl; same-front = refl; same-behind = refl }
+plan-same o p t text G.Null n x = record { same-stands = refl; same-tag = refl; same-front = refl; same-behind = refl }
+plan-same o p t text (G.Attr norm) n x = record { same-stands = refl; same-tag = refl; same-front = refl; same-behind = refl }
+plan-same o p t text G.Choice n x = record { same-stands = refl; same-tag = refl; same-front = refl; same-behind = refl }
 
 -- both ends, as the code writes them; the back does not look at the value
 pub plan-front-same : (o p : Options) (t : ℕ) (text : Bytes → Bytes) (g : Gap) (n : AttrName) (x : P.Value) (w : World) →
@@ -193,8 +191,8 @@ pub plan-front-same : (o p : Options) (t : ℕ) (text : Bytes → Bytes) (g : Ga
 unfolding plan-by
 plan-front-same o p t text G.Nothing n x w = refl
 plan-front-same o p t text (G.True norm) n x w = refl
-plan-front-same o p t text (G.String norm) n x w = ap (λ (b : Bytes). todo-if false (see (node 0x81 (get-attr-name n norm) none (string-node (text b))) (begun w))) (string-same o p x)
-plan-front-same o p t text G.Todo n x w = refl
+plan-front-same o p t text (G.String norm) n x w = ap (λ (b : Bytes). see (node 0x81 (get-attr-name n norm) none (string-node (text b))) (begun w)) (string-same o p x)
+plan-front-same o p t text G.Null n x w = refl
 plan-front-same o p t text (G.Attr norm) n x w = refl
 plan-front-same o p t text G.Choice n x w = refl
 
@@ -204,7 +202,7 @@ unfolding plan-by
 plan-back-same t text text′ G.Nothing n v v′ q w = refl
 plan-back-same t text text′ (G.True norm) n v v′ q w = refl
 plan-back-same t text text′ (G.String norm) n v v′ q w = refl
-plan-back-same t text text′ G.Todo n v v′ q w = refl
+plan-back-same t text text′ G.Null n v v′ q w = refl
 plan-back-same t text text′ (G.Attr norm) n v v′ q w = refl
 plan-back-same t text text′ G.Choice n v v′ q w = refl
 
@@ -214,7 +212,7 @@ unfolding plan-by
 plan-held-same t t′ text text′ G.Nothing n v = refl
 plan-held-same t t′ text text′ (G.True norm) n v = refl
 plan-held-same t t′ text text′ (G.String norm) n v = refl
-plan-held-same t t′ text text′ G.Todo n v = refl
+plan-held-same t t′ text text′ G.Null n v = refl
 plan-held-same t t′ text text′ (G.Attr norm) n v = refl
 plan-held-same t t′ text text′ G.Choice n v = refl
 

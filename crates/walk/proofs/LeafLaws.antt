@@ -28,8 +28,8 @@ pub or-left : (b : Bool) {a t : Bool} → a ≡ false → t ≡ b → t ≡ (a |
 or-left b {a} {t} h e = e ∙ sym (ap (λ (x : Bool). x || b) h)
 
 pub mark-is : (t n : ℕ) (s : Seen) {a b c d : Bool} → a ≡ (s .jsx || eqb t 0x94) → b ≡ (s .attr || eqb t 0x91) → c ≡ (s .escape || eqb t 0x92) → d ≡ (s .long || ltb 65535 n) →
-    _≡_ {A = Seen} (record { jsx = a; attr = b; escape = c; long = d; unimplemented = s .unimplemented; left = s .left }) (marked t n s)
-mark-is t n s ea eb ec ed = λ i. record { jsx = ea i; attr = eb i; escape = ec i; long = ed i; unimplemented = s .unimplemented; left = s .left }
+    _≡_ {A = Seen} (record { jsx = a; attr = b; escape = c; long = d; left = s .left }) (marked t n s)
+mark-is t n s ea eb ec ed = λ i. record { jsx = ea i; attr = eb i; escape = ec i; long = ed i; left = s .left }
 
 -- ---- a world by another name, and a state with other flags
 
@@ -184,24 +184,16 @@ module _ (t : ℕ) (b : Bytes) (m : Mid) (w : World) where
 
 -- ---- a tag that is left
 
-module _ (b : Bool) (o : Bytes) (st : Walk) where
-  pub left-low : Low (left b (at [] o st) .st) → Low (see (leaf 0x30 []) (at [] o st) .st)
-  left-low l = low-seen (low-world (left-is b (at [] o st)) l)
+module _ (o : Bytes) (st : Walk) where
+  pub left-low : Low (left (at [] o st) .st) → Low (see (leaf 0x30 []) (at [] o st) .st)
+  left-low l = low-seen (low-world (left-is (at [] o st)) l)
 
-  pub left-done : {o₁ : Bytes} {r : Walk} {u : Bool} → at [] o₁ r ≡ see (leaf 0x30 []) (at [] o st) → u ≡ (r .seen .unimplemented || b) →
+  pub left-done : {o₁ : Bytes} {r : Walk} → at [] o₁ r ≡ see (leaf 0x30 []) (at [] o st) →
       at [] o₁ (record {
         first = r .first;
         later = r .later;
         templates = r .templates;
         page = r .page;
-        seen = record { jsx = r .seen .jsx; attr = r .seen .attr; escape = r .seen .escape; long = r .seen .long; unimplemented = u; left = true };
-      }) ≡ left b (at [] o st)
-  left-done {o₁} {r} {u} g e =
-      (λ i. at [] o₁ (record {
-        first = r .first;
-        later = r .later;
-        templates = r .templates;
-        page = r .page;
-        seen = record { jsx = r .seen .jsx; attr = r .seen .attr; escape = r .seen .escape; long = r .seen .long; unimplemented = e i; left = true };
-      }))
-      ∙ ap (left-noted b) g ∙ sym (left-is b (at [] o st))
+        seen = record { jsx = r .seen .jsx; attr = r .seen .attr; escape = r .seen .escape; long = r .seen .long; left = true };
+      }) ≡ left (at [] o st)
+  left-done g = ap left-noted g ∙ sym (left-is (at [] o st))

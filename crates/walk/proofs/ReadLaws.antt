@@ -208,11 +208,6 @@ module _ (o : Options) where
   contained-text nothing-contained = refl
   contained-text (contained e) = refl
 
-contained-listed : (x : Contained) → listed-gap (contained-value x) ≡ G.Todo
-unfolding listed-gap contained-value
-contained-listed nothing-contained = refl
-contained-listed (contained e) = refl
-
 contained-plain : (n : Bytes) (x : Contained) → plain-gap n (contained-value x) ≡ container-gap n x
 unfolding plain-gap container-gap contained-value
 contained-plain n nothing-contained = refl
@@ -299,8 +294,14 @@ module _ (a : Bytes) {h : Value} (he : h ≡ value-of (value-in (read a))) where
     unfolding listed-gap
     listed-string q = sym (ap listed-gap (string-is q))
 
-    pub listed-container : g ≡ 0x52 → G.Todo ≡ listed-gap (value-in (read a))
-    listed-container q = sym (ap listed-gap (container-is q refl) ∙ contained-listed (contained-in (read (body-of (behind-of a)))))
+    module _ (q : g ≡ 0x52) {v : Bytes} (w : v ≡ body-of (behind-of a)) where
+      pub listed-empty : Ended (read v) → G.Null ≡ listed-gap (value-in (read a))
+      unfolding listed-gap contained-value
+      listed-empty i = sym (ap listed-gap (container-is q w ∙ ap contained-value (contained-none (read v) i)))
+
+      pub listed-full : {t : ℕ} → t ≡ tag-of v → (t ≡ 256 → ⊥) → G.Attr false ≡ listed-gap (value-in (read a))
+      unfolding listed-gap contained-value
+      listed-full {t} y z = sym (ap listed-gap (container-is q w ∙ ap contained-value (contained-field v t y z)))
 
     pub listed-tag : (g ≡ 0x51 → ⊥) → (g ≡ 0x52 → ⊥) → G.Attr false ≡ listed-gap (value-in (read a))
     unfolding listed-gap

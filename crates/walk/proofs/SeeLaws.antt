@@ -21,7 +21,7 @@ use Rattle.spec.specs.Visit.{visit-exprs}
 use Rattle.spec.specs.Transform.{templates-row, stands}
 use Rattle.spec.specs.declared.Flags.{Flags}
 use Rattle.walk.specs.declared.state.Walk.{Walk}
-use Rattle.walk.specs.See.{World, at, wrote, see, to-page, along, begun, numbered, wrap, begun-if, wrap-if, todo-if, left, flushed, props-closed, Low}
+use Rattle.walk.specs.See.{World, at, wrote, see, to-page, along, begun, numbered, wrap, begun-if, wrap-if, left, flushed, props-closed, Low}
 
 -- ---- Booleans
 
@@ -123,7 +123,6 @@ module _ (c d : Done Row) (v : Row) (s : Split v (c .value) (d .value)) (w : Wor
                     attr = mark (w .st .seen .attr) 0x91 i;
                     escape = mark (w .st .seen .escape) 0x92 i;
                     long = long i;
-                    unimplemented = sym (or-assoc (w .st .seen .unimplemented) (c .flags .unimplemented) (d .flags .unimplemented)) i;
                     left = sym (or-assoc (w .st .seen .left) (c .flags .left) (d .flags .left)) i;
                   };
             };
@@ -134,7 +133,7 @@ pub wrote-last : (v : Row) (k : ℕ) (ts : List Template) (f : Flags) (w : World
     wrote (record { value = v; taken = k + 0; templates = ts ++ []; flags = join f no-flags }) w ≡ wrote (record { value = v; taken = k; templates = ts; flags = f }) w
 wrote-last v k ts f w =
     let n : k + 0 ≡ k = omega arith in
-    λ i. wrote (record { value = v; taken = n i; templates = append-nil ts i; flags = record { unimplemented = or-false (f .unimplemented) i; left = or-false (f .left) i; long = or-false (f .long) i } }) w
+    λ i. wrote (record { value = v; taken = n i; templates = append-nil ts i; flags = record { left = or-false (f .left) i; long = or-false (f .long) i } }) w
 
 pub see-none : (w : World) → see none w ≡ w
 unfolding see visit-exprs pure templates-row bytes long-body stands
@@ -152,7 +151,7 @@ see-none w =
             later = n i;
             templates = t i;
             page = p i;
-            seen = record { jsx = or-false (s .jsx) i; attr = or-false (s .attr) i; escape = or-false (s .escape) i; long = or-false (s .long) i; unimplemented = or-false (s .unimplemented) i; left = or-false (s .left) i };
+            seen = record { jsx = or-false (s .jsx) i; attr = or-false (s .attr) i; escape = or-false (s .escape) i; long = or-false (s .long) i; left = or-false (s .left) i };
           };
     }
 
@@ -205,7 +204,6 @@ module _ (t : ℕ) (f : Bytes) (d : Done Row) (w : World) where
                     attr = mark (s .attr) 0x91 i;
                     escape = mark (s .escape) 0x92 i;
                     long = long i;
-                    unimplemented = s .unimplemented || d .flags .unimplemented;
                     left = s .left || d .flags .left;
                   };
             };
@@ -280,8 +278,8 @@ see-string b n w q z =
 -- ---- a tag that is left
 
 -- a 30 is written, and what was come upon is noted
-abbrev pub left-noted : Bool → World → World
-left-noted b w =
+abbrev pub left-noted : World → World
+left-noted w =
     at (w .templates) (w .page)
     (record {
       first = w .st .first;
@@ -289,17 +287,12 @@ left-noted b w =
       templates = w .st .templates;
       page = w .st .page;
       seen =
-          record { jsx = w .st .seen .jsx; attr = w .st .seen .attr; escape = w .st .seen .escape; long = w .st .seen .long; unimplemented = w .st .seen .unimplemented || b; left = true };
+          record { jsx = w .st .seen .jsx; attr = w .st .seen .attr; escape = w .st .seen .escape; long = w .st .seen .long; left = true };
     })
 
-or-late : (s b : Bool) → (s || (b || false)) ≡ ((s || false) || b)
-or-late true b = refl
-or-late false true = refl
-or-late false false = refl
-
-pub left-is : (b : Bool) (w : World) → left b w ≡ left-noted b (see (leaf 0x30 []) w)
+pub left-is : (w : World) → left w ≡ left-noted (see (leaf 0x30 []) w)
 unfolding left W.leave raise see visit-exprs pure both
-left-is b w =
+left-is w =
     λ i. record {
       templates = see (leaf 0x30 []) w .templates;
       page = see (leaf 0x30 []) w .page;
@@ -315,7 +308,6 @@ left-is b w =
                   attr = see (leaf 0x30 []) w .st .seen .attr;
                   escape = see (leaf 0x30 []) w .st .seen .escape;
                   long = see (leaf 0x30 []) w .st .seen .long;
-                  unimplemented = or-late (w .st .seen .unimplemented) b i;
                   left = or-true (w .st .seen .left) i;
                 };
           };
@@ -346,9 +338,9 @@ module _ (t : Bytes) where
       let k : put t (s .templates) (bytes (templates-row (visit-exprs m (s .later) .templates))) ≡ t = ap (λ (x : List Template). put t (s .templates) (bytes (templates-row x))) (plain-templates m h (s .later)) ∙ put-nil t (s .templates) in
       λ i. at (sym k i) (see m (at t p s) .page) (see m (at t p s) .st)
 
-  at-left : (b : Bool) (p : Bytes) (s : Walk) → at t (left b (at [] p s) .page) (left b (at [] p s) .st) ≡ left b (at t p s)
+  at-left : (p : Bytes) (s : Walk) → at t (left (at [] p s) .page) (left (at [] p s) .st) ≡ left (at t p s)
   unfolding left W.leave raise pure templates-row bytes
-  at-left b p s = λ i. at (sym (put-nil t (s .templates)) i) (left b (at t p s) .page) (left b (at t p s) .st)
+  at-left p s = λ i. at (sym (put-nil t (s .templates)) i) (left (at t p s) .page) (left (at t p s) .st)
 
   at-pick : (b : Bool) (x y : World) → at t (pick b x y .page) (pick b x y .st) ≡ pick b (at t (x .page) (x .st)) (at t (y .page) (y .st))
   at-pick true x y = refl
@@ -367,11 +359,8 @@ module _ (t : Bytes) where
     pub lift-numbered : at [] p′ r ≡ numbered (at [] p s) → at t p′ r ≡ numbered (at t p s)
     lift-numbered e = lift-world e
 
-    pub lift-todo-if : (b : Bool) → at [] p′ r ≡ todo-if b (at [] p s) → at t p′ r ≡ todo-if b (at t p s)
-    lift-todo-if b e = lift-world e
-
-    pub lift-left : (b : Bool) → at [] p′ r ≡ left b (at [] p s) → at t p′ r ≡ left b (at t p s)
-    lift-left b e = lift-world e ∙ at-left b p s
+    pub lift-left : at [] p′ r ≡ left (at [] p s) → at t p′ r ≡ left (at t p s)
+    lift-left e = lift-world e ∙ at-left p s
 
     pub lift-flushed : (n : ℕ) → at [] p′ r ≡ flushed n (at [] p s) → at t p′ r ≡ flushed n (at t p s)
     lift-flushed n e = lift-world e ∙ at-pick (eqb n 0) (at [] p s) (wrap 0x70 (s .page) (along (3 + n) (at [] p s)))
@@ -434,9 +423,6 @@ numbered-grows w = record { g-first = omega arith; g-later = omega arith; g-temp
 
 pub wrap-grows : (t p : ℕ) (w : World) → Grows w (wrap t p w)
 wrap-grows t p w = record { g-first = omega arith; g-later = omega arith; g-templates = omega arith; g-page = omega arith }
-
-pub todo-grows : (b : Bool) (w : World) → Grows w (todo-if b w)
-todo-grows b w = record { g-first = omega arith; g-later = omega arith; g-templates = omega arith; g-page = omega arith }
 
 -- a field is three bytes at least
 pub see-page : (t : ℕ) (f : Bytes) (i r : Mid) (w : World) → w .st .page + 3 ≤ see (node t f i r) w .st .page

@@ -18,7 +18,7 @@ use Rattle.spec.specs.Transform.{expr, shape-of, value}
 use Rattle.decisions.specs.At.{opts}
 use Rattle.walk.specs.declared.attribute.Gap.{Gap}
 use Rattle.walk.specs.declared.attribute.Gap.the-variants as G
-use Rattle.walk.specs.See.{World, see, begun, wrap, todo-if}
+use Rattle.walk.specs.See.{World, see, begun, wrap}
 
 -- ---- what an attribute leaves
 
@@ -41,8 +41,8 @@ container-gap n (contained e) = shape-gap n (shape-of e)
 unfoldable pub listed-gap : P.Value → Gap
 listed-gap P.absent = G.True false
 listed-gap (P.string-value b) = G.String false
-listed-gap P.empty-value = G.Todo
-listed-gap (P.container-value e) = G.Todo
+listed-gap P.empty-value = G.Null
+listed-gap (P.container-value e) = G.Attr false
 listed-gap (P.tag-value t) = G.Attr false
 
 unfoldable pub plain-gap : Bytes → P.Value → Gap
@@ -68,7 +68,6 @@ prop-gap norm n (P.tag-value t) = G.Nothing
 
 pub record Plan : Type 0 where
   pub stands : Bool
-  pub todo : Bool
   pub tag : ℕ
   pub front : Mid
   pub held : Mid
@@ -91,12 +90,12 @@ held-of (A.tag r) = raw r none
 
 -- a field t; a string's text by `text`
 unfoldable pub plan-by : (t : ℕ) (text : Bytes → Bytes) → Gap → AttrName → A.Value → Plan
-plan-by t text G.Nothing n v = record { stands = false; todo = false; tag = t; front = none; held = none; behind = none }
-plan-by t text (G.True norm) n v = record { stands = true; todo = false; tag = t; front = node 0x81 (get-attr-name n norm) none true-node; held = none; behind = none }
-plan-by t text (G.String norm) n v = record { stands = true; todo = false; tag = t; front = node 0x81 (get-attr-name n norm) none (string-node (text (string-of v))); held = none; behind = none }
-plan-by t text G.Todo n v = record { stands = true; todo = true; tag = t; front = node 0x81 (get-attr-name n false) none null-node; held = none; behind = none }
-plan-by t text (G.Attr norm) n v = record { stands = true; todo = false; tag = t; front = leaf 0x81 (get-attr-name n norm); held = held-of v; behind = none }
-plan-by t text G.Choice n v = record { stands = true; todo = false; tag = 0x93; front = none; held = held-of v; behind = leaf 0x81 (get-attr-name n true) }
+plan-by t text G.Nothing n v = record { stands = false; tag = t; front = none; held = none; behind = none }
+plan-by t text (G.True norm) n v = record { stands = true; tag = t; front = node 0x81 (get-attr-name n norm) none true-node; held = none; behind = none }
+plan-by t text (G.String norm) n v = record { stands = true; tag = t; front = node 0x81 (get-attr-name n norm) none (string-node (text (string-of v))); held = none; behind = none }
+plan-by t text G.Null n v = record { stands = true; tag = t; front = node 0x81 (get-attr-name n false) none null-node; held = none; behind = none }
+plan-by t text (G.Attr norm) n v = record { stands = true; tag = t; front = leaf 0x81 (get-attr-name n norm); held = held-of v; behind = none }
+plan-by t text G.Choice n v = record { stands = true; tag = 0x93; front = none; held = held-of v; behind = leaf 0x81 (get-attr-name n true) }
 
 -- the attribute with these fields, and that gap: in an opening tag a 91 or a 93, in a call a 96
 abbrev pub attr-plan : (skip props : Bytes) → Gap → Bytes → Plan
@@ -107,7 +106,7 @@ prop-plan skip props g a = plan-by 0x96 normalize-lit-str g (attr-name-in (read 
 
 -- both ends of it
 abbrev pub plan-front : Plan → World → World
-plan-front p w = pick (p .stands) (todo-if (p .todo) (see (p .front) (begun w))) w
+plan-front p w = pick (p .stands) (see (p .front) (begun w)) w
 
 abbrev pub plan-back : Plan → ℕ → World → World
 plan-back p q w = pick (p .stands) (wrap (p .tag) q (see (p .behind) w)) w

@@ -38,7 +38,6 @@ noted d s =
       attr = s .attr || stands 0x91 (d .value);
       escape = s .escape || stands 0x92 (d .value);
       long = s .long || (d .flags .long || (long-body (templates-row (d .templates)) || long-body (d .value)));
-      unimplemented = s .unimplemented || d .flags .unimplemented;
       left = s .left || d .flags .left;
     }
 
@@ -80,7 +79,6 @@ passed d w =
                   attr = w .st .seen .attr;
                   escape = w .st .seen .escape;
                   long = w .st .seen .long;
-                  unimplemented = w .st .seen .unimplemented || d .flags .unimplemented;
                   left = w .st .seen .left || d .flags .left;
                 };
           };
@@ -120,7 +118,6 @@ marked t n s =
       attr = s .attr || eqb t 0x91;
       escape = s .escape || eqb t 0x92;
       long = s .long || ltb 65535 n;
-      unimplemented = s .unimplemented;
       left = s .left;
     }
 
@@ -139,22 +136,9 @@ begun-if b w = pick b (begun w) w
 abbrev pub wrap-if : Bool → ℕ → ℕ → World → World
 wrap-if b t p w = pick b (wrap t p w) w
 
--- `todo!` was reached
-abbrev pub todo-if : Bool → World → World
-todo-if b w =
-    at (w .templates) (w .page)
-    (record {
-      first = w .st .first;
-      later = w .st .later;
-      templates = w .st .templates;
-      page = w .st .page;
-      seen =
-          record { jsx = w .st .seen .jsx; attr = w .st .seen .attr; escape = w .st .seen .escape; long = w .st .seen .long; unimplemented = w .st .seen .unimplemented || b; left = w .st .seen .left };
-    })
-
 -- a tag is left
-unfoldable pub left : Bool → World → World
-left b w = wrote (W.leave b (w .st .later)) w
+unfoldable pub left : World → World
+left w = wrote (W.leave (w .st .later)) w
 
 -- a run of n bytes that stands behind an open head becomes a 70, where it holds something
 abbrev pub flushed : ℕ → World → World

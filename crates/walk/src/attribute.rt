@@ -18,10 +18,9 @@ ghost use Rattle.spec.specs.Attributes.{key-of, key-from};
 ghost use Rattle.spec.specs.Transform.{value};
 ghost use Rattle.decisions.specs.Index.{names-of};
 ghost use Rattle.decisions.specs.At.{opts, attributes-at};
-ghost use Rattle.walk.specs.See.{at, see, begun, todo-if, Low};
+ghost use Rattle.walk.specs.See.{at, see, begun, Low};
 ghost use Rattle.walk.specs.Plan as Plan;
 ghost use Rattle.walk.specs.Plan.{dynamic-gap, container-gap, listed-gap, plain-gap, attr-gap, prop-gap, attr-plan, prop-plan, plan-by, plan-front, plan-back, held-of, contained-mid, gap-wraps, gap-held, key-string, key-held};
-use crate::state::Seen;
 use crate::state::Walk;
 use crate::state::at_page;
 use crate::state::attr_string_leaf;
@@ -95,29 +94,13 @@ fn begin_string(page: &mut [u8], st: Walk, a: &[u8], norm: bool, b: &[u8]) -> Wa
     leaf(page, x, 0x70, b)
 }
 
-// The name, and null where 000 reaches `todo!`.
-fn begin_todo(page: &mut [u8], st: Walk, a: &[u8]) -> Walk
+// The name, and null: an empty container.
+fn begin_null(page: &mut [u8], st: Walk, a: &[u8]) -> Walk
     requires { ⌜ Low (see (node 0x81 (get-attr-name (attr-name-in (read (now a))) false) none null-node) (begun (at [] (now page) st)) .st) ⌝ }
-    ensures { λ r. ⌜ at [] (now (page .exit)) r ≡ todo-if true (see (node 0x81 (get-attr-name (attr-name-in (read (now (a .entry)))) false) none null-node) (begun (at [] (now (page .entry)) st))) ⌝ }
+    ensures { λ r. ⌜ at [] (now (page .exit)) r ≡ see (node 0x81 (get-attr-name (attr-name-in (read (now (a .entry)))) false) none null-node) (begun (at [] (now (page .entry)) st)) ⌝ }
 {
     let x = begin_named(page, st, a, false);
-    let y = leaf(page, x, 0x73, b"");
-    let s = y.seen;
-    let seen = Seen {
-        jsx: s.jsx,
-        attr: s.attr,
-        escape: s.escape,
-        long: s.long,
-        unimplemented: true,
-        left: s.left,
-    };
-    Walk {
-        first: y.first,
-        later: y.later,
-        templates: y.templates,
-        page: y.page,
-        seen,
-    }
+    leaf(page, x, 0x73, b"")
 }
 
 // What an attribute leaves as a field of its own, in an opening tag or as a property. A name is normalised, or as it is written.
@@ -128,8 +111,8 @@ pub enum Gap {
     True(bool),
     // a name and a string
     String(bool),
-    // a name and null: `todo!`
-    Todo,
+    // a name as it is written and null
+    Null,
     // a name and an expression
     Attr(bool),
     // a boolean choice: the expression, the name
@@ -175,7 +158,10 @@ fn listed_gap(a: &[u8]) -> Gap
         return Gap::String(false);
     }
     if tag == 0x52 {
-        return Gap::Todo;
+        if tag_at(body(behind(a))) == 256 {
+            return Gap::Null;
+        }
+        return Gap::Attr(false);
     }
     Gap::Attr(false)
 }
@@ -245,7 +231,7 @@ pub fn attribute_front(page: &mut [u8], st: Walk, a: &[u8], gap: Gap) -> Walk
         Gap::Nothing => st,
         Gap::True(norm) => begin_true(page, st, a, norm),
         Gap::String(norm) => begin_string(page, st, a, norm, string_at(a)),
-        Gap::Todo => begin_todo(page, st, a),
+        Gap::Null => begin_null(page, st, a),
         Gap::Attr(norm) => begin_named(page, st, a, norm),
         Gap::Choice => begin(st),
     }
@@ -263,7 +249,7 @@ pub fn property_front(page: &mut [u8], st: Walk, a: &[u8], gap: Gap) -> Walk
             let x = begin_named(page, st, a, norm);
             attr_string_leaf(page, x, string_at(a))
         }
-        Gap::Todo => begin_todo(page, st, a),
+        Gap::Null => begin_null(page, st, a),
         Gap::Attr(norm) => begin_named(page, st, a, norm),
         Gap::Choice => begin(st),
     }
@@ -290,7 +276,7 @@ pub fn held_at(a: &[u8], gap: Gap) -> &[u8]
         Gap::Nothing => &a[..0],
         Gap::True(_) => &a[..0],
         Gap::String(_) => &a[..0],
-        Gap::Todo => &a[..0],
+        Gap::Null => &a[..0],
         Gap::Attr(_) => value_held(a),
         Gap::Choice => value_held(a),
     }
@@ -325,7 +311,7 @@ pub fn gap_back(page: &mut [u8], st: Walk, p: usize, tag: u8, a: &[u8], gap: Gap
         }
         Gap::True(_) => close(page, st, p, tag),
         Gap::String(_) => close(page, st, p, tag),
-        Gap::Todo => close(page, st, p, tag),
+        Gap::Null => close(page, st, p, tag),
         Gap::Attr(_) => close(page, st, p, tag),
     }
 }

@@ -32,7 +32,6 @@ pub struct Seen {
     pub attr: bool,
     pub escape: bool,
     pub long: bool,
-    pub unimplemented: bool,
     pub left: bool,
 }
 
@@ -66,7 +65,6 @@ fn mark(seen: Seen, tag: u8, len: usize) -> Seen
         attr: seen.attr || tag == 0x91,
         escape: seen.escape || tag == 0x92,
         long: seen.long || 65535 < len,
-        unimplemented: seen.unimplemented,
         left: seen.left,
     }
 }
@@ -223,9 +221,9 @@ pub fn begin_template(page: &mut [u8], st: Walk) -> Walk
 }
 
 // A tag is left: a 30 stands in the result.
-pub fn leave(page: &mut [u8], st: Walk, todo: bool) -> Walk
-    requires { ⌜ Low (left todo (at [] (now page) st) .st) ⌝ }
-    ensures { λ r. ⌜ at [] (now (page .exit)) r ≡ left todo (at [] (now (page .entry)) st) ⌝ }
+pub fn leave(page: &mut [u8], st: Walk) -> Walk
+    requires { ⌜ Low (left (at [] (now page) st) .st) ⌝ }
+    ensures { λ r. ⌜ at [] (now (page .exit)) r ≡ left (at [] (now (page .entry)) st) ⌝ }
 {
     let a = leaf(page, st, 0x30, b"");
     let s = a.seen;
@@ -234,7 +232,6 @@ pub fn leave(page: &mut [u8], st: Walk, todo: bool) -> Walk
         attr: s.attr,
         escape: s.escape,
         long: s.long,
-        unimplemented: s.unimplemented || todo,
         left: true,
     };
     Walk {

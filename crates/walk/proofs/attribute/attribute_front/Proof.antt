@@ -10,7 +10,7 @@ use Rattle.spec.specs.Transform.{value}
 use Rattle.decisions.specs.At.{opts}
 use Rattle.walk.specs.See.{at}
 use Rattle.walk.proofs.LeafLaws.{low-world, done-world}
-use Rattle.walk.proofs.ArmLaws.{front-nothing, front-true, front-string, front-todo, front-todo-low, front-attr, front-choice}
+use Rattle.walk.proofs.ArmLaws.{front-nothing, front-true, front-string, front-null, front-attr, front-choice}
 use Rattle.walk.proofs.attribute.attribute_front.Statement.{statement}
 use Rattle.walk.proofs.attribute.attribute_front.Tie as tie
 
@@ -47,14 +47,14 @@ begin-string-requires c κs =
 enum-told-2 : tie.Need-enum-told-2
 enum-told-2 c = search needs
 
-begin-todo-requires : tie.Need-begin-todo-requires
-begin-todo-requires c κs =
+begin-null-requires : tie.Need-begin-null-requires
+begin-null-requires c κs =
     let start = c .before .before .before .before .before in
     let a = start .args in
     let n = attr-name-in (read (a .a .now)) in
     let v = value (opts [] []) (value-in (read (a .a .now))) in
     let w = at [] (a .page .now) (a .st) in
-    front-todo-low 0x91 (λ (b : Bytes). b) (a .gap) n v w (c .before .enum-told2 .given .1) (start .pre)
+    low-world (front-null 0x91 (λ (b : Bytes). b) (a .gap) n v w (c .before .enum-told2 .given .1)) (start .pre)
 
 enum-known-gap-3 : tie.Need-enum-known-gap-3
 enum-known-gap-3 c = search needs
@@ -120,7 +120,7 @@ returns-4 c =
     let n = attr-name-in (read (a .a .now)) in
     let v = value (opts [] []) (value-in (read (a .a .now))) in
     let w = at [] (a .page .now) (a .st) in
-    done-world (front-todo 0x91 (λ (b : Bytes). b) (a .gap) n v w (c .before .before .before .before .enum-told2 .given .1)) (c .before .before .begin-todo .ensures)
+    done-world (front-null 0x91 (λ (b : Bytes). b) (a .gap) n v w (c .before .before .before .before .enum-told2 .given .1)) (c .before .before .begin-null .ensures)
 
 same-length-4 : tie.Need-same-length-4
 same-length-4 c = search needs
@@ -152,7 +152,7 @@ attribute-front-spec =
     string-at-requires
     begin-string-requires
     enum-told-2
-    begin-todo-requires
+    begin-null-requires
     enum-known-gap-3
     begin-named-requires
     enum-told-3

@@ -11,7 +11,7 @@ use Rattle.spec.specs.Output as O
 use Rattle.spec.specs.Attributes as A
 use Rattle.walk.specs.See.{at, see, wrap}
 use Rattle.walk.proofs.LeafLaws.{done-world}
-use Rattle.walk.proofs.ArmLaws.{back-nothing, back-true, back-string, back-todo, back-attr, back-choice, back-low, seen-low}
+use Rattle.walk.proofs.ArmLaws.{back-nothing, back-true, back-string, back-null, back-attr, back-choice, back-low, seen-low}
 use Rattle.walk.proofs.attribute.gap_back.Statement.{statement}
 use Rattle.walk.proofs.attribute.gap_back.Tie as tie
 
@@ -68,7 +68,7 @@ close-requires-4 c κs =
     let a = start .args in
     let n = attr-name-in (read (a .a .now)) in
     let w = at [] (a .page .now) (a .st) in
-    back-low (a .tag) (λ (b : Bytes). b) (a .gap) n A.absent w (a .p) (a .tag) w (back-todo (a .tag) (λ (b : Bytes). b) (a .gap) n A.absent w (a .p) (c .before .enum-told5 .given .1)) (start .pre)
+    back-low (a .tag) (λ (b : Bytes). b) (a .gap) n A.absent w (a .p) (a .tag) w (back-null (a .tag) (λ (b : Bytes). b) (a .gap) n A.absent w (a .p) (c .before .enum-told5 .given .1)) (start .pre)
 
 enum-told-6 : tie.Need-enum-told-6
 enum-told-6 c = search needs
@@ -126,7 +126,7 @@ returns-5 c =
     let a = c .before .before .before .before .before .before .before .before .args in
     let n = attr-name-in (read (a .a .now)) in
     let w = at [] (a .page .now) (a .st) in
-    done-world ((back-todo (a .tag) (λ (b : Bytes). b) (a .gap) n A.absent w (a .p) (c .before .before .before .before .enum-told5 .given .1)) .1) (c .before .before .close4 .ensures)
+    done-world ((back-null (a .tag) (λ (b : Bytes). b) (a .gap) n A.absent w (a .p) (c .before .before .before .before .enum-told5 .given .1)) .1) (c .before .before .close4 .ensures)
 
 same-length-5 : tie.Need-same-length-5
 same-length-5 c = search needs

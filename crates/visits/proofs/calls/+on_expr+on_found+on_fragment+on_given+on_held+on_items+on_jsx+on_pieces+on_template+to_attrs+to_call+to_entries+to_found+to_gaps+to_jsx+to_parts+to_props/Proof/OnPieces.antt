@@ -13,12 +13,12 @@ use borrow.Author.Needs.{needs}
 use Rattle.visits.proofs.calls.on_jsx.Reads as on-jsx
 use Rattle.visits.proofs.calls.on_fragment.Reads as on-fragment
 use Rattle.visits.proofs.calls.on_pieces.Reads as on-pieces
-use Rattle.visits.proofs.calls.+attrs_todo+child_todo+held_todo+on_expr+on_found+on_fragment+on_given+on_held+on_items+on_jsx+on_pieces+on_template+tag_todo+to_attrs+to_call+to_entries+to_found+to_gaps+to_jsx+to_parts+to_props.Lts-on_pieces as on-pieces-lts
+use Rattle.visits.proofs.calls.+on_expr+on_found+on_fragment+on_given+on_held+on_items+on_jsx+on_pieces+on_template+to_attrs+to_call+to_entries+to_found+to_gaps+to_jsx+to_parts+to_props.Lts-on_pieces as on-pieces-lts
 use Rattle.field.proofs.reader.behind.Reads as behind-reads
 use Rattle.field.proofs.reader.body.Reads as body-reads
 use Rattle.field.proofs.reader.tag_at.Reads as tag-at-reads
 use Rattle.walk.proofs.state.leaf.Reads as leaf-reads
-use Rattle.visits.proofs.calls.+attrs_todo+child_todo+held_todo+on_expr+on_found+on_fragment+on_given+on_held+on_items+on_jsx+on_pieces+on_template+tag_todo+to_attrs+to_call+to_entries+to_found+to_gaps+to_jsx+to_parts+to_props.Proof.Cycle.{on-jsx-below, on-fragment-below, on-pieces-at}
+use Rattle.visits.proofs.calls.+on_expr+on_found+on_fragment+on_given+on_held+on_items+on_jsx+on_pieces+on_template+to_attrs+to_call+to_entries+to_found+to_gaps+to_jsx+to_parts+to_props.Proof.Cycle.{on-jsx-below, on-fragment-below, on-pieces-at}
 
 abbrev pub on-pieces-calls : ℕ → on-pieces-lts.Claims
 on-pieces-calls t = (tag-at-reads.Asked, tag-at-reads.Learnt, body-reads.Asked, body-reads.Learnt, leaf-reads.Asked, leaf-reads.Learnt, behind-reads.Asked, behind-reads.Learnt, on-jsx-below t, on-jsx.Post, on-fragment-below t, on-fragment.Post)

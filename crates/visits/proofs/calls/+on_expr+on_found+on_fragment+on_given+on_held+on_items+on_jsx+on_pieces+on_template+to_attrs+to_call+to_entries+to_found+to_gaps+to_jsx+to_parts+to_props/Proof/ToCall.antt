@@ -21,7 +21,7 @@ use Rattle.walk.proofs.ActLaws.{act-grows, is-none}
 use Rattle.visits.proofs.CallLaws.{stands-by, lacks-by, found-stands, Call, call-of, call-is, name-plain, key-left, props-left, child-left, found-left, children-left, attributes-left, named-left, name-left, call-left, grew, front-grew, front-past, child-grew, closed-grew, begin-room, name-room, props-begin-room, props-room, front-room, found-room, child-room, closed-room, begun-on, name-on, props-begun-on, front-on, child-on, closed-on, props-on, found-on, key-room, key-on, held-room, no-key, bare-lacks, bare-room, bare-on, call-low, call-done}
 use borrow.Author.Needs.{needs}
 use Rattle.visits.proofs.calls.to_call.Reads as to-call
-use Rattle.visits.proofs.calls.+attrs_todo+child_todo+held_todo+on_expr+on_found+on_fragment+on_given+on_held+on_items+on_jsx+on_pieces+on_template+tag_todo+to_attrs+to_call+to_entries+to_found+to_gaps+to_jsx+to_parts+to_props.Lts-to_call as to-call-lts
+use Rattle.visits.proofs.calls.+on_expr+on_found+on_fragment+on_given+on_held+on_items+on_jsx+on_pieces+on_template+to_attrs+to_call+to_entries+to_found+to_gaps+to_jsx+to_parts+to_props.Lts-to_call as to-call-lts
 use Rattle.visits.proofs.calls.to_found.Reads as to-found
 use Rattle.visits.proofs.calls.to_props.Reads as to-props
 use Rattle.visits.proofs.calls.on_held.Reads as on-held
@@ -39,7 +39,7 @@ use Rattle.walk.proofs.state.begin.Reads as begin-reads
 use Rattle.walk.proofs.state.close.Reads as close-reads
 use Rattle.walk.proofs.state.close_if.Reads as close-if-reads
 use Rattle.walk.proofs.state.leaf.Reads as leaf-reads
-use Rattle.visits.proofs.calls.+attrs_todo+child_todo+held_todo+on_expr+on_found+on_fragment+on_given+on_held+on_items+on_jsx+on_pieces+on_template+tag_todo+to_attrs+to_call+to_entries+to_found+to_gaps+to_jsx+to_parts+to_props.Proof.Cycle.{to-call-at, to-found-below, to-props-below, on-held-below}
+use Rattle.visits.proofs.calls.+on_expr+on_found+on_fragment+on_given+on_held+on_items+on_jsx+on_pieces+on_template+to_attrs+to_call+to_entries+to_found+to_gaps+to_jsx+to_parts+to_props.Proof.Cycle.{to-call-at, to-found-below, to-props-below, on-held-below}
 
 abbrev pub to-call-calls : ℕ → to-call-lts.Claims
 to-call-calls t = (is-component-reads.Asked, is-component-reads.Learnt, behind-reads.Asked, behind-reads.Learnt, begin-reads.Asked, begin-reads.Learnt, name-expr-reads.Asked, name-expr-reads.Learnt, leaf-reads.Asked, leaf-reads.Learnt, close-reads.Asked, close-reads.Learnt, to-props-below t, to-props.Post, found-of-reads.Asked, found-of-reads.Learnt, is-found-reads.Asked, is-found-reads.Learnt, children-front-reads.Asked, children-front-reads.Learnt, to-found-below t, to-found.Post, close-if-reads.Asked, close-if-reads.Learnt, close-props-reads.Asked, close-props-reads.Learnt, key-at-reads.Asked, key-at-reads.Learnt, key-front-reads.Asked, key-front-reads.Learnt, key-held-reads.Asked, key-held-reads.Learnt, on-held-below t, on-held.Post)

@@ -8,9 +8,9 @@ use Rattle.visits.proofs.ExprLaws.{held-nothing, held-expr}
 use borrow.Author.Needs.{needs}
 use Rattle.visits.proofs.calls.on_expr.Reads as on-expr
 use Rattle.visits.proofs.calls.on_held.Reads as on-held
-use Rattle.visits.proofs.calls.+attrs_todo+child_todo+held_todo+on_expr+on_found+on_fragment+on_given+on_held+on_items+on_jsx+on_pieces+on_template+tag_todo+to_attrs+to_call+to_entries+to_found+to_gaps+to_jsx+to_parts+to_props.Lts-on_held as on-held-lts
+use Rattle.visits.proofs.calls.+on_expr+on_found+on_fragment+on_given+on_held+on_items+on_jsx+on_pieces+on_template+to_attrs+to_call+to_entries+to_found+to_gaps+to_jsx+to_parts+to_props.Lts-on_held as on-held-lts
 use Rattle.field.proofs.reader.tag_at.Reads as tag-at-reads
-use Rattle.visits.proofs.calls.+attrs_todo+child_todo+held_todo+on_expr+on_found+on_fragment+on_given+on_held+on_items+on_jsx+on_pieces+on_template+tag_todo+to_attrs+to_call+to_entries+to_found+to_gaps+to_jsx+to_parts+to_props.Proof.Cycle.{on-expr-below, on-held-at}
+use Rattle.visits.proofs.calls.+on_expr+on_found+on_fragment+on_given+on_held+on_items+on_jsx+on_pieces+on_template+to_attrs+to_call+to_entries+to_found+to_gaps+to_jsx+to_parts+to_props.Proof.Cycle.{on-expr-below, on-held-at}
 
 abbrev pub on-held-calls : ℕ → on-held-lts.Claims
 on-held-calls t = (tag-at-reads.Asked, tag-at-reads.Learnt, on-expr-below t, on-expr.Post)

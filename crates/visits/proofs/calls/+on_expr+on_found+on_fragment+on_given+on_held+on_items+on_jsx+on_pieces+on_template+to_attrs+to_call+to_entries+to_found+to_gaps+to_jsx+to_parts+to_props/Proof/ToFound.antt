@@ -5,7 +5,7 @@ use native.Mathlib.Omega.{arith}
 use borrow.Author.Needs.{needs}
 use Rattle.visits.proofs.calls.to_entries.Reads as to-entries
 use Rattle.visits.proofs.calls.to_found.Reads as to-found
-use Rattle.visits.proofs.calls.+attrs_todo+child_todo+held_todo+on_expr+on_found+on_fragment+on_given+on_held+on_items+on_jsx+on_pieces+on_template+tag_todo+to_attrs+to_call+to_entries+to_found+to_gaps+to_jsx+to_parts+to_props.Lts-to_found as to-found-lts
+use Rattle.visits.proofs.calls.+on_expr+on_found+on_fragment+on_given+on_held+on_items+on_jsx+on_pieces+on_template+to_attrs+to_call+to_entries+to_found+to_gaps+to_jsx+to_parts+to_props.Lts-to_found as to-found-lts
 use Rattle.visits.proofs.calls.to_jsx.Reads as to-jsx
 use Rattle.visits.proofs.calls.to_parts.Reads as to-parts
 use Rattle.visits.proofs.calls.on_expr.Reads as on-expr
@@ -19,7 +19,7 @@ use Rattle.walk.proofs.state.begin_template.Reads as begin-template-reads
 use Rattle.walk.proofs.state.close.Reads as close-reads
 use Rattle.walk.proofs.state.close_if.Reads as close-if-reads
 use Rattle.walk.proofs.state.text_leaf.Reads as text-leaf-reads
-use Rattle.visits.proofs.calls.+attrs_todo+child_todo+held_todo+on_expr+on_found+on_fragment+on_given+on_held+on_items+on_jsx+on_pieces+on_template+tag_todo+to_attrs+to_call+to_entries+to_found+to_gaps+to_jsx+to_parts+to_props.Proof.Cycle.{to-entries-below, to-found-at, to-jsx-below, to-parts-below, on-expr-below, on-items-below}
+use Rattle.visits.proofs.calls.+on_expr+on_found+on_fragment+on_given+on_held+on_items+on_jsx+on_pieces+on_template+to_attrs+to_call+to_entries+to_found+to_gaps+to_jsx+to_parts+to_props.Proof.Cycle.{to-entries-below, to-found-at, to-jsx-below, to-parts-below, on-expr-below, on-items-below}
 use Rattle.visits.proofs.FoundLaws.{alone, unspliced, found-short, element-short, items-short, nothing-done, item-done, text-room, text-done, hole-room, hole-done, element-room, element-done, run-room, run-done, expr-room, expr-done, items-room, items-done, merged-begin, merged-room, merged-end, merged-done, many-begin, many-room, many-end, many-done, empty-begin, empty-end, empty-done}
 
 abbrev pub to-found-calls : ℕ → to-found-lts.Claims

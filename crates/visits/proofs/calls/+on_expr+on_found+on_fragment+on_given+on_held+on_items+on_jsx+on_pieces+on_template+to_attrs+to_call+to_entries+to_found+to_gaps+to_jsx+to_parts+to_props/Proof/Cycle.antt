@@ -3,12 +3,6 @@ use Prim.Native.Nat.{ℕ, _+_, _*_, _<_}
 use lib.ListN.{length}
 use borrow.Fn.Kinds.{In}
 use borrow.Fn.PlainCycle.{Measures, is, falls, and}
-use Rattle.visits.proofs.calls.attrs_todo.Reads as attrs-todo
-use Rattle.visits.proofs.calls.attrs_todo.Kinds as attrs-todo-kinds
-use Rattle.visits.proofs.calls.child_todo.Reads as child-todo
-use Rattle.visits.proofs.calls.child_todo.Kinds as child-todo-kinds
-use Rattle.visits.proofs.calls.held_todo.Reads as held-todo
-use Rattle.visits.proofs.calls.held_todo.Kinds as held-todo-kinds
 use Rattle.visits.proofs.calls.to_attrs.Reads as to-attrs
 use Rattle.visits.proofs.calls.to_attrs.Kinds as to-attrs-kinds
 use Rattle.visits.proofs.calls.to_call.Reads as to-call
@@ -25,8 +19,6 @@ use Rattle.visits.proofs.calls.to_parts.Reads as to-parts
 use Rattle.visits.proofs.calls.to_parts.Kinds as to-parts-kinds
 use Rattle.visits.proofs.calls.to_props.Reads as to-props
 use Rattle.visits.proofs.calls.to_props.Kinds as to-props-kinds
-use Rattle.visits.proofs.calls.tag_todo.Reads as tag-todo
-use Rattle.visits.proofs.calls.tag_todo.Kinds as tag-todo-kinds
 use Rattle.visits.proofs.calls.on_jsx.Reads as on-jsx
 use Rattle.visits.proofs.calls.on_jsx.Kinds as on-jsx-kinds
 use Rattle.visits.proofs.calls.on_expr.Reads as on-expr
@@ -45,15 +37,6 @@ use Rattle.visits.proofs.calls.on_pieces.Reads as on-pieces
 use Rattle.visits.proofs.calls.on_pieces.Kinds as on-pieces-kinds
 use Rattle.visits.proofs.calls.on_template.Reads as on-template
 use Rattle.visits.proofs.calls.on_template.Kinds as on-template-kinds
-
-abbrev pub μ-attrs-todo : Measures 2 attrs-todo-kinds.ps ℕ
-μ-attrs-todo κs a = 8 * length (a .1 .1 .0 .now)
-
-abbrev pub μ-child-todo : Measures 2 child-todo-kinds.ps ℕ
-μ-child-todo κs a = 8 * length (a .1 .1 .0 .now) + 1
-
-abbrev pub μ-held-todo : Measures 2 held-todo-kinds.ps ℕ
-μ-held-todo κs a = 8 * length (a .1 .1 .0 .now) + 2
 
 abbrev pub μ-to-attrs : Measures 4 to-attrs-kinds.ps ℕ
 μ-to-attrs κs a = 8 * length (a .1 .1 .0 .now)
@@ -78,9 +61,6 @@ abbrev pub μ-to-parts : Measures 4 to-parts-kinds.ps ℕ
 
 abbrev pub μ-to-props : Measures 4 to-props-kinds.ps ℕ
 μ-to-props κs a = 8 * length (a .1 .1 .0 .now)
-
-abbrev pub μ-tag-todo : Measures 2 tag-todo-kinds.ps ℕ
-μ-tag-todo κs a = 8 * length (a .1 .1 .0 .now)
 
 abbrev pub μ-on-jsx : Measures 4 on-jsx-kinds.ps ℕ
 μ-on-jsx κs a = 8 * length (a .1 .1 .0 .now) + 6
@@ -108,33 +88,6 @@ abbrev pub μ-on-pieces : Measures 4 on-pieces-kinds.ps ℕ
 
 abbrev pub μ-on-template : Measures 4 on-template-kinds.ps ℕ
 μ-on-template κs a = 8 * length (a .1 .1 .0 .now) + 1
-
-abbrev pub attrs-todo-at : ℕ → In 2 attrs-todo-kinds.ps
-attrs-todo-at t =
-    and 2 attrs-todo-kinds.ps (is 2 attrs-todo-kinds.ps μ-attrs-todo t) attrs-todo.Pre
-
-abbrev pub attrs-todo-below : ℕ → In 2 attrs-todo-kinds.ps
-attrs-todo-below t =
-    and 2 attrs-todo-kinds.ps (falls 2 attrs-todo-kinds.ps _<_ μ-attrs-todo t) attrs-todo.Pre
-
-abbrev pub child-todo-at : ℕ → In 2 child-todo-kinds.ps
-child-todo-at t =
-    and 2 child-todo-kinds.ps (is 2 child-todo-kinds.ps μ-child-todo t) child-todo.Pre
-
-abbrev pub child-todo-below : ℕ → In 2 child-todo-kinds.ps
-child-todo-below t =
-    and
-    2
-    child-todo-kinds.ps
-    (falls 2 child-todo-kinds.ps _<_ μ-child-todo t)
-    child-todo.Pre
-
-abbrev pub held-todo-at : ℕ → In 2 held-todo-kinds.ps
-held-todo-at t = and 2 held-todo-kinds.ps (is 2 held-todo-kinds.ps μ-held-todo t) held-todo.Pre
-
-abbrev pub held-todo-below : ℕ → In 2 held-todo-kinds.ps
-held-todo-below t =
-    and 2 held-todo-kinds.ps (falls 2 held-todo-kinds.ps _<_ μ-held-todo t) held-todo.Pre
 
 abbrev pub to-attrs-at : ℕ → In 4 to-attrs-kinds.ps
 to-attrs-at t =
@@ -205,13 +158,6 @@ to-props-at t =
 abbrev pub to-props-below : ℕ → In 4 to-props-kinds.ps
 to-props-below t =
     and 4 to-props-kinds.ps (falls 4 to-props-kinds.ps _<_ μ-to-props t) to-props.Pre
-
-abbrev pub tag-todo-at : ℕ → In 2 tag-todo-kinds.ps
-tag-todo-at t = and 2 tag-todo-kinds.ps (is 2 tag-todo-kinds.ps μ-tag-todo t) tag-todo.Pre
-
-abbrev pub tag-todo-below : ℕ → In 2 tag-todo-kinds.ps
-tag-todo-below t =
-    and 2 tag-todo-kinds.ps (falls 2 tag-todo-kinds.ps _<_ μ-tag-todo t) tag-todo.Pre
 
 abbrev pub on-jsx-at : ℕ → In 4 on-jsx-kinds.ps
 on-jsx-at t =

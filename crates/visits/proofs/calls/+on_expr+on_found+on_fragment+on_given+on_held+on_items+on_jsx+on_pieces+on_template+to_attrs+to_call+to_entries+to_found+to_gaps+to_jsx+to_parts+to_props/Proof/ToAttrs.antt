@@ -10,7 +10,7 @@ use Rattle.strings.proofs.TreeLaws.{attrs-at}
 use Rattle.walk.specs.See.{at, act}
 use Rattle.visits.proofs.PartLaws.{templates-kept, page-kept, front-room, held-room, back-page, back-room, attr-on, attrs-past, attrs-end}
 use Rattle.visits.proofs.calls.to_attrs.Reads as to-attrs
-use Rattle.visits.proofs.calls.+attrs_todo+child_todo+held_todo+on_expr+on_found+on_fragment+on_given+on_held+on_items+on_jsx+on_pieces+on_template+tag_todo+to_attrs+to_call+to_entries+to_found+to_gaps+to_jsx+to_parts+to_props.Lts-to_attrs as to-attrs-lts
+use Rattle.visits.proofs.calls.+on_expr+on_found+on_fragment+on_given+on_held+on_items+on_jsx+on_pieces+on_template+to_attrs+to_call+to_entries+to_found+to_gaps+to_jsx+to_parts+to_props.Lts-to_attrs as to-attrs-lts
 use Rattle.visits.proofs.calls.on_held.Reads as on-held
 use Rattle.field.proofs.reader.behind.Reads as behind-reads
 use Rattle.field.proofs.reader.body.Reads as body-reads
@@ -19,7 +19,7 @@ use Rattle.walk.proofs.attribute.attribute_front.Reads as attribute-front-reads
 use Rattle.walk.proofs.attribute.attribute_gap.Reads as attribute-gap-reads
 use Rattle.walk.proofs.attribute.gap_back.Reads as gap-back-reads
 use Rattle.walk.proofs.attribute.held_at.Reads as held-at-reads
-use Rattle.visits.proofs.calls.+attrs_todo+child_todo+held_todo+on_expr+on_found+on_fragment+on_given+on_held+on_items+on_jsx+on_pieces+on_template+tag_todo+to_attrs+to_call+to_entries+to_found+to_gaps+to_jsx+to_parts+to_props.Proof.Cycle.{to-attrs-at, on-held-below}
+use Rattle.visits.proofs.calls.+on_expr+on_found+on_fragment+on_given+on_held+on_items+on_jsx+on_pieces+on_template+to_attrs+to_call+to_entries+to_found+to_gaps+to_jsx+to_parts+to_props.Proof.Cycle.{to-attrs-at, on-held-below}
 
 abbrev pub to-attrs-calls : ℕ → to-attrs-lts.Claims
 to-attrs-calls t = (tag-at-reads.Asked, tag-at-reads.Learnt, body-reads.Asked, body-reads.Learnt, attribute-gap-reads.Asked, attribute-gap-reads.Learnt, attribute-front-reads.Asked, attribute-front-reads.Learnt, held-at-reads.Asked, held-at-reads.Learnt, on-held-below t, on-held.Post, gap-back-reads.Asked, gap-back-reads.Learnt, behind-reads.Asked, behind-reads.Learnt)

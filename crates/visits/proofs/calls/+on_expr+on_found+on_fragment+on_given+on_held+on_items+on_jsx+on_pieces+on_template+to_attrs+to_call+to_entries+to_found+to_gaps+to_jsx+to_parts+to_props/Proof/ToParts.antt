@@ -16,7 +16,7 @@ use Rattle.walk.proofs.SeeLaws.{lift-begun-if, lift-wrap-if}
 use Rattle.visits.proofs.PartLaws.{templates-kept, page-kept, parts-direct, parts-room, container-room, container-page, container-low, container-on, element-room, element-on, fragment-room, fragment-on, parts-past, parts-end}
 use Rattle.visits.proofs.calls.to_gaps.Reads as to-gaps
 use Rattle.visits.proofs.calls.to_parts.Reads as to-parts
-use Rattle.visits.proofs.calls.+attrs_todo+child_todo+held_todo+on_expr+on_found+on_fragment+on_given+on_held+on_items+on_jsx+on_pieces+on_template+tag_todo+to_attrs+to_call+to_entries+to_found+to_gaps+to_jsx+to_parts+to_props.Lts-to_parts as to-parts-lts
+use Rattle.visits.proofs.calls.+on_expr+on_found+on_fragment+on_given+on_held+on_items+on_jsx+on_pieces+on_template+to_attrs+to_call+to_entries+to_found+to_gaps+to_jsx+to_parts+to_props.Lts-to_parts as to-parts-lts
 use Rattle.visits.proofs.calls.on_held.Reads as on-held
 use Rattle.field.proofs.reader.behind.Reads as behind-reads
 use Rattle.field.proofs.reader.body.Reads as body-reads
@@ -25,7 +25,7 @@ use Rattle.walk.proofs.attribute.gap_held.Reads as gap-held-reads
 use Rattle.walk.proofs.attribute.is_wrapped.Reads as is-wrapped-reads
 use Rattle.walk.proofs.state.begin_if.Reads as begin-if-reads
 use Rattle.walk.proofs.state.close_if.Reads as close-if-reads
-use Rattle.visits.proofs.calls.+attrs_todo+child_todo+held_todo+on_expr+on_found+on_fragment+on_given+on_held+on_items+on_jsx+on_pieces+on_template+tag_todo+to_attrs+to_call+to_entries+to_found+to_gaps+to_jsx+to_parts+to_props.Proof.Cycle.{to-gaps-below, to-parts-at, to-parts-below, on-held-below}
+use Rattle.visits.proofs.calls.+on_expr+on_found+on_fragment+on_given+on_held+on_items+on_jsx+on_pieces+on_template+to_attrs+to_call+to_entries+to_found+to_gaps+to_jsx+to_parts+to_props.Proof.Cycle.{to-gaps-below, to-parts-at, to-parts-below, on-held-below}
 
 abbrev pub to-parts-calls : ℕ → to-parts-lts.Claims
 to-parts-calls t = (tag-at-reads.Asked, tag-at-reads.Learnt, body-reads.Asked, body-reads.Learnt, is-wrapped-reads.Asked, is-wrapped-reads.Learnt, begin-if-reads.Asked, begin-if-reads.Learnt, gap-held-reads.Asked, gap-held-reads.Learnt, on-held-below t, on-held.Post, close-if-reads.Asked, close-if-reads.Learnt, behind-reads.Asked, behind-reads.Learnt, to-gaps-below t, to-gaps.Post, to-parts-below t, to-parts.Post)

@@ -5,12 +5,12 @@ use native.Mathlib.Omega.{arith}
 use Rattle.visits.proofs.VisitLaws.{element-recorded, element-paged, element-done}
 use Rattle.visits.proofs.calls.to_jsx.Reads as to-jsx
 use Rattle.visits.proofs.calls.on_jsx.Reads as on-jsx
-use Rattle.visits.proofs.calls.+attrs_todo+child_todo+held_todo+on_expr+on_found+on_fragment+on_given+on_held+on_items+on_jsx+on_pieces+on_template+tag_todo+to_attrs+to_call+to_entries+to_found+to_gaps+to_jsx+to_parts+to_props.Lts-on_jsx as on-jsx-lts
+use Rattle.visits.proofs.calls.+on_expr+on_found+on_fragment+on_given+on_held+on_items+on_jsx+on_pieces+on_template+to_attrs+to_call+to_entries+to_found+to_gaps+to_jsx+to_parts+to_props.Lts-on_jsx as on-jsx-lts
 use Rattle.records.proofs.record_serialize.Reads as record-serialize-reads
 use Rattle.visits.proofs.state.recorded.Reads as recorded-reads
 use Rattle.visits.proofs.state.records_of.Reads as records-of-reads
 use Rattle.visits.proofs.state.returned.Reads as returned-reads
-use Rattle.visits.proofs.calls.+attrs_todo+child_todo+held_todo+on_expr+on_found+on_fragment+on_given+on_held+on_items+on_jsx+on_pieces+on_template+tag_todo+to_attrs+to_call+to_entries+to_found+to_gaps+to_jsx+to_parts+to_props.Proof.Cycle.{to-jsx-below, on-jsx-at}
+use Rattle.visits.proofs.calls.+on_expr+on_found+on_fragment+on_given+on_held+on_items+on_jsx+on_pieces+on_template+to_attrs+to_call+to_entries+to_found+to_gaps+to_jsx+to_parts+to_props.Proof.Cycle.{to-jsx-below, on-jsx-at}
 
 abbrev pub on-jsx-calls : ℕ → on-jsx-lts.Claims
 on-jsx-calls t = (records-of-reads.Asked, records-of-reads.Learnt, record-serialize-reads.Asked, record-serialize-reads.Learnt, recorded-reads.Asked, recorded-reads.Learnt, to-jsx-below t, to-jsx.Post, returned-reads.Asked, returned-reads.Learnt)

@@ -5,12 +5,12 @@ use native.Mathlib.Omega.{arith}
 use Rattle.visits.proofs.VisitLaws.{given-recorded, given-paged, given-done}
 use Rattle.visits.proofs.calls.to_found.Reads as to-found
 use Rattle.visits.proofs.calls.on_given.Reads as on-given
-use Rattle.visits.proofs.calls.+attrs_todo+child_todo+held_todo+on_expr+on_found+on_fragment+on_given+on_held+on_items+on_jsx+on_pieces+on_template+tag_todo+to_attrs+to_call+to_entries+to_found+to_gaps+to_jsx+to_parts+to_props.Lts-on_given as on-given-lts
+use Rattle.visits.proofs.calls.+on_expr+on_found+on_fragment+on_given+on_held+on_items+on_jsx+on_pieces+on_template+to_attrs+to_call+to_entries+to_found+to_gaps+to_jsx+to_parts+to_props.Lts-on_given as on-given-lts
 use Rattle.records.proofs.record_found.Reads as record-found-reads
 use Rattle.visits.proofs.state.recorded.Reads as recorded-reads
 use Rattle.visits.proofs.state.records_of.Reads as records-of-reads
 use Rattle.visits.proofs.state.returned.Reads as returned-reads
-use Rattle.visits.proofs.calls.+attrs_todo+child_todo+held_todo+on_expr+on_found+on_fragment+on_given+on_held+on_items+on_jsx+on_pieces+on_template+tag_todo+to_attrs+to_call+to_entries+to_found+to_gaps+to_jsx+to_parts+to_props.Proof.Cycle.{to-found-below, on-given-at}
+use Rattle.visits.proofs.calls.+on_expr+on_found+on_fragment+on_given+on_held+on_items+on_jsx+on_pieces+on_template+to_attrs+to_call+to_entries+to_found+to_gaps+to_jsx+to_parts+to_props.Proof.Cycle.{to-found-below, on-given-at}
 
 abbrev pub on-given-calls : ℕ → on-given-lts.Claims
 on-given-calls t = (records-of-reads.Asked, records-of-reads.Learnt, record-found-reads.Asked, record-found-reads.Learnt, recorded-reads.Asked, recorded-reads.Learnt, to-found-below t, to-found.Post, returned-reads.Asked, returned-reads.Learnt)

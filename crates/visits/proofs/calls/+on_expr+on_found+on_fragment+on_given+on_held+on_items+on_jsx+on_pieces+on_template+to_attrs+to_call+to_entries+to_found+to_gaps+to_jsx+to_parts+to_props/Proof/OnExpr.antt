@@ -8,7 +8,7 @@ use Rattle.visits.proofs.ExprLaws.{expr-literal, see-element, see-fragm
 use borrow.Author.Needs.{needs}
 use Rattle.visits.proofs.calls.on_jsx.Reads as on-jsx
 use Rattle.visits.proofs.calls.on_expr.Reads as on-expr
-use Rattle.visits.proofs.calls.+attrs_todo+child_todo+held_todo+on_expr+on_found+on_fragment+on_given+on_held+on_items+on_jsx+on_pieces+on_template+tag_todo+to_attrs+to_call+to_entries+to_found+to_gaps+to_jsx+to_parts+to_props.Lts-on_expr as on-expr-lts
+use Rattle.visits.proofs.calls.+on_expr+on_found+on_fragment+on_given+on_held+on_items+on_jsx+on_pieces+on_template+to_attrs+to_call+to_entries+to_found+to_gaps+to_jsx+to_parts+to_props.Lts-on_expr as on-expr-lts
 use Rattle.visits.proofs.calls.on_fragment.Reads as on-fragment
 use Rattle.visits.proofs.calls.on_items.Reads as on-items
 use Rattle.visits.proofs.calls.on_pieces.Reads as on-pieces
@@ -17,7 +17,7 @@ use Rattle.field.proofs.reader.tag_at.Reads as tag-at-reads
 use Rattle.walk.proofs.state.begin.Reads as begin-reads
 use Rattle.walk.proofs.state.close.Reads as close-reads
 use Rattle.walk.proofs.state.literal_leaf.Reads as literal-leaf-reads
-use Rattle.visits.proofs.calls.+attrs_todo+child_todo+held_todo+on_expr+on_found+on_fragment+on_given+on_held+on_items+on_jsx+on_pieces+on_template+tag_todo+to_attrs+to_call+to_entries+to_found+to_gaps+to_jsx+to_parts+to_props.Proof.Cycle.{on-jsx-below, on-expr-at, on-fragment-below, on-items-below, on-pieces-below}
+use Rattle.visits.proofs.calls.+on_expr+on_found+on_fragment+on_given+on_held+on_items+on_jsx+on_pieces+on_template+to_attrs+to_call+to_entries+to_found+to_gaps+to_jsx+to_parts+to_props.Proof.Cycle.{on-jsx-below, on-expr-at, on-fragment-below, on-items-below, on-pieces-below}
 
 abbrev pub on-expr-calls : ℕ → on-expr-lts.Claims
 on-expr-calls t = (body-reads.Asked, body-reads.Learnt, tag-at-reads.Asked, tag-at-reads.Learnt, begin-reads.Asked, begin-reads.Learnt, on-items-below t, on-items.Post, close-reads.Asked, close-reads.Learnt, on-pieces-below t, on-pieces.Post, on-jsx-below t, on-jsx.Post, on-fragment-below t, on-fragment.Post, literal-leaf-reads.Asked, literal-leaf-reads.Learnt)

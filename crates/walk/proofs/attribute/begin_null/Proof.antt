@@ -7,9 +7,8 @@ use Rattle.page.specs.Tree.{attr-name-in}
 use Rattle.spec.specs.Output.{null-node}
 use Rattle.walk.specs.See.{at, begun}
 use Rattle.walk.proofs.LeafLaws.{front-low, rest-low, rest-is}
-use Rattle.walk.proofs.ArmLaws.{todo-is}
-use Rattle.walk.proofs.attribute.begin_todo.Statement.{statement}
-use Rattle.walk.proofs.attribute.begin_todo.Tie as tie
+use Rattle.walk.proofs.attribute.begin_null.Statement.{statement}
+use Rattle.walk.proofs.attribute.begin_null.Tie as tie
 
 begin-named-requires : tie.Need-begin-named-requires
 begin-named-requires c κs =
@@ -31,9 +30,8 @@ same-length c = search needs
 
 returns : tie.Need-returns
 returns c =
-    let a = c .before .before .before .before .before .before .before .before .before .before .before .before .args in
-    todo-is (rest-is 0x81 (get-attr-name (attr-name-in (read (a .a .now))) false) null-node (begun (at [] (a .page .now) (a .st))) (c .before .before .before .before .before .before .before .before .begin-named .ensures) (c .before .before .before .leaf .ensures))
+    let a = c .before .before .before .before .before .before .before .before .before .before .before .args in
+    rest-is 0x81 (get-attr-name (attr-name-in (read (a .a .now))) false) null-node (begun (at [] (a .page .now) (a .st))) (c .before .before .before .before .before .before .before .begin-named .ensures) (c .before .before .leaf .ensures)
 
-pub begin-todo-spec : {M : Type 1} → statement M
-begin-todo-spec =
-    tie.close (tie.spec begin-named-requires slice-aggregate-leaf leaf-requires same-length returns)
+pub begin-null-spec : {M : Type 1} → statement M
+begin-null-spec = tie.close (tie.spec begin-named-requires slice-aggregate-leaf leaf-requires same-length returns)

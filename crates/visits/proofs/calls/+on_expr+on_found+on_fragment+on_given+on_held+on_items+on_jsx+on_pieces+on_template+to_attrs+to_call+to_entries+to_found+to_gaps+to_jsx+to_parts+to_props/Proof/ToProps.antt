@@ -10,7 +10,7 @@ use Rattle.walk.specs.See.{at, see}
 use Rattle.visits.proofs.CallLaws.{props-in, seen-templates, seen-page, prop-front-room, prop-held-room, prop-back-page, prop-back-room, prop-on, spread-begin, spread-inner, spread-close, spread-on, props-end}
 use borrow.Author.Needs.{needs}
 use Rattle.visits.proofs.calls.to_props.Reads as to-props
-use Rattle.visits.proofs.calls.+attrs_todo+child_todo+held_todo+on_expr+on_found+on_fragment+on_given+on_held+on_items+on_jsx+on_pieces+on_template+tag_todo+to_attrs+to_call+to_entries+to_found+to_gaps+to_jsx+to_parts+to_props.Lts-to_props as to-props-lts
+use Rattle.visits.proofs.calls.+on_expr+on_found+on_fragment+on_given+on_held+on_items+on_jsx+on_pieces+on_template+to_attrs+to_call+to_entries+to_found+to_gaps+to_jsx+to_parts+to_props.Lts-to_props as to-props-lts
 use Rattle.visits.proofs.calls.on_expr.Reads as on-expr
 use Rattle.visits.proofs.calls.on_held.Reads as on-held
 use Rattle.field.proofs.reader.behind.Reads as behind-reads
@@ -22,7 +22,7 @@ use Rattle.walk.proofs.attribute.property_front.Reads as property-front-reads
 use Rattle.walk.proofs.attribute.property_gap.Reads as property-gap-reads
 use Rattle.walk.proofs.state.begin.Reads as begin-reads
 use Rattle.walk.proofs.state.close.Reads as close-reads
-use Rattle.visits.proofs.calls.+attrs_todo+child_todo+held_todo+on_expr+on_found+on_fragment+on_given+on_held+on_items+on_jsx+on_pieces+on_template+tag_todo+to_attrs+to_call+to_entries+to_found+to_gaps+to_jsx+to_parts+to_props.Proof.Cycle.{to-props-at, on-expr-below, on-held-below}
+use Rattle.visits.proofs.calls.+on_expr+on_found+on_fragment+on_given+on_held+on_items+on_jsx+on_pieces+on_template+to_attrs+to_call+to_entries+to_found+to_gaps+to_jsx+to_parts+to_props.Proof.Cycle.{to-props-at, on-expr-below, on-held-below}
 
 abbrev pub to-props-calls : ℕ → to-props-lts.Claims
 to-props-calls t = (tag-at-reads.Asked, tag-at-reads.Learnt, body-reads.Asked, body-reads.Learnt, property-gap-reads.Asked, property-gap-reads.Learnt, property-front-reads.Asked, property-front-reads.Learnt, held-at-reads.Asked, held-at-reads.Learnt, on-held-below t, on-held.Post, gap-back-reads.Asked, gap-back-reads.Learnt, behind-reads.Asked, behind-reads.Learnt, begin-reads.Asked, begin-reads.Learnt, on-expr-below t, on-expr.Post, close-reads.Asked, close-reads.Learnt)

@@ -5,14 +5,14 @@ use native.Mathlib.Omega.{arith}
 use Rattle.visits.proofs.VisitLaws.{template-recorded, template-start, template-parts, template-end, template-visited}
 use Rattle.visits.proofs.calls.to_parts.Reads as to-parts
 use Rattle.visits.proofs.calls.on_template.Reads as on-template
-use Rattle.visits.proofs.calls.+attrs_todo+child_todo+held_todo+on_expr+on_found+on_fragment+on_given+on_held+on_items+on_jsx+on_pieces+on_template+tag_todo+to_attrs+to_call+to_entries+to_found+to_gaps+to_jsx+to_parts+to_props.Lts-on_template as on-template-lts
+use Rattle.visits.proofs.calls.+on_expr+on_found+on_fragment+on_given+on_held+on_items+on_jsx+on_pieces+on_template+to_attrs+to_call+to_entries+to_found+to_gaps+to_jsx+to_parts+to_props.Lts-on_template as on-template-lts
 use Rattle.records.proofs.record_fragment.Reads as record-fragment-reads
 use Rattle.visits.proofs.state.recorded.Reads as recorded-reads
 use Rattle.visits.proofs.state.records_of.Reads as records-of-reads
 use Rattle.visits.proofs.state.returned.Reads as returned-reads
 use Rattle.walk.proofs.state.begin_template.Reads as begin-template-reads
 use Rattle.walk.proofs.state.close.Reads as close-reads
-use Rattle.visits.proofs.calls.+attrs_todo+child_todo+held_todo+on_expr+on_found+on_fragment+on_given+on_held+on_items+on_jsx+on_pieces+on_template+tag_todo+to_attrs+to_call+to_entries+to_found+to_gaps+to_jsx+to_parts+to_props.Proof.Cycle.{to-parts-below, on-template-at}
+use Rattle.visits.proofs.calls.+on_expr+on_found+on_fragment+on_given+on_held+on_items+on_jsx+on_pieces+on_template+to_attrs+to_call+to_entries+to_found+to_gaps+to_jsx+to_parts+to_props.Proof.Cycle.{to-parts-below, on-template-at}
 
 abbrev pub on-template-calls : ℕ → on-template-lts.Claims
 on-template-calls t = (records-of-reads.Asked, records-of-reads.Learnt, record-fragment-reads.Asked, record-fragment-reads.Learnt, recorded-reads.Asked, recorded-reads.Learnt, begin-template-reads.Asked, begin-template-reads.Learnt, to-parts-below t, to-parts.Post, close-reads.Asked, close-reads.Learnt, returned-reads.Asked, returned-reads.Learnt)

@@ -7,7 +7,7 @@ use native.Mathlib.Nat.{le-refl}
 use native.Mathlib.Omega.{arith}
 use lib.ListN.{length}
 use Rattle.visits.proofs.calls.to_entries.Reads as to-entries
-use Rattle.visits.proofs.calls.+attrs_todo+child_todo+held_todo+on_expr+on_found+on_fragment+on_given+on_held+on_items+on_jsx+on_pieces+on_template+tag_todo+to_attrs+to_call+to_entries+to_found+to_gaps+to_jsx+to_parts+to_props.Lts-to_entries as to-entries-lts
+use Rattle.visits.proofs.calls.+on_expr+on_found+on_fragment+on_given+on_held+on_items+on_jsx+on_pieces+on_template+to_attrs+to_call+to_entries+to_found+to_gaps+to_jsx+to_parts+to_props.Lts-to_entries as to-entries-lts
 use Rattle.visits.proofs.calls.to_found.Reads as to-found
 use Rattle.visits.proofs.calls.to_jsx.Reads as to-jsx
 use Rattle.visits.proofs.calls.on_expr.Reads as on-expr
@@ -19,7 +19,7 @@ use Rattle.strings.proofs.joins.Reads as joins-reads
 use Rattle.walk.proofs.state.flush.Reads as flush-reads
 use Rattle.walk.proofs.state.join_container.Reads as join-container-reads
 use Rattle.walk.proofs.state.join_text.Reads as join-text-reads
-use Rattle.visits.proofs.calls.+attrs_todo+child_todo+held_todo+on_expr+on_found+on_fragment+on_given+on_held+on_items+on_jsx+on_pieces+on_template+tag_todo+to_attrs+to_call+to_entries+to_found+to_gaps+to_jsx+to_parts+to_props.Proof.Cycle.{to-entries-at, to-found-below, to-jsx-below, on-expr-below}
+use Rattle.visits.proofs.calls.+on_expr+on_found+on_fragment+on_given+on_held+on_items+on_jsx+on_pieces+on_template+to_attrs+to_call+to_entries+to_found+to_gaps+to_jsx+to_parts+to_props.Proof.Cycle.{to-entries-at, to-found-below, to-jsx-below, on-expr-below}
 use Rattle.field.specs.Row.{read}
 use Rattle.field.proofs.FrontLaws.{body-less, behind-less}
 use Rattle.spec.specs.Merge.{merge}

@@ -12,14 +12,14 @@ use Rattle.visits.proofs.ExprLaws.{spread-begin, spread-inner, spread-c
 use borrow.Author.Needs.{needs}
 use Rattle.visits.proofs.calls.on_expr.Reads as on-expr
 use Rattle.visits.proofs.calls.on_items.Reads as on-items
-use Rattle.visits.proofs.calls.+attrs_todo+child_todo+held_todo+on_expr+on_found+on_fragment+on_given+on_held+on_items+on_jsx+on_pieces+on_template+tag_todo+to_attrs+to_call+to_entries+to_found+to_gaps+to_jsx+to_parts+to_props.Lts-on_items as on-items-lts
+use Rattle.visits.proofs.calls.+on_expr+on_found+on_fragment+on_given+on_held+on_items+on_jsx+on_pieces+on_template+to_attrs+to_call+to_entries+to_found+to_gaps+to_jsx+to_parts+to_props.Lts-on_items as on-items-lts
 use Rattle.field.proofs.reader.behind.Reads as behind-reads
 use Rattle.field.proofs.reader.body.Reads as body-reads
 use Rattle.field.proofs.reader.tag_at.Reads as tag-at-reads
 use Rattle.walk.proofs.state.begin.Reads as begin-reads
 use Rattle.walk.proofs.state.close.Reads as close-reads
 use Rattle.walk.proofs.state.leaf.Reads as leaf-reads
-use Rattle.visits.proofs.calls.+attrs_todo+child_todo+held_todo+on_expr+on_found+on_fragment+on_given+on_held+on_items+on_jsx+on_pieces+on_template+tag_todo+to_attrs+to_call+to_entries+to_found+to_gaps+to_jsx+to_parts+to_props.Proof.Cycle.{on-expr-below, on-items-at}
+use Rattle.visits.proofs.calls.+on_expr+on_found+on_fragment+on_given+on_held+on_items+on_jsx+on_pieces+on_template+to_attrs+to_call+to_entries+to_found+to_gaps+to_jsx+to_parts+to_props.Proof.Cycle.{on-expr-below, on-items-at}
 
 abbrev pub on-items-calls : ℕ → on-items-lts.Claims
 on-items-calls t = (tag-at-reads.Asked, tag-at-reads.Learnt, body-reads.Asked, body-reads.Learnt, begin-reads.Asked, begin-reads.Learnt, on-expr-below t, on-expr.Post, close-reads.Asked, close-reads.Learnt, behind-reads.Asked, behind-reads.Learnt, leaf-reads.Asked, leaf-reads.Learnt)

@@ -10,14 +10,14 @@ use borrow.Author.Needs.{needs}
 use Rattle.visits.proofs.calls.to_attrs.Reads as to-attrs
 use Rattle.visits.proofs.calls.to_call.Reads as to-call
 use Rattle.visits.proofs.calls.to_jsx.Reads as to-jsx
-use Rattle.visits.proofs.calls.+attrs_todo+child_todo+held_todo+on_expr+on_found+on_fragment+on_given+on_held+on_items+on_jsx+on_pieces+on_template+tag_todo+to_attrs+to_call+to_entries+to_found+to_gaps+to_jsx+to_parts+to_props.Lts-to_jsx as to-jsx-lts
+use Rattle.visits.proofs.calls.+on_expr+on_found+on_fragment+on_given+on_held+on_items+on_jsx+on_pieces+on_template+to_attrs+to_call+to_entries+to_found+to_gaps+to_jsx+to_parts+to_props.Lts-to_jsx as to-jsx-lts
 use Rattle.visits.proofs.calls.to_parts.Reads as to-parts
 use Rattle.decisions.proofs.element.is_serializable.Reads as is-serializable-reads
 use Rattle.field.proofs.reader.behind.Reads as behind-reads
 use Rattle.walk.proofs.call.inner_children.Reads as inner-children-reads
 use Rattle.walk.proofs.state.begin_template.Reads as begin-template-reads
 use Rattle.walk.proofs.state.close.Reads as close-reads
-use Rattle.visits.proofs.calls.+attrs_todo+child_todo+held_todo+on_expr+on_found+on_fragment+on_given+on_held+on_items+on_jsx+on_pieces+on_template+tag_todo+to_attrs+to_call+to_entries+to_found+to_gaps+to_jsx+to_parts+to_props.Proof.Cycle.{to-attrs-below, to-call-below, to-jsx-at, to-parts-below}
+use Rattle.visits.proofs.calls.+on_expr+on_found+on_fragment+on_given+on_held+on_items+on_jsx+on_pieces+on_template+to_attrs+to_call+to_entries+to_found+to_gaps+to_jsx+to_parts+to_props.Proof.Cycle.{to-attrs-below, to-call-below, to-jsx-at, to-parts-below}
 
 abbrev pub to-jsx-calls : ℕ → to-jsx-lts.Claims
 to-jsx-calls t = (is-serializable-reads.Asked, is-serializable-reads.Learnt, begin-template-reads.Asked, begin-template-reads.Learnt, behind-reads.Asked, behind-reads.Learnt, close-reads.Asked, close-reads.Learnt, to-attrs-below t, to-attrs.Post, inner-children-reads.Asked, inner-children-reads.Learnt, to-parts-below t, to-parts.Post, to-call-below t, to-call.Post)
