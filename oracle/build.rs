@@ -1,7 +1,10 @@
 // Takes jsx_precompile.rs from where it is and puts it into OUT_DIR, never into the repository: once as it is (this
-// copy is the judge), once with a counter in each arm (this copy only shows how much of the Rust was reached).
+// copy is the judge), once with its `todo!` filled in (this copy judges the pages on which the first stops), and once
+// with a counter in each arm of the second (this copy only shows how much of the Rust was reached).
 #[path = "build/count_arms.rs"]
 mod count_arms;
+#[path = "build/fill_todo.rs"]
+mod fill_todo;
 
 use std::path::{Path, PathBuf};
 use std::{env, fs};
@@ -14,6 +17,7 @@ fn main() {
     println!("cargo::rustc-check-cfg=cfg(jsx_source)");
     println!("cargo::rerun-if-changed=build.rs");
     println!("cargo::rerun-if-changed=build/count_arms.rs");
+    println!("cargo::rerun-if-changed=build/fill_todo.rs");
     println!("cargo::rerun-if-env-changed={VARIABLE}");
     let places = places();
     // Only what is there is watched: cargo would build anew each time for the sake of a file that is not.
@@ -41,10 +45,20 @@ fn places() -> Vec<PathBuf> {
 fn take(place: &Path) {
     println!("cargo::rerun-if-changed={}", place.display());
     let source = fs::read_to_string(place).expect("jsx_precompile.rs is text");
+    let patched = match fill_todo::filled(&source) {
+        Ok(patched) => patched,
+        Err(words) => return println!("cargo::error={words}"),
+    };
+    let (counted, arms) = count_arms::with_counters(&patched);
     let out = PathBuf::from(env::var("OUT_DIR").expect("cargo gives it"));
-    let (counted, arms) = count_arms::with_counters(&source);
-    fs::write(out.join("jsx_precompile.rs"), &source).expect("OUT_DIR can be written");
-    fs::write(out.join("jsx_precompile_counted.rs"), counted).expect("OUT_DIR can be written");
-    fs::write(out.join("arms.rs"), arms).expect("OUT_DIR can be written");
+    let copies = [
+        ("jsx_precompile.rs", source),
+        ("jsx_precompile_patched.rs", patched),
+        ("jsx_precompile_counted.rs", counted),
+        ("arms.rs", arms),
+    ];
+    for (name, text) in copies {
+        fs::write(out.join(name), text).expect("OUT_DIR can be written");
+    }
     println!("cargo::rustc-cfg=jsx_source");
 }

@@ -15,7 +15,7 @@ extern "C" {
 #define JSX_PRECOMPILE_MAX_DEPTH 48
 #define JSX_PRECOMPILE_MIN_SCRATCH 65536
 
-/* The numbers of an answer. */
+/* The numbers of an answer. 9 is reserved and never given. */
 enum jsx_precompile_number {
     JSX_PRECOMPILE_ACCEPTED = 0,
     JSX_PRECOMPILE_SCRATCH_TOO_SMALL = 1,
@@ -26,7 +26,6 @@ enum jsx_precompile_number {
     JSX_PRECOMPILE_NOT_UTF8 = 6,
     JSX_PRECOMPILE_NUMBER_TOO_LARGE = 7,
     JSX_PRECOMPILE_TOO_DEEP = 8,
-    JSX_PRECOMPILE_UNIMPLEMENTED = 9,
     JSX_PRECOMPILE_TAG_LEFT = 10,
     JSX_PRECOMPILE_OUTPUT_TOO_LONG = 11,
     JSX_PRECOMPILE_TEMPLATES_TOO_SMALL = 12,

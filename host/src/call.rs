@@ -54,7 +54,7 @@ impl Answer {
     ///
     /// # Panics
     ///
-    /// Where the number is none of document 01's table, which no call of the library answers.
+    /// Where the number is none of document 01's table, or 9, which is reserved: no call of the library answers these.
     pub fn refusal(&self) -> Option<Refusal> {
         match self.number {
             0 => None,

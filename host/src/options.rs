@@ -45,11 +45,34 @@ impl Options {
         self
     }
 
-    /// With more attributes that are not serialized, by name.
+    /// With more attributes that are not serialized, by name: an identifier as it is written, a namespaced name
+    /// normalised (`href` for `xlink:href`).
     ///
     /// ```
     /// let options = jsx_precompile::Options::new().skip_prop_serialize(["a"]);
     /// assert_eq!(options.to_bytes(), Ok(vec![0x03, 0, 4, 0x20, 0, 1, b'a']));
+    /// ```
+    ///
+    /// On an element that is serialized, such an attribute becomes a `jsxAttr` call of the listed name and the value as
+    /// it stands: what is in its braces, null for empty ones, and `true` without a value.
+    ///
+    /// ```
+    /// use jsx_precompile::out::{Call, Expression as Out};
+    /// use jsx_precompile::{Options, page::{Element, Expression, Item, Page, Value}, transform};
+    ///
+    /// // <p class={-1} id={}/>
+    /// let tag = Element::new("p").attribute("class", Expression::Minus(1)).attribute("id", Value::Container(None));
+    /// let page = Page::new([Item::statement([tag.into()])]).to_bytes()?;
+    /// let forms = transform(&page, &Options::new().skip_prop_serialize(["class", "id"]))?;
+    /// assert!(forms.templates().next().unwrap().strings().eq(["<p ", " ", "></p>"]));
+    ///
+    /// // _jsxTemplate($$_tpl_1, _jsxAttr("class", -1), _jsxAttr("id", null))
+    /// let mut calls = forms.page().calls().skip(1);
+    /// for expected in [("class", Out::Minus(1)), ("id", Out::Null)] {
+    ///     let Some(Call::Attr(call)) = calls.next() else { panic!() };
+    ///     assert_eq!((call.name(), call.value()), expected);
+    /// }
+    /// # Ok::<(), Box<dyn std::error::Error>>(())
     /// ```
     pub fn skip_prop_serialize<T: Into<String>>(mut self, names: impl IntoIterator<Item = T>) -> Options {
         self.skip_prop_serialize.extend(names.into_iter().map(T::into));

@@ -3,7 +3,7 @@
 use std::fmt;
 
 /// Why a call is refused; document 01's number and word are given by [`number`](Refusal::number) and
-/// [`word`](Refusal::word).
+/// [`word`](Refusal::word). 9 is reserved: it was given where the ported Rust stops, and no page is refused there now.
 ///
 /// ```
 /// use jsx_precompile::{Options, Refusal, transform};
@@ -31,8 +31,6 @@ pub enum Refusal {
     NumberTooLarge = 7,
     /// Too deep: fields lie more than 48 deep.
     TooDeep = 8,
-    /// Unfinished: the ported Rust would reach `todo!`.
-    Unimplemented = 9,
     /// Bare tag: an element or fragment would be left in the result.
     TagLeft = 10,
     /// Long: a merged run or an output body is over 65,535 bytes.
@@ -46,7 +44,7 @@ pub enum Refusal {
 use Refusal::*;
 
 /// In the order of their numbers.
-const ALL: [Refusal; 13] = [
+const ALL: [Refusal; 12] = [
     ScratchTooSmall,
     InputTooLong,
     Truncated,
@@ -55,7 +53,6 @@ const ALL: [Refusal; 13] = [
     NotUtf8,
     NumberTooLarge,
     TooDeep,
-    Unimplemented,
     TagLeft,
     OutputTooLong,
     TemplatesTooSmall,
@@ -63,20 +60,21 @@ const ALL: [Refusal; 13] = [
 ];
 
 impl Refusal {
-    /// The refusal of that number; none for 0 and for what is no number of the table.
+    /// The refusal of that number; none for 0, for 9, which is reserved, and for what is no number of the table.
     ///
     /// ```
     /// use jsx_precompile::Refusal;
     ///
     /// assert_eq!(Refusal::from_number(5), Some(Refusal::BadName));
-    /// assert_eq!(Refusal::from_number(0), None);
-    /// assert_eq!(Refusal::from_number(14), None);
+    /// for number in [0, 9, 14] {
+    ///     assert_eq!(Refusal::from_number(number), None);
+    /// }
     /// ```
     pub fn from_number(number: u32) -> Option<Refusal> {
-        ALL.get((number as usize).checked_sub(1)?).copied()
+        ALL.into_iter().find(|refusal| refusal.number() == number)
     }
 
-    /// Document 01's number, 1 to 13.
+    /// Document 01's number, 1 to 13 without 9.
     ///
     /// ```
     /// assert_eq!(jsx_precompile::Refusal::TooDeep.number(), 8);
@@ -100,7 +98,6 @@ impl Refusal {
             NotUtf8 => "bad letters",
             NumberTooLarge => "big number",
             TooDeep => "too deep",
-            Unimplemented => "unfinished",
             TagLeft => "bare tag",
             OutputTooLong => "long",
             TemplatesTooSmall => "small shelf",
@@ -127,9 +124,6 @@ impl Refusal {
             NotUtf8 => "a text is not UTF-8",
             NumberTooLarge => "a number is over 9,007,199,254,740,991",
             TooDeep => "fields lie more than 48 deep within each other",
-            Unimplemented => {
-                "an attribute listed as not serialized has braces as its value, on an element that is serialized"
-            }
             TagLeft => "an element or fragment would be left untransformed",
             OutputTooLong => "a merged run of text, or a body of the outputs, is over 65,535 bytes",
             TemplatesTooSmall => "the templates do not fit the bytes lent for them",
@@ -151,10 +145,9 @@ mod tests {
     use super::*;
 
     #[test]
-    fn numbers_are_places() {
-        for (place, refusal) in ALL.iter().enumerate() {
-            assert_eq!(refusal.number() as usize, place + 1);
-            assert_eq!(Refusal::from_number(refusal.number()), Some(*refusal));
-        }
+    fn each_number_but_9_is_a_refusal() {
+        let numbers: Vec<u32> = (0..=100).filter(|number| Refusal::from_number(*number).is_some()).collect();
+        assert_eq!(numbers, [1, 2, 3, 4, 5, 6, 7, 8, 10, 11, 12, 13]);
+        assert_eq!(ALL.map(Refusal::number)[..], numbers);
     }
 }

@@ -88,4 +88,5 @@ fn constants() {
         let line = format!("JSX_PRECOMPILE_{name} = {}", refusal.number());
         assert!(header.contains(&line), "{line}");
     }
+    assert!(!header.contains("= 9"), "9 is reserved");
 }

@@ -20,8 +20,6 @@ pub enum Refusal {
     NumberTooLarge = 7,
     /// too deep
     TooDeep = 8,
-    /// unfinished
-    Unimplemented = 9,
     /// bare tag
     TagLeft = 10,
     /// long
@@ -32,8 +30,11 @@ pub enum Refusal {
     PageTooSmall = 13,
 }
 
-/// 0, taken, and the refusals: how many numbers there are.
+/// 0, taken, and the refusals: how many numbers there are, the reserved one counted.
 pub const NUMBERS: usize = 14;
+
+/// 9, unfinished, was given where the Rust stops; since 02's A1 it never is.
+pub const RESERVED: usize = 9;
 
 pub const MOST_PAGE: usize = 32_768;
 pub const MOST_OPTIONS: usize = 4_096;

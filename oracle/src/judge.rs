@@ -1,23 +1,37 @@
 //! 01, Limits and the answer: the whole call with all refusals in their order and its effect on every lent byte.
 
 use crate::answer::{Answer, LEAST_SCRATCH, MOST_OPTIONS, MOST_PAGE, Refusal};
-use crate::decode::decode;
+use crate::decode::{Options, decode};
 use crate::encode::{Output, encode};
-use crate::transform::{Copy, transform_with};
+use crate::stand_ins::swc_ecma_ast::Module;
+use crate::transform::{Copy, transform, transform_with};
 
 /// What page and options give before any lent byte is looked at: 2 to 11, or both outputs.
 pub type Outcome = Result<Output, Refusal>;
 
 pub fn outcome(page: &[u8], options: &[u8]) -> Outcome {
-    outcome_with(Copy::Unchanged, page, options)
+    outcome_and_copy(page, options).0
 }
 
+/// The outcome, and the copy of the Rust that gave it: the unchanged one or, where that stops, the patched one; none
+/// where 2 to 8 came first.
+pub fn outcome_and_copy(page: &[u8], options: &[u8]) -> (Outcome, Option<Copy>) {
+    let mut copy = None;
+    let outcome = outcome_by(page, options, |options, module| copy = Some(transform(options, module)));
+    (outcome, copy)
+}
+
+/// The outcome by one copy alone; by the unchanged one only for pages on which it does not stop.
 pub fn outcome_with(copy: Copy, page: &[u8], options: &[u8]) -> Outcome {
+    outcome_by(page, options, |options, module| transform_with(copy, options, module))
+}
+
+fn outcome_by(page: &[u8], options: &[u8], run: impl FnOnce(&Options, &mut Module)) -> Outcome {
     if page.len() > MOST_PAGE || options.len() > MOST_OPTIONS {
         return Err(Refusal::InputTooLong);
     }
     let (options, mut module) = decode(page, options)?;
-    transform_with(copy, &options, &mut module)?;
+    run(&options, &mut module);
     encode(&module)
 }
 

@@ -23,7 +23,7 @@ pub enum Place {
 
 pub const PLACES: [Place; 4] = [Place::VoidChild, Place::SpreadChild, Place::TagValue, Place::EarlierKey];
 
-/// How many expressions were kept, and how many were lost in each of `PLACES`.
+/// How many expressions were kept, and how many were lost in each place, in the order of `PLACES`.
 #[derive(Clone, Copy, Debug, Default, PartialEq, Eq)]
 pub struct Counts {
     pub kept: u64,
@@ -69,8 +69,8 @@ pub fn compare(page: &[u8], options: &[u8], page_out: &[u8]) -> Result<Counts, S
 /// The first expression that is not equally often in both, and how often in each.
 fn first_difference<'t, 'a>(due: &'t Tally<'a>, there: &'t Tally<'a>) -> Option<(&'t Expression<'a>, u64, u64)> {
     let often = |tally: &Tally<'a>, expression: &Expression<'a>| tally.get(expression).copied().unwrap_or(0);
-    let both = due.keys().chain(there.keys()).map(|e| (e, often(due, e), often(there, e)));
-    both.into_iter().find(|(_, due, there)| due != there)
+    let mut both = due.keys().chain(there.keys()).map(|e| (e, often(due, e), often(there, e)));
+    both.find(|(_, due, there)| due != there)
 }
 
 /// A 74 by its body, a 79 by the list of its own source pieces; the tag tells which.
@@ -96,8 +96,9 @@ fn words((tag, pieces): &Expression) -> String {
 
 /// The walk over the page: what is due in page out, and how much was lost where.
 struct Walk<'a> {
-    /// 02 and 03.
+    /// 02.
     elements_listed: Vec<&'a [u8]>,
+    /// 03.
     attributes_listed: Vec<&'a [u8]>,
     kept: Tally<'a>,
     counts: Counts,

@@ -1,5 +1,6 @@
 //! The judge: document 000 (jsx_precompile.rs), compiled unchanged over stand-ins for swc's crates, behind the byte
 //! layouts, refusals and lent bytes of document 01. What is built elsewhere in this repository is compared with it.
+//! Where it stops with `todo!`, a copy with that one arm filled in (02, A1) goes on.
 //!
 //! Data flows one way: bytes, `decode`, a syntax tree, `transform`, a syntax tree, `encode`, bytes. `judge` is the whole
 //! with the effect on every lent byte. Nothing here is taken from the definitions that the proofs are about.
@@ -35,8 +36,13 @@ mod precompile;
 #[cfg(jsx_source)]
 #[allow(clippy::all, dead_code)]
 mod precompile_counted;
+#[cfg(jsx_source)]
+#[allow(clippy::all, dead_code)]
+mod precompile_patched;
 #[cfg(not(jsx_source))]
 use precompile as precompile_counted;
+#[cfg(not(jsx_source))]
+use precompile as precompile_patched;
 
 // The name under which jsx_precompile.rs looks for atoms.
 #[cfg(jsx_source)]

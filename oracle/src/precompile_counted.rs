@@ -1,4 +1,4 @@
-//! The same source with a counter in each arm: it only shows how much of the Rust the pages reach.
+//! The patched source with a counter in each arm: it only shows how much of the Rust the pages reach.
 
 use crate::stand_ins::{swc_atoms, swc_common, swc_ecma_ast, swc_ecma_lexer, swc_ecma_utils, swc_ecma_visit};
 

@@ -49,7 +49,7 @@ fn smaller_row(mut row: Vec<Node>, shows: &dyn Fn(&[Node]) -> bool) -> Vec<Node>
 }
 
 /// The row without the field at `place` and those behind it in its row (all, 64, 16, 4, it alone), and with the field
-/// replaced by what stands in it, all of it, one field, or one field of those (a tag by a tag in its braces).
+/// replaced by what stands in it, by an empty fragment, by one field in it, or by one in those (a tag in its braces).
 fn changes(row: &[Node], place: usize) -> impl Iterator<Item = Vec<Node>> {
     let runs = [usize::MAX, 64, 16, 4, 1].into_iter().map(move |most| {
         changed(row, place, |row, i| {
@@ -65,7 +65,9 @@ fn changes(row: &[Node], place: usize) -> impl Iterator<Item = Vec<Node>> {
     let mut inner = vec![];
     at_nth(&mut row.to_vec(), &mut { place }, &mut |row, i| inner = row[i].inner.clone());
     let second: Vec<Node> = inner.iter().flat_map(|node| node.inner.clone()).collect();
-    let single = inner.into_iter().chain(second);
+    // An empty fragment may stand wherever a tag or an expression may.
+    let emptied = (!inner.is_empty()).then(|| Node::row(0x31, vec![]));
+    let single = emptied.into_iter().chain(inner).chain(second);
     runs.chain(opened).chain(single.map(move |one| changed(row, place, |row, i| row[i] = one.clone())))
 }
 

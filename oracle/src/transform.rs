@@ -1,19 +1,23 @@
-//! One run of the Rust, and 9: its `todo!` is a panic, caught here. Any other panic is a fault and goes on.
+//! One run of the Rust. Where the unchanged source stops at its `todo!`, a panic caught here, the patched one runs
+//! instead (02, A1). Any other panic is a fault and goes on.
 
-use crate::answer::Refusal;
 use crate::decode::Options;
 use crate::stand_ins::swc_ecma_ast::Module;
-use crate::{precompile, precompile_counted};
+use crate::{precompile, precompile_counted, precompile_patched};
 use std::any::Any;
 use std::cell::Cell;
 use std::panic::{self, AssertUnwindSafe};
 use std::sync::Once;
 
-/// Which copy of the source runs: the unchanged one, or the one that counts its arms.
+/// Which copy of the source runs.
 #[derive(Clone, Copy, Debug, Default, PartialEq, Eq)]
 pub enum Copy {
+    /// As it is.
     #[default]
     Unchanged,
+    /// With its `todo!` filled in.
+    Patched,
+    /// The patched one with counters.
     Counted,
 }
 
@@ -22,28 +26,45 @@ pub fn transform_ready(options: &Options, module: &mut Module) {
     precompile::run(options, module);
 }
 
-/// The transform on a ready tree; 9 where the Rust reaches `todo!`.
-pub fn transform(options: &Options, module: &mut Module) -> Result<(), Refusal> {
-    transform_with(Copy::Unchanged, options, module)
+/// The transform on a ready tree by the unchanged copy or, where that stops, by the patched one; which of the two it was.
+pub fn transform(options: &Options, module: &mut Module) -> Copy {
+    // What a stopped run leaves is half transformed. Only a listed attribute can stop it.
+    let before = options.skip_prop_serialize.is_some().then(|| module.clone());
+    if runs_to_its_end(options, module) {
+        return Copy::Unchanged;
+    }
+    *module = before.expect("todo! is reached only where attributes are listed");
+    transform_with(Copy::Patched, options, module);
+    Copy::Patched
 }
 
-pub fn transform_with(copy: Copy, options: &Options, module: &mut Module) -> Result<(), Refusal> {
-    let run = match copy {
-        Copy::Unchanged => precompile::run,
-        Copy::Counted => precompile_counted::run,
-    };
+/// The transform by that copy, without a guard: the unchanged one may panic.
+pub fn transform_with(copy: Copy, options: &Options, module: &mut Module) {
+    match copy {
+        Copy::Unchanged => precompile::run(options, module),
+        Copy::Patched => precompile_patched::run(options, module),
+        Copy::Counted => precompile_counted::run(options, module),
+    }
+}
+
+/// Runs the unchanged copy; whether it did not stop at `todo!`.
+fn runs_to_its_end(options: &Options, module: &mut Module) -> bool {
     hush_todo();
     EXPECTED.set(true);
-    let end = panic::catch_unwind(AssertUnwindSafe(|| run(options, module)));
+    let end = panic::catch_unwind(AssertUnwindSafe(|| transform_with(Copy::Unchanged, options, module)));
     EXPECTED.set(false);
-    end.map_err(|payload| if is_todo(&*payload) { Refusal::Unimplemented } else { panic::resume_unwind(payload) })
+    match end {
+        Ok(()) => true,
+        Err(payload) if is_todo(&*payload) => false,
+        Err(payload) => panic::resume_unwind(payload),
+    }
 }
 
 thread_local! {
     static EXPECTED: Cell<bool> = const { Cell::new(false) };
 }
 
-/// A `todo!` during a run is an answer, so it prints nothing. Other panics print as ever.
+/// A `todo!` during a run is expected, so it prints nothing. Other panics print as ever.
 fn hush_todo() {
     static HUSHED: Once = Once::new();
     HUSHED.call_once(|| {

@@ -2,9 +2,10 @@
 
 use crate::answer::{Answer, NUMBERS};
 use crate::generate::{self, Case};
-use crate::judge::{outcome, settle};
+use crate::judge::{outcome_and_copy, settle};
 use crate::marks;
 use crate::show::hex;
+use crate::transform::Copy;
 
 /// One call, its answer, and the bytes written up to their ends.
 #[derive(Clone, Debug, PartialEq, Eq)]
@@ -23,13 +24,18 @@ pub struct Vector {
 impl Vector {
     /// Asks the judge.
     pub fn of(name: &str, case: &Case) -> Vector {
-        let outcome = outcome(&case.page, &case.options);
+        Vector::and_copy_of(name, case).0
+    }
+
+    /// Asks the judge, and which copy of the Rust gave the answer.
+    fn and_copy_of(name: &str, case: &Case) -> (Vector, Option<Copy>) {
+        let (outcome, copy) = outcome_and_copy(&case.page, &case.options);
         let (templates_out, page_out) = case.outs(&outcome);
         let (mut scratch, mut templates, mut page) = (vec![0; case.scratch], vec![0; templates_out], vec![0; page_out]);
         let answer = settle(&outcome, &mut scratch, &mut templates, &mut page);
         templates.truncate(answer.templates_bytes);
         page.truncate(answer.page_bytes);
-        Vector {
+        let vector = Vector {
             page: case.page.clone(),
             options: case.options.clone(),
             scratch: case.scratch,
@@ -39,7 +45,8 @@ impl Vector {
             templates_written: templates,
             page_written: page,
             name: name.to_string(),
-        }
+        };
+        (vector, copy)
     }
 
     pub fn line(&self) -> String {
@@ -102,9 +109,9 @@ fn unhex(word: &str) -> Option<Vec<u8>> {
 const LONG_MARKS: [&str; 5] = ["page-32768", "page-32769", "static-string-65530", "static-string-65531", "item-65536"];
 const LONG_LINE: usize = 20_000;
 
-/// How many seeds of each answer are stored, and how long their lines may be. 2 and 11 need long inputs.
+/// How many seeds of each answer are stored, and how long their lines may be. 2 and 11 need long inputs; 9 is reserved.
 const QUOTAS: [(usize, usize); NUMBERS] = [
-    (1500, 800),
+    (1450, 800),
     (60, 600),
     (3, 9000),
     (200, 700),
@@ -113,27 +120,35 @@ const QUOTAS: [(usize, usize); NUMBERS] = [
     (100, 700),
     (40, 700),
     (25, 3000),
-    (100, 900),
+    (0, 0),
     (100, 900),
     (3, 18_000),
     (120, 700),
     (120, 700),
 ];
 
+/// The same for seeds that are accepted by the patched copy.
+const PATCHED_QUOTA: (usize, usize) = (100, 900);
+
 /// The marks, then seeds from 0 on until each answer has its share.
 pub fn sample() -> Vec<Vector> {
     let marks = marks::all().into_iter().map(|mark| Vector::of(&mark.name, &mark.case));
     let stored = |v: &Vector| v.line().len() <= LONG_LINE || LONG_MARKS.contains(&&v.name[..]);
     let mut sample: Vec<Vector> = marks.filter(stored).collect();
-    let mut left = QUOTAS.map(|(count, _)| count);
+    // The share of the patched copy stands behind those of the numbers.
+    let quotas: Vec<(usize, usize)> = QUOTAS.into_iter().chain([PATCHED_QUOTA]).collect();
+    let mut left: Vec<usize> = quotas.iter().map(|(count, _)| *count).collect();
     for seed in 0.. {
         if left.iter().all(|n| *n == 0) {
             break;
         }
-        let vector = Vector::of(&format!("seed-{seed}"), &generate::case(seed));
-        let number = vector.answer.number as usize;
-        if left[number] > 0 && vector.line().len() <= QUOTAS[number].1 {
-            left[number] -= 1;
+        let (vector, copy) = Vector::and_copy_of(&format!("seed-{seed}"), &generate::case(seed));
+        let share = match vector.answer.number {
+            0 if copy == Some(Copy::Patched) => NUMBERS,
+            number => number as usize,
+        };
+        if left[share] > 0 && vector.line().len() <= quotas[share].1 {
+            left[share] -= 1;
             sample.push(vector);
         }
     }

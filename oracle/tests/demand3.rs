@@ -4,8 +4,10 @@ use oracle::demand3::{violation, well_nested};
 use oracle::field::{Node, read, write};
 use oracle::generate::rng::Rng;
 use oracle::generate::{self, Case};
+use oracle::judge::outcome_and_copy;
 use oracle::make::*;
 use oracle::shrink::shrink;
+use oracle::transform::Copy;
 use oracle::{Output, Refusal, outcome};
 
 fn sample() -> Output {
@@ -90,13 +92,19 @@ fn well_nested_texts() {
 #[test]
 #[cfg_attr(not(jsx_source), ignore = "jsx_precompile.rs is not there")]
 fn the_shrinker_finds_a_small_page() {
-    let refused = |refusal: Refusal| move |case: &Case| outcome(&case.page, &case.options) == Err(refusal);
-    for (refusal, smallest) in [(Refusal::TagLeft, 15), (Refusal::Unimplemented, 30), (Refusal::NumberTooLarge, 30)] {
-        let shows = refused(refusal);
+    let refused = |case: &Case, refusal: Refusal| outcome(&case.page, &case.options) == Err(refusal);
+    let patched = |case: &Case| outcome_and_copy(&case.page, &case.options).1 == Some(Copy::Patched);
+    type Shows<'a> = &'a dyn Fn(&Case) -> bool;
+    let small_pages: [(&str, usize, Shows); 3] = [
+        ("a tag is left", 15, &|case| refused(case, Refusal::TagLeft)),
+        ("a listed container", 30, &patched),
+        ("a large number", 30, &|case| refused(case, Refusal::NumberTooLarge)),
+    ];
+    for (what, smallest, shows) in small_pages {
         // A page that is no row of fields shrinks by bytes alone, which leaves more of it.
         let large = |case: &Case| case.page.len() > 100 && read(&case.page).is_some();
         let case = (0..).map(generate::case).find(|case| shows(case) && large(case)).unwrap();
         let small = shrink(case, shows);
-        assert!(small.page.len() <= smallest, "{refusal:?}: {}", oracle::show::show(&small.page));
+        assert!(small.page.len() <= smallest, "{what}: {}", oracle::show::show(&small.page));
     }
 }

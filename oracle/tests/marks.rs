@@ -1,6 +1,7 @@
 //! The named cases of 01: the worked card, K1 to K10, the limits, every reading.
 
-use oracle::{card, judge, marks, outcome};
+use oracle::generate::rng::Rng;
+use oracle::{card, demand3, judge, kept, marks, outcome};
 
 #[test]
 #[cfg_attr(not(jsx_source), ignore = "jsx_precompile.rs is not there")]
@@ -21,6 +22,21 @@ fn every_mark_has_its_answer() {
         }
     }
     println!("{} marks", marks.len());
+}
+
+#[test]
+#[cfg_attr(not(jsx_source), ignore = "jsx_precompile.rs is not there")]
+fn accepted_marks_meet_demand_3_and_a9() {
+    let mut accepted = 0;
+    for mark in marks::all() {
+        let case = &mark.case;
+        let Ok(output) = outcome(&case.page, &case.options) else { continue };
+        accepted += 1;
+        let violation = demand3::violation(&output.templates, &output.page, output.count, &mut Rng::new(accepted));
+        assert_eq!(violation, None, "{}", mark.name);
+        assert!(kept::compare(&case.page, &case.options, &output.page).is_ok(), "{}", mark.name);
+    }
+    println!("{accepted} accepted marks");
 }
 
 #[test]

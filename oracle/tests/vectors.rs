@@ -1,7 +1,7 @@
 //! The stored answers are the judge's, and among them is everything that they are stored for.
 
-use oracle::answer::NUMBERS;
-use oracle::judge::outcome_with;
+use oracle::answer::{NUMBERS, RESERVED};
+use oracle::judge::{outcome_and_copy, outcome_with};
 use oracle::transform::Copy;
 use oracle::vectors::Vector;
 use oracle::{arms, judge, marks};
@@ -49,10 +49,21 @@ fn the_judge_answers_as_stored() {
 fn answers_and_marks_are_all_there() {
     let vectors = stored();
     for number in 0..NUMBERS as u32 {
-        assert!(vectors.iter().filter(|v| v.answer.number == number).count() >= 5, "answer {number}");
+        let stored = vectors.iter().filter(|v| v.answer.number == number).count();
+        let enough = if number == RESERVED as u32 { stored == 0 } else { stored >= 5 };
+        assert!(enough, "answer {number}: {stored}");
     }
     let names: HashSet<&str> = vectors.iter().map(|v| &v.name[..]).collect();
     let missing: Vec<String> = marks::all().into_iter().map(|m| m.name).filter(|n| !names.contains(&n[..])).collect();
     // Those whose lines are too long to store.
     assert!(missing.iter().all(|n| n.contains("65") || n.contains("32")), "{missing:?}");
+}
+
+#[test]
+#[cfg_attr(not(jsx_source), ignore = "jsx_precompile.rs is not there")]
+fn the_patched_copy_has_its_share() {
+    let patched = |v: &Vector| outcome_and_copy(&v.page, &v.options).1 == Some(Copy::Patched);
+    let accepted = stored().iter().filter(|v| v.answer.number == 0 && patched(v)).count();
+    println!("{accepted} accepted by the patched copy");
+    assert!(accepted >= 100, "{accepted}");
 }

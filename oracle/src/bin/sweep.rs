@@ -1,5 +1,5 @@
 //! `sweep COUNT [FIRST] [--arms]`: runs COUNT seeds from FIRST on, checks demand 3 and A9 on every accepted page, and
-//! prints what was reached. With --arms the copy of the Rust that counts its arms runs beside the unchanged one.
+//! prints what was reached. With --arms the copy of the Rust that counts its arms runs beside the judge.
 //! `sweep small FIELDS`: the same checks on all small pages with up to FIELDS fields, under four options.
 
 use oracle::sweep::{Settings, small, sweep};

@@ -88,7 +88,7 @@ fn inputs(rng: &mut Rng) -> (Vec<u8>, Vec<u8>) {
 
 /// A page of the given shape with options; three in ten of them damaged.
 fn usual(rng: &mut Rng, mut shape: Shape) -> (Vec<u8>, Vec<u8>) {
-    if rng.chance(30) {
+    if rng.chance(48) {
         shape.few_names = Some((0..rng.within(1, 4)).map(|_| few(rng)).collect());
     }
     let listed = shape.few_names.clone();
@@ -103,7 +103,7 @@ fn usual(rng: &mut Rng, mut shape: Shape) -> (Vec<u8>, Vec<u8>) {
 }
 
 fn few(rng: &mut Rng) -> String {
-    if rng.chance(40) { names::tag(rng) } else { names::attribute(rng) }
+    if rng.chance(30) { names::tag(rng) } else { names::attribute(rng) }
 }
 
 /// Lengths within two of the limits of page and options.

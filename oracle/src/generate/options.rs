@@ -9,11 +9,11 @@ use crate::field::{begin, finish};
 /// Options; the listed names are drawn from `few` where it is given, so that the page's names are met.
 pub fn options(rng: &mut Rng, few: Option<&[String]>) -> Vec<u8> {
     let mut out = vec![];
-    let percent = if few.is_some() { 60 } else { 15 };
-    if rng.chance(percent) {
+    let (elements, attributes) = if few.is_some() { (50, 85) } else { (15, 15) };
+    if rng.chance(elements) {
         list(rng, &mut out, 0x02, few);
     }
-    if rng.chance(percent) {
+    if rng.chance(attributes) {
         list(rng, &mut out, 0x03, few);
     }
     if rng.chance(25) {

@@ -176,8 +176,8 @@ impl Maker<'_> {
 
     /// The value of an attribute at `depth`, or none.
     fn attribute_value(&mut self, depth: usize) {
-        // With few names the attribute may be listed, and then a tag as its value is not dropped.
-        let weights = if self.shape.few_names.is_some() { &[20, 24, 34, 11, 11] } else { &[22, 27, 43, 4, 4] };
+        // With few names the attribute may be listed, and then a container or a tag as its value is passed on.
+        let weights = if self.shape.few_names.is_some() { &[17, 20, 43, 10, 10] } else { &[22, 27, 43, 4, 4] };
         match self.rng.weighted(weights) {
             0 => {}
             1 => self.words(0x51),
@@ -193,7 +193,7 @@ impl Maker<'_> {
             return self.namespaced();
         }
         let name = match &self.shape.few_names {
-            Some(few) if self.rng.chance(50) => few[self.rng.below(few.len())].clone(),
+            Some(few) if self.rng.chance(60) => few[self.rng.below(few.len())].clone(),
             _ => names::attribute(self.rng),
         };
         self.leaf(0x40, name.as_bytes());

@@ -7,6 +7,7 @@ mod table;
 
 use crate::answer::LEAST_SCRATCH;
 use crate::generate::{Case, Room};
+use crate::make::{attribute_with, attributes_listed, element, page_of};
 
 #[derive(Clone, Debug)]
 pub struct Mark {
@@ -34,4 +35,15 @@ fn taken(name: &str, page: Vec<u8>, options: Vec<u8>, sum: u8, behind: &str) -> 
     let import = format!("import {{ {} }} from \"react/jsx-runtime\";\n", named.join(", "));
     let printed = if sum == 0 { behind.to_string() } else { import + behind };
     Mark { printed: Some(printed), ..mark(name, page, options, 0) }
+}
+
+/// 02, A1: an element with one attribute that is listed and has a container, and what is then printed as the second
+/// part of the jsxAttr call.
+fn listed_container(name: &str, tag: &str, attribute: &str, container: Vec<u8>, second: &str) -> Mark {
+    let page = page_of(element(tag, &[attribute_with(attribute, container)]));
+    let behind = format!(
+        "const $$_tpl_1 = [\"<{tag} \", \"></{tag}>\"];\n\
+         _jsxTemplate($$_tpl_1, _jsxAttr(\"{attribute}\", {second}))\n"
+    );
+    taken(name, page, attributes_listed(&[attribute]), 2 + 4, &behind)
 }

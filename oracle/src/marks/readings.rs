@@ -1,11 +1,11 @@
 //! Places where 01 can be read in two ways, each settled one way (the numbers are those of the list of readings).
 
-use super::{Mark, mark, taken};
+use super::{Mark, listed_container, mark, taken};
 use crate::generate::names::listed_in;
 use crate::make::*;
 
 pub fn marks() -> Vec<Mark> {
-    [order(), leaves(), panics(), left(), keys(), listed(), merging(), printing(), names(), everything()].concat()
+    [order(), leaves(), containers(), left(), keys(), listed(), merging(), printing(), names(), everything()].concat()
 }
 
 /// 1: within a header torn, misplaced, depth; then the body. Extra fields at their header, missing ones at the end.
@@ -100,24 +100,49 @@ fn leaves() -> Vec<Mark> {
     marks
 }
 
-/// 4: 9 before 10, also inside a tag that is left.
-fn panics() -> Vec<Mark> {
+/// 4: containers of listed attributes (02, A1), also inside a tag that is left, which stays 10.
+fn containers() -> Vec<Mark> {
     let class = || attributes_listed(&["class"]);
     let p = || element("p", &[attribute_with("class", braces(code("x")))]);
     let with = |name: &str, tag: Vec<u8>, number: u32| mark(name, page_of(tag), class(), number);
+    let second = |name: &str, expression: Vec<u8>, printed: &str| {
+        listed_container(&format!("r4-passes-{name}"), "p", "class", braces(expression), printed)
+    };
     vec![
-        with("r4-within-a-spread-child", fragment(&[spread_child(p())]), 9),
+        with("r4-within-a-spread-child", fragment(&[spread_child(p())]), 10),
         with("r4-unseen-within-a-tag-left", fragment(&[fragment(&[braces(p())])]), 10),
         with("r4-void-children", element("br", &[p()]), 0),
         with("r4-spread-child", element("i", &[spread_child(p())]), 0),
-        with("r4-empty-braces", element("p", &[attribute_with("class", empty_braces())]), 9),
+        with("r4-empty-braces", element("p", &[attribute_with("class", empty_braces())]), 0),
         with("r4-string", element("p", &[attribute_string("class", "x")]), 0),
         with("r4-no-value", element("p", &[attribute("class")]), 0),
         with("r4-element-value", element("p", &[attribute_with("class", element("i", &[]))]), 0),
         with("r4-fragment-value", element("p", &[attribute_with("class", fragment(&[]))]), 0),
         with("r4-call", element("Foo", &[attribute_with("class", braces(code("x")))]), 0),
-        with("r4-later-in-the-page", fragment(&[fragment(&[]), element("i", &[braces(p())])]), 9),
-        with("r4-nine-before-ten", fragment(&[spread_child(other(&[p(), fragment(&[fragment(&[])])]))]), 9),
+        with("r4-later-in-the-page", fragment(&[fragment(&[]), element("i", &[braces(p())])]), 0),
+        with("r4-beside-a-tag-left", fragment(&[spread_child(other(&[p(), fragment(&[fragment(&[])])]))]), 10),
+        with(
+            "r4-in-braces-a-tag-left",
+            element("p", &[attribute_with("class", braces(fragment(&[fragment(&[])])))]),
+            10,
+        ),
+        // As it stands: lines of a string stay, a boolean is no reason to drop, nothing is serialized.
+        second("a-string", string("<\n  b"), "\"<\\n  b\""),
+        second("a-number", number(7), "7"),
+        second("false", boolean(false), "false"),
+        second("null", null(), "null"),
+        second("a-literal", literal("1n"), "1n"),
+        second("an-array", array(&[number(1), hole(), array_spread(code("x"))]), "[1, , ...x]"),
+        second("an-empty-fragment", fragment(&[]), "null"),
+        listed_container("r4-boolean-attribute", "i", "disabled", braces(boolean(false)), "false"),
+        listed_container("r4-as-written", "i", "className", braces(code("x")), "x"),
+        taken(
+            "r4-namespaced",
+            page_of(element("a", &[attribute_with("xlink:href", braces(code("x")))])),
+            attributes_listed(&["href"]),
+            2 + 4,
+            "const $$_tpl_1 = [\"<a \", \"></a>\"];\n_jsxTemplate($$_tpl_1, _jsxAttr(\"href\", x))\n",
+        ),
     ]
 }
 

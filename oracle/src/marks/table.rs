@@ -1,6 +1,6 @@
 //! 01, Shelf marks and The card.
 
-use super::{Mark, mark, taken};
+use super::{Mark, listed_container, mark, taken};
 use crate::make::*;
 
 /// One tag as the only piece of a statement; the text behind the import line.
@@ -75,11 +75,17 @@ pub fn marks() -> Vec<Mark> {
             2,
             "const $$_tpl_1 = [\"<a b=\\\"-0\\\"></a>\"];\n_jsxTemplate($$_tpl_1)\n",
         ),
-        mark(
-            "k10",
-            page_of(element("p", &[attribute_with("class", braces(code("x")))])),
-            attributes_listed(&["class"]),
-            9,
+        // 02, A1: K10 and three more rows.
+        listed_container("k10", "a", "b", braces(minus(0)), "-0"),
+        listed_container("k10-empty", "a", "b", empty_braces(), "null"),
+        taken(
+            "k10-tag",
+            page_of(element("a", &[attribute_with("b", braces(element("i", &[])))])),
+            attributes_listed(&["b"]),
+            2 + 4,
+            "const $$_tpl_1 = [\"<a \", \"></a>\"];\nconst $$_tpl_2 = [\"<i></i>\"];\n\
+             _jsxTemplate($$_tpl_1, _jsxAttr(\"b\", _jsxTemplate($$_tpl_2)))\n",
         ),
+        listed_container("k10-class", "p", "class", braces(code("x")), "x"),
     ]
 }
