@@ -31,15 +31,18 @@ mod call;
 mod check;
 pub mod field;
 pub mod limits;
+mod locate;
 mod options;
 pub mod out;
 pub mod page;
+mod path;
 mod refusal;
 
 pub use call::{Answer, Forms, Transformer, transform, transform_into};
-pub use check::Fault;
+pub use check::{Fault, Input};
 pub use options::Options;
 pub use page::write::WriteError;
+pub use path::{Path, Step};
 pub use refusal::Refusal;
 
 // The README's example runs with the others.

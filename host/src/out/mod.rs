@@ -27,7 +27,7 @@ mod calls;
 
 pub use calls::{AttrCall, Call, CalledName, Choice, EscapeCall, JsxCall, Prop, TemplateCall};
 
-use crate::check::{Fault, Kind, check};
+use crate::check::{Fault, Input, check};
 use crate::field::{Field, Fields};
 use std::fmt;
 
@@ -101,7 +101,7 @@ impl<'a> Templates<'a> {
     /// # Ok::<(), jsx_precompile::Fault>(())
     /// ```
     pub fn read(bytes: &'a [u8]) -> Result<Templates<'a>, Fault> {
-        check(Kind::Templates, bytes)?;
+        check(Input::Templates, bytes)?;
         Ok(Templates::of(bytes))
     }
 
@@ -184,7 +184,7 @@ impl<'a> PageOut<'a> {
     /// assert_eq!((fault.at, fault.refusal), (3, Refusal::Misplaced)); // no element is left in a page out
     /// ```
     pub fn read(bytes: &'a [u8]) -> Result<PageOut<'a>, Fault> {
-        check(Kind::PageOut, bytes)?;
+        check(Input::PageOut, bytes)?;
         Ok(PageOut(bytes))
     }
 

@@ -14,7 +14,12 @@
 //! assert_eq!(Page::from_bytes(&bytes).as_ref(), Ok(&page));
 //! # Ok::<(), jsx_precompile::WriteError>(())
 //! ```
+//!
+//! A tree may be deeper than a page: [`Page::to_bytes`] then gives an error, and what is no longer needed is given back
+//! without recursion. For that [`Element`], [`Fragment`] and [`ArrayItem`] have a `Drop`; their parts are borrowed, or
+//! taken out with [`std::mem::take`].
 
+mod drop;
 mod read;
 pub(crate) mod write;
 
@@ -309,6 +314,7 @@ impl Fragment {
 /// assert_eq!(ElementName::from("div"), ElementName::Identifier("div".into()));
 /// assert_eq!(ElementName::from("a.b"), ElementName::Member(vec!["a".into(), "b".into()]));
 /// assert_eq!(ElementName::from("a:b"), ElementName::Namespaced("a".into(), "b".into()));
+/// assert_eq!(ElementName::from(format!("h{}", 1)), ElementName::from("h1"));
 /// ```
 #[derive(Clone, Debug, PartialEq, Eq)]
 pub enum ElementName {
@@ -327,6 +333,7 @@ pub enum ElementName {
 ///
 /// assert_eq!(AttributeName::from("class"), AttributeName::Identifier("class".into()));
 /// assert_eq!(AttributeName::from("xlink:href"), AttributeName::Namespaced("xlink".into(), "href".into()));
+/// assert_eq!(AttributeName::from(format!("data-{}", "row")), AttributeName::from("data-row"));
 /// ```
 #[derive(Clone, Debug, PartialEq, Eq)]
 pub enum AttributeName {
@@ -508,11 +515,13 @@ from! {
                 None => ElementName::Identifier(name.to_string()),
             }
         },
+        String => |name: String| ElementName::from(&*name),
     }
     AttributeName {
         &str => |name: &str| match name.split_once(':') {
             Some((space, name)) => AttributeName::Namespaced(space.to_string(), name.to_string()),
             None => AttributeName::Identifier(name.to_string()),
         },
+        String => |name: String| AttributeName::from(&*name),
     }
 }
