@@ -1,6 +1,7 @@
 //! The library's one function, and safe calls of it.
 
 use crate::check::{Fault, Input, check};
+use crate::javascript::Printer;
 use crate::limits::{MAX_OPTIONS, MIN_SCRATCH};
 use crate::locate::locate;
 use crate::options::Options;
@@ -271,6 +272,19 @@ impl Forms {
     /// ```
     pub fn page(&self) -> PageOut<'_> {
         PageOut::of(&self.page)
+    }
+
+    /// The module as JavaScript, with the templates, the import and the calls in it; see [`javascript`](crate::javascript).
+    ///
+    /// ```
+    /// // <br/> as a statement
+    /// let page = [0x01, 0, 11, 0x12, 0, 8, 0x30, 0, 5, 0x40, 0, 2, b'b', b'r'];
+    /// let module = jsx_precompile::transform(&page, &Default::default())?.javascript();
+    /// assert!(module.ends_with("const $$_tpl_1 = [\"<br>\"];\n_jsxTemplate($$_tpl_1)\n"));
+    /// # Ok::<(), jsx_precompile::Fault>(())
+    /// ```
+    pub fn javascript(&self) -> String {
+        Printer::new(self.templates(), self.page()).module()
     }
 
     /// The bytes of templates out, as far as they were written.

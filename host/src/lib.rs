@@ -30,6 +30,7 @@
 mod call;
 mod check;
 pub mod field;
+pub mod javascript;
 pub mod limits;
 mod locate;
 mod options;

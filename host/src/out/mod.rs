@@ -239,6 +239,23 @@ impl<'a> PageOut<'a> {
     pub fn calls(&self) -> Calls<'a> {
         Calls { rows: vec![Fields::new(self.0)] }
     }
+
+    /// What stands in the module as it came in: source text, literals and the names of components.
+    pub(crate) fn sources(&self) -> impl Iterator<Item = &'a str> + use<'a> {
+        let mut rows = vec![Fields::new(self.0)];
+        std::iter::from_fn(move || {
+            loop {
+                let Some(field) = rows.last_mut()?.next() else {
+                    rows.pop();
+                    continue;
+                };
+                rows.push(field.inner());
+                if matches!(field.tag, 0x20 | 0x40 | 0x74) {
+                    return Some(field.text());
+                }
+            }
+        })
+    }
 }
 
 /// The calls of a page out, as [`PageOut::calls`] gives them.
@@ -340,8 +357,7 @@ impl Import<'_> {
     /// ```
     pub fn helpers(&self) -> impl Iterator<Item = Helper> + use<> {
         let sum = self.sum;
-        let all = [Helper::Jsx, Helper::JsxTemplate, Helper::JsxAttr, Helper::JsxEscape];
-        all.into_iter().filter(move |helper| sum & *helper as u8 != 0)
+        Helper::ALL.into_iter().filter(move |helper| sum & *helper as u8 != 0)
     }
 }
 
@@ -366,6 +382,13 @@ pub enum Helper {
 }
 
 impl Helper {
+    /// In the order of their numbers.
+    ///
+    /// ```
+    /// assert!(jsx_precompile::out::Helper::ALL.map(|helper| helper as u8) == [1, 2, 4, 8]);
+    /// ```
+    pub const ALL: [Helper; 4] = [Helper::Jsx, Helper::JsxTemplate, Helper::JsxAttr, Helper::JsxEscape];
+
     /// Its name in the runtime.
     ///
     /// ```

@@ -1,4 +1,6 @@
-//! What the tests beside the judge share.
+//! What the tests share; not each of them needs all of it.
+
+#![allow(dead_code)]
 
 use std::io::Write;
 
