@@ -46,6 +46,14 @@ pub use page::write::WriteError;
 pub use path::{Path, Step};
 pub use refusal::Refusal;
 
+/// The version of this crate. The proved library that it is linked with has no version of its own yet: both come from
+/// one commit of the repository.
+///
+/// ```
+/// assert_eq!(jsx_precompile::VERSION.split('.').count(), 3);
+/// ```
+pub const VERSION: &str = env!("CARGO_PKG_VERSION");
+
 // The README's example runs with the others.
 #[cfg(doctest)]
 #[doc = include_str!("../README.md")]

@@ -76,21 +76,34 @@ impl<'a> Printer<'a> {
     /// # Ok::<(), jsx_precompile::Fault>(())
     /// ```
     pub fn module(&self) -> String {
-        let mut print = Print::new(&self.names);
-        // The import and the templates come before them in page out; a directive is one only at the head.
+        self.items().into_iter().map(|(_, text)| text).collect()
+    }
+
+    /// The items of the page out in the order in which the module has them, each with its text.
+    ///
+    /// ```
+    /// let forms = jsx_precompile::transform(b"\x01\0\x0b\x13\0\0\x12\0\x05\x20\0\x02x;", &Default::default())?;
+    /// let printer = jsx_precompile::javascript::Printer::new(forms.templates(), forms.page());
+    /// assert!(printer.items().into_iter().map(|(_, text)| text).eq([";\n", "x;\n"]));
+    /// # Ok::<(), jsx_precompile::Fault>(())
+    /// ```
+    pub fn items(&self) -> Vec<(Item<'a>, String)> {
         let mut items: Vec<Item> = self.page.items().collect();
+        // The import and the templates come before them in page out; a directive is one only at the head.
         let front = items.iter().take_while(|item| matches!(item, Item::Import(_) | Item::Templates)).count();
         let directives = items[front..].iter().take_while(|item| is_directive(item)).count();
         items[..front + directives].rotate_right(directives);
-        for item in items {
-            match item {
+        let text = |item: &Item<'a>| {
+            let mut print = Print::new(&self.names);
+            match item.clone() {
                 Item::Import(import) => print.import(&import),
                 Item::Templates => self.templates.clone().for_each(|template| print.template(&template)),
                 Item::Export(pieces) | Item::Declaration(pieces) | Item::Statement(pieces) => print.item(pieces),
                 Item::Empty => print.text(";\n"),
             }
-        }
-        print.out
+            print.out
+        };
+        items.into_iter().map(|item| (item.clone(), text(&item))).collect()
     }
 
     /// One expression of the page, as the module has it as an argument.

@@ -20,6 +20,7 @@
 //! taken out with [`std::mem::take`].
 
 mod drop;
+mod jsx;
 mod read;
 pub(crate) mod write;
 
@@ -79,6 +80,19 @@ impl Page {
     pub fn from_bytes(bytes: &[u8]) -> Result<Page, Fault> {
         read::page(bytes)
     }
+
+    /// The page as JSX, each item on lines of its own. It is for reading: comments, and how a text, a string or a number
+    /// was written, are not in a page.
+    ///
+    /// ```
+    /// use jsx_precompile::page::{Element, Item, Page};
+    ///
+    /// let page = Page::new([Item::statement(["a = ".into(), Element::new("p").text("1 < 2").into(), ";".into()])]);
+    /// assert_eq!(page.to_jsx(), "a = <p>1 &lt; 2</p>;\n");
+    /// ```
+    pub fn to_jsx(&self) -> String {
+        self.items.iter().map(|item| item.to_jsx() + "\n").collect()
+    }
 }
 
 /// An item of a module.
@@ -133,6 +147,15 @@ impl Item {
     /// ```
     pub fn statement(pieces: impl IntoIterator<Item = Piece>) -> Item {
         Item::Statement(pieces.into_iter().collect())
+    }
+
+    /// The item as JSX, as [`Page::to_jsx`] has it.
+    ///
+    /// ```
+    /// assert_eq!(jsx_precompile::page::Item::Empty.to_jsx(), ";");
+    /// ```
+    pub fn to_jsx(&self) -> String {
+        jsx::item(self)
     }
 }
 
