@@ -124,13 +124,15 @@ pub fn transform_into(
 /// ```
 ///
 /// ```
-/// use jsx_precompile::{Options, page::{Element, Fragment, Item, Page}, transform};
+/// use jsx_precompile::{Options, Refusal, page::{Element, Expression, Fragment, Item, Page}, transform};
 ///
-/// // <div><Foo><><></></></Foo></div>: a fragment alone in a fragment is left as it is
-/// let tag = Element::new("div").child(Element::new("Foo").child(Fragment::new().child(Fragment::new())));
+/// // <div><Foo a={<><></></>}/></div>: a fragment alone in a fragment would be left as it is
+/// let nested = Fragment::new().child(Fragment::new());
+/// let tag = Element::new("div").child(Element::new("Foo").attribute("a", Expression::from(nested)));
 /// let page = Page::new([Item::Empty, Item::statement([tag.into()])]).to_bytes()?;
 /// let fault = transform(&page, &Options::new()).unwrap_err();
-/// assert_eq!(fault.path.to_string(), "01 > 12[1] > 30 div > 30 Foo > 31 > 31");
+/// assert_eq!(fault.refusal, Refusal::TagLeft);
+/// assert_eq!(fault.path.to_string(), "01 > 12[1] > 30 div > 30 Foo > 50 a > 52 > 31 > 31");
 ///
 /// let fault = transform(&page, &Options::new().import_source("")).unwrap_err();
 /// assert_eq!(fault.to_string(), "options, byte 3, 04: 4 (misplaced): 04 (import source) is empty");

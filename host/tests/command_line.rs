@@ -86,6 +86,8 @@ fn check() {
 jsx-precompile: examples/k7-left.page: page, byte 22, 01 > 12[0] > 31 > 31: 10 (bare tag): an element or fragment would be left untransformed
 ";
     assert_eq!(said, expected);
+    let readme = include_str!("../README.md");
+    assert!(said.lines().any(|line| readme.contains(&format!("\n{line}\n"))), "README.md shows another refusal");
     // what cannot be read outweighs what is refused
     let (status, _, said) = run(&["check", "examples/damaged.page", "no such file"], b"");
     assert!(status == 2 && said.contains("jsx-precompile: no such file: "), "{said}");

@@ -76,6 +76,8 @@ fn strings() {
     let printed = r#""\" \\ ' ` \n \r \x09 \x00 \x1f \x7f \u2028 \u2029 é 🎭 </script>""#;
     let tag = Element::new("Foo").attribute("a", Expression::String(text.into()));
     assert_eq!(call_of(tag), format!("_jsx(Foo, {{ a: {printed} }});"));
+    let Some(answer) = node(&format!("console.log({printed} === {});", quoted(text))) else { return };
+    assert_eq!(answer, "true\n");
 }
 
 /// Words of the source that a call would run into, and what `new` would make.
@@ -362,7 +364,8 @@ fn meanings() {
     let script = format!("{RUNTIME}\nconst cases = [\n{}\n];\n{COMPARE}", cases.join(",\n"));
     let Some(answer) = node(&script) else { return };
     assert_eq!(answer, format!("{} alike\n", cases.len()));
-    say(&format!("javascript: {} expressions in {} places, {answer}", EXPRESSIONS.len(), PLACES.len()).trim_end());
+    let (expressions, places) = (EXPRESSIONS.len(), PLACES.len());
+    say(&format!("javascript: {expressions} expressions in {places} places, {}", answer.trim_end()));
 }
 
 const RUNTIME: &str = r#"

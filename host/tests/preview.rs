@@ -135,6 +135,7 @@ fn in_a_browser() {
             attribute.starts_with("rgb(") && attribute != child && attribute != plain && child != plain,
             "{colours}"
         );
+        assert_eq!(child.starts_with("rgb("), name != "choices", "{name}: {colours}");
         for template in forms.templates() {
             let number = template.number();
             let line = others.iter().find(|line| line.starts_with(&format!("template-{number} called by ")));
