@@ -316,6 +316,26 @@ pub enum Item<'a> {
     Empty,
 }
 
+impl<'a> Item<'a> {
+    /// The calls in this item, as [`PageOut::calls`] gives those of all.
+    ///
+    /// ```
+    /// use jsx_precompile::out::PageOut;
+    ///
+    /// let page = PageOut::read(b"\x13\0\0\x12\0\x05\x90\0\x02\0\x01")?;
+    /// assert!(page.items().map(|item| item.calls().count()).eq([0, 1]));
+    /// # Ok::<(), jsx_precompile::Fault>(())
+    /// ```
+    pub fn calls(&self) -> Calls<'a> {
+        match self {
+            Item::Export(pieces) | Item::Declaration(pieces) | Item::Statement(pieces) => {
+                Calls { rows: vec![pieces.fields.clone()] }
+            }
+            Item::Import(_) | Item::Templates | Item::Empty => Calls { rows: vec![] },
+        }
+    }
+}
+
 fn item(field: Field) -> Item {
     match field.tag {
         0x10 => Item::Export(pieces(field)),

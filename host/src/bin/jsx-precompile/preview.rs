@@ -2,9 +2,8 @@
 //! between a template and its call. No scripts, no other files.
 
 use jsx_precompile::Forms;
-use jsx_precompile::field::Fields;
 use jsx_precompile::javascript::Printer;
-use jsx_precompile::out::{Call, Expression, Item, Template};
+use jsx_precompile::out::{Call, Expression, Item, PageOut, Template, TemplateCall};
 use jsx_precompile::page::Page;
 use std::collections::HashMap;
 
@@ -85,14 +84,12 @@ struct Caller {
 
 impl<'a> View<'a> {
     fn of(forms: &'a Forms) -> View<'a> {
-        let fillings = forms.page().calls().filter_map(|call| match call {
-            Call::Template(call) => Some((call.number(), call.expressions().collect())),
-            _ => None,
-        });
+        let calls = forms.page().calls().filter_map(template_call);
+        let fillings = calls.map(|call| (call.number(), call.expressions().collect()));
         View {
             printer: Printer::new(forms.templates(), forms.page()),
             fillings: fillings.collect(),
-            callers: callers(forms.page_bytes()),
+            callers: callers(forms.page()),
         }
     }
 
@@ -172,30 +169,27 @@ impl<'a> View<'a> {
     }
 }
 
-/// Where each template of a page out is called.
-fn callers(page_out: &[u8]) -> HashMap<u16, Caller> {
+/// Where each template is called.
+fn callers(page: PageOut) -> HashMap<u16, Caller> {
     let mut callers = HashMap::new();
-    let items = Fields::new(page_out).filter(|field| !matches!(field.tag, 0x82 | 0x83));
-    for (item, field) in items.enumerate() {
-        let mut rows = vec![(field.inner(), None)];
-        while let Some((row, template)) = rows.last_mut() {
-            let template = *template;
-            let Some(field) = row.next() else {
-                rows.pop();
-                continue;
-            };
-            let inside = match (field.tag, field.body) {
-                (0x90, [high, low, ..]) => {
-                    let number = u16::from_be_bytes([*high, *low]);
-                    callers.insert(number, Caller { item, template });
-                    Some(number)
-                }
-                _ => template,
-            };
-            rows.push((field.inner(), inside));
+    let items = page.items().filter(|item| !matches!(item, Item::Import(_) | Item::Templates));
+    for (item, calls) in items.map(|item| item.calls()).enumerate() {
+        for outer in calls.filter_map(template_call) {
+            callers.entry(outer.number()).or_insert(Caller { item, template: None });
+            // An outer call comes before those in it, so that what stays is the innermost around a call.
+            for inner in outer.calls().filter_map(template_call) {
+                callers.insert(inner.number(), Caller { item, template: Some(outer.number()) });
+            }
         }
     }
     callers
+}
+
+fn template_call(call: Call) -> Option<TemplateCall> {
+    match call {
+        Call::Template(call) => Some(call),
+        _ => None,
+    }
 }
 
 /// Text of HTML; control characters, which HTML does not have, as their pictures.
