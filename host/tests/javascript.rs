@@ -2,12 +2,15 @@
 //! same expression in parentheses gives. Where there is no node, that is said; the texts are compared in any case.
 
 mod common;
+mod modules;
 
 use common::say;
 use jsx_precompile::javascript::Printer;
 use jsx_precompile::out::{PageOut, Templates};
 use jsx_precompile::page::*;
 use jsx_precompile::{Options, transform};
+use modules::quoted;
+use oracle::generate::rng::Rng;
 use oracle::make::{field, row};
 use std::path::Path;
 use std::process::Command;
@@ -179,12 +182,6 @@ fn node(script: &str) -> Option<String> {
         .expect("node runs");
     assert!(output.status.success(), "{}", String::from_utf8_lossy(&output.stderr));
     Some(String::from_utf8(output.stdout).expect("text"))
-}
-
-/// A text as JavaScript has it, by another way than the printer's.
-fn quoted(text: &str) -> String {
-    let units = text.encode_utf16().map(|unit| format!("\\u{unit:04x}"));
-    format!("\"{}\"", units.collect::<String>())
 }
 
 fn parsed(modules: &[(String, String)]) -> String {
@@ -372,7 +369,11 @@ const RUNTIME: &str = r#"
 import assert from "node:assert";
 import util from "node:util";
 const tpl = (...all) => ["template", ...all], attr = (...all) => ["attr", ...all], esc = (...all) => ["escape", ...all];
+// The two printers write a function's inside in two ways.
+const text = Function.prototype.toString;
+Function.prototype.toString = function () { return text.call(this).startsWith("class") ? text.call(this) : "function"; };
 function Foo() {}
+Foo.Bar = function () {};
 function Make(n) { this.made = n; }
 const jsx = (name, ...all) => name === Make ? Make : ["jsx", name, ...all];
 const Generator = Object.getPrototypeOf(async function* () {}).constructor;
@@ -384,11 +385,16 @@ async function run(body) {
     while (!step.done) step = await steps.next("sent " + step.value);
     return shown(step.value);
 }
-const shown = (value) => util.inspect(value, { depth: 20, customInspect: false, showHidden: false, maxArrayLength: null })
-    + (typeof value === "function" ? String(value) : "") + functions(value);
-// Functions are alike where their texts are.
-const functions = (value) => Array.isArray(value) || value && Object.getPrototypeOf(value) === Object.prototype
-    ? Reflect.ownKeys(value).map((key) => functions(value[key])).join() : typeof value === "function" ? String(value) : "";
+const shown = (value) => inspected(value) + functions(value);
+const inspected = (value) => util.inspect(value, { depth: 50, customInspect: false, maxArrayLength: null });
+// Functions are alike where what they give is, classes where their texts are.
+const functions = (value) => {
+    if (Array.isArray(value) || value && Object.getPrototypeOf(value) === Object.prototype)
+        return Reflect.ownKeys(value).map((key) => functions(value[key])).join("");
+    if (typeof value !== "function") return "";
+    if (String(value).startsWith("class")) return String(value);
+    try { return "\ngives " + shown(value(3, 4)); } catch (error) { return "\nfails with " + error; }
+};
 "#;
 
 // What fails as it runs must fail alike (nothing is looked for in a number); what is expected is always JavaScript.
@@ -403,6 +409,30 @@ for (const [name, body, expected] of cases) {
 }
 console.log(`${count} alike`);
 "#;
+
+/// Pages of all kinds of expressions within each other, against a printer that puts everything in parentheses.
+#[test]
+fn within_each_other() {
+    const SEEDS: u64 = 4_000;
+    let mut cases = vec![];
+    for seed in 0..SEEDS {
+        let page = modules::page(&mut Rng::new(seed));
+        let Ok(bytes) = page.to_bytes() else { continue };
+        let Ok(forms) = transform(&bytes, &Options::new()) else { continue };
+        let module = forms.javascript();
+        let body = match module.split_once('\n') {
+            Some((import, body)) if import.starts_with("import {") => body,
+            _ => &module,
+        };
+        let expected = modules::in_parentheses(&forms);
+        cases.push(format!("[{}, {}, {}]", quoted(&format!("seed {seed}")), quoted(body), quoted(&expected)));
+    }
+    assert!(cases.len() > SEEDS as usize / 2, "{} of {SEEDS} are taken", cases.len());
+    let script = format!("{RUNTIME}\nconst cases = [\n{}\n];\n{COMPARE}", cases.join(",\n"));
+    let Some(answer) = node(&script) else { return };
+    assert_eq!(answer, format!("{} alike\n", cases.len()));
+    say(&format!("javascript: {} pages of expressions within each other, {}", cases.len(), answer.trim_end()));
+}
 
 /// Values among source text that no page gives but a page out may have: as they would be in parentheses.
 #[test]
