@@ -2,7 +2,8 @@
 //! document 01 says at every input.
 //!
 //! A page is written as a tree ([`page`]) or given as bytes; [`transform`] takes it apart; what comes out is read by
-//! [`out`]. `const a = <p class="t">Hi {n}</p>;` becomes a template and a call of it:
+//! [`out`] and printed as JavaScript by [`javascript`]. A refusal says where and why ([`Fault`]).
+//! `const a = <p class="t">Hi {n}</p>;` becomes a template and a call of it:
 //!
 //! ```
 //! use jsx_precompile::{Options, out::{Call, Helper}, page::{Element, Expression, Item, Page}, transform};
@@ -43,7 +44,6 @@ pub use call::{Answer, Forms, Transformer, transform, transform_into};
 pub use check::{Fault, Input};
 pub use options::Options;
 pub use page::write::WriteError;
-pub use path::{Path, Step};
 pub use refusal::Refusal;
 
 /// The version of this crate. The proved library that it is linked with has no version of its own yet: both come from

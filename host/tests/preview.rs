@@ -7,7 +7,8 @@ use common::{jsx_precompile, say};
 use jsx_precompile::out::{Call, Expression};
 use jsx_precompile::{Forms, Options, transform};
 use std::path::{Path, PathBuf};
-use std::process::Command;
+use std::process::{Command, Stdio};
+use std::time::{Duration, Instant};
 
 fn root(name: &str) -> PathBuf {
     Path::new(env!("CARGO_MANIFEST_DIR")).with_file_name("").join(name)
@@ -58,15 +59,30 @@ document.body.append(report);
 </script>
 "##;
 
+/// What the browser prints; it is stopped where it does not end by itself.
+fn run(chromium: &mut Command) -> String {
+    let printed = Path::new(env!("CARGO_TARGET_TMPDIR")).join(format!("printed-{:?}", std::thread::current().id()));
+    let file = std::fs::File::create(&printed).expect("a file");
+    let mut child = chromium.stdout(file).stderr(Stdio::null()).spawn().expect("it runs");
+    let start = Instant::now();
+    while child.try_wait().expect("its status").is_none() {
+        if start.elapsed() > Duration::from_secs(60) {
+            let _ = child.kill();
+            panic!("the browser did not end within a minute");
+        }
+        std::thread::sleep(Duration::from_millis(20));
+    }
+    std::fs::read_to_string(&printed).expect("text")
+}
+
 /// What the browser saw of a page.
 fn report(name: &str, html: &str) -> Option<Vec<String>> {
     let mut chromium = chromium()?;
     let file = Path::new(env!("CARGO_TARGET_TMPDIR")).join(format!("preview-{name}.html"));
     assert_eq!(html.matches("</body>").count(), 1);
     std::fs::write(&file, html.replace("</body>", &format!("{REPORT}</body>"))).expect("it is written");
-    let output =
-        chromium.args(["--dump-dom", "--virtual-time-budget=5000"]).arg(format!("file://{}", file.display())).output();
-    let dom = String::from_utf8(output.expect("it runs").stdout).expect("text");
+    let dom =
+        run(chromium.args(["--dump-dom", "--virtual-time-budget=5000"]).arg(format!("file://{}", file.display())));
     let (_, report) = dom.split_once("<pre id=\"report\">").unwrap_or_else(|| panic!("{name}: no report in\n{dom}"));
     let (report, _) = report.split_once("</pre>").expect("an end");
     let plain = report.replace("&lt;", "<").replace("&gt;", ">").replace("&amp;", "&");
@@ -171,8 +187,7 @@ fn picture() {
         std::fs::write(&html, preview(&["examples/hall.page"])).expect("it is written");
         let mut chromium = chromium().expect("a browser");
         chromium.args(["--window-size=1180,720", &format!("--screenshot={}", file.display())]);
-        let output = chromium.arg(format!("file://{}", html.display())).output().expect("it runs");
-        assert!(output.status.success(), "{output:?}");
+        run(chromium.arg(format!("file://{}", html.display())));
     }
     let bytes = std::fs::read(&file).expect("docs/preview.png");
     assert!(bytes.starts_with(b"\x89PNG") && bytes.len() < 150_000, "{} bytes", bytes.len());
