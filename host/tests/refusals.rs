@@ -168,7 +168,9 @@ fn generated() {
                     assert!(next.at > fault.at, "seed {seed}: {fault}, then {next}");
                     later += 1;
                 }
-                Err(next) => assert_eq!(next.refusal, Refusal::OutputTooLong, "seed {seed}: {fault}, then {next}"),
+                // With a tag that is longer and deeper than the one it stands for, it may be no page any more.
+                Err(Fault { refusal: Refusal::InputTooLong | Refusal::TooDeep | Refusal::OutputTooLong, .. }) => {}
+                Err(next) => panic!("seed {seed}: {fault}, then {next}"),
                 Ok(_) => {}
             }
         }
