@@ -16,10 +16,11 @@ pub(crate) fn locate(page: &[u8], options: &[u8], scratch: &mut [u8], refusal: R
         place = field.at;
         let tags = tags_in(field);
         let Some(last) = search.last_needed(field, &tags) else { break };
-        if search.refuses(alone(last)) == Some(true) {
+        let by_itself = refusal == Refusal::TagLeft && search.refuses(with_hollow(field, last)) == Some(true);
+        if !by_itself && search.refuses(alone(last)) == Some(true) {
             whole = Some(last);
         } else if refusal == Refusal::TagLeft {
-            // Alone it is transformed, but not where it stands.
+            // Alone it may be transformed, but not where it stands.
             place = last.at;
         } else if field.tag == 0x01 {
             place = field.inner().filter(|item| item.at < last.at).last().map_or(place, |item| item.at);
@@ -79,14 +80,21 @@ fn alone(tag: Field) -> Option<Vec<u8>> {
 
 /// A page of this field, where the tags in it from this place on are harmless ones or none.
 fn with_tags_before(field: Field, cut: usize) -> Option<Vec<u8>> {
-    match field.tag {
-        0x01 => {
-            let mut writer = Writer::default();
-            copy(field, cut, &mut writer).ok()?;
-            Some(writer.out)
-        }
-        _ => page(|w| copy(field, cut, w)),
+    around_it(field, |w| copy(field, cut, None, w))
+}
+
+/// The same with this tag too, but none of those in it.
+fn with_hollow(field: Field, tag: Field) -> Option<Vec<u8>> {
+    around_it(field, |w| copy(field, tag.at, Some(tag.at), w))
+}
+
+fn around_it(field: Field, copy: impl FnOnce(&mut Writer) -> Written) -> Option<Vec<u8>> {
+    if field.tag != 0x01 {
+        return page(copy);
     }
+    let mut writer = Writer::default();
+    copy(&mut writer).ok()?;
+    Some(writer.out)
 }
 
 fn page(inside: impl FnOnce(&mut Writer) -> Written) -> Option<Vec<u8>> {
@@ -97,18 +105,20 @@ fn page(inside: impl FnOnce(&mut Writer) -> Written) -> Option<Vec<u8>> {
 
 type Written = Result<(), WriteError>;
 
-fn copy(field: Field, cut: usize, writer: &mut Writer) -> Written {
+/// The field with the tags before `cut` as they are, and the hollow one without those in it.
+fn copy(field: Field, cut: usize, hollow: Option<usize>, writer: &mut Writer) -> Written {
     if around(field.tag).is_none() {
         return writer.leaf(field.tag, field.body);
     }
     let holds_pieces = matches!(field.tag, 0x10..=0x12 | 0x79);
     writer.field(field.tag, |w| {
         field.inner().try_for_each(|inner| match is_tag(&inner) {
+            true if Some(inner.at) == hollow => copy(inner, cut, None, w),
             // Pieces are visited one by one, so that one may fall away; that keeps the page short.
             true if inner.at >= cut && holds_pieces => Ok(()),
             true if inner.at >= cut => harmless(w),
             true => w.leaf(inner.tag, inner.body),
-            false => copy(inner, cut, w),
+            false => copy(inner, cut, hollow, w),
         })
     })
 }
