@@ -97,8 +97,8 @@ jsx-precompile: examples/k7-left.page: page, byte 22, 01 > 12[0] > 31 > 31: 10 (
 fn bad_calls() {
     for (words, expected) in [
         (&[][..], "no command; see `jsx-precompile --help`"),
-        (&["tag", "-"], "no command tag; see `jsx-precompile --help`"),
-        (&["help", "tag"], "no command tag; see `jsx-precompile --help`"),
+        (&["what", "-"], "no command what; see `jsx-precompile --help`"),
+        (&["help", "what"], "no command what; see `jsx-precompile --help`"),
         (&["build"], "no file (- is standard input); see `jsx-precompile build --help`"),
         (&["check"], "no file; see `jsx-precompile check --help`"),
         (&["build", "a", "b"], "build takes one file; see `jsx-precompile build --help`"),
