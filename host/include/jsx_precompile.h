@@ -9,6 +9,9 @@
 extern "C" {
 #endif
 
+/* That of the Rust crate over the library, and of the pkg-config file. The library itself has none yet. */
+#define JSX_PRECOMPILE_VERSION "0.2.0"
+
 /* Limits. */
 #define JSX_PRECOMPILE_MAX_PAGE 32768
 #define JSX_PRECOMPILE_MAX_OPTIONS 4096

@@ -1,8 +1,12 @@
 //! The library's one function, and safe calls of it.
 
-use crate::limits::MIN_SCRATCH;
+use crate::check::{Fault, Input, check};
+use crate::javascript::Printer;
+use crate::limits::{MAX_OPTIONS, MIN_SCRATCH};
+use crate::locate::locate;
 use crate::options::Options;
 use crate::out::{PageOut, Templates};
+use crate::path::Path;
 use crate::refusal::Refusal;
 
 unsafe extern "C" {
@@ -105,7 +109,8 @@ pub fn transform_into(
     }
 }
 
-/// Transforms one page. Room for the outputs grows as it is needed.
+/// Transforms one page. Room for the outputs grows as it is needed. A refusal says which of the inputs it is about, the
+/// byte and the way there.
 ///
 /// ```
 /// use jsx_precompile::{Options, page::{Element, Item, Page}, transform};
@@ -117,7 +122,23 @@ pub fn transform_into(
 /// assert_eq!(template.strings().collect::<Vec<_>>(), ["<br>"]);
 /// # Ok::<(), Box<dyn std::error::Error>>(())
 /// ```
-pub fn transform(page: &[u8], options: &Options) -> Result<Forms, Refusal> {
+///
+/// ```
+/// use jsx_precompile::{Options, Refusal, page::{Element, Expression, Fragment, Item, Page}, transform};
+///
+/// // <div><Foo a={<><></></>}/></div>: a fragment alone in a fragment would be left as it is
+/// let nested = Fragment::new().child(Fragment::new());
+/// let tag = Element::new("div").child(Element::new("Foo").attribute("a", Expression::from(nested)));
+/// let page = Page::new([Item::Empty, Item::statement([tag.into()])]).to_bytes()?;
+/// let fault = transform(&page, &Options::new()).unwrap_err();
+/// assert_eq!(fault.refusal, Refusal::TagLeft);
+/// assert_eq!(fault.path.to_string(), "01 > 12[1] > 30 div > 30 Foo > 50 a > 52 > 31 > 31");
+///
+/// let fault = transform(&page, &Options::new().import_source("")).unwrap_err();
+/// assert_eq!(fault.to_string(), "options, byte 3, 04: 4 (misplaced): 04 (import source) is empty");
+/// # Ok::<(), Box<dyn std::error::Error>>(())
+/// ```
+pub fn transform(page: &[u8], options: &Options) -> Result<Forms, Fault> {
     Transformer::new().transform(page, options)
 }
 
@@ -155,11 +176,18 @@ impl Transformer {
     /// ```
     /// use jsx_precompile::{Options, Refusal, Transformer};
     ///
-    /// assert_eq!(Transformer::new().transform(b"no page", &Options::new()), Err(Refusal::Truncated));
+    /// let fault = Transformer::new().transform(b"no page", &Options::new()).unwrap_err();
+    /// assert_eq!(fault.refusal, Refusal::Truncated);
     /// ```
-    pub fn transform(&mut self, page: &[u8], options: &Options) -> Result<Forms, Refusal> {
-        // Lengths that cannot be written are over the limit as well.
-        let options = options.encode().map_err(|_| Refusal::InputTooLong)?;
+    pub fn transform(&mut self, page: &[u8], options: &Options) -> Result<Forms, Fault> {
+        let options = options.encode().map_err(|error| Fault {
+            input: Input::Options,
+            at: MAX_OPTIONS,
+            path: Path::default(),
+            // A length that cannot be written is over the limit as well.
+            refusal: Refusal::InputTooLong,
+            reason: format!("{error}, and all options together at most {MAX_OPTIONS}"),
+        })?;
         // Most outputs are shorter than their page.
         let guess = page.len() + options.len() + 1_024;
         let lent = [(&mut self.scratch, MIN_SCRATCH), (&mut self.templates, guess), (&mut self.page, guess)];
@@ -178,9 +206,21 @@ impl Transformer {
                 }
                 Some(Refusal::TemplatesTooSmall) => double(&mut self.templates),
                 Some(Refusal::PageTooSmall) => double(&mut self.page),
-                Some(refusal) => return Err(refusal),
+                Some(refusal) => return Err(self.fault(page, &options, refusal)),
             }
         }
+    }
+
+    /// The library's refusal, with its place. The checks go over the bytes a second time, and refuse as the library
+    /// does; what the transform itself refuses is looked for.
+    fn fault(&mut self, page: &[u8], options: &[u8], refusal: Refusal) -> Fault {
+        let alike = |input, bytes| check(input, bytes).err().filter(|fault| fault.refusal == refusal);
+        if let Some(fault) = alike(Input::Options, options).or_else(|| alike(Input::Page, page)) {
+            return fault;
+        }
+        let at = locate(page, options, &mut self.scratch, refusal);
+        let reason = refusal.explanation().to_string();
+        Fault { input: Input::Page, at, path: Path::to(page, at), refusal, reason }
     }
 }
 
@@ -210,7 +250,7 @@ impl Forms {
     ///
     /// ```
     /// assert_eq!(jsx_precompile::transform(&[1, 0, 0], &Default::default())?.count(), 0);
-    /// # Ok::<(), jsx_precompile::Refusal>(())
+    /// # Ok::<(), jsx_precompile::Fault>(())
     /// ```
     pub fn count(&self) -> usize {
         self.count
@@ -220,7 +260,7 @@ impl Forms {
     ///
     /// ```
     /// assert_eq!(jsx_precompile::transform(&[1, 0, 0], &Default::default())?.templates().next(), None);
-    /// # Ok::<(), jsx_precompile::Refusal>(())
+    /// # Ok::<(), jsx_precompile::Fault>(())
     /// ```
     pub fn templates(&self) -> Templates<'_> {
         Templates::of(&self.templates)
@@ -230,17 +270,30 @@ impl Forms {
     ///
     /// ```
     /// assert_eq!(jsx_precompile::transform(&[1, 0, 0], &Default::default())?.page().items().count(), 0);
-    /// # Ok::<(), jsx_precompile::Refusal>(())
+    /// # Ok::<(), jsx_precompile::Fault>(())
     /// ```
     pub fn page(&self) -> PageOut<'_> {
         PageOut::of(&self.page)
+    }
+
+    /// The module as JavaScript, with the templates, the import and the calls in it; see [`javascript`](crate::javascript).
+    ///
+    /// ```
+    /// // <br/> as a statement
+    /// let page = [0x01, 0, 11, 0x12, 0, 8, 0x30, 0, 5, 0x40, 0, 2, b'b', b'r'];
+    /// let module = jsx_precompile::transform(&page, &Default::default())?.javascript();
+    /// assert!(module.ends_with("const $$_tpl_1 = [\"<br>\"];\n_jsxTemplate($$_tpl_1)\n"));
+    /// # Ok::<(), jsx_precompile::Fault>(())
+    /// ```
+    pub fn javascript(&self) -> String {
+        Printer::new(self.templates(), self.page()).module()
     }
 
     /// The bytes of templates out, as far as they were written.
     ///
     /// ```
     /// assert_eq!(jsx_precompile::transform(&[1, 0, 0], &Default::default())?.templates_bytes(), []);
-    /// # Ok::<(), jsx_precompile::Refusal>(())
+    /// # Ok::<(), jsx_precompile::Fault>(())
     /// ```
     pub fn templates_bytes(&self) -> &[u8] {
         &self.templates
@@ -252,7 +305,7 @@ impl Forms {
     /// // a page of an empty statement
     /// let forms = jsx_precompile::transform(&[1, 0, 3, 0x13, 0, 0], &Default::default())?;
     /// assert_eq!(forms.page_bytes(), [0x13, 0, 0]);
-    /// # Ok::<(), jsx_precompile::Refusal>(())
+    /// # Ok::<(), jsx_precompile::Fault>(())
     /// ```
     pub fn page_bytes(&self) -> &[u8] {
         &self.page

@@ -3,24 +3,34 @@
 
 use crate::field::{HEADER, around, tag_name};
 use crate::limits::*;
+use crate::path::Path;
 use crate::refusal::Refusal;
 use std::fmt;
 
-/// Where and why bytes are no page, options, templates out or page out.
+/// Where and why bytes are refused.
 ///
 /// ```
-/// use jsx_precompile::{Refusal, page::Page};
+/// use jsx_precompile::{Input, Refusal, page::Page};
 ///
 /// // A statement with an element whose name is `1`.
 /// let fault = Page::from_bytes(&[1, 0, 10, 0x12, 0, 7, 0x30, 0, 4, 0x40, 0, 1, b'1']).unwrap_err();
-/// assert_eq!((fault.at, fault.refusal), (12, Refusal::BadName));
-/// assert_eq!(fault.to_string(), "byte 12: 5 (bad name): '1' may not begin a name");
+/// assert_eq!((fault.input, fault.at, fault.refusal), (Input::Page, 12, Refusal::BadName));
+/// assert_eq!(fault.path.to_string(), "01 > 12[0] > 30 1 > 40");
+/// assert_eq!(fault.reason, "'1' may not begin a name");
+/// assert_eq!(
+///     fault.to_string(),
+///     "page, byte 12, 01 > 12[0] > 30 1 > 40: 5 (bad name): '1' may not begin a name"
+/// );
 /// ```
 #[derive(Clone, Debug, PartialEq, Eq)]
 pub struct Fault {
+    /// Which bytes are refused.
+    pub input: Input,
     /// The byte at which it shows: the header of a field that is torn, misplaced, too deep or lacks one in it, or the
-    /// byte of a body.
+    /// byte of a body; the header of an element or item that the transform refuses; the limit of what is too long.
     pub at: usize,
+    /// The field that is refused, or that holds it where it cannot be read.
+    pub path: Path,
     /// Document 01's refusal.
     pub refusal: Refusal,
     /// What stands there, in plain words.
@@ -29,24 +39,54 @@ pub struct Fault {
 
 impl fmt::Display for Fault {
     fn fmt(&self, f: &mut fmt::Formatter<'_>) -> fmt::Result {
-        let Fault { at, refusal, reason } = self;
-        write!(f, "byte {at}: {} ({}): {reason}", refusal.number(), refusal.word())
+        let Fault { input, at, path, refusal, reason } = self;
+        write!(f, "{input}, byte {at}")?;
+        if !path.steps().is_empty() {
+            write!(f, ", {path}")?;
+        }
+        write!(f, ": {} ({}): {reason}", refusal.number(), refusal.word())
     }
 }
 
 impl std::error::Error for Fault {}
 
-fn fault<T>(at: usize, refusal: Refusal, reason: impl Into<String>) -> Result<T, Fault> {
-    Err(Fault { at, refusal, reason: reason.into() })
+/// What bytes are read as.
+///
+/// ```
+/// assert_eq!(jsx_precompile::Input::PageOut.to_string(), "page out");
+/// ```
+#[derive(Clone, Copy, Debug, PartialEq, Eq, PartialOrd, Ord, Hash)]
+pub enum Input {
+    /// A page, field 01.
+    Page,
+    /// The options, fields 02 to 04.
+    Options,
+    /// The templates that were recorded.
+    Templates,
+    /// The page with its calls.
+    PageOut,
 }
 
-/// What bytes are read as.
-#[derive(Clone, Copy, Debug, PartialEq, Eq)]
-pub(crate) enum Kind {
-    Page,
-    Options,
-    Templates,
-    PageOut,
+impl fmt::Display for Input {
+    fn fmt(&self, f: &mut fmt::Formatter<'_>) -> fmt::Result {
+        f.write_str(match self {
+            Input::Page => "page",
+            Input::Options => "options",
+            Input::Templates => "templates out",
+            Input::PageOut => "page out",
+        })
+    }
+}
+
+/// A [`Fault`] before its path is known.
+struct Found {
+    at: usize,
+    refusal: Refusal,
+    reason: String,
+}
+
+fn fault<T>(at: usize, refusal: Refusal, reason: impl Into<String>) -> Result<T, Found> {
+    Err(Found { at, refusal, reason: reason.into() })
 }
 
 /// Fields that stand side by side, and how far they are read.
@@ -59,43 +99,57 @@ struct Row {
     count: usize,
     last: u8,
     has_templates_place: bool,
+    /// The field that is being read, once its header is whole.
+    open: Option<usize>,
 }
 
 impl Row {
     fn new(holder: u8, holder_at: usize, next: usize, end: usize) -> Row {
-        Row { holder, holder_at, next, end, count: 0, last: 0, has_templates_place: false }
+        Row { holder, holder_at, next, end, count: 0, last: 0, has_templates_place: false, open: None }
     }
 }
 
 /// Whether the bytes are what they are read as. Rows lie on a stack of their own: page out may be deep.
-pub(crate) fn check(kind: Kind, bytes: &[u8]) -> Result<(), Fault> {
-    let most = match kind {
-        Kind::Page => MAX_PAGE,
-        Kind::Options => MAX_OPTIONS,
+pub(crate) fn check(input: Input, bytes: &[u8]) -> Result<(), Fault> {
+    let mut rows = vec![Row::new(0, 0, 0, bytes.len())];
+    length(input, bytes.len()).and_then(|()| walk(input, bytes, &mut rows)).map_err(|found| {
+        let mut places: Vec<usize> = rows.iter().skip(1).map(|row| row.holder_at).collect();
+        places.extend(rows.last().and_then(|row| row.open));
+        let Found { at, refusal, reason } = found;
+        Fault { input, at, path: Path::of(bytes, &places), refusal, reason }
+    })
+}
+
+fn length(input: Input, bytes: usize) -> Result<(), Found> {
+    let most = match input {
+        Input::Page => MAX_PAGE,
+        Input::Options => MAX_OPTIONS,
         _ => usize::MAX,
     };
-    if bytes.len() > most {
-        return fault(most, Refusal::InputTooLong, format!("{} bytes, at most {most} are taken", bytes.len()));
+    match bytes {
+        0 if input == Input::Page => fault(0, Refusal::Truncated, "an empty page"),
+        _ if bytes > most => fault(most, Refusal::InputTooLong, format!("{bytes} bytes, at most {most} are taken")),
+        _ => Ok(()),
     }
-    if kind == Kind::Page && bytes.is_empty() {
-        return fault(0, Refusal::Truncated, "an empty page");
-    }
-    let mut rows = vec![Row::new(0, 0, 0, bytes.len())];
+}
+
+fn walk(input: Input, bytes: &[u8], rows: &mut Vec<Row>) -> Result<(), Found> {
     while let Some(depth) = rows.len().checked_sub(1) {
         let row = &mut rows[depth];
         if row.next == row.end {
-            ends(kind, row)?;
+            ends(input, row)?;
             rows.pop();
         } else {
-            let inner = field(kind, bytes, row, depth + 1)?;
+            let inner = field(input, bytes, row, depth + 1)?;
+            row.open = None;
             rows.extend(inner);
         }
     }
     Ok(())
 }
 
-fn ends(kind: Kind, row: &Row) -> Result<(), Fault> {
-    let place = place(kind, row);
+fn ends(input: Input, row: &Row) -> Result<(), Found> {
+    let place = place(input, row);
     if place.needed {
         let reason = format!("{} ends where {} must stand", named(row.holder), place.takes.words());
         return fault(row.holder_at, Refusal::Misplaced, reason);
@@ -104,10 +158,10 @@ fn ends(kind: Kind, row: &Row) -> Result<(), Fault> {
 }
 
 /// One field of the row; the row in it, where its body has fields.
-fn field(kind: Kind, bytes: &[u8], row: &mut Row, depth: usize) -> Result<Option<Row>, Fault> {
+fn field(input: Input, bytes: &[u8], row: &mut Row, depth: usize) -> Result<Option<Row>, Found> {
     let at = row.next;
     let left = row.end - at;
-    if kind == Kind::Page && row.holder == 0 && row.count == 1 {
+    if input == Input::Page && row.holder == 0 && row.count == 1 {
         return fault(at, Refusal::Truncated, format!("{left} bytes follow the page"));
     }
     if left < HEADER {
@@ -119,12 +173,13 @@ fn field(kind: Kind, bytes: &[u8], row: &mut Row, depth: usize) -> Result<Option
         let reason = format!("{} of {length} bytes where {} are left", named(tag), left - HEADER);
         return fault(at, Refusal::Truncated, reason);
     }
-    let takes = place(kind, row).takes;
+    row.open = Some(at);
+    let takes = place(input, row).takes;
     if !takes.tag(tag) {
         let reason = format!("{} stands where {} may stand", named(tag), takes.words());
         return fault(at, Refusal::Misplaced, reason);
     }
-    if matches!(kind, Kind::Page | Kind::Options) && depth > MAX_DEPTH {
+    if matches!(input, Input::Page | Input::Options) && depth > MAX_DEPTH {
         return fault(at, Refusal::TooDeep, format!("{} lies {depth} deep", named(tag)));
     }
     row.next = at + HEADER + length;
@@ -189,7 +244,7 @@ enum Takes {
     Nothing,
 }
 
-fn place(kind: Kind, row: &Row) -> Place {
+fn place(input: Input, row: &Row) -> Place {
     use Takes::*;
     let any = |takes| Place { takes, needed: false };
     // These and no more; of each whether it must be there.
@@ -197,13 +252,13 @@ fn place(kind: Kind, row: &Row) -> Place {
         Some((takes, needed)) => Place { takes: *takes, needed: *needed },
         None => any(Nothing),
     };
-    let out = kind == Kind::PageOut;
+    let out = input == Input::PageOut;
     let expression = if out { ExpressionOut } else { Expression };
-    match (row.holder, kind) {
-        (0, Kind::Page) => these(&[(Page, true)]),
-        (0, Kind::Options) => any(Options(row.last)),
-        (0, Kind::Templates) => any(Template),
-        (0, Kind::PageOut) => any(ItemsOut { first: row.count == 0, templates_place: !row.has_templates_place }),
+    match (row.holder, input) {
+        (0, Input::Page) => these(&[(Page, true)]),
+        (0, Input::Options) => any(Options(row.last)),
+        (0, Input::Templates) => any(Template),
+        (0, Input::PageOut) => any(ItemsOut { first: row.count == 0, templates_place: !row.has_templates_place }),
         (0x01, _) => any(Items),
         (0x02 | 0x03, _) => any(Names),
         (0x10..=0x12 | 0x79, _) => any(if out { PiecesOut } else { Pieces }),
@@ -293,7 +348,7 @@ impl Takes {
 }
 
 /// The body of a field that holds no fields.
-fn leaf(tag: u8, holder: u8, body: &[u8], at: usize) -> Result<(), Fault> {
+fn leaf(tag: u8, holder: u8, body: &[u8], at: usize) -> Result<(), Found> {
     match tag {
         0x13 | 0x73 | 0x78 | 0x83 if !body.is_empty() => {
             fault(at, Refusal::Misplaced, format!("{} has {} bytes and may have none", named(tag), body.len()))
@@ -315,7 +370,7 @@ fn leaf(tag: u8, holder: u8, body: &[u8], at: usize) -> Result<(), Fault> {
     }
 }
 
-fn number(tag: u8, body: &[u8], at: usize) -> Result<(), Fault> {
+fn number(tag: u8, body: &[u8], at: usize) -> Result<(), Found> {
     let Ok(bytes) = body.try_into() else {
         return fault(at, Refusal::Misplaced, format!("{} has {} bytes and must have 8", named(tag), body.len()));
     };
@@ -327,7 +382,7 @@ fn number(tag: u8, body: &[u8], at: usize) -> Result<(), Fault> {
     }
 }
 
-fn name(body: &[u8], in_member: bool, at: usize) -> Result<(), Fault> {
+fn name(body: &[u8], in_member: bool, at: usize) -> Result<(), Found> {
     if body.is_empty() {
         return fault(at, Refusal::BadName, "an empty name");
     }

@@ -1,6 +1,8 @@
 //! Fields: a tag byte, a two-byte length with the high byte first, a body. Page, options, templates out and page out
 //! are all series of fields; this is the one place that reads a header.
 
+pub use crate::path::{Path, Step};
+
 /// A field of some bytes.
 ///
 /// ```

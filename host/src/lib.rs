@@ -2,7 +2,8 @@
 //! document 01 says at every input.
 //!
 //! A page is written as a tree ([`page`]) or given as bytes; [`transform`] takes it apart; what comes out is read by
-//! [`out`]. `const a = <p class="t">Hi {n}</p>;` becomes a template and a call of it:
+//! [`out`] and printed as JavaScript by [`javascript`]. A refusal says where and why ([`Fault`]).
+//! `const a = <p class="t">Hi {n}</p>;` becomes a template and a call of it:
 //!
 //! ```
 //! use jsx_precompile::{Options, out::{Call, Helper}, page::{Element, Expression, Item, Page}, transform};
@@ -30,17 +31,28 @@
 mod call;
 mod check;
 pub mod field;
+pub mod javascript;
 pub mod limits;
+mod locate;
 mod options;
 pub mod out;
 pub mod page;
+mod path;
 mod refusal;
 
 pub use call::{Answer, Forms, Transformer, transform, transform_into};
-pub use check::Fault;
+pub use check::{Fault, Input};
 pub use options::Options;
 pub use page::write::WriteError;
 pub use refusal::Refusal;
+
+/// The version of this crate. The proved library that it is linked with has no version of its own yet: both come from
+/// one commit of the repository.
+///
+/// ```
+/// assert_eq!(jsx_precompile::VERSION.split('.').count(), 3);
+/// ```
+pub const VERSION: &str = env!("CARGO_PKG_VERSION");
 
 // The README's example runs with the others.
 #[cfg(doctest)]

@@ -4,9 +4,10 @@
 //! use jsx_precompile::{Options, Refusal, limits::MAX_PAGE, transform};
 //!
 //! let longest = vec![0; MAX_PAGE];
-//! assert_ne!(transform(&longest, &Options::new()), Err(Refusal::InputTooLong));
+//! assert_ne!(transform(&longest, &Options::new()).unwrap_err().refusal, Refusal::InputTooLong);
 //! let longer = vec![0; MAX_PAGE + 1];
-//! assert_eq!(transform(&longer, &Options::new()), Err(Refusal::InputTooLong));
+//! let fault = transform(&longer, &Options::new()).unwrap_err();
+//! assert_eq!(fault.to_string(), "page, byte 32768: 2 (thick): 32769 bytes, at most 32768 are taken");
 //! ```
 
 /// The bytes of a page.
@@ -50,7 +51,7 @@ pub const MAX_BODY: usize = 65_535;
 /// ```
 /// use jsx_precompile::{limits::MAX_NAME, page::{Element, Item, Page}};
 ///
-/// let named = |name: String| Page::new([Item::statement([Element::new(&*name).into()])]).to_bytes();
+/// let named = |name: String| Page::new([Item::statement([Element::new(name).into()])]).to_bytes();
 /// assert!(named("n".repeat(MAX_NAME)).is_ok());
 /// assert!(named("n".repeat(MAX_NAME + 1)).is_err());
 /// ```

@@ -1,6 +1,6 @@
 //! The options of a call.
 
-use crate::check::{Fault, Kind, check};
+use crate::check::{Fault, Input, check};
 use crate::field::{Field, Fields};
 use crate::limits::MAX_OPTIONS;
 use crate::page::write::{WriteError, Writer};
@@ -117,7 +117,7 @@ impl Options {
     /// assert_eq!(Options::from_bytes(&[0x04, 0, 0]).unwrap_err().refusal, Refusal::Misplaced);
     /// ```
     pub fn from_bytes(bytes: &[u8]) -> Result<Options, Fault> {
-        check(Kind::Options, bytes)?;
+        check(Input::Options, bytes)?;
         let mut options = Options::new();
         let names = |field: Field| field.inner().map(|name| name.text().to_string()).collect();
         for field in Fields::new(bytes) {

@@ -8,7 +8,7 @@ use std::fmt;
 /// ```
 /// use jsx_precompile::{Options, Refusal, transform};
 ///
-/// let refusal = transform(b"", &Options::new()).unwrap_err();
+/// let refusal = transform(b"", &Options::new()).unwrap_err().refusal;
 /// assert_eq!(refusal, Refusal::Truncated);
 /// assert!(refusal.to_string().starts_with("3 (torn): "));
 /// ```

@@ -3,7 +3,6 @@
 //! written, the cards by the judge; without it they are only compared.
 
 mod common;
-mod jsx;
 mod program;
 mod trees;
 
@@ -48,7 +47,7 @@ fn write(examples: &[Example]) {
     }
     for example in examples {
         let files = [
-            ("jsx", jsx::page(&example.tree).into_bytes()),
+            ("jsx", example.tree.to_jsx().into_bytes()),
             ("page", example.page.clone()),
             ("card", oracle::card(&example.page)),
         ];
@@ -82,7 +81,7 @@ fn pages_and_sources() {
             ("damaged", Err(fault)) => assert_eq!((fault.at, fault.refusal.number()), (26, 3), "{fault}"),
             (_, read) => assert_eq!(read.as_ref(), Ok(tree), "examples/{name}.page"),
         }
-        holds(&file(example, "jsx"), "the tree", jsx::page(tree).as_bytes());
+        holds(&file(example, "jsx"), "the tree", tree.to_jsx().as_bytes());
     }
     say(&format!("examples: {} pages and their sources as stored", examples.len()));
 }

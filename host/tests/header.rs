@@ -79,6 +79,7 @@ fn constants() {
         assert!(header.contains(&format!("#define JSX_PRECOMPILE_{name} {limit}\n")), "{name}");
     }
     assert!(header.contains(&format!("#define JSX_PRECOMPILE_MIN_SCRATCH {MIN_SCRATCH}\n")));
+    assert!(header.contains(&format!("#define JSX_PRECOMPILE_VERSION \"{}\"\n", jsx_precompile::VERSION)));
     for refusal in (1..=13).filter_map(Refusal::from_number) {
         // ScratchTooSmall: SCRATCH_TOO_SMALL
         let name = format!("{refusal:?}").chars().fold(String::new(), |name, letter| {
@@ -89,4 +90,43 @@ fn constants() {
         assert!(header.contains(&line), "{line}");
     }
     assert!(!header.contains("= 9"), "9 is reserved");
+}
+
+/// tools/install.sh into a folder of its own, and the same program compiled with what pkg-config says of it.
+#[test]
+fn installed() {
+    let here = Path::new(env!("CARGO_MANIFEST_DIR"));
+    let [stage, program] = ["stage", "header_installed"].map(|name| Path::new(env!("CARGO_TARGET_TMPDIR")).join(name));
+    let _ = std::fs::remove_dir_all(&stage);
+    let install = |words: &[&str]| {
+        let mut script = Command::new("sh");
+        script.arg(here.with_file_name("tools/install.sh")).args(words).env("DESTDIR", &stage);
+        script.env("JSX_PRECOMPILE_LIB", env!("JSX_PRECOMPILE_LIB")).output().expect("a shell runs")
+    };
+    let output = install(&["/usr"]);
+    assert!(output.status.success(), "{}", String::from_utf8_lossy(&output.stderr));
+    let said = String::from_utf8(output.stdout).expect("text");
+    for name in ["include/jsx_precompile.h", "lib/libjsx_precompile.a", "share/doc/jsx_precompile/LICENSE"] {
+        let file = format!("{}/usr/{name}", stage.display());
+        assert!(said.contains(&format!("{file}\n")) && Path::new(&file).is_file(), "{file} is not among\n{said}");
+    }
+    assert_eq!(install(&[]).status.code(), Some(2));
+    if !has("cc") || !has("pkg-config") {
+        return;
+    }
+    let asked = |words: &[&str]| {
+        let mut command = Command::new("pkg-config");
+        command.args(words).arg("jsx_precompile").env("PKG_CONFIG_PATH", stage.join("usr/lib/pkgconfig"));
+        let output = command.output().expect("pkg-config runs");
+        assert!(output.status.success(), "{}", String::from_utf8_lossy(&output.stderr));
+        String::from_utf8(output.stdout).expect("text").trim().to_string()
+    };
+    assert_eq!(asked(&["--modversion"]), jsx_precompile::VERSION);
+    let words = asked(&["--cflags", "--libs"]);
+    let mut cc = Command::new("cc");
+    cc.arg("-o").arg(&program).arg(here.join("tests/header.c")).args(words.split_whitespace());
+    let output = cc.output().expect("the compiler runs");
+    assert!(output.status.success(), "{}", String::from_utf8_lossy(&output.stderr));
+    answers_alike(&program);
+    println!("header: installed, compiled with {words}, three answers alike");
 }

@@ -262,7 +262,7 @@ fn buffers_that_grow() {
                 assert_eq!(forms.count(), output.count, "seed {seed}");
                 taken += 1;
             }
-            (Err(refusal), Err(expected)) => assert_eq!(refusal.number(), expected as u32, "seed {seed}"),
+            (Err(fault), Err(expected)) => assert_eq!(fault.refusal.number(), expected as u32, "seed {seed}: {fault}"),
             (ours, theirs) => panic!("seed {seed}: {ours:?}, judge {theirs:?}"),
         }
     }
@@ -275,7 +275,7 @@ fn outputs_longer_than_the_first_guess() {
     let forms = jsx_precompile::transform(&page, &Options::new()).expect("it is taken");
     assert_eq!(forms.templates_bytes().len(), 5 + 3 + "<p></p>".len() + 10_000 * "&quot;".len());
     let long = Options::new().import_source("s".repeat(70_000));
-    assert_eq!(jsx_precompile::transform(&page, &long), Err(Refusal::InputTooLong));
+    assert_eq!(jsx_precompile::transform(&page, &long).unwrap_err().refusal, Refusal::InputTooLong);
     let empty = Options::new().import_source("");
-    assert_eq!(jsx_precompile::transform(&page, &empty), Err(Refusal::Misplaced));
+    assert_eq!(jsx_precompile::transform(&page, &empty).unwrap_err().refusal, Refusal::Misplaced);
 }

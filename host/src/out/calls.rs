@@ -1,6 +1,6 @@
 //! What was put in place of JSX: calls of the helpers, and choices.
 
-use super::{Expression, Helper, Series, expression, expression_at, text_at, texts};
+use super::{Calls, Expression, Helper, Series, expression, expression_at, text_at, texts};
 use crate::field::Field;
 
 /// What was put in place of JSX.
@@ -89,6 +89,21 @@ impl<'a> TemplateCall<'a> {
     /// ```
     pub fn expressions(&self) -> Series<'a, Expression<'a>> {
         Series { fields: self.0.inner(), read: expression }
+    }
+
+    /// The calls in its dynamic expressions, as [`PageOut::calls`](super::PageOut::calls) gives those of all.
+    ///
+    /// ```
+    /// use jsx_precompile::out::{Call, PageOut};
+    ///
+    /// let page = PageOut::read(b"\x12\0\x0a\x90\0\x07\0\x01\x90\0\x02\0\x02")?;
+    /// let Some(Call::Template(outer)) = page.calls().next() else { panic!() };
+    /// let Some(Call::Template(inner)) = outer.calls().next() else { panic!() };
+    /// assert_eq!((outer.number(), inner.number()), (1, 2));
+    /// # Ok::<(), jsx_precompile::Fault>(())
+    /// ```
+    pub fn calls(&self) -> Calls<'a> {
+        Calls { rows: vec![self.0.inner()] }
     }
 }
 

@@ -27,7 +27,7 @@ mod calls;
 
 pub use calls::{AttrCall, Call, CalledName, Choice, EscapeCall, JsxCall, Prop, TemplateCall};
 
-use crate::check::{Fault, Kind, check};
+use crate::check::{Fault, Input, check};
 use crate::field::{Field, Fields};
 use std::fmt;
 
@@ -101,7 +101,7 @@ impl<'a> Templates<'a> {
     /// # Ok::<(), jsx_precompile::Fault>(())
     /// ```
     pub fn read(bytes: &'a [u8]) -> Result<Templates<'a>, Fault> {
-        check(Kind::Templates, bytes)?;
+        check(Input::Templates, bytes)?;
         Ok(Templates::of(bytes))
     }
 
@@ -184,7 +184,7 @@ impl<'a> PageOut<'a> {
     /// assert_eq!((fault.at, fault.refusal), (3, Refusal::Misplaced)); // no element is left in a page out
     /// ```
     pub fn read(bytes: &'a [u8]) -> Result<PageOut<'a>, Fault> {
-        check(Kind::PageOut, bytes)?;
+        check(Input::PageOut, bytes)?;
         Ok(PageOut(bytes))
     }
 
@@ -238,6 +238,23 @@ impl<'a> PageOut<'a> {
     /// ```
     pub fn calls(&self) -> Calls<'a> {
         Calls { rows: vec![Fields::new(self.0)] }
+    }
+
+    /// What stands in the module as it came in: source text, literals and the names of components.
+    pub(crate) fn sources(&self) -> impl Iterator<Item = &'a str> + use<'a> {
+        let mut rows = vec![Fields::new(self.0)];
+        std::iter::from_fn(move || {
+            loop {
+                let Some(field) = rows.last_mut()?.next() else {
+                    rows.pop();
+                    continue;
+                };
+                rows.push(field.inner());
+                if matches!(field.tag, 0x20 | 0x40 | 0x74) {
+                    return Some(field.text());
+                }
+            }
+        })
     }
 }
 
@@ -299,6 +316,26 @@ pub enum Item<'a> {
     Empty,
 }
 
+impl<'a> Item<'a> {
+    /// The calls in this item, as [`PageOut::calls`] gives those of all.
+    ///
+    /// ```
+    /// use jsx_precompile::out::PageOut;
+    ///
+    /// let page = PageOut::read(b"\x13\0\0\x12\0\x05\x90\0\x02\0\x01")?;
+    /// assert!(page.items().map(|item| item.calls().count()).eq([0, 1]));
+    /// # Ok::<(), jsx_precompile::Fault>(())
+    /// ```
+    pub fn calls(&self) -> Calls<'a> {
+        match self {
+            Item::Export(pieces) | Item::Declaration(pieces) | Item::Statement(pieces) => {
+                Calls { rows: vec![pieces.fields.clone()] }
+            }
+            Item::Import(_) | Item::Templates | Item::Empty => Calls { rows: vec![] },
+        }
+    }
+}
+
 fn item(field: Field) -> Item {
     match field.tag {
         0x10 => Item::Export(pieces(field)),
@@ -340,8 +377,7 @@ impl Import<'_> {
     /// ```
     pub fn helpers(&self) -> impl Iterator<Item = Helper> + use<> {
         let sum = self.sum;
-        let all = [Helper::Jsx, Helper::JsxTemplate, Helper::JsxAttr, Helper::JsxEscape];
-        all.into_iter().filter(move |helper| sum & *helper as u8 != 0)
+        Helper::ALL.into_iter().filter(move |helper| sum & *helper as u8 != 0)
     }
 }
 
@@ -366,6 +402,13 @@ pub enum Helper {
 }
 
 impl Helper {
+    /// In the order of their numbers.
+    ///
+    /// ```
+    /// assert!(jsx_precompile::out::Helper::ALL.map(|helper| helper as u8) == [1, 2, 4, 8]);
+    /// ```
+    pub const ALL: [Helper; 4] = [Helper::Jsx, Helper::JsxTemplate, Helper::JsxAttr, Helper::JsxEscape];
+
     /// Its name in the runtime.
     ///
     /// ```

@@ -14,7 +14,13 @@
 //! assert_eq!(Page::from_bytes(&bytes).as_ref(), Ok(&page));
 //! # Ok::<(), jsx_precompile::WriteError>(())
 //! ```
+//!
+//! A tree may be deeper than a page: [`Page::to_bytes`] then gives an error, and what is no longer needed is given back
+//! without recursion. For that [`Element`], [`Fragment`] and [`ArrayItem`] have a `Drop`; their parts are borrowed, or
+//! taken out with [`std::mem::take`].
 
+mod drop;
+mod jsx;
 mod read;
 pub(crate) mod write;
 
@@ -74,6 +80,19 @@ impl Page {
     pub fn from_bytes(bytes: &[u8]) -> Result<Page, Fault> {
         read::page(bytes)
     }
+
+    /// The page as JSX, each item on lines of its own. It is for reading: comments, and how a text, a string or a number
+    /// was written, are not in a page.
+    ///
+    /// ```
+    /// use jsx_precompile::page::{Element, Item, Page};
+    ///
+    /// let page = Page::new([Item::statement(["a = ".into(), Element::new("p").text("1 < 2").into(), ";".into()])]);
+    /// assert_eq!(page.to_jsx(), "a = <p>1 &lt; 2</p>;\n");
+    /// ```
+    pub fn to_jsx(&self) -> String {
+        self.items.iter().map(|item| item.to_jsx() + "\n").collect()
+    }
 }
 
 /// An item of a module.
@@ -128,6 +147,15 @@ impl Item {
     /// ```
     pub fn statement(pieces: impl IntoIterator<Item = Piece>) -> Item {
         Item::Statement(pieces.into_iter().collect())
+    }
+
+    /// The item as JSX, as [`Page::to_jsx`] has it.
+    ///
+    /// ```
+    /// assert_eq!(jsx_precompile::page::Item::Empty.to_jsx(), ";");
+    /// ```
+    pub fn to_jsx(&self) -> String {
+        jsx::item(self)
     }
 }
 
@@ -309,6 +337,7 @@ impl Fragment {
 /// assert_eq!(ElementName::from("div"), ElementName::Identifier("div".into()));
 /// assert_eq!(ElementName::from("a.b"), ElementName::Member(vec!["a".into(), "b".into()]));
 /// assert_eq!(ElementName::from("a:b"), ElementName::Namespaced("a".into(), "b".into()));
+/// assert_eq!(ElementName::from(format!("h{}", 1)), ElementName::from("h1"));
 /// ```
 #[derive(Clone, Debug, PartialEq, Eq)]
 pub enum ElementName {
@@ -327,6 +356,7 @@ pub enum ElementName {
 ///
 /// assert_eq!(AttributeName::from("class"), AttributeName::Identifier("class".into()));
 /// assert_eq!(AttributeName::from("xlink:href"), AttributeName::Namespaced("xlink".into(), "href".into()));
+/// assert_eq!(AttributeName::from(format!("data-{}", "row")), AttributeName::from("data-row"));
 /// ```
 #[derive(Clone, Debug, PartialEq, Eq)]
 pub enum AttributeName {
@@ -508,11 +538,13 @@ from! {
                 None => ElementName::Identifier(name.to_string()),
             }
         },
+        String => |name: String| ElementName::from(&*name),
     }
     AttributeName {
         &str => |name: &str| match name.split_once(':') {
             Some((space, name)) => AttributeName::Namespaced(space.to_string(), name.to_string()),
             None => AttributeName::Identifier(name.to_string()),
         },
+        String => |name: String| AttributeName::from(&*name),
     }
 }

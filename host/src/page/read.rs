@@ -1,11 +1,11 @@
 //! Bytes as a tree. They are checked first, so that reading is plain; what cannot stand there is then never met.
 
 use super::*;
-use crate::check::{Kind, check};
+use crate::check::{Input, check};
 use crate::field::{Field, Fields};
 
 pub(super) fn page(bytes: &[u8]) -> Result<Page, Fault> {
-    check(Kind::Page, bytes)?;
+    check(Input::Page, bytes)?;
     let items = Fields::new(bytes).flat_map(|page| page.inner()).map(item).collect();
     Ok(Page { items })
 }

@@ -1,13 +1,9 @@
 //! A tree as the JSX that a parser reads it from: one space before an attribute, one line for an item, strings in
 //! double quotes. Spaces and line ends between tags are texts of the tree.
 
-use jsx_precompile::page::*;
+use super::*;
 
-pub fn page(page: &Page) -> String {
-    page.items.iter().map(|item| item_text(item) + "\n").collect()
-}
-
-fn item_text(item: &Item) -> String {
+pub(super) fn item(item: &Item) -> String {
     match item {
         Item::Export(inside) | Item::Declaration(inside) | Item::Statement(inside) => pieces(inside),
         Item::Empty => ";".to_string(),

@@ -1,24 +1,20 @@
-//! The program `fields`: what it shows of whole and of damaged bytes.
+//! `jsx-precompile show`: what it shows of whole and of damaged bytes.
 
-use std::io::Write;
-use std::process::{Command, Output, Stdio};
+mod common;
 
-fn fields(words: &[&str], input: &[u8]) -> Output {
-    let mut child = Command::new(env!("CARGO_BIN_EXE_fields"))
-        .args(words)
-        .stdin(Stdio::piped())
-        .stdout(Stdio::piped())
-        .stderr(Stdio::piped())
-        .spawn()
-        .expect("the program runs");
-    child.stdin.take().expect("it is piped").write_all(input).expect("it reads");
-    child.wait_with_output().expect("it ends")
-}
+use common::jsx_precompile;
 
 fn shown(words: &[&str], input: &[u8], status: i32) -> String {
-    let output = fields(words, input);
+    let output = jsx_precompile(&[&["show"], words, &["-"]].concat(), input);
     assert_eq!(output.status.code(), Some(status), "{output:?}");
     String::from_utf8(output.stdout).expect("text")
+}
+
+/// What it shows of damaged bytes, and what it says.
+fn damaged(input: &[u8]) -> (String, String) {
+    let output = jsx_precompile(&["show", "-"], input);
+    assert_eq!(output.status.code(), Some(1), "{output:?}");
+    (String::from_utf8(output.stdout).expect("text"), String::from_utf8(output.stderr).expect("text"))
 }
 
 /// const a = <p class="t">Hi {n}</p>;
@@ -50,16 +46,15 @@ fn a_page_in_hex_and_raw() {
     assert_eq!(shown(&[], PAGE.as_bytes(), 0), PAGE_SHOWN);
     assert_eq!(shown(&["--hex"], format!("{}\n{}\n", &PAGE[..10], &PAGE[10..]).as_bytes(), 0), PAGE_SHOWN);
     assert_eq!(shown(&[], &raw(PAGE), 0), PAGE_SHOWN);
-    assert_eq!(shown(&["--raw", "--page"], &raw(PAGE), 0), PAGE_SHOWN);
+    assert_eq!(shown(&["--raw", "--as", "page"], &raw(PAGE), 0), PAGE_SHOWN);
 }
 
 #[test]
 fn a_file() {
-    let file = std::path::Path::new(env!("CARGO_TARGET_TMPDIR")).join("page");
+    let file = std::path::Path::new(env!("CARGO_TARGET_TMPDIR")).join("show.page");
     std::fs::write(&file, raw(PAGE)).expect("it is written");
-    assert_eq!(shown(&[file.to_str().expect("a name")], b"", 0), PAGE_SHOWN);
-    assert_eq!(fields(&["no such file"], b"").status.code(), Some(2));
-    assert_eq!(fields(&["--what"], b"").status.code(), Some(2));
+    let output = jsx_precompile(&["show", file.to_str().expect("a name")], b"");
+    assert_eq!(String::from_utf8(output.stdout).expect("text"), PAGE_SHOWN);
 }
 
 #[test]
@@ -95,38 +90,40 @@ fn options() {
 #[test]
 fn damaged_pages() {
     // the element's name is `1`
+    let (tree, said) = damaged(b"01000a12000730000440000131");
     let expected = r#"     0  01 page
      3    12 statement
      6      30 element
      9        40 identifier "1"
     12        ^ 5 (bad name): '1' may not begin a name
-page refused, byte 12: 5 (bad name): '1' may not begin a name
 "#;
-    assert_eq!(shown(&[], b"01000a12000730000440000131", 1), expected);
+    assert_eq!(tree, expected);
+    let expected = "page, byte 12, 01 > 12[0] > 30 1 > 40: 5 (bad name): '1' may not begin a name\n";
+    assert_eq!(said, format!("jsx-precompile: standard input: {expected}"));
     // a member of one name
+    let (tree, said) = damaged(b"01000d12000a30000741000440000161");
     let expected = r#"     0  01 page
      3    12 statement
      6      30 element
      9        41 member
      9        ^ 4 (misplaced): 41 (member) ends where an identifier (40) must stand
     12          40 identifier "a"
-page refused, byte 9: 4 (misplaced): 41 (member) ends where an identifier (40) must stand
 "#;
-    assert_eq!(shown(&[], b"01000d12000a30000741000440000161", 1), expected);
+    assert_eq!(tree, expected);
+    assert!(said.contains("page, byte 9, 01 > 12[0] > 30 a > 41: 4 (misplaced)"), "{said}");
     // a field past the end of what holds it
-    let said = shown(&[], b"010006120009200000", 1);
-    assert!(said.contains("     3    ^ 3 (torn): 12 (statement) of 9 bytes where 3 are left\n"), "{said}");
-    assert!(said.contains("     3    no field: 120009200000\n"), "{said}");
+    let (tree, said) = damaged(b"010006120009200000");
+    assert!(tree.contains("     3    ^ 3 (torn): 12 (statement) of 9 bytes where 3 are left\n"), "{tree}");
+    assert!(tree.contains("     3    no field: 120009200000\n"), "{tree}");
+    assert!(said.contains("page, byte 3, 01: 3 (torn)"), "{said}");
     // a tag that is none; bytes behind the page; nothing at all
-    assert!(shown(&[], b"010003990000", 1).contains("     3    ^ 4 (misplaced): 99 (no tag) stands where items"));
-    assert!(shown(&[], b"01000007", 1).ends_with("page refused, byte 3: 3 (torn): 1 bytes follow the page\n"));
-    assert_eq!(
-        shown(&[], b"", 1),
-        "     0  ^ 3 (torn): an empty page\npage refused, byte 0: 3 (torn): an empty page\n"
-    );
+    assert!(damaged(b"010003990000").0.contains("     3    ^ 4 (misplaced): 99 (no tag) stands where items"));
+    assert!(damaged(b"01000007").1.ends_with("page, byte 3: 3 (torn): 1 bytes follow the page\n"));
+    assert_eq!(damaged(b"").0, "     0  ^ 3 (torn): an empty page\n");
     // not UTF-8, in an output
-    let said = shown(&[], b"80000600018100 01ff", 1);
-    assert!(said.contains("     5    81 static string not UTF-8: ff\n     8    ^ 6 (bad letters): byte ff"), "{said}");
+    let (tree, said) = damaged(b"80000600018100 01ff");
+    assert!(tree.contains("     5    81 static string not UTF-8: ff\n     8    ^ 6 (bad letters): byte ff"), "{tree}");
+    assert!(said.contains("templates out, byte 8, 80 1 > 81: 6 (bad letters)"), "{said}");
 }
 
 #[test]

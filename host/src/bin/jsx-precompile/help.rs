@@ -1,0 +1,108 @@
+//! What `--help` and `--version` print.
+
+macro_rules! transform_options {
+    () => {
+        "  --skip-element NAME     do not serialize elements of this name: they become calls of jsx
+  --skip-attribute NAME   do not serialize attributes of this name: they become calls of jsxAttr
+  --import-source NAME    import the helpers from NAME/jsx-runtime; react where none is named
+
+The first two may be given again. --name=value is the same as --name value.
+"
+    };
+}
+
+pub const VERSION: &str = concat!("jsx-precompile ", env!("CARGO_PKG_VERSION"), "\n");
+
+pub const ALL: &str = "jsx-precompile: takes the JSX of a page apart into templates and calls
+
+Usage: jsx-precompile COMMAND [OPTION]... FILE
+
+Commands:
+  build      print the page as a JavaScript module, or write both outputs as bytes
+  check      say whether pages are taken, and where not, the place and the reason
+  show       print the fields of a page, of options or of an output as a tree
+  preview    print an HTML page that shows source, templates and calls
+
+FILE is a page, as bytes or in hex digits; - is standard input. docs/FORMAT.md of the repository says what a page is.
+`jsx-precompile COMMAND --help` tells more of a command, --version prints the version.
+
+Results go to standard output, messages to standard error. The exit status is
+  0  done
+  1  refused: the message has the input, the byte, the way through the tree, and the number and name of the refusal
+  2  the call is wrong, or a file cannot be read or written
+";
+
+pub const BUILD: &str = concat!(
+    "jsx-precompile build [OPTION]... FILE
+jsx-precompile build [OPTION]... --templates FILE --page FILE FILE
+
+Prints the page as a JavaScript module, to be run beside a runtime with the helpers that it imports. With --templates
+and --page the two outputs are written to these files as bytes instead, and nothing is printed.
+
+Options:
+",
+    transform_options!(),
+    "
+Example:
+  $ jsx-precompile build examples/worked.page
+  import { jsxTemplate as _jsxTemplate, jsxEscape as _jsxEscape } from \"react/jsx-runtime\";
+  const $$_tpl_1 = [\"<p class=\\\"t\\\">Hi \", \"</p>\"];
+  const a = _jsxTemplate($$_tpl_1, _jsxEscape(n));
+"
+);
+
+pub const CHECK: &str = concat!(
+    "jsx-precompile check [OPTION]... FILE...
+
+Transforms each page and says whether it is taken, and how many templates it has. The status is 1 where one is refused.
+
+Options:
+",
+    transform_options!(),
+    "
+Example:
+  $ jsx-precompile check examples/damaged.page
+  jsx-precompile: examples/damaged.page: page, byte 26, 01 > 12[0] > 30 p: 3 (torn): 50 (attribute) of 44 bytes where 28 are left
+
+Behind the byte comes the way through the tree: the page (01), its first item, counted from 0, a statement (12), in it
+the element p (30). `jsx-precompile show` prints the whole tree.
+"
+);
+
+pub const SHOW: &str = "jsx-precompile show [OPTION]... FILE
+
+Prints a page, options, templates out or page out as a tree of fields: the place of each in the bytes, its tag, what the
+tag means, and its text. Where the bytes are refused, the place is marked and the status is 1.
+
+Options:
+  --as KIND    page, options, templates or out; without it the first byte tells
+  --hex        the file has hex digits; without it and --raw the file itself tells
+  --raw        the file has the bytes themselves
+  --whole      print long texts whole
+
+Example:
+  $ jsx-precompile show examples/k1.page
+       0  01 page
+       3    12 statement
+       6      20 source \"const a = \"
+      19      30 element
+      22        40 identifier \"br\"
+      27      20 source \";\"
+  page: 31 bytes, 6 fields, 4 deep
+";
+
+pub const PREVIEW: &str = concat!(
+    "jsx-precompile preview [OPTION]... FILE
+
+Prints one HTML page, to be opened in a browser, without scripts and other files: the source as far as a page has it, the
+templates with their static strings and with what fills them, attributes and children in two colours, and the module,
+with links from each template to its call and back.
+
+Options:
+",
+    transform_options!(),
+    "
+Example:
+  $ jsx-precompile preview examples/hall.page > hall.html
+"
+);

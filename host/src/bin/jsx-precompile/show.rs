@@ -1,0 +1,117 @@
+//! `show`: bytes as an indented tree of fields, the place of each, its tag, what the tag means, and its text.
+
+use jsx_precompile::field::{Field, Fields};
+use jsx_precompile::out::{Import, PageOut, Templates};
+use jsx_precompile::page::Page;
+use jsx_precompile::{Fault, Input, Options};
+
+/// What bytes are, by the first of them.
+pub fn told_by(bytes: &[u8]) -> Input {
+    match bytes.first() {
+        Some(0x02..=0x04) => Input::Options,
+        Some(0x80) => Input::Templates,
+        Some(0x10..=0x13 | 0x82 | 0x83) => Input::PageOut,
+        _ => Input::Page,
+    }
+}
+
+fn check(input: Input, bytes: &[u8]) -> Result<(), Fault> {
+    match input {
+        Input::Page => Page::from_bytes(bytes).map(drop),
+        Input::Options => Options::from_bytes(bytes).map(drop),
+        Input::Templates => Templates::read(bytes).map(drop),
+        Input::PageOut => PageOut::read(bytes).map(drop),
+    }
+}
+
+/// The tree, and why the bytes are not what they are read as; the place is marked in the tree.
+pub fn show(bytes: &[u8], input: Input, whole: bool) -> (String, Option<Fault>) {
+    let mut lines = tree(bytes, whole);
+    let fields = lines.iter().filter(|line| line.is_field).count();
+    let depth = lines.iter().map(|line| line.depth).max().unwrap_or(0);
+    let fault = check(input, bytes).err();
+    let last = match &fault {
+        None => format!("{input}: {} bytes, {fields} fields, {depth} deep\n", bytes.len()),
+        Some(fault) => {
+            // Behind the last field that begins at or before the place.
+            let place = lines.iter().rposition(|line| line.at <= fault.at).map_or(0, |line| line + 1);
+            let depth = place.checked_sub(1).map_or(1, |line| lines[line].depth);
+            let text = format!("^ {} ({}): {}", fault.refusal.number(), fault.refusal.word(), fault.reason);
+            lines.insert(place, Line { at: fault.at, depth, text, is_field: false });
+            String::new()
+        }
+    };
+    let tree = lines.iter().map(|line| {
+        let indent = 2 * line.depth;
+        format!("{:6}{:indent$}{}\n", line.at, "", line.text)
+    });
+    (tree.chain([last]).collect(), fault)
+}
+
+struct Line {
+    at: usize,
+    depth: usize,
+    text: String,
+    is_field: bool,
+}
+
+fn tree(bytes: &[u8], whole: bool) -> Vec<Line> {
+    let mut lines = vec![];
+    let mut rows = vec![Fields::new(bytes)];
+    while let Some(row) = rows.last_mut() {
+        let next = row.next();
+        let (at, rest) = (row.place(), row.rest());
+        let depth = rows.len();
+        match next {
+            Some(field) => {
+                lines.push(Line { at: field.at, depth, text: line(&field, whole), is_field: true });
+                rows.push(field.inner());
+            }
+            None => {
+                if !rest.is_empty() {
+                    lines.push(Line { at, depth, text: format!("no field: {}", hex(rest, whole)), is_field: false });
+                }
+                rows.pop();
+            }
+        }
+    }
+    lines
+}
+
+fn line(field: &Field, whole: bool) -> String {
+    let Field { tag, body, .. } = *field;
+    let Some(name) = field.name() else { return format!("{tag:02x} no tag, {}", hex(body, whole)) };
+    let inside = match (tag, body) {
+        (0x13 | 0x73 | 0x78 | 0x83, []) => String::new(),
+        (0x71 | 0x75, _) if body.len() == 8 => {
+            body.iter().fold(0, |number: u64, byte| number << 8 | u64::from(*byte)).to_string()
+        }
+        (0x72, [0]) => "false".to_string(),
+        (0x72, [1]) => "true".to_string(),
+        (0x80 | 0x90, [high, low, ..]) => u16::from_be_bytes([*high, *low]).to_string(),
+        (0x82, [.., sum]) => {
+            let names: Vec<_> = Import { source: "", sum: *sum }.helpers().map(|helper| helper.name()).collect();
+            format!("{sum}: {}", names.join(", "))
+        }
+        (0x13 | 0x71..=0x73 | 0x75 | 0x78 | 0x83, _) => hex(body, whole),
+        (0x04 | 0x20 | 0x40 | 0x51 | 0x60 | 0x70 | 0x74 | 0x81, _) => text(body, whole),
+        _ => String::new(),
+    };
+    format!("{tag:02x} {name} {inside}").trim_end().to_string()
+}
+
+const CUT: usize = 100;
+
+fn text(body: &[u8], whole: bool) -> String {
+    let Ok(text) = std::str::from_utf8(body) else { return format!("not UTF-8: {}", hex(body, whole)) };
+    match text.char_indices().nth(CUT) {
+        Some((end, _)) if !whole => format!("{:?}... ({} bytes)", &text[..end], body.len()),
+        _ => format!("{text:?}"),
+    }
+}
+
+fn hex(bytes: &[u8], whole: bool) -> String {
+    let shown = if whole { bytes } else { &bytes[..bytes.len().min(CUT / 2)] };
+    let digits: String = shown.iter().map(|byte| format!("{byte:02x}")).collect();
+    if shown.len() < bytes.len() { format!("{digits}... ({} bytes)", bytes.len()) } else { digits }
+}

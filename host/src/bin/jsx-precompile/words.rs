@@ -1,0 +1,129 @@
+//! The command line.
+
+use crate::help;
+use crate::input::Bytes;
+use jsx_precompile::{Input, Options};
+use std::collections::VecDeque;
+
+/// What is asked for.
+pub enum Command {
+    Help(&'static str),
+    Version,
+    Build { file: String, options: Options, outputs: Option<(String, String)> },
+    Check { files: Vec<String>, options: Options },
+    Show { file: String, input: Option<Input>, bytes: Option<Bytes>, whole: bool },
+    Preview { file: String, options: Options },
+}
+
+/// Why nothing can be done, and the command that was named.
+pub struct BadCall {
+    pub said: String,
+    pub command: Option<&'static str>,
+}
+
+const COMMANDS: [(&str, &str); 4] =
+    [("build", help::BUILD), ("check", help::CHECK), ("show", help::SHOW), ("preview", help::PREVIEW)];
+
+impl Command {
+    pub fn from_words(words: &[String]) -> Result<Command, BadCall> {
+        let bad = |said: String| BadCall { said, command: None };
+        let (first, rest) = words.split_first().ok_or_else(|| bad("no command".to_string()))?;
+        match first.as_str() {
+            "--help" | "-h" => return Ok(Command::Help(help::ALL)),
+            "--version" | "-V" => return Ok(Command::Version),
+            "help" => {
+                let asked = rest.first().map_or(Some(help::ALL), |name| help_of(name));
+                return asked.map(Command::Help).ok_or_else(|| bad(format!("no command {}", rest[0])));
+            }
+            _ => {}
+        }
+        let Some((name, text)) = COMMANDS.into_iter().find(|(name, _)| name == first) else {
+            return Err(bad(format!("no command {first}")));
+        };
+        if rest.iter().take_while(|word| *word != "--").any(|word| word == "--help" || word == "-h") {
+            return Ok(Command::Help(text));
+        }
+        let read = Words::read(name, rest).and_then(|words| words.command(name));
+        read.map_err(|said| BadCall { said, command: Some(name) })
+    }
+}
+
+fn help_of(name: &str) -> Option<&'static str> {
+    COMMANDS.into_iter().find(|(command, _)| *command == name).map(|(_, text)| text)
+}
+
+/// The words behind a command, each in its place.
+#[derive(Default)]
+struct Words {
+    files: Vec<String>,
+    options: Options,
+    templates: Option<String>,
+    page: Option<String>,
+    input: Option<Input>,
+    bytes: Option<Bytes>,
+    whole: bool,
+}
+
+impl Words {
+    fn read(command: &str, words: &[String]) -> Result<Words, String> {
+        let mut read = Words::default();
+        let mut rest: VecDeque<&str> = words.iter().map(String::as_str).collect();
+        while let Some(word) = rest.pop_front() {
+            // --name=value is --name value
+            let word = match word.split_once('=') {
+                Some((name, value)) if name.starts_with("--") => {
+                    rest.push_front(value);
+                    name
+                }
+                _ => word,
+            };
+            let transforms = command != "show";
+            let mut value =
+                || rest.pop_front().map(str::to_string).ok_or_else(|| format!("{word} needs a word behind it"));
+            match word {
+                "--skip-element" if transforms => read.options = read.options.skip_serialize([value()?]),
+                "--skip-attribute" if transforms => read.options = read.options.skip_prop_serialize([value()?]),
+                "--import-source" if transforms => read.options = read.options.import_source(value()?),
+                "--templates" if command == "build" => read.templates = Some(value()?),
+                "--page" if command == "build" => read.page = Some(value()?),
+                "--as" if command == "show" => read.input = Some(kind(&value()?)?),
+                "--hex" if command == "show" => read.bytes = Some(Bytes::Hex),
+                "--raw" if command == "show" => read.bytes = Some(Bytes::Raw),
+                "--whole" if command == "show" => read.whole = true,
+                "--" => read.files.extend(rest.drain(..).map(str::to_string)),
+                _ if word.starts_with('-') && word != "-" => return Err(format!("{command} has no option {word}")),
+                _ => read.files.push(word.to_string()),
+            }
+        }
+        Ok(read)
+    }
+
+    fn command(self, command: &str) -> Result<Command, String> {
+        let Words { mut files, options, templates, page, input, bytes, whole } = self;
+        if command == "check" {
+            return if files.is_empty() { Err("no file".to_string()) } else { Ok(Command::Check { files, options }) };
+        }
+        let file = match (files.pop(), files.pop()) {
+            (Some(file), None) => file,
+            (None, _) => return Err("no file (- is standard input)".to_string()),
+            (Some(_), Some(_)) => return Err(format!("{command} takes one file")),
+        };
+        Ok(match (command, templates, page) {
+            ("show", ..) => Command::Show { file, input, bytes, whole },
+            ("preview", ..) => Command::Preview { file, options },
+            (_, Some(templates), Some(page)) => Command::Build { file, options, outputs: Some((templates, page)) },
+            (_, None, None) => Command::Build { file, options, outputs: None },
+            _ => return Err("--templates and --page belong together".to_string()),
+        })
+    }
+}
+
+fn kind(word: &str) -> Result<Input, String> {
+    Ok(match word {
+        "page" => Input::Page,
+        "options" => Input::Options,
+        "templates" => Input::Templates,
+        "out" => Input::PageOut,
+        _ => return Err(format!("--as is page, options, templates or out, not {word}")),
+    })
+}

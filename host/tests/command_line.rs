@@ -1,0 +1,177 @@
+//! The program `jsx-precompile`: what it prints where, what it writes, and the status it ends with. `show` and `preview`
+//! have files of their own.
+
+mod common;
+
+use common::jsx_precompile;
+use jsx_precompile::{Options, transform};
+use std::path::Path;
+
+/// The status, standard output and standard error.
+fn run(words: &[&str], input: &[u8]) -> (i32, String, String) {
+    let output = jsx_precompile(words, input);
+    let [out, said] = [output.stdout, output.stderr].map(|text| String::from_utf8(text).expect("text"));
+    (output.status.code().expect("a status"), out, said)
+}
+
+fn example(name: &str) -> Vec<u8> {
+    let folder = Path::new(env!("CARGO_MANIFEST_DIR")).with_file_name("examples");
+    std::fs::read(folder.join(name)).unwrap_or_else(|error| panic!("{name}: {error}"))
+}
+
+/// A file that is not there yet.
+fn room(name: &str) -> String {
+    let file = Path::new(env!("CARGO_TARGET_TMPDIR")).join(name);
+    let _ = std::fs::remove_file(&file);
+    file.to_str().expect("a name").to_string()
+}
+
+#[test]
+fn build() {
+    let page = example("hall.page");
+    let module = transform(&page, &Options::new()).expect("it is taken").javascript();
+    assert_eq!(run(&["build", "examples/hall.page"], b""), (0, module.clone(), String::new()));
+    assert_eq!(run(&["build", "-"], &page), (0, module.clone(), String::new()));
+    let hex: String = page.iter().map(|byte| format!("{byte:02X}\n")).collect();
+    assert_eq!(run(&["build", "-"], hex.as_bytes()), (0, module, String::new()));
+}
+
+#[test]
+fn build_with_options() {
+    let page = example("hall.page");
+    let options = Options::new().skip_serialize(["h1", "p"]).skip_prop_serialize(["id"]).import_source("preact");
+    let module = transform(&page, &options).expect("it is taken").javascript();
+    assert_ne!(module, transform(&page, &Options::new()).expect("it is taken").javascript());
+    let words = ["--skip-element", "h1", "--skip-element=p", "--skip-attribute", "id", "--import-source", "preact"];
+    assert_eq!(
+        run(&[&["build"], &words[..], &["examples/hall.page"]].concat(), b""),
+        (0, module.clone(), String::new())
+    );
+    assert_eq!(run(&[&["build", "examples/hall.page"], &words[..]].concat(), b""), (0, module, String::new()));
+    // options that are refused are said to be the options
+    let (status, out, said) = run(&["build", "--import-source", "", "examples/hall.page"], b"");
+    assert_eq!((status, &*out), (1, ""));
+    let expected = "examples/hall.page: options, byte 3, 04: 4 (misplaced): 04 (import source) is empty";
+    assert_eq!(said, format!("jsx-precompile: {expected}\n"));
+}
+
+#[test]
+fn build_both_outputs() {
+    let forms = transform(&example("hall.page"), &Options::new()).expect("it is taken");
+    let (templates, page) = (room("hall.templates"), room("hall.out"));
+    let words = ["build", "--templates", &templates, "--page", &page, "examples/hall.page"];
+    assert_eq!(run(&words, b""), (0, String::new(), String::new()));
+    assert_eq!(std::fs::read(&templates).expect("it is written"), forms.templates_bytes());
+    assert_eq!(std::fs::read(&page).expect("it is written"), forms.page_bytes());
+    // a page that is refused writes neither
+    let (templates, page) = (room("damaged.templates"), room("damaged.out"));
+    let words = ["build", "--templates", &templates, "--page", &page, "examples/damaged.page"];
+    assert_eq!(run(&words, b"").0, 1);
+    assert!(!Path::new(&templates).exists() && !Path::new(&page).exists());
+    // nor one where there is no folder for it
+    let (status, _, said) =
+        run(&["build", "--templates", "no/such/folder", "--page", &page, "examples/hall.page"], b"");
+    assert!(status == 2 && said.starts_with("jsx-precompile: no/such/folder: "), "{said}");
+}
+
+#[test]
+fn check() {
+    let (status, out, said) = run(&["check", "examples/rows.page", "examples/worked.page"], b"");
+    assert_eq!((status, &*said), (0, ""));
+    assert_eq!(out, "examples/rows.page: taken, 3 templates\nexamples/worked.page: taken, 1 template\n");
+    let words = ["check", "examples/damaged.page", "examples/worked.page", "examples/k7-left.page"];
+    let (status, out, said) = run(&words, b"");
+    assert_eq!((status, &*out), (1, "examples/worked.page: taken, 1 template\n"));
+    let expected = "jsx-precompile: examples/damaged.page: page, byte 26, 01 > 12[0] > 30 p: 3 (torn): 50 (attribute) of 44 bytes where 28 are left
+jsx-precompile: examples/k7-left.page: page, byte 22, 01 > 12[0] > 31 > 31: 10 (bare tag): an element or fragment would be left untransformed
+";
+    assert_eq!(said, expected);
+    let readme = include_str!("../README.md");
+    assert!(said.lines().any(|line| readme.contains(&format!("\n{line}\n"))), "README.md shows another refusal");
+    // what cannot be read outweighs what is refused
+    let (status, _, said) = run(&["check", "examples/damaged.page", "no such file"], b"");
+    assert!(status == 2 && said.contains("jsx-precompile: no such file: "), "{said}");
+}
+
+#[test]
+fn bad_calls() {
+    for (words, expected) in [
+        (&[][..], "no command; see `jsx-precompile --help`"),
+        (&["what", "-"], "no command what; see `jsx-precompile --help`"),
+        (&["help", "what"], "no command what; see `jsx-precompile --help`"),
+        (&["build"], "no file (- is standard input); see `jsx-precompile build --help`"),
+        (&["check"], "no file; see `jsx-precompile check --help`"),
+        (&["build", "a", "b"], "build takes one file; see `jsx-precompile build --help`"),
+        (&["build", "--what", "a"], "build has no option --what; see `jsx-precompile build --help`"),
+        (&["show", "--page", "a"], "show has no option --page; see `jsx-precompile show --help`"),
+        (
+            &["show", "--as", "card", "a"],
+            "--as is page, options, templates or out, not card; see `jsx-precompile show --help`",
+        ),
+        (
+            &["build", "a", "--import-source"],
+            "--import-source needs a word behind it; see `jsx-precompile build --help`",
+        ),
+        (
+            &["build", "--templates", "a", "b"],
+            "--templates and --page belong together; see `jsx-precompile build --help`",
+        ),
+    ] {
+        assert_eq!(run(words, b""), (2, String::new(), format!("jsx-precompile: {expected}\n")), "{words:?}");
+    }
+    let (status, out, said) = run(&["build", "no such file"], b"");
+    assert!(status == 2 && out.is_empty() && said.starts_with("jsx-precompile: no such file: "), "{said}");
+    let (status, _, said) = run(&["show", "--hex", "-"], b"xy");
+    assert_eq!((status, &*said), (2, "jsx-precompile: standard input: not pairs of hex digits\n"));
+    // behind -- even a word with a minus is a file
+    assert!(run(&["build", "--", "--help"], b"").2.starts_with("jsx-precompile: --help: "));
+}
+
+#[test]
+fn version() {
+    let expected = format!("jsx-precompile {}\n", env!("CARGO_PKG_VERSION"));
+    assert_eq!(run(&["--version"], b""), (0, expected.clone(), String::new()));
+    assert_eq!(expected, format!("jsx-precompile {}\n", jsx_precompile::VERSION));
+}
+
+/// Every command is told of, and the examples in the help are what one sees.
+#[test]
+fn help() {
+    let (status, all, said) = run(&["--help"], b"");
+    assert_eq!((status, &*said), (0, ""));
+    assert_eq!(run(&["help"], b"").1, all);
+    for command in ["build", "check", "show", "preview"] {
+        assert!(all.contains(&format!("\n  {command} ")), "{command}");
+        let (status, text, said) = run(&[command, "--help"], b"");
+        assert_eq!((status, &*said), (0, ""));
+        assert_eq!(run(&["help", command], b"").1, text);
+        assert!(text.starts_with(&format!("jsx-precompile {command} ")), "{text}");
+        let (_, example) = text.split_once("\n  $ jsx-precompile ").expect("an example");
+        let (words, shown) = example.split_once('\n').expect("a line");
+        let words: Vec<&str> = words.split(" > ").next().expect("words").split(' ').collect();
+        let (_, out, said) = run(&words, b"");
+        let expected: String =
+            shown.lines().take_while(|line| !line.is_empty()).map(|line| format!("{}\n", &line[2..])).collect();
+        match command {
+            "preview" => assert!(out.starts_with("<!doctype html>")),
+            _ => assert_eq!(format!("{out}{said}"), expected),
+        }
+    }
+}
+
+/// Nobody may be reading any more.
+#[test]
+fn a_closed_pipe() {
+    use std::process::{Command, Stdio};
+    let mut child = Command::new(env!("CARGO_BIN_EXE_jsx-precompile"))
+        .args(["build", "-"])
+        .stdin(Stdio::piped())
+        .stdout(Stdio::piped())
+        .stderr(Stdio::piped())
+        .spawn()
+        .expect("it runs");
+    drop(child.stdout.take());
+    std::io::Write::write_all(&mut child.stdin.take().expect("piped"), &example("hall.page")).expect("it reads");
+    let output = child.wait_with_output().expect("it ends");
+    assert_eq!((output.status.code(), output.stderr), (Some(0), vec![]));
+}
