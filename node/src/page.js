@@ -1,0 +1,258 @@
+// A module's text as page bytes: Babel's tree, with the kinds that swc would give each part (docs/FORMAT.md).
+
+import { findParser } from "./babel.js";
+import { FieldWriter } from "./fields.js";
+import { MAX_DEPTH, MAX_MEMBERS, MAX_NAME, MAX_NUMBER, MAX_PAGE } from "./limits.js";
+import { ordered, outermost } from "./order.js";
+
+/** Why a module's text has no page, with the line (from 1) and column (from 1); `number` is the refusal that it would be. */
+export class PageError extends Error {
+  constructor(node, message, number) {
+    const { line, column } = node.loc.start;
+    super(`${line}:${column + 1}: ${message}${number ? ` (refusal ${number})` : ""}`);
+    this.name = "PageError";
+    this.line = line;
+    this.column = column + 1;
+    this.number = number;
+  }
+}
+
+/** The page of a module's text. Throws a SyntaxError of Babel's, or a PageError. */
+export function toPage(text, options) {
+  return readModule(text, options).page;
+}
+
+/**
+ * The page, the text that must stay before all else (`#!` line, and with `directives: "apart"` the directives, which are
+ * statements of the page otherwise), and notes on what swc would do otherwise.
+ */
+export function readModule(text, { directives = "inside", parserPlugins = [] } = {}) {
+  const { parse, missing } = findParser();
+  if (missing) throw new Error(missing);
+  const source = text.replace(/^\uFEFF/, "");
+  // Parentheses are nodes of swc's tree, and so `("x")` is no string literal.
+  const options = { sourceType: "module", plugins: ["jsx", ...parserPlugins], createParenthesizedExpressions: true };
+  const { program } = parse(source, { ...options, attachComment: false });
+  const apart = directives === "apart";
+  const front = [program.interpreter, ...(apart ? program.directives : [])].filter(Boolean);
+  const items = apart ? program.body : [...program.directives, ...program.body];
+  const walk = new Walk(source);
+  walk.page(program, items);
+  return {
+    page: walk.writer.bytes,
+    prologue: front.map((node) => `${source.slice(node.start, node.end)}\n`).join(""),
+    notes: walk.notes,
+  };
+}
+
+const NAME = /^[A-Za-z_$][A-Za-z0-9_$-]*$/;
+const LONE_SURROGATE = /\p{Surrogate}/u;
+const WORD_AT_END = /[\p{ID_Continue}$]$/u;
+const WORD_AT_START = /^[\p{ID_Continue}$]/u;
+
+class Walk {
+  writer = new FieldWriter();
+  notes = [];
+
+  constructor(source) {
+    this.source = source;
+  }
+
+  field(tag, node, inside) {
+    if (this.writer.depth === MAX_DEPTH) {
+      throw new PageError(node, `nested too deep: fields lie more than ${MAX_DEPTH} deep`, 8);
+    }
+    this.writer.field(tag, inside);
+  }
+
+  leaf(tag, node, body) {
+    this.field(tag, node, () => this.writer.body(body));
+  }
+
+  page(program, items) {
+    let over;
+    this.field(0x01, program, () => {
+      for (const node of items) {
+        this.item(node);
+        if (this.writer.length > MAX_PAGE) over ??= node;
+      }
+    });
+    if (over) {
+      const bytes = this.writer.length;
+      throw new PageError(over, `the page has ${bytes} bytes, ${MAX_PAGE} are taken and end in this item: split the module`, 2);
+    }
+  }
+
+  item(node) {
+    if (node.type === "EmptyStatement") this.leaf(0x13, node, "");
+    else this.field(itemTag(node), node, () => this.pieces(node));
+  }
+
+  // Source text, and the outermost elements and fragments in it.
+  pieces(node) {
+    const tags = outermost(node, (name) => this.reserved(name));
+    if (!ordered(tags)) this.note(node, "swc visits tags here in another order than the source's: it numbers their templates otherwise");
+    tags.sort((one, other) => one.start - other.start);
+    let from = node.start;
+    for (const tag of tags) {
+      this.text(from, tag.start, node, from > node.start, true);
+      this.tag(tag);
+      from = tag.end;
+    }
+    this.text(from, node.end, node, tags.length > 0, false);
+  }
+
+  // `return<p/>`: a name will stand where the tag was, so words beside it are kept apart.
+  text(from, to, node, behindTag, beforeTag) {
+    let text = this.source.slice(from, to);
+    if (text === "") return;
+    if (behindTag && WORD_AT_START.test(text)) text = ` ${text}`;
+    if (beforeTag && WORD_AT_END.test(text)) text = `${text} `;
+    this.leaf(0x20, node, text);
+  }
+
+  tag(node) {
+    if (node.type === "JSXFragment") {
+      this.field(0x31, node, () => this.children(node));
+      return;
+    }
+    const { name, attributes } = node.openingElement;
+    this.field(0x30, node, () => {
+      this.name(name);
+      attributes.forEach((attribute) => this.attribute(attribute));
+      this.children(node);
+    });
+  }
+
+  name(node) {
+    if (node.type === "JSXNamespacedName") {
+      this.field(0x42, node, () => {
+        this.identifier(node.namespace);
+        this.identifier(node.name);
+      });
+    } else if (node.type === "JSXMemberExpression") {
+      this.member(node);
+    } else {
+      this.identifier(node);
+    }
+  }
+
+  member(node) {
+    const names = [];
+    let object = node;
+    for (; object.type === "JSXMemberExpression"; object = object.object) names.unshift(object.property);
+    names.unshift(object);
+    if (names.length > MAX_MEMBERS) {
+      throw new PageError(node, `a member of ${names.length} names, at most ${MAX_MEMBERS} are taken`, 4);
+    }
+    const hyphen = names.find(({ name }) => name.includes("-"));
+    if (hyphen) throw new PageError(hyphen, `\`${hyphen.name}\`: a hyphen may not stand in a member`, 5);
+    this.field(0x41, node, () => names.forEach((name) => this.identifier(name)));
+  }
+
+  identifier(node) {
+    if (!NAME.test(node.name)) throw new PageError(node, `\`${node.name}\`: names are ASCII letters, digits, \`_\`, \`$\` and \`-\``, 5);
+    if (node.name.length > MAX_NAME) throw new PageError(node, `a name of ${node.name.length} bytes, at most ${MAX_NAME} are taken`, 5);
+    this.leaf(0x40, node, node.name);
+  }
+
+  attribute(node) {
+    if (node.type === "JSXSpreadAttribute") {
+      this.field(0x53, node, () => this.expression(node.argument));
+      return;
+    }
+    this.field(0x50, node, () => {
+      this.name(node.name);
+      if (node.value === null) return;
+      if (node.value.type === "StringLiteral") this.leaf(0x51, node.value, node.value.value);
+      else if (node.value.type === "JSXExpressionContainer") this.container(node.value);
+      else this.tag(node.value);
+    });
+  }
+
+  container(node) {
+    this.field(0x52, node, () => {
+      if (node.expression.type !== "JSXEmptyExpression") this.expression(node.expression);
+    });
+  }
+
+  children(node) {
+    for (const child of node.children) {
+      if (child.type === "JSXText") this.leaf(0x60, child, child.value);
+      else if (child.type === "JSXExpressionContainer") this.container(child);
+      else if (child.type === "JSXSpreadChild") this.field(0x61, child, () => this.expression(child.expression));
+      else this.tag(child);
+    }
+  }
+
+  expression(node) {
+    switch (node.type) {
+      case "JSXElement":
+      case "JSXFragment":
+        return this.tag(node);
+      case "StringLiteral":
+        // Half of a surrogate pair has no UTF-8; its escape in the source has.
+        return LONE_SURROGATE.test(node.value) ? this.other(node) : this.leaf(0x70, node, node.value);
+      case "NumericLiteral":
+        return isWhole(node) ? this.number(0x71, node, node.value) : this.other(node);
+      case "BooleanLiteral":
+        return this.leaf(0x72, node, [Number(node.value)]);
+      case "NullLiteral":
+        return this.leaf(0x73, node, "");
+      case "BigIntLiteral":
+      case "RegExpLiteral":
+        return this.leaf(0x74, node, this.source.slice(node.start, node.end));
+      case "UnaryExpression":
+        return node.operator === "-" && isWhole(node.argument) ? this.number(0x75, node, node.argument.value) : this.other(node);
+      case "ArrayExpression":
+        return this.field(0x76, node, () => node.elements.forEach((element) => this.arrayItem(element, node)));
+      default:
+        return this.other(node);
+    }
+  }
+
+  number(tag, node, value) {
+    const bytes = Buffer.alloc(8);
+    bytes.writeBigUInt64BE(BigInt(value));
+    this.leaf(tag, node, bytes);
+  }
+
+  arrayItem(node, array) {
+    if (node === null) this.leaf(0x78, array, "");
+    else if (node.type === "SpreadElement") this.field(0x77, node, () => this.expression(node.argument));
+    else this.expression(node);
+  }
+
+  other(node) {
+    this.field(0x79, node, () => this.pieces(node));
+  }
+
+  reserved(node) {
+    throw new PageError(node, `\`${node.name}\` is a name that the output uses itself`);
+  }
+
+  note(node, message) {
+    const { line, column } = node.loc.start;
+    this.notes.push(`${line}:${column + 1}: ${message}`);
+  }
+}
+
+// swc's kinds: `export` before a declaration, `export default` before a function or class; other imports and exports.
+function itemTag(node) {
+  switch (node.type) {
+    case "ExportNamedDeclaration":
+      return node.declaration ? 0x10 : 0x11;
+    case "ExportDefaultDeclaration":
+      return ["FunctionDeclaration", "ClassDeclaration"].includes(node.declaration.type) ? 0x10 : 0x11;
+    case "ImportDeclaration":
+    case "ExportAllDeclaration":
+      return 0x11;
+    default:
+      return 0x12;
+  }
+}
+
+// The value counts and not its spelling: `1e3` is 1000.
+function isWhole(node) {
+  return node.type === "NumericLiteral" && Number.isInteger(node.value) && node.value <= MAX_NUMBER;
+}
