@@ -29,8 +29,7 @@ export function findProgram() {
  */
 export function build(text, options = {}) {
   const { program = findProgram(), parserPlugins, onNote = () => {} } = options;
-  // The import would stand before directives and take their effect away.
-  const { page, prologue, notes } = readModule(text, { directives: "apart", parserPlugins });
+  const { page, prologue, notes } = readModule(text, { runnable: true, parserPlugins });
   notes.forEach(onNote);
   return prologue + run(program, ["build", ...flags(options), "-"], page);
 }

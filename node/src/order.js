@@ -14,7 +14,7 @@ const NO_PARTS = new Set(["type", "loc", "start", "end", "extra", "leadingCommen
 const RESERVED = /^(_jsx|_jsxTemplate|_jsxAttr|_jsxEscape|\$\$_tpl_\d+)$/;
 
 /** The outermost elements and fragments in a node, in swc's order. `refuse` is called with a name that is reserved. */
-export function outermost(node, refuse) {
+export function outermost(node, refuse = () => {}) {
   const tags = [];
   const waiting = [node];
   while (waiting.length > 0) {

@@ -23,19 +23,19 @@ export function toPage(text, options) {
 }
 
 /**
- * The page, the text that must stay before all else (`#!` line, and with `directives: "apart"` the directives, which are
- * statements of the page otherwise), and notes on what swc would do otherwise.
+ * The page, the text that must stay before all else (a `#!` line), and notes on what swc would do otherwise. With
+ * `runnable` the page is changed for the sake of the output: directives are kept apart, since the import would stand
+ * before them, and templates go before the first item that needs them.
  */
-export function readModule(text, { directives = "inside", parserPlugins = [] } = {}) {
+export function readModule(text, { runnable = false, parserPlugins = [] } = {}) {
   const { parse, missing } = findParser();
   if (missing) throw new Error(missing);
   const source = text.replace(/^\uFEFF/, "");
   // Parentheses are nodes of swc's tree, and so `("x")` is no string literal.
   const options = { sourceType: "module", plugins: ["jsx", ...parserPlugins], createParenthesizedExpressions: true };
   const { program } = parse(source, { ...options, attachComment: false });
-  const apart = directives === "apart";
-  const front = [program.interpreter, ...(apart ? program.directives : [])].filter(Boolean);
-  const items = apart ? program.body : [...program.directives, ...program.body];
+  const front = [program.interpreter, ...(runnable ? program.directives : [])].filter(Boolean);
+  const items = runnable ? placed(program.body) : [...program.directives, ...program.body];
   const walk = new Walk(source);
   walk.page(program, items);
   return {
@@ -43,6 +43,15 @@ export function readModule(text, { directives = "inside", parserPlugins = [] } =
     prologue: front.map((node) => `${source.slice(node.start, node.end)}\n`).join(""),
     notes: walk.notes,
   };
+}
+
+// Templates go before the first 10 or 12. `export default <p/>` is an 11 and may stand before that: a statement without
+// pieces then marks the place.
+function placed(items) {
+  const first = items.findIndex((node) => itemTag(node) === 0x11 && outermost(node).length > 0);
+  if (first < 0 || items.slice(0, first).some((node) => [0x10, 0x12].includes(itemTag(node)))) return items;
+  const { start, loc } = items[first];
+  return [...items.slice(0, first), { type: "NoStatement", start, end: start, loc }, ...items.slice(first)];
 }
 
 const NAME = /^[A-Za-z_$][A-Za-z0-9_$-]*$/;
@@ -84,8 +93,9 @@ class Walk {
   }
 
   item(node) {
-    if (node.type === "EmptyStatement") this.leaf(0x13, node, "");
-    else this.field(itemTag(node), node, () => this.pieces(node));
+    const tag = itemTag(node);
+    if (tag === 0x13) this.leaf(tag, node, "");
+    else this.field(tag, node, () => this.pieces(node));
   }
 
   // Source text, and the outermost elements and fragments in it.
@@ -247,6 +257,8 @@ function itemTag(node) {
     case "ImportDeclaration":
     case "ExportAllDeclaration":
       return 0x11;
+    case "EmptyStatement":
+      return 0x13;
     default:
       return 0x12;
   }

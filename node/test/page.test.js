@@ -140,9 +140,19 @@ test("tags in a piece stand in the source's order; where swc's is another, a not
 
 test("what must stay in front is kept apart for the output", withParser, () => {
   const text = `#!/usr/bin/env node\n"use client"; 'use strict'\nf(<p/>);`;
-  const { page, prologue } = readModule(text, { directives: "apart" });
+  const { page, prologue } = readModule(text, { runnable: true });
   assert.equal(prologue, `#!/usr/bin/env node\n"use client";\n'use strict'\n`);
   assert.equal(tree(page), `12(20"f(" 30(40"p") 20");")`);
+});
+
+test("templates are declared before an export that calls them", withParser, () => {
+  const rows = [
+    ["export default <p/>; f();", `12() 11(20"export default " 30(40"p") 20";") 12(20"f();")`],
+    [`import "a"; export default <p/>`, `11(20"import \\"a\\";") 12() 11(20"export default " 30(40"p"))`],
+    ["f(); export default <p/>", `12(20"f();") 11(20"export default " 30(40"p"))`],
+    ["export default 1; f(<p/>);", `11(20"export default 1;") 12(20"f(" 30(40"p") 20");")`],
+  ];
+  for (const [text, fields] of rows) assert.equal(tree(readModule(text, { runnable: true }).page), fields, text);
 });
 
 test("refused with a place before the library is asked", withParser, () => {
