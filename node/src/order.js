@@ -10,21 +10,14 @@ const VISITED = new Map([
 // What a node has beside its parts.
 const NO_PARTS = new Set(["type", "loc", "start", "end", "extra", "leadingComments", "trailingComments", "innerComments"]);
 
-// Names that are declared or referred to by the output: the helpers and the templates.
-const RESERVED = /^(_jsx|_jsxTemplate|_jsxAttr|_jsxEscape|\$\$_tpl_\d+)$/;
-
-/** The outermost elements and fragments in a node, in swc's order. `refuse` is called with a name that is reserved. */
-export function outermost(node, refuse = () => {}) {
+/** The outermost elements and fragments in a node, in swc's order. */
+export function outermost(node) {
   const tags = [];
   const waiting = [node];
   while (waiting.length > 0) {
     const next = waiting.pop();
-    if (next.type === "JSXElement" || next.type === "JSXFragment") {
-      tags.push(next);
-      continue;
-    }
-    if (next.type === "Identifier" && RESERVED.test(next.name)) refuse(next);
-    waiting.push(...parts(next).reverse());
+    if (next.type === "JSXElement" || next.type === "JSXFragment") tags.push(next);
+    else waiting.push(...parts(next).reverse());
   }
   return tags;
 }
@@ -37,11 +30,6 @@ export function ordered(nodes) {
 function parts(node) {
   const known = VISITED.get(node.type);
   const keys = known ?? Object.keys(node).filter((key) => !NO_PARTS.has(key));
-  const found = keys.filter((key) => !isOnlyName(node, key)).flatMap((key) => node[key]).filter((part) => part?.type);
+  const found = keys.flatMap((key) => node[key]).filter((part) => part?.type);
   return known ? found : found.sort((one, other) => one.start - other.start);
-}
-
-// `a._jsx`, `{ _jsx: 1 }`, `import { _jsx as a }`: a name that refers to nothing here.
-function isOnlyName(node, key) {
-  return (["property", "key"].includes(key) && !node.computed) || ["imported", "exported", "label", "meta"].includes(key);
 }

@@ -5,11 +5,11 @@ import { FieldWriter } from "./fields.js";
 import { MAX_DEPTH, MAX_MEMBERS, MAX_NAME, MAX_NUMBER, MAX_PAGE } from "./limits.js";
 import { ordered, outermost } from "./order.js";
 
-/** Why a module's text has no page, with the line (from 1) and column (from 1); `number` is the refusal that it would be. */
+/** Why a module's text has no page: the line and column, from 1, and the `number` of the refusal that it would be. */
 export class PageError extends Error {
   constructor(node, message, number) {
     const { line, column } = node.loc.start;
-    super(`${line}:${column + 1}: ${message}${number ? ` (refusal ${number})` : ""}`);
+    super(`${line}:${column + 1}: ${message} (refusal ${number})`);
     this.name = "PageError";
     this.line = line;
     this.column = column + 1;
@@ -23,9 +23,8 @@ export function toPage(text, options) {
 }
 
 /**
- * The page, the text that must stay before all else (a `#!` line), and notes on what swc would do otherwise. With
- * `runnable` the page is changed for the sake of the output: directives are kept apart, since the import would stand
- * before them, and templates go before the first item that needs them.
+ * The page, the text that stays before all else (a `#!` line, which is no part of a page), and notes on what swc would do
+ * otherwise. With `runnable` the page gets a place for the templates before the first item that needs them.
  */
 export function readModule(text, { runnable = false, parserPlugins = [] } = {}) {
   const { parse, missing } = findParser();
@@ -34,15 +33,12 @@ export function readModule(text, { runnable = false, parserPlugins = [] } = {}) 
   // Parentheses are nodes of swc's tree, and so `("x")` is no string literal.
   const options = { sourceType: "module", plugins: ["jsx", ...parserPlugins], createParenthesizedExpressions: true };
   const { program } = parse(source, { ...options, attachComment: false });
-  const front = [program.interpreter, ...(runnable ? program.directives : [])].filter(Boolean);
-  const items = runnable ? placed(program.body) : [...program.directives, ...program.body];
+  const items = [...program.directives, ...program.body];
   const walk = new Walk(source);
-  walk.page(program, items);
-  return {
-    page: walk.writer.bytes,
-    prologue: front.map((node) => `${source.slice(node.start, node.end)}\n`).join(""),
-    notes: walk.notes,
-  };
+  walk.page(program, runnable ? placed(items) : items);
+  const { interpreter } = program;
+  const prologue = interpreter ? `${source.slice(interpreter.start, interpreter.end)}\n` : "";
+  return { page: walk.writer.bytes, prologue, notes: walk.notes };
 }
 
 // Templates go before the first 10 or 12. `export default <p/>` is an 11 and may stand before that: a statement without
@@ -56,8 +52,6 @@ function placed(items) {
 
 const NAME = /^[A-Za-z_$][A-Za-z0-9_$-]*$/;
 const LONE_SURROGATE = /\p{Surrogate}/u;
-const WORD_AT_END = /[\p{ID_Continue}$]$/u;
-const WORD_AT_START = /^[\p{ID_Continue}$]/u;
 
 class Walk {
   writer = new FieldWriter();
@@ -100,25 +94,20 @@ class Walk {
 
   // Source text, and the outermost elements and fragments in it.
   pieces(node) {
-    const tags = outermost(node, (name) => this.reserved(name));
+    const tags = outermost(node);
     if (!ordered(tags)) this.note(node, "swc visits tags here in another order than the source's: it numbers their templates otherwise");
     tags.sort((one, other) => one.start - other.start);
     let from = node.start;
     for (const tag of tags) {
-      this.text(from, tag.start, node, from > node.start, true);
+      this.text(from, tag.start, node);
       this.tag(tag);
       from = tag.end;
     }
-    this.text(from, node.end, node, tags.length > 0, false);
+    this.text(from, node.end, node);
   }
 
-  // `return<p/>`: a name will stand where the tag was, so words beside it are kept apart.
-  text(from, to, node, behindTag, beforeTag) {
-    let text = this.source.slice(from, to);
-    if (text === "") return;
-    if (behindTag && WORD_AT_START.test(text)) text = ` ${text}`;
-    if (beforeTag && WORD_AT_END.test(text)) text = `${text} `;
-    this.leaf(0x20, node, text);
+  text(from, to, node) {
+    if (from < to) this.leaf(0x20, node, this.source.slice(from, to));
   }
 
   tag(node) {
@@ -235,10 +224,6 @@ class Walk {
 
   other(node) {
     this.field(0x79, node, () => this.pieces(node));
-  }
-
-  reserved(node) {
-    throw new PageError(node, `\`${node.name}\` is a name that the output uses itself`);
   }
 
   note(node, message) {

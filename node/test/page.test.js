@@ -108,11 +108,10 @@ test("elements, attributes and children", withParser, () => {
   for (const [text, fields] of rows) assert.equal(items(text), `12(${fields})`, text);
 });
 
-test("words beside a tag are kept apart from the name that will stand there", withParser, () => {
-  assert.equal(items("function f() { return<p/> }"), `12(20"function f() { return " 30(40"p") 20" }")`);
-  assert.equal(items("<></>in a"), `12(31() 20" in a")`);
-  assert.equal(items("export default<p/>"), `11(20"export default " 30(40"p"))`);
-  assert.equal(items("a(<p/>)"), `12(20"a(" 30(40"p") 20")")`);
+test("source beside a tag is as written", withParser, () => {
+  assert.equal(items("function f() { return<p/> }"), `12(20"function f() { return" 30(40"p") 20" }")`);
+  assert.equal(items("<></>in a"), `12(31() 20"in a")`);
+  assert.equal(items("a( <p/> )"), `12(20"a( " 30(40"p") 20" )")`);
 });
 
 test("tags in a piece stand in the source's order; where swc's is another, a note says so", withParser, () => {
@@ -138,11 +137,10 @@ test("tags in a piece stand in the source's order; where swc's is another, a not
   }
 });
 
-test("what must stay in front is kept apart for the output", withParser, () => {
-  const text = `#!/usr/bin/env node\n"use client"; 'use strict'\nf(<p/>);`;
-  const { page, prologue } = readModule(text, { runnable: true });
-  assert.equal(prologue, `#!/usr/bin/env node\n"use client";\n'use strict'\n`);
-  assert.equal(tree(page), `12(20"f(" 30(40"p") 20");")`);
+test("a first line for the shell is no part of the page", withParser, () => {
+  const { page, prologue } = readModule(`#!/usr/bin/env node\n"use client";\nf();`);
+  assert.equal(prologue, "#!/usr/bin/env node\n");
+  assert.equal(tree(page), `12(20"\\"use client\\";") 12(20"f();")`);
 });
 
 test("templates are declared before an export that calls them", withParser, () => {
@@ -165,10 +163,6 @@ test("refused with a place before the library is asked", withParser, () => {
     [nested(46), 8, "2:137"],
     [`a;\nb("${"c".repeat(32_768)}");`, 2, "2:1"],
     [`a;\nb("${"c".repeat(65_536)}");`, 2, "2:1"],
-    ["const _jsx = 1;", undefined, "1:7"],
-    ["f($$_tpl_1);", undefined, "1:3"],
-    ["<p>{_jsxAttr}</p>", undefined, "1:5"],
-    ["f({ _jsxEscape });", undefined, "1:5"],
   ];
   for (const [text, number, place] of rows) {
     assert.throws(() => toPage(text), (error) => {
@@ -178,7 +172,7 @@ test("refused with a place before the library is asked", withParser, () => {
       return true;
     });
   }
-  for (const text of [nested(45), `<${"n".repeat(128)}/>`, "<a.a.a.a.a.a.a.a/>", "a._jsx({ _jsx: 1 });"]) toPage(text);
+  for (const text of [nested(45), `<${"n".repeat(128)}/>`, "<a.a.a.a.a.a.a.a/>"]) toPage(text);
   assert.throws(() => toPage("a = <p>"), SyntaxError);
 });
 

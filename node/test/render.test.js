@@ -46,11 +46,19 @@ test("every example is printed as a module without JSX, or refused", withProgram
 });
 
 test("what must stay in front does", withProgram, async () => {
-  const text = `#!/usr/bin/env node\n"use client";\nexport default <p>Hi</p>;\nexport const n = 1;\n`;
-  const printed = build(text, OWN);
-  assert.ok(printed.startsWith(`#!/usr/bin/env node\n"use client";\nimport `), printed);
-  // The template is declared before the export that calls it.
-  assert.equal(render((await load(printed)).default), "<p>Hi</p>");
+  const printed = build(`#!/usr/bin/env node\n"use client";\nimport "node:fs";\nexport const a = <p/>;\n`, OWN);
+  assert.ok(printed.startsWith(`#!/usr/bin/env node\n"use client";\nimport { jsxTemplate`), printed);
+  assert.equal(render((await load(printed)).a), "<p></p>");
+});
+
+test("a template is declared before the export that calls it", withProgram, async () => {
+  const { default: page } = await load(build("export default <p>Hi</p>;\nexport const n = 1;\n", OWN));
+  assert.equal(render(page), "<p>Hi</p>");
+});
+
+test("names of the output may be the module's own", withProgram, async () => {
+  const text = "const _jsxTemplate = 7, $$_tpl_1 = 8;\nexport const a = <p title={$$_tpl_1}>{_jsxTemplate}</p>;\n";
+  assert.equal(render((await load(build(text, OWN))).a), `<p title="8">7</p>`);
 });
 
 test("a refusal of the program is an error of its own", withProgram, () => {
