@@ -3,11 +3,11 @@
 
 use jsx_precompile::field::{Field, Fields, tag_name};
 use jsx_precompile::limits::*;
-use jsx_precompile::page::{ArrayItem, Element, Expression, Item, Page};
-use jsx_precompile::{Options, Refusal, transform, transform_into};
+use jsx_precompile::{Refusal, transform_into};
 use std::collections::BTreeSet;
 use std::fs;
 use std::path::{Path, PathBuf};
+use std::sync::Once;
 
 const VARIABLE: &str = "FORMAT_WRITE";
 const FENCE: &str = "```";
@@ -19,8 +19,39 @@ fn at(name: &str) -> PathBuf {
     Path::new(env!("CARGO_MANIFEST_DIR")).with_file_name("").join(name)
 }
 
+/// The document; its answers are written before it is read, where that is asked.
 fn document() -> String {
-    fs::read_to_string(at("docs/FORMAT.md")).expect("docs/FORMAT.md is there")
+    static WRITTEN: Once = Once::new();
+    let file = at("docs/FORMAT.md");
+    let read = || fs::read_to_string(&file).expect("docs/FORMAT.md is there");
+    WRITTEN.call_once(|| {
+        if std::env::var(VARIABLE).is_ok_and(|word| word == "1") {
+            fs::write(&file, rewritten(&read())).expect("it is written");
+        }
+    });
+    read()
+}
+
+/// What is answered to a page.
+struct Answered {
+    number: u32,
+    templates: Vec<u8>,
+    out: Vec<u8>,
+}
+
+fn answered(page: &[u8], options: &[u8]) -> Answered {
+    let (mut scratch, mut templates, mut out) = (vec![0; MIN_SCRATCH], vec![0; MIN_SCRATCH], vec![0; MIN_SCRATCH]);
+    let answer = transform_into(page, options, &mut scratch, &mut templates, &mut out);
+    templates.truncate(answer.templates_bytes);
+    out.truncate(answer.page_bytes);
+    Answered { number: answer.number, templates, out }
+}
+
+/// A field, also where no page has it.
+fn field(tag: u8, parts: &[&[u8]]) -> Vec<u8> {
+    let body = parts.concat();
+    let length = u16::try_from(body.len()).expect("a short body");
+    [&[tag], &length.to_be_bytes()[..], &body].concat()
 }
 
 /// An example: rows of a key and the lines of its value.
@@ -47,16 +78,14 @@ impl Example {
 
     /// What the library says of a key; none for a key that is not its matter.
     fn answered(&self, key: &str) -> Option<Vec<String>> {
-        let (mut scratch, mut templates, mut out) = (vec![0; MIN_SCRATCH], vec![0; MIN_SCRATCH], vec![0; MIN_SCRATCH]);
-        let (page, options) = (self.bytes("page"), self.bytes("options"));
-        let answer = transform_into(&page, &options, &mut scratch, &mut templates, &mut out);
+        let Answered { number, templates, out } = answered(&self.bytes("page"), &self.bytes("options"));
         match key {
-            "answer" => Some(vec![match answer.refusal() {
-                None => "0 accepted".to_string(),
-                Some(refusal) => format!("{} {refusal:?}", refusal.number()),
+            "answer" => Some(vec![match Refusal::from_number(number) {
+                None => format!("{number} accepted"),
+                Some(refusal) => format!("{number} {refusal:?}"),
             }]),
-            "templates" => Some(wrapped(&spaced(&templates[..answer.templates_bytes]))),
-            "out" => Some(wrapped(&spaced(&out[..answer.page_bytes]))),
+            "templates" => Some(wrapped(&spaced(&templates))),
+            "out" => Some(wrapped(&spaced(&out))),
             _ => None,
         }
     }
@@ -145,9 +174,6 @@ fn rewritten(text: &str) -> String {
 
 #[test]
 fn examples_hold() {
-    if std::env::var(VARIABLE).is_ok_and(|word| word == "1") {
-        fs::write(at("docs/FORMAT.md"), rewritten(&document())).expect("it is written");
-    }
     let (mut compared, mut answers) = (0, BTreeSet::new());
     let examples = examples(&document());
     for example in &examples {
@@ -215,30 +241,36 @@ fn every_limit_has_its_row() {
 /// A number with a comma before every third digit from the end.
 fn grouped(number: usize) -> String {
     let digits = number.to_string();
-    let parted =
-        |(at, digit)| if at > 0 && (digits.len() - at) % 3 == 0 { format!(",{digit}") } else { format!("{digit}") };
+    let parted = |(at, digit)| {
+        if at > 0 && (digits.len() - at).is_multiple_of(3) { format!(",{digit}") } else { format!("{digit}") }
+    };
     digits.chars().enumerate().map(parted).collect()
 }
 
-/// How many tags can lie within each other, each held by the one around it in this way.
-fn levels(held: impl Fn(Element) -> Element) -> usize {
-    let page = |count: usize| {
-        let tag = (1..count).fold(Element::new("i"), |inner, _| held(inner));
-        Page::new([Item::statement([tag.into()])]).to_bytes()
+/// How many tags can lie within each other, each held by the one around it in this way; the next is refused as too deep.
+fn levels(held: impl Fn(&[u8]) -> Vec<u8>) -> usize {
+    let tag = |inner: &[u8]| field(0x30, &[&field(0x40, &[b"i"]), inner]);
+    let number = |count: usize| {
+        let tags = (1..count).fold(tag(b""), |inner, _| tag(&held(&inner)));
+        answered(&field(0x01, &[&field(0x12, &[&tags])]), &[]).number
     };
-    (1..).take_while(|count| page(*count).is_ok_and(|page| transform(&page, &Options::new()).is_ok())).count()
+    let count = (1..).take_while(|count| number(*count) == 0).count();
+    assert_eq!(number(count + 1), Refusal::TooDeep.number());
+    count
 }
 
 #[test]
 fn levels_are_as_counted() {
-    let i = || Element::new("i");
-    let map = |inner: Element| Expression::Other(vec!["a.map((b) => ".into(), inner.into(), ")".into()]);
-    let array = |inner: Element| Expression::Array(vec![ArrayItem::Expression(inner.into())]);
+    let map = |inner: &[u8]| field(0x79, &[&field(0x20, &[b"a.map((b) => "]), inner, &field(0x20, &[b")"])]);
     let counted = [
-        ("`<i>` in `<i>`", 1, levels(|inner| i().child(inner))),
-        ("`{<i/>}`: braces", 2, levels(|inner| i().child(Expression::from(inner)))),
-        ("`{a && <i/>}`, `{a.map((b) => <i/>)}`: braces and an expression", 3, levels(|inner| i().child(map(inner)))),
-        ("`{[<i/>]}`: braces and an array", 3, levels(|inner| i().child(array(inner)))),
+        ("`<i>` in `<i>`", 1, levels(|inner| inner.to_vec())),
+        ("`{<i/>}`: braces", 2, levels(|inner| field(0x52, &[inner]))),
+        (
+            "`{a && <i/>}`, `{a.map((b) => <i/>)}`: braces and an expression",
+            3,
+            levels(|inner| field(0x52, &[&map(inner)])),
+        ),
+        ("`{[<i/>]}`: braces and an array", 3, levels(|inner| field(0x52, &[&field(0x76, &[inner])]))),
     ];
     for (how, fields, count) in counted {
         // The page and an item lie around the tags, a name in the innermost.
@@ -251,12 +283,15 @@ fn levels_are_as_counted() {
 /// The refusal that no short page has.
 #[test]
 fn a_page_too_long_in_the_output() {
-    let quotes = |count: usize| {
-        let tag = Element::new("Foo").text("a").child(Expression::String("\"".repeat(count))).child(Element::new("i"));
-        transform(&Page::new([Item::statement([tag.into()])]).to_bytes().expect("a page"), &Options::new())
+    let number = |quotes: usize| {
+        let string = field(0x52, &[&field(0x70, &[&b"\"".repeat(quotes)])]);
+        let tag = field(
+            0x30,
+            &[&field(0x40, &[b"Foo"]), &field(0x60, &[b"a"]), &string, &field(0x30, &[&field(0x40, &[b"i"])])],
+        );
+        answered(&field(0x01, &[&field(0x12, &[&tag])]), &[]).number
     };
-    assert_eq!(quotes(6_553).err().map(|error| format!("{error:?}")), Some("OutputTooLong".to_string()));
-    assert!(quotes(6_552).is_ok());
+    assert_eq!((number(6_552), number(6_553)), (0, Refusal::OutputTooLong.number()));
 }
 
 /// The bytes of a series, by each 74 and 79 at any depth: its own text.
@@ -294,9 +329,9 @@ fn expressions_are_kept_but_in_the_four_places() {
             continue;
         }
         let page = fs::read(&path).expect("it is read");
-        let Ok(forms) = transform(&page, &Options::new()) else { continue };
+        let Answered { number: 0, out, .. } = answered(&page, &[]) else { continue };
         let expressions = sorted_expressions(&page);
-        assert_eq!(sorted_expressions(forms.page_bytes()), expressions, "{}", path.display());
+        assert_eq!(sorted_expressions(&out), expressions, "{}", path.display());
         (kept, pages) = (kept + expressions.len(), pages + 1);
     }
     let document = document();

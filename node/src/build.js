@@ -1,7 +1,7 @@
 // JSX in, JavaScript out, through the program `jsx-precompile`.
 
 import { spawnSync } from "node:child_process";
-import { existsSync } from "node:fs";
+import { statSync } from "node:fs";
 import { fileURLToPath } from "node:url";
 import { readModule } from "./page.js";
 
@@ -18,9 +18,11 @@ export class RefusedError extends Error {
   name = "RefusedError";
 }
 
-/** The program's path: what the variable JSX_PRECOMPILE_BIN says, else this repository's own build, else by its name. */
+/** The program's path: what the variable JSX_PRECOMPILE_BIN says, else this repository's last build, else by its name. */
 export function findProgram() {
-  return process.env[VARIABLE] ?? OWN.find((path) => existsSync(path)) ?? NAME;
+  const built = OWN.map((path) => ({ path, time: statSync(path, { throwIfNoEntry: false })?.mtimeMs })).filter(({ time }) => time);
+  const [newest] = built.sort((one, other) => other.time - one.time);
+  return process.env[VARIABLE] ?? newest?.path ?? NAME;
 }
 
 /**
