@@ -241,10 +241,8 @@ fn every_limit_has_its_row() {
 /// A number with a comma before every third digit from the end.
 fn grouped(number: usize) -> String {
     let digits = number.to_string();
-    let parted = |(at, digit)| {
-        if at > 0 && (digits.len() - at).is_multiple_of(3) { format!(",{digit}") } else { format!("{digit}") }
-    };
-    digits.chars().enumerate().map(parted).collect()
+    let groups: Vec<_> = digits.as_bytes().rchunks(3).rev().map(String::from_utf8_lossy).collect();
+    groups.join(",")
 }
 
 /// How many tags can lie within each other, each held by the one around it in this way; the next is refused as too deep.
