@@ -25,5 +25,7 @@ has_node || install nodejs
 has_parser || install node-babel7-standalone
 if has_parser; then
   node -e 'import("./node/src/babel.js").then((found) => { const { name, version } = found.findParser(); console.log(`setup: node ${process.version}, ${name} ${version}`) })'
+else
+  echo "skipped: setup: node or a parser of Babel's is still missing"
 fi
 exit 0

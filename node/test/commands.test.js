@@ -13,7 +13,7 @@ const BLOCK = /^```console\n(.*?)^```$/gms;
 function sessions(file) {
   const blocks = [...readFileSync(join(ROOT, file), "utf8").matchAll(BLOCK)].map(([, text]) => text);
   return blocks.filter((text) => text.includes("jsx-build.js")).map((text) => {
-    const parts = text.split(/^\$ /m).slice(1).map((part) => part.match(/^(.*)\n(.*)$/s).slice(1));
+    const parts = text.split(/^\$ /m).slice(1).map((part) => part.match(/^([^\n]*)\n(.*)$/s).slice(1));
     return parts.map(([command, output]) => ({ command, output }));
   });
 }

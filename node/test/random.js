@@ -49,7 +49,7 @@ class Maker {
   tag(depth) {
     const kind = this.below(10);
     if (kind === 0) return `<${this.one(VOIDS)}${this.attributes()}/>`;
-    if (kind === 1) return `<>${this.children(depth, false) || "seat"}</>`;
+    if (kind === 1) return `<>${this.children(depth, true) || "seat"}</>`;
     if (kind === 2) return this.element(this.one(COMPONENTS), this.attributes(HANDED_ON), this.children(depth, true));
     if (kind === 3) return this.element(this.one(TAGS), ` {...f({ title: (${this.text()}) })}${this.attributes()}`, this.children(depth, true));
     return this.element(this.one(TAGS), this.attributes(), this.children(depth, false));
@@ -70,7 +70,7 @@ class Maker {
     return this.one(["", `="x &amp; y"`, `={${this.text()}}`, `={${this.below(99)}}`, `={-7}`, `={${this.one(STRINGS)}}`, `={${this.flag()}}`, "={null}", "={() => 1}"]);
   }
 
-  // `called`: these are the children of a call, where strings are escaped twice.
+  // `called`: these are the children of a call, or of a fragment that may be in one, where strings are escaped twice.
   children(depth, called) {
     if (depth === 0) return this.one(["", "seat", `{${this.text()}}`]);
     return this.some(4, () => this.child(depth - 1, called)).join("").replace(/ +$/, "");
