@@ -5,7 +5,7 @@ import { spawnSync } from "node:child_process";
 import { mkdirSync, readFileSync } from "node:fs";
 import { join } from "node:path";
 import test from "node:test";
-import { ROOT, withProgram } from "./support.js";
+import { PACKAGE, ROOT, withParser, withProgram } from "./support.js";
 
 const BLOCK = /^```console\n(.*?)^```$/gms;
 
@@ -29,4 +29,51 @@ test("the commands from .jsx to HTML", withProgram, (t) => {
     assert.equal(stdout, output, command);
   }
   t.diagnostic(`${all.flat().length} commands printed what the READMEs say`);
+});
+
+function run(name, parameters, input = "") {
+  const file = join(PACKAGE, "bin", name);
+  return spawnSync(process.execPath, [file, ...parameters], { cwd: ROOT, input });
+}
+
+test("jsx-build: pages, messages and statuses", withParser, () => {
+  const page = run("jsx-build.js", ["--page", "examples/worked.jsx"]);
+  assert.equal(page.status, 0);
+  assert.deepEqual(page.stdout, readFileSync(join(ROOT, "examples", "worked.page")));
+  const rows = [
+    [["--page", "-"], "a;\n<a.b-c/>", 1, /^-:2:4: .*refusal 5/],
+    [["--page", "-"], "a = <p>", 1, /^-:.*JSX/],
+    [["nowhere.jsx"], "", 1, /^nowhere\.jsx:.*ENOENT/],
+    [[], "", 2, /^usage:/],
+    [["a", "b"], "", 2, /^usage:/],
+    [["--unknown", "a"], "", 2, /unknown[^]*usage:/],
+  ];
+  for (const [parameters, input, status, words] of rows) {
+    const ran = run("jsx-build.js", parameters, input);
+    assert.equal(ran.status, status, `${parameters}: ${ran.stderr}`);
+    assert.match(ran.stderr.toString(), words);
+    assert.equal(ran.stdout.length, 0);
+  }
+  const help = run("jsx-build.js", ["--help"]);
+  assert.deepEqual([help.status, help.stderr.length], [0, 0]);
+  assert.match(help.stdout.toString(), /^usage: jsx-build/);
+});
+
+test("jsx-build: a refusal of the program, and a note", withProgram, () => {
+  const refused = run("jsx-build.js", ["-"], "<><></></>");
+  assert.equal(refused.status, 1);
+  assert.match(refused.stderr.toString(), /^-:.*10/);
+  const noted = run("jsx-build.js", ["--import-source", "preact", "-"], "do f(<a/>); while (<b/>);");
+  assert.equal(noted.status, 0, `${noted.stderr}`);
+  assert.match(noted.stderr.toString(), /^-:1:1: swc visits/);
+  assert.match(noted.stdout.toString(), /from "preact\/jsx-runtime"/);
+});
+
+test("jsx-render: calls and messages", () => {
+  assert.equal(run("jsx-render.js", []).status, 2);
+  const module = join(PACKAGE, "test", "plain", "renderer.js");
+  const none = run("jsx-render.js", [module, "nothing"]);
+  assert.equal(none.status, 1);
+  assert.match(none.stderr.toString(), /exports h, html, and no nothing/);
+  assert.equal(run("jsx-render.js", [module, "html", `"<"`]).stdout.toString(), "&amp;lt;\n");
 });

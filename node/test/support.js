@@ -24,7 +24,11 @@ function skipped(why) {
 function noProgram() {
   const program = findProgram();
   const { status, error } = spawnSync(program, ["--version"]);
-  return status === 0 ? undefined : `${program} --version: ${error?.code ?? `status ${status}`}`;
+  if (status === 0) return undefined;
+  const why = `${program} --version: ${error?.code ?? `status ${status}`}`;
+  // A program that was named must be there.
+  if (process.env.JSX_PRECOMPILE_BIN) throw new Error(why);
+  return why;
 }
 
 /** The names of a folder's .jsx files, without their ending. */
