@@ -36,7 +36,7 @@ function main() {
   try {
     writeFileSync(1, result(readFileSync(file === "-" ? 0 : file, "utf8"), values, file));
   } catch (error) {
-    end(1, `${file}:${error.message}\n`);
+    end(1, `${file}:${placed(error)}\n`);
   }
 }
 
@@ -57,6 +57,14 @@ function result(text, values, file) {
     program: values.program,
     onNote: (note) => process.stderr.write(`${file}:${note}\n`),
   });
+}
+
+// A message that begins with its place, where there is one.
+function placed(error) {
+  if (error.line) return error.message;
+  if (!error.loc) return ` ${error.message}`;
+  const { line, column } = error.loc;
+  return `${line}:${column + 1}: ${error.message.replace(/ \(\d+:\d+\)$/, "")}`;
 }
 
 function end(status, words) {

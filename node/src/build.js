@@ -13,9 +13,14 @@ const REFUSED = 1;
 // Outputs are at most 512 times their page.
 const MAX_OUTPUT = 64 * 1024 * 1024;
 
-/** The program refused the page; the message is its own. */
+/** The program refused the page; the message has its words, behind the line and column that its byte is from. */
 export class RefusedError extends Error {
-  name = "RefusedError";
+  constructor(words, places) {
+    const byte = Number(words.match(/\bbyte (\d+)/)?.[1]);
+    const { line, column } = places.findLast(({ at }) => at <= byte) ?? {};
+    super(line ? `${line}:${column}: ${words}` : words);
+    Object.assign(this, { name: "RefusedError", line, column });
+  }
 }
 
 /** The program's path: what the variable JSX_PRECOMPILE_BIN says, else this repository's last build, else by its name. */
@@ -31,9 +36,9 @@ export function findProgram() {
  */
 export function build(text, options = {}) {
   const { program = findProgram(), parserPlugins, onNote = () => {} } = options;
-  const { page, prologue, notes } = readModule(text, { runnable: true, parserPlugins });
+  const { page, prologue, places, notes } = readModule(text, { runnable: true, parserPlugins });
   notes.forEach(onNote);
-  return prologue + run(program, ["build", ...flags(options), "-"], page);
+  return prologue + run(program, ["build", ...flags(options), "-"], page, places);
 }
 
 function flags({ importSource, skipElements = [], skipAttributes = [] }) {
@@ -42,14 +47,14 @@ function flags({ importSource, skipElements = [], skipAttributes = [] }) {
   return [...source, ...elements, ...skipAttributes.flatMap((name) => ["--skip-attribute", name])];
 }
 
-function run(program, parameters, input) {
+function run(program, parameters, input, places) {
   const { error, status, signal, stdout, stderr } = spawnSync(program, parameters, { input, maxBuffer: MAX_OUTPUT });
   if (error?.code === "ENOENT") {
     throw new Error(`${program}: no such program; build it (host/README.md), or say where it is in ${VARIABLE}`);
   }
   if (error) throw error;
   const words = stderr.toString().trimEnd();
-  if (status === REFUSED) throw new RefusedError(words);
+  if (status === REFUSED) throw new RefusedError(words, places);
   if (status !== 0) throw new Error(`${program} ended with ${signal ?? status}: ${words}`);
   return stdout.toString();
 }

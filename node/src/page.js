@@ -8,12 +8,9 @@ import { ordered, outermost } from "./order.js";
 /** Why a module's text has no page: the line and column, from 1, and the `number` of the refusal that it would be. */
 export class PageError extends Error {
   constructor(node, message, number) {
-    const { line, column } = node.loc.start;
-    super(`${line}:${column + 1}: ${message} (refusal ${number})`);
-    this.name = "PageError";
-    this.line = line;
-    this.column = column + 1;
-    this.number = number;
+    const { line, column } = placeOf(node);
+    super(`${line}:${column}: ${message} (refusal ${number})`);
+    Object.assign(this, { name: "PageError", line, column, number });
   }
 }
 
@@ -23,8 +20,9 @@ export function toPage(text, options) {
 }
 
 /**
- * The page, the text that stays before all else (a `#!` line, which is no part of a page), and notes on what swc would do
- * otherwise. With `runnable` the page gets a place for the templates before the first item that needs them.
+ * The page, the text that stays before all else (a `#!` line, which is no part of a page), the places of its fields in the
+ * source, and notes on what swc would do otherwise. With `runnable` the page gets a place for the templates before the
+ * first item that needs them.
  */
 export function readModule(text, { runnable = false, parserPlugins = [] } = {}) {
   const { parse, missing } = findParser();
@@ -38,7 +36,7 @@ export function readModule(text, { runnable = false, parserPlugins = [] } = {}) 
   walk.page(program, runnable ? placed(items) : items);
   const { interpreter } = program;
   const prologue = interpreter ? `${source.slice(interpreter.start, interpreter.end)}\n` : "";
-  return { page: walk.writer.bytes, prologue, notes: walk.notes };
+  return { page: walk.writer.bytes, prologue, places: walk.places, notes: walk.notes };
 }
 
 // Templates go before the first 10 or 12. `export default <p/>` is an 11 and may stand before that: a statement without
@@ -55,6 +53,8 @@ const LONE_SURROGATE = /\p{Surrogate}/u;
 
 class Walk {
   writer = new FieldWriter();
+  // Of each field, front to back: the byte at which it begins, and its line and column in the source.
+  places = [];
   notes = [];
 
   constructor(source) {
@@ -65,6 +65,7 @@ class Walk {
     if (this.writer.depth === MAX_DEPTH) {
       throw new PageError(node, `nested too deep: fields lie more than ${MAX_DEPTH} deep`, 8);
     }
+    this.places.push({ at: this.writer.length, ...placeOf(node) });
     this.writer.field(tag, inside);
   }
 
@@ -227,9 +228,14 @@ class Walk {
   }
 
   note(node, message) {
-    const { line, column } = node.loc.start;
-    this.notes.push(`${line}:${column + 1}: ${message}`);
+    const { line, column } = placeOf(node);
+    this.notes.push(`${line}:${column}: ${message}`);
   }
+}
+
+// Babel counts columns from 0, editors from 1.
+function placeOf({ loc: { start } }) {
+  return { line: start.line, column: start.column + 1 };
 }
 
 // swc's kinds: `export` before a declaration, `export default` before a function or class; other imports and exports.

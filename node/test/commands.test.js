@@ -42,8 +42,8 @@ test("jsx-build: pages, messages and statuses", withParser, () => {
   assert.deepEqual(page.stdout, readFileSync(join(ROOT, "examples", "worked.page")));
   const rows = [
     [["--page", "-"], "a;\n<a.b-c/>", 1, /^-:2:4: .*refusal 5/],
-    [["--page", "-"], "a = <p>", 1, /^-:.*JSX/],
-    [["nowhere.jsx"], "", 1, /^nowhere\.jsx:.*ENOENT/],
+    [["--page", "-"], "a = <p>", 1, /^-:1:8: Unexpected token\n$/],
+    [["nowhere.jsx"], "", 1, /^nowhere\.jsx: ENOENT/],
     [[], "", 2, /^usage:/],
     [["a", "b"], "", 2, /^usage:/],
     [["--unknown", "a"], "", 2, /unknown[^]*usage:/],
@@ -60,9 +60,9 @@ test("jsx-build: pages, messages and statuses", withParser, () => {
 });
 
 test("jsx-build: a refusal of the program, and a note", withProgram, () => {
-  const refused = run("jsx-build.js", ["-"], "<><></></>");
+  const refused = run("jsx-build.js", ["-"], "a;\n  <><></></>");
   assert.equal(refused.status, 1);
-  assert.match(refused.stderr.toString(), /^-:.*10/);
+  assert.match(refused.stderr.toString(), /^-:2:[35]: .*\b10\b/);
   const noted = run("jsx-build.js", ["--import-source", "preact", "-"], "do f(<a/>); while (<b/>);");
   assert.equal(noted.status, 0, `${noted.stderr}`);
   assert.match(noted.stderr.toString(), /^-:1:1: swc visits/);

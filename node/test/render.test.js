@@ -62,7 +62,13 @@ test("names of the output may be the module's own", withProgram, async () => {
 });
 
 test("a refusal of the program is an error of its own", withProgram, () => {
-  assert.throws(() => build("<><></></>"), (error) => error instanceof RefusedError && /10|left/.test(error.message));
+  assert.throws(() => build("a;\n\n  <><></></>;"), (error) => {
+    assert.ok(error instanceof RefusedError);
+    // The fragment that is left, or the one in it.
+    assert.match(`${error.line}:${error.column}`, /^3:[35]$/);
+    assert.match(error.message, /^3:[35]: .*\b10\b/);
+    return true;
+  });
   assert.throws(() => build("<p/>", { program: "/nowhere/jsx-precompile" }), /no such program/);
 });
 
