@@ -25,9 +25,9 @@ export class RefusedError extends Error {
 
 /** The program's path: what the variable JSX_PRECOMPILE_BIN says, else this repository's last build, else by its name. */
 export function findProgram() {
-  const built = OWN.map((path) => ({ path, time: statSync(path, { throwIfNoEntry: false })?.mtimeMs })).filter(({ time }) => time);
-  const [newest] = built.sort((one, other) => other.time - one.time);
-  return process.env[VARIABLE] ?? newest?.path ?? NAME;
+  const time = (path) => statSync(path, { throwIfNoEntry: false })?.mtimeMs ?? 0;
+  const [newest] = OWN.filter(time).sort((one, other) => time(other) - time(one));
+  return process.env[VARIABLE] ?? newest ?? NAME;
 }
 
 /**

@@ -82,8 +82,8 @@ class Walk {
       }
     });
     if (over) {
-      const bytes = this.writer.length;
-      throw new PageError(over, `the page has ${bytes} bytes, ${MAX_PAGE} are taken and end in this item: split the module`, 2);
+      const words = `the page has ${this.writer.length} bytes, ${MAX_PAGE} are taken and end in this item: split the module`;
+      throw new PageError(over, words, 2);
     }
   }
 
@@ -96,7 +96,7 @@ class Walk {
   // Source text, and the outermost elements and fragments in it.
   pieces(node) {
     const tags = outermost(node);
-    if (!ordered(tags)) this.note(node, "swc visits tags here in another order than the source's: it numbers their templates otherwise");
+    if (!ordered(tags)) this.note(node, "swc visits tags here in another order, and numbers their templates otherwise");
     tags.sort((one, other) => one.start - other.start);
     let from = node.start;
     for (const tag of tags) {
@@ -151,9 +151,10 @@ class Walk {
   }
 
   identifier(node) {
-    if (!NAME.test(node.name)) throw new PageError(node, `\`${node.name}\`: names are ASCII letters, digits, \`_\`, \`$\` and \`-\``, 5);
-    if (node.name.length > MAX_NAME) throw new PageError(node, `a name of ${node.name.length} bytes, at most ${MAX_NAME} are taken`, 5);
-    this.leaf(0x40, node, node.name);
+    const { name } = node;
+    if (!NAME.test(name)) throw new PageError(node, `\`${name}\`: names are ASCII letters, digits, _, $ and -`, 5);
+    if (name.length > MAX_NAME) throw new PageError(node, `a name of ${name.length} bytes, at most ${MAX_NAME} are taken`, 5);
+    this.leaf(0x40, node, name);
   }
 
   attribute(node) {
@@ -203,7 +204,8 @@ class Walk {
       case "RegExpLiteral":
         return this.leaf(0x74, node, this.source.slice(node.start, node.end));
       case "UnaryExpression":
-        return node.operator === "-" && isWhole(node.argument) ? this.number(0x75, node, node.argument.value) : this.other(node);
+        if (node.operator !== "-" || !isWhole(node.argument)) return this.other(node);
+        return this.number(0x75, node, node.argument.value);
       case "ArrayExpression":
         return this.field(0x76, node, () => node.elements.forEach((element) => this.arrayItem(element, node)));
       default:
