@@ -1,0 +1,7 @@
+// The limits of a page (docs/FORMAT.md, Limits).
+
+export const MAX_PAGE = 32_768;
+export const MAX_DEPTH = 48;
+export const MAX_NAME = 128;
+export const MAX_MEMBERS = 8;
+export const MAX_NUMBER = Number.MAX_SAFE_INTEGER;
