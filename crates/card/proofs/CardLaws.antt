@@ -19,9 +19,9 @@ use Rattle.spec.specs.Answer.{Written, Outcome, refused, accepted, outcome, num
 use Rattle.spec.proofs.Answers.{accepted-says, accepted-fits}
 use Rattle.spec.proofs.Growth.{page-growth}
 use Rattle.spec.proofs.Export.{zero-written}
-use Rattle.jsx_precompile.specs.declared.Answer.{Answer}
-use Rattle.jsx_precompile.specs.Run.{Answers}
-use Rattle.jsx_precompile.proofs.PageLaws.{source-short}
+use Rattle.transform.specs.declared.Answer.{Answer}
+use Rattle.transform.specs.Run.{Answers}
+use Rattle.transform.proofs.PageLaws.{source-short}
 use Rattle.printing.specs.Card.{page-text, card-text}
 use Rattle.printing.proofs.TextLength.{page-text-low}
 

@@ -8,8 +8,8 @@ use Rattle.spec.specs.Answer.{outcome, zeros}
 use Rattle.spec.specs.Demand.{Demand3Bytes}
 use Rattle.spec.specs.Kept.{KeptBytes}
 use Rattle.spec.proofs.Export.{Answered, export-demand3, export-kept, export-behind, export-refused}
-use Rattle.jsx_precompile.specs.declared.Answer.{Answer}
-use Rattle.jsx_precompile.specs.Run.{Answers}
+use Rattle.transform.specs.declared.Answer.{Answer}
+use Rattle.transform.specs.Run.{Answers}
 
 -- the answer and the buffers behind a call, by the contract of `jsx_precompile_transform`
 module _ (page options scratch templates-out page-out : Bytes) (a : Answer) (scratch′ templates-out′ page-out′ : Bytes)

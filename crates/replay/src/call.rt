@@ -5,8 +5,8 @@ use crate::words::number;
 use crate::words::spells;
 use crate::words::unhex;
 use crate::words::word;
-use jsx_precompile::Answer;
 use jsx_precompile::jsx_precompile_transform;
+use transform::Answer;
 
 // What is not as stored.
 pub enum Difference {
