@@ -1,9 +1,11 @@
 // The library for hosts: every function that is exported over the C convention, and nothing else. Each is a thin call of a crate below,
 // which states its full answer and every byte lent; no caller is trusted to have looked first. One crate, since a static library has the
 // exports of the crate that it is named after alone.
+ghost use mathlib.Core.Path.{_≡_};
 ghost use lib.ListN.{length};
 ghost use Rattle.spec.specs.Answer.{outcome};
 ghost use Rattle.transform.specs.Run.{Answers};
+ghost use Rattle.jsx_precompile.specs.Version.{version};
 use transform::Answer;
 use transform::transform;
 
@@ -18,4 +20,12 @@ pub extern "C" fn jsx_precompile_transform<'a>(
     ensures { λ a. ⌜ Answers (outcome (now (page .entry)) (now (options .entry)) (length (now (scratch .entry))) (length (now («templates_out» .entry))) (length (now («page_out» .entry)))) (now (scratch .entry)) (now («templates_out» .entry)) (now («page_out» .entry)) a (now (scratch .exit)) (now («templates_out» .exit)) (now («page_out» .exit)) ⌝ }
 {
     transform(page, options, scratch, templates_out, page_out)
+}
+
+// The version of the library: major * 10,000 + minor * 100 + patch.
+#[no_mangle]
+pub extern "C" fn jsx_precompile_version() -> u32
+    ensures { λ r. ⌜ r ≡ version ⌝ }
+{
+    200
 }
