@@ -1,6 +1,7 @@
 #!/usr/bin/env bash
-# Installs what the tests of node/ need, from Debian, where that can be done: node, and Babel's parser. It never fails: what
-# is missing afterwards is said, and the tests that need it are skipped.
+# Installs what the tests need besides rt and cargo, from Debian, where that can be done: node and Babel's parser for node/,
+# a browser and pkg-config for host/. It never fails: what is missing afterwards is said, and the tests that need it are
+# skipped.
 set -u
 cd "$(dirname "$0")/.." || exit 0
 
@@ -23,6 +24,8 @@ install() {
 has_node || install nodejs
 # One package without others; @babel/parser of npm is as good.
 has_parser || install node-babel7-standalone
+command -v chromium >/dev/null 2>&1 || install chromium
+command -v pkg-config >/dev/null 2>&1 || install pkg-config
 if has_parser; then
   node -e 'import("./node/src/babel.js").then((found) => { const { name, version } = found.findParser(); console.log(`setup: node ${process.version}, ${name} ${version}`) })'
 else

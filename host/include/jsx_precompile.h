@@ -1,4 +1,4 @@
-/* JSX pages into templates and calls: the one function of libjsx_precompile.a. */
+/* JSX pages into templates and calls: the functions of libjsx_precompile.a. */
 #ifndef JSX_PRECOMPILE_H
 #define JSX_PRECOMPILE_H
 
@@ -9,8 +9,12 @@
 extern "C" {
 #endif
 
-/* That of the Rust crate over the library, and of the pkg-config file. The library itself has none yet. */
+/* The version of this header, of the library and of the pkg-config file. */
 #define JSX_PRECOMPILE_VERSION "0.2.0"
+#define JSX_PRECOMPILE_VERSION_NUMBER 200
+
+/* That of the library that is linked: major * 10,000 + minor * 100 + patch. */
+uint32_t jsx_precompile_version(void);
 
 /* Limits. */
 #define JSX_PRECOMPILE_MAX_PAGE 32768

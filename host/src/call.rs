@@ -23,6 +23,7 @@ unsafe extern "C" {
         page_out: *mut u8,
         page_out_length: usize,
     ) -> Answer;
+    fn jsx_precompile_version() -> u32;
 }
 
 /// What a call answers, laid out as in C. A refusal has its number and zeros.
@@ -310,4 +311,16 @@ impl Forms {
     pub fn page_bytes(&self) -> &[u8] {
         &self.page
     }
+}
+
+/// The version of the library that is linked, as it answers it: major, minor and patch.
+///
+/// ```
+/// let (major, minor, patch) = jsx_precompile::library_version();
+/// assert_eq!(format!("{major}.{minor}.{patch}"), jsx_precompile::VERSION);
+/// ```
+pub fn library_version() -> (u32, u32, u32) {
+    // SAFETY: the function takes nothing and touches no memory.
+    let number = unsafe { jsx_precompile_version() };
+    (number / 10_000, number / 100 % 100, number % 100)
 }

@@ -40,14 +40,13 @@ pub mod page;
 mod path;
 mod refusal;
 
-pub use call::{Answer, Forms, Transformer, transform, transform_into};
+pub use call::{Answer, Forms, Transformer, library_version, transform, transform_into};
 pub use check::{Fault, Input};
 pub use options::Options;
 pub use page::write::WriteError;
 pub use refusal::Refusal;
 
-/// The version of this crate. The proved library that it is linked with has no version of its own yet: both come from
-/// one commit of the repository.
+/// The version of this crate, which is also that of the proved library that it belongs to: see [`library_version`].
 ///
 /// ```
 /// assert_eq!(jsx_precompile::VERSION.split('.').count(), 3);

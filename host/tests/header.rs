@@ -80,6 +80,10 @@ fn constants() {
     }
     assert!(header.contains(&format!("#define JSX_PRECOMPILE_MIN_SCRATCH {MIN_SCRATCH}\n")));
     assert!(header.contains(&format!("#define JSX_PRECOMPILE_VERSION \"{}\"\n", jsx_precompile::VERSION)));
+    let (major, minor, patch) = jsx_precompile::library_version();
+    assert_eq!(format!("{major}.{minor}.{patch}"), jsx_precompile::VERSION, "the library's own answer");
+    let number = major * 10_000 + minor * 100 + patch;
+    assert!(header.contains(&format!("#define JSX_PRECOMPILE_VERSION_NUMBER {number}\n")));
     for refusal in (1..=13).filter_map(Refusal::from_number) {
         // ScratchTooSmall: SCRATCH_TOO_SMALL
         let name = format!("{refusal:?}").chars().fold(String::new(), |name, letter| {
