@@ -1,6 +1,7 @@
--- Acceptance: a page within the limits gets none of 1 to 8, without an 03 never 9, without a 31 never 10, and is accepted where nothing is
--- too long and the outs are long enough; and nothing but pages is accepted. No transform that turns pages away meets this.
--- Main statements: `answer-late`, `never-early`, `never-tag-left`, `acceptance`, `accepted-is-page`. Assumes nothing.
+-- Acceptance: whatever options are taken, a page within the limits gets none of 1 to 9, without a 31 never 10, and is accepted where nothing
+-- is too long and the outs are long enough; 10 is given only where a 30 would stand in the result; and nothing but pages is accepted. No
+-- transform that turns pages away meets this.
+-- Main statements: `answer-late`, `never-early`, `never-tag-left`, `tag-left-stands`, `acceptance`, `accepted-is-page`. Assumes nothing.
 use Prim.Native.Nat.{ℕ, _≤_}
 use mathlib.Core.Path.{_≡_, refl, sym, ap, _∙_, subst}
 use mathlib.Core.Bool.{Bool, true, false, not}
@@ -23,11 +24,12 @@ use Rattle.page.specs.declared.Verdict.the-variants.{Fine}
 use Rattle.page.proofs.Options.{Given, given-row, GivenOk}
 use Rattle.page.proofs.Exact.{page-read, options-read, within-exactly, options-exactly}
 use Rattle.spec.specs.Pass.{Done}
-use Rattle.spec.specs.Transform.{transform}
+use Rattle.spec.specs.Transform.{stands, page-out-row, transform}
 use Rattle.spec.specs.Answer.{Written, Outcome, refused, accepted, check-outputs, decided, transformed, outcome}
 use Rattle.spec.specs.Acceptance.{has-fragment}
 use Rattle.spec.specs.Late.{written, templates-need, page-need, over-long, Late, tag-left, too-long, templates-small, page-small, taken}
 use Rattle.spec.proofs.PageGood.{page-good}
+use Rattle.spec.proofs.TagLeft.{left-stands}
 use Rattle.spec.proofs.Answers.{Inputs, fine-inputs, accepted-says}
 
 -- ---- what is transformed gets one of the late answers
@@ -98,44 +100,45 @@ module _ {tr pr : ℕ} {o : Options} {d : Done Row} where
   late-taken (page-small l g t p) hl hg ht hp = absurd (omega arith)
   late-taken (taken l g t p) hl hg ht hp = refl
 
--- ---- a page within the limits, with any options that are accepted
+-- ---- a page within the limits, with any options that are taken, the empty ones among them
 
-pub answer-late : (p : Page) → WithinLimits p → (options : Bytes) → length options ≤ 4096 → check-options (read options) ≡ Fine → (scratch : ℕ) → 65536 ≤ scratch → (tr pr : ℕ) →
-    Late tr pr (options-in (read options)) (transform (options-in (read options)) p) (outcome (encode p) options scratch tr pr)
-unfolding outcome decided WithinLimits
-answer-late p h options l f scratch k tr pr =
-    let o : Options = options-in (read options) in
-    let q = page-read p h in
-    let i : Inputs (encode p) options scratch = record { scratch-enough = k; page-short = leb→le (length (encode p)) 32768 (h .1); options-short = l; options-fine = f; page-fine = q .0 } in
-    let e : outcome (encode p) options scratch tr pr ≡ transformed tr pr o (transform o (page-in (read (encode p)))) = ap (λ (v : Verdict). decided v λ _. transformed tr pr o (transform o (page-in (read (encode p))))) (fine-inputs (encode p) options scratch i) in
-    subst (λ (x : Outcome). Late tr pr o (transform o p) x) (sym (e ∙ ap (λ (y : Page). transformed tr pr o (transform o y)) (q .1))) (transformed-late tr pr o (transform o p))
+module _ (p : Page) (h : WithinLimits p) (options : Bytes) (short : length options ≤ 4096) (fine : check-options (read options) ≡ Fine) (scratch : ℕ) (enough : 65536 ≤ scratch) (tr pr : ℕ) where
+  abbrev listed : Options
+  listed = options-in (read options)
 
--- ---- a page and options within the limits
-
-module _ (p : Page) (h : WithinLimits p) (o : Options) (k : OptionsOk o) (scratch : ℕ) (enough : 65536 ≤ scratch) (tr pr : ℕ) where
-  pub late : Late tr pr o (transform o p) (outcome (encode p) (encode-options o) scratch tr pr)
-  unfolding OptionsOk
-  late =
-      let q = options-read o k in
-      subst (λ (y : Options). Late tr pr y (transform y p) (outcome (encode p) (encode-options o) scratch tr pr)) (q .1)
-      (answer-late p h (encode-options o) (leb→le (length (encode-options o)) 4096 (k .4)) (q .0) scratch enough tr pr)
+  pub answer-late : Late tr pr (options-in (read options)) (transform (options-in (read options)) p) (outcome (encode p) options scratch tr pr)
+  unfolding outcome decided WithinLimits
+  answer-late =
+      let q = page-read p h in
+      let i : Inputs (encode p) options scratch = record { scratch-enough = enough; page-short = leb→le (length (encode p)) 32768 (h .1); options-short = short; options-fine = fine; page-fine = q .0 } in
+      let e : outcome (encode p) options scratch tr pr ≡ transformed tr pr listed (transform listed (page-in (read (encode p)))) = ap (λ (v : Verdict). decided v λ _. transformed tr pr listed (transform listed (page-in (read (encode p))))) (fine-inputs (encode p) options scratch i) in
+      subst (λ (x : Outcome). Late tr pr listed (transform listed p) x) (sym (e ∙ ap (λ (y : Page). transformed tr pr listed (transform listed y)) (q .1))) (transformed-late tr pr listed (transform listed p))
 
   -- none of 1 to 8, and never 9
-  pub never-early : (n : Refusal) → outcome (encode p) (encode-options o) scratch tr pr ≡ refused n → 10 ≤ refusal-number n
-  never-early n e = late-over-9 late n e
+  pub never-early : (n : Refusal) → outcome (encode p) options scratch tr pr ≡ refused n → 10 ≤ refusal-number n
+  never-early n e = late-over-9 answer-late n e
 
-  no-tag : has-fragment p ≡ false → T (transform o p .flags .left) → ⊥
+  no-tag : has-fragment p ≡ false → T (transform (options-in (read options)) p .flags .left) → ⊥
   unfolding WithinLimits
-  no-tag e = page-good ⊥ o p (h .0) (λ t. subst T e t) .kept .fragments
+  no-tag e = page-good ⊥ listed p (h .0) (λ t. subst T e t) .kept .fragments
 
   -- without a 31 never 10
-  pub never-tag-left : has-fragment p ≡ false → outcome (encode p) (encode-options o) scratch tr pr ≡ refused R.TagLeft → ⊥
-  never-tag-left n e = no-tag n (late-tag-left late e)
+  pub never-tag-left : has-fragment p ≡ false → outcome (encode p) options scratch tr pr ≡ refused R.TagLeft → ⊥
+  never-tag-left n e = no-tag n (late-tag-left answer-late e)
+
+  -- 10 is given only where a 30 would stand in page out; where one would, 10 is due: `no-element-left` (demand 3)
+  pub tag-left-stands : outcome (encode p) options scratch tr pr ≡ refused R.TagLeft → T (stands 0x30 (page-out-row (options-in (read options)) (transform (options-in (read options)) p)))
+  tag-left-stands e = left-stands listed p (late-tag-left answer-late e)
 
   -- no tag left, nothing over 65,535, the outs long enough: accepted
-  pub acceptance : has-fragment p ≡ false → T (not (over-long o (transform o p))) → templates-need (transform o p) ≤ tr → page-need o (transform o p) ≤ pr →
-      outcome (encode p) (encode-options o) scratch tr pr ≡ accepted (written o (transform o p))
-  acceptance b g t q = late-taken late (no-tag b) g t q
+  pub acceptance : has-fragment p ≡ false → T (not (over-long (options-in (read options)) (transform (options-in (read options)) p))) → templates-need (transform (options-in (read options)) p) ≤ tr → page-need (options-in (read options)) (transform (options-in (read options)) p) ≤ pr →
+      outcome (encode p) options scratch tr pr ≡ accepted (written (options-in (read options)) (transform (options-in (read options)) p))
+  acceptance b g t q = late-taken answer-late (no-tag b) g t q
+
+-- options of the tree, in their own bytes, are such options and are read back
+pub options-taken : (o : Options) → OptionsOk o → (length (encode-options o) ≤ 4096) × (check-options (read (encode-options o)) ≡ Fine) × (options-in (read (encode-options o)) ≡ o)
+unfolding OptionsOk
+options-taken o k = let q = options-read o k in (leb→le (length (encode-options o)) 4096 (k .4), q .0, q .1)
 
 -- ---- and nothing else is accepted
 

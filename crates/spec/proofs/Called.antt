@@ -219,7 +219,7 @@ module _ (p : Test) where
         pass-pure = pure-first;
         pass-both = λ {p = q} {q = r} e g h n. both-first q r e n (g n) (h (n + q n .taken));
         pass-map = λ {p = q} {v} {w} f a k e g. unfold map in λ n. record { ledger = record { count = g n .ledger .count; each = g n .ledger .each }; held = k (q n .value) (recorded p (q n .templates)) v w e (g n .held) };
-        pass-raise = λ f g. unfold raise in λ n. record { ledger = record { count = g n .ledger .count; each = g n .ledger .each }; held = g n .held };
+        pass-raise = λ f l g. unfold raise in λ n. record { ledger = record { count = g n .ledger .count; each = g n .ledger .each }; held = g n .held };
         pass-template = λ ps g n. template-first ps n (g (n + 1));
         visit-done = λ g a. (g 0 .held .weightless, after g a);
         visit-left = unfold leave raise in (refl, λ n. let v = leaf-visited 0x30 refl tt n in record { visited = record { ledger = record { count = v .visited .ledger .count; each = v .visited .ledger .each }; balance = v .visited .balance }; one = v .one });

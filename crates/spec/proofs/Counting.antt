@@ -48,7 +48,7 @@ pub record Counting : Type 1 where
   pub pass-pure : {m : Mid} {w : ℕ} → MidOk 0 m w → PassOk (pure m) w
   pub pass-both : {p q : Pass Mid} {a b w : ℕ} → a + b ≡ w → PassOk p a → PassOk q b → PassOk (both _+++_ p q) w
   pub pass-map : {p : Pass Mid} {v w : ℕ} (f : Mid → Mid) (a : ℕ) → ((m : Mid) (k b c : ℕ) → a + b ≡ c → MidOk k m b → MidOk k (f m) c) → a + v ≡ w → PassOk p v → PassOk (map f p) w
-  pub pass-raise : {p : Pass Mid} {w : ℕ} (f : Flags) → PassOk p w → PassOk (raise f p) w
+  pub pass-raise : {p : Pass Mid} {w : ℕ} (f : Flags) → T (not (f .left)) → PassOk p w → PassOk (raise f p) w
   pub pass-template : (ps : List Part) {w : ℕ} → PassOk (dynamic-exprs ps) w → PassOk (gen-template ps) w
   pub visit-done : {p : Pass Mid} {w : ℕ} → PassOk p w → ((n : ℕ) → Alone (p n .value)) → VisitOk (visit-after p) w
   pub visit-left : VisitOk leave 0
@@ -118,7 +118,7 @@ module _ (C : Counting) where
         pass-pure = pass-pure;
         pass-both = pass-both;
         pass-map = pass-map;
-        pass-raise = λ f l x. pass-raise f x;
+        pass-raise = pass-raise;
         pass-template = λ ps {v} {w} e x. pass-template ps (exprs-ok ps w (exactly (PartsOk ps) e refl x));
         content-none = refl;
         content-text = λ t h x. x;

@@ -468,7 +468,7 @@ module _ (I : Invariant) where
     where
       on : (b : Bool) → ChildrenOk (merge false false [] cs) w →
           FoundOk (choose b (λ _. one-found (passed (raise (long-if (long-run (merge false false [] cs))) (gen-template (children-to-string false (short-runs (merge false false [] cs))))))) λ _. flattened (entries (merge false false [] cs))) (tag + w)
-      on true h = (pass-raise (long-if (long-run (merge false false [] cs))) (λ t. absurd t) (pass-template _ refl (string-ok false _ w (short-ok (merge false false [] cs) w h))), λ n. tt)
+      on true h = (pass-raise (long-if (long-run (merge false false [] cs))) tt (pass-template _ refl (string-ok false _ w (short-ok (merge false false [] cs) w h))), λ n. tt)
       on false h = found-spare (flattened (entries (merge false false [] cs))) tag w _ refl spare-tag (flattened-ok (entries (merge false false [] cs)) w (entries-ok (merge false false [] cs) w h))
 
   to-expr-ok : (cs : List Child) (w : ℕ) → ChildrenOk cs w → FoundOk (children-to-expr cs) (tag + w)

@@ -3,7 +3,7 @@
 use Prim.Native.Nat.{ℕ, _+_, _-_, _≤_}
 use native.Mathlib.Omega.{arith}
 use mathlib.Core.Path.{_≡_, refl, ap}
-use mathlib.Core.Bool.{true, false, _||_}
+use mathlib.Core.Bool.{Bool, true, false, _||_, not}
 use mathlib.Core.List.{List, [], _∷_, _++_}
 use lib.Dec.{T, eqb}
 use Rattle.field.specs.Bytes.{Bytes}
@@ -18,6 +18,11 @@ use Rattle.spec.proofs.Ledger.{neither, is-false, kept-valued}
 use Rattle.spec.proofs.Nested.{Neutral, InTag, neutral-nil, neutral-append, neutral-text, neutral-hole, neutral-void, neutral-element, in-tag-nil, in-tag-append, in-tag-text, in-tag-hole, escape-name}
 use Rattle.spec.proofs.Closure.{OneExpr, still-weaken, still-none, still-node, still-raw, still-append, good-weaken, good-pure, good-both, good-raise, good-template, parts-weaken, parts-append, good-after, good-after-any, good-leave, good-null}
 use Rattle.spec.proofs.Invariant.{Alone, AloneField, Invariant}
+
+-- a flag that is down is not up
+pub never : (b : Bool) → T (not b) → T b → ⊥
+never true l t = l
+never false l t = t
 
 -- what stands alone is one expression
 pub field-node : (m : Mid) → AloneField m → OneNode false m
@@ -204,7 +209,7 @@ module _ (Fragments : Type 0) where
         pass-pure = good-pure Fragments;
         pass-both = λ e g h. good-weaken Fragments (omega (arith, e)) (good-both Fragments g h);
         pass-map = good-map;
-        pass-raise = λ f l g. good-raise Fragments f l g;
+        pass-raise = λ f l g. good-raise Fragments f (λ t. absurd (never (f .left) l t)) g;
         pass-template = λ ps {v} {w} e c. good-weaken Fragments (omega (arith, e)) (good-template Fragments ps (c .pieces) v (c .good) (c .neutral) .good);
         content-none = content-nil 0;
         content-text = content-text;

@@ -96,7 +96,7 @@ pub record Invariant : Type 1 where
   pub pass-pure : {m : Mid} {w : ℕ} → MidOk 0 m w → PassOk (pure m) w
   pub pass-both : {p q : Pass Mid} {a b w : ℕ} → a + b ≡ w → PassOk p a → PassOk q b → PassOk (both _+++_ p q) w
   pub pass-map : {p : Pass Mid} {v w : ℕ} (f : Mid → Mid) (a : ℕ) → ((m : Mid) (k b c : ℕ) → a + b ≡ c → MidOk k m b → MidOk k (f m) c) → a + v ≡ w → PassOk p v → PassOk (map f p) w
-  pub pass-raise : {p : Pass Mid} {w : ℕ} (f : Flags) → (T (f .left) → Left) → PassOk p w → PassOk (raise f p) w
+  pub pass-raise : {p : Pass Mid} {w : ℕ} (f : Flags) → T (not (f .left)) → PassOk p w → PassOk (raise f p) w
   pub pass-template : (ps : List Part) {v w : ℕ} → tag + v ≡ w → Content ps v → PassOk (gen-template ps) w
   -- parts
   pub content-none : Content [] 0

@@ -177,7 +177,7 @@ module _ (literal : Bytes → ℕ) (other : List Bytes → ℕ) where
         pass-pure = λ x. unfold pure in λ n c. x;
         pass-both = λ {p} {q} e g h. unfold both in λ n c. let d = p n in let s = q (n + d .taken) in holds-append e (g n (unflagged-left (d .flags) (s .flags) c)) (h (n + d .taken) (unflagged-right (d .flags) (s .flags) c));
         pass-map = λ {p} {v} {w} f a k e g. unfold map in λ n c. k (p n .value) 0 v w e (g n c);
-        pass-raise = λ {p} f g. unfold raise in λ n c. g n (unflagged-right f (p n .flags) c);
+        pass-raise = λ {p} f l g. unfold raise in λ n c. g n (unflagged-right f (p n .flags) c);
         pass-template = λ ps {w} g. unfold gen-template in λ n c. holds-node w 0 (omega arith) (g (n + 1) c) (none-holds refl);
         visit-done = λ {p} g a. unfold visit-after bind in λ n c. let d = p n in let s = visit-inside (d .value) (n + d .taken) in let v = inside (d .value) (g n (unflagged-left (d .flags) (s .flags) c)) (a n) (n + d .taken) (unflagged-right (d .flags) (s .flags) c) in record { count = v .count; no-pieces = v .no-pieces };
         visit-left = unfold leave raise in λ n c. absurd c;

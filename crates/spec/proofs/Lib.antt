@@ -25,6 +25,7 @@ pub mod RowDemand
 pub mod Answers
 pub mod Lent
 pub mod Export
+pub mod TagLeft
 pub mod Accept
 pub mod Kept
 pub mod KeptCases
