@@ -1,10 +1,10 @@
 -- Acceptance: whatever options are taken, a page within the limits gets none of 1 to 9, without a 31 never 10, and is accepted where nothing
--- is too long and the outs are long enough; 10 is given only where a 30 would stand in the result; and nothing but pages is accepted. No
+-- is too long and the outs are long enough; 10 is given exactly where a 30 or 31 would stand in the result; and nothing but pages is accepted. No
 -- transform that turns pages away meets this.
--- Main statements: `answer-late`, `never-early`, `never-tag-left`, `tag-left-stands`, `acceptance`, `accepted-is-page`. Assumes nothing.
+-- Main statements: `answer-late`, `never-early`, `never-tag-left`, `tag-left-due`, `tag-left-stands`, `acceptance`, `accepted-is-page`. Assumes nothing.
 use Prim.Native.Nat.{ℕ, _≤_}
 use mathlib.Core.Path.{_≡_, refl, sym, ap, _∙_, subst}
-use mathlib.Core.Bool.{Bool, true, false, not}
+use mathlib.Core.Bool.{Bool, true, false, _||_, not}
 use mathlib.Core.List.{List, [], _∷_}
 use native.Mathlib.Omega.{arith}
 use lib.Dec.{T, leb, leb→le, nleb→lt}
@@ -28,6 +28,11 @@ use Rattle.spec.specs.Transform.{stands, page-out-row, transform}
 use Rattle.spec.specs.Answer.{Written, Outcome, refused, accepted, check-outputs, decided, transformed, outcome}
 use Rattle.spec.specs.Acceptance.{has-fragment}
 use Rattle.spec.specs.Late.{written, templates-need, page-need, over-long, Late, tag-left, too-long, templates-small, page-small, taken}
+use Rattle.spec.proofs.Ledger.{or-false}
+use Rattle.spec.proofs.Weight.{page-weight}
+use Rattle.spec.proofs.Closure.{Visited}
+use Rattle.spec.proofs.PageOut.{page-stands}
+use Rattle.spec.proofs.GoodInvariant.{never}
 use Rattle.spec.proofs.PageGood.{page-good}
 use Rattle.spec.proofs.TagLeft.{left-stands}
 use Rattle.spec.proofs.Answers.{Inputs, fine-inputs, accepted-says}
@@ -88,6 +93,14 @@ module _ {tr pr : ℕ} {o : Options} {d : Done Row} where
   late-tag-left (page-small l g t p) e = absurd (let z : _≡_ {A = ℕ} 0 1 = cc in omega arith)
   late-tag-left (taken l g t p) e = not-accepted R.TagLeft (written o d) e
 
+  -- and it is given there
+  late-left : {x : Outcome} → Late tr pr o d x → T (d .flags .left) → x ≡ refused R.TagLeft
+  late-left (tag-left l) h = refl
+  late-left (too-long l g) h = absurd (never (d .flags .left) l h)
+  late-left (templates-small l g t) h = absurd (never (d .flags .left) l h)
+  late-left (page-small l g t p) h = absurd (never (d .flags .left) l h)
+  late-left (taken l g t p) h = absurd (never (d .flags .left) l h)
+
   -- and nothing is left to refuse where none of 10 to 13 has its cause
   late-taken : {x : Outcome} → Late tr pr o d x → (T (d .flags .left) → ⊥) → T (not (over-long o d)) → templates-need d ≤ tr → page-need o d ≤ pr → x ≡ accepted (written o d)
   late-taken (tag-left l) hl hg ht hp = absurd (hl l)
@@ -126,7 +139,22 @@ module _ (p : Page) (h : WithinLimits p) (options : Bytes) (short : length optio
   pub never-tag-left : has-fragment p ≡ false → outcome (encode p) options scratch tr pr ≡ refused R.TagLeft → ⊥
   never-tag-left n e = no-tag n (late-tag-left answer-late e)
 
-  -- 10 is given only where a 30 would stand in page out; where one would, 10 is due: `no-element-left` (demand 3)
+  -- 10 is given exactly where a 30 or a 31 would stand in page out
+  pub tag-left-due : T (stands 0x30 (page-out-row (options-in (read options)) (transform (options-in (read options)) p)) || stands 0x31 (page-out-row (options-in (read options)) (transform (options-in (read options)) p))) →
+      outcome (encode p) options scratch tr pr ≡ refused R.TagLeft
+  unfolding WithinLimits
+  tag-left-due s = late-left answer-late (on (transform listed p .flags .left) (good .no-element) (good .no-fragment))
+    where
+      good : Visited (Unit {0}) (page-weight p) (transform (options-in (read options)) p)
+      good = page-good (Unit {0}) listed p (h .0) (λ t. tt)
+
+      on : (b : Bool) → (T (not b) → stands 0x30 (transform (options-in (read options)) p .value) ≡ false) → (T (not b) → stands 0x31 (transform (options-in (read options)) p .value) ≡ false) → T b
+      on true x y = tt
+      on false x y =
+          let e = page-stands 0x30 refl refl refl listed (transform listed p) ∙ x tt in
+          let f = page-stands 0x31 refl refl refl listed (transform listed p) ∙ y tt in
+          subst T (or-false (stands 0x30 (page-out-row listed (transform listed p))) (stands 0x31 (page-out-row listed (transform listed p))) e f) s
+
   pub tag-left-stands : outcome (encode p) options scratch tr pr ≡ refused R.TagLeft → T (stands 0x30 (page-out-row (options-in (read options)) (transform (options-in (read options)) p)))
   tag-left-stands e = left-stands listed p (late-tag-left answer-late e)
 
