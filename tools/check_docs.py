@@ -6,7 +6,7 @@
 
 What is looked for, in README.md, CONTRIBUTING.md, docs/PROMISES.md and docs/DECISIONS.md (not in blocks of code):
 1. Names. A word in backquotes that could be a name (letters, digits, _ and -) is declared somewhere: as a function, constant, type, field or
-   variant of crates/*/src, in a .antt file, as a crate or an edit, or as an item of the judge or the host. WORDS has those that are words of
+   variant of crates/*/src, in a .antt file, as a crate or an edit, as an item of the judge or the host, or as a program there. WORDS has those that are words of
    pages, of Rust or of commands. The column "Rules out" is wrong answers and is passed over.
 2. Places. Names right before a bracket that opens with a crate, as in `a`, `b` (spec, Answer.antt) or `a` (crates/spec), are declared in that
    crate, and in that file where one is given. Of `a` of `b`, or `a`: `b`, this is so of the first; the others may be of a crate below.
@@ -40,7 +40,7 @@ WORDS = set(
 )
 NAME = re.compile(r"[A-Za-z_][\w′-]*$")
 PLACED = re.compile(r"((?:`[^`\n]+`(?:, | and | or | to | of |: )?)+) \(([^()]*)\)")
-FOLDERS = ("crates", "docs", "examples", "host", "oracle", "tools", ".ci")
+FOLDERS = ("crates", "docs", "examples", "host", "node", "oracle", "tools", ".ci")
 PATH = re.compile(r"(?<![\w./-])((?:%s)/[\w.*/+-]*)" % "|".join(re.escape(f) for f in FOLDERS))
 BARE = re.compile(r"(?<![\w./*-])([A-Za-z_]\w*\.(?:antt|rt|rs|py|md|sh))\b")
 UNITS = "one two three four five six seven eight nine".split()

@@ -94,6 +94,10 @@ class Tree:
                     text = self.read(path)
                     for word in RUST.findall(text) + VARIABLE.findall(text):
                         self.declared[word].add(path)
+                elif name == "Cargo.toml":
+                    # the package and its programs
+                    for word in re.findall(r'^name = "([^"]+)"', self.read(path), flags=re.M):
+                        self.declared[word].add(path)
                 elif name.endswith(".edit"):
                     self._edit(crate, path, name[: -len(".edit")])
 
