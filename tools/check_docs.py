@@ -5,11 +5,11 @@
     tools/check_docs.py --self-test  plants each kind of mistake in a copy of the tree and fails if one is not found
 
 What is looked for, in README.md, CONTRIBUTING.md, docs/PROMISES.md and docs/DECISIONS.md (not in blocks of code):
-1. Names. A word in backquotes that could be a name (letters, digits, _ and -) is declared somewhere: as a function, constant, type, field or
-   variant of crates/*/src, in a .antt file, as a crate or an edit, as an item of the judge or the host, or as a program there. WORDS has those that are words of
-   pages, of Rust or of commands. The column "Rules out" is wrong answers and is passed over.
-2. Places. Names right before a bracket that opens with a crate, as in `a`, `b` (spec, Answer.antt) or `a` (crates/spec), are declared in that
-   crate, and in that file where one is given. Of `a` of `b`, or `a`: `b`, this is so of the first; the others may be of a crate below.
+1. Names. A word in backquotes that could be a name (letters, digits, _ and -) is declared somewhere: as a function, constant, type,
+   field or variant of crates/*/src, in a .antt file, as a crate or an edit, as an item of the judge or the host, or as a program there.
+   WORDS has those that are words of pages, of Rust or of commands. The column "Rules out" is wrong answers and is passed over.
+2. Places. Names right before a bracket that opens with a crate, as in `a`, `b` (spec, Answer.antt) or `a` (crates/spec), are declared in
+   that crate, and in that file where one is given. Of `a` of `b`, or `a`: `b`, this is so of the first; the others may be of a crate below.
 3. Files. A path that begins with a folder of the repository exists; a bare .antt, .rt, .rs, .py, .md or .sh name is some file's.
 4. Functions. In a crate's section of "The contracts" a row's functions are that crate's, none has two rows, every `pub fn` of a library has
    one. The names in "Definition" are of the crate or of one below; where there are any, one is in the contract of a function of the row.
@@ -270,7 +270,7 @@ PLANTED = [
     ("docs/PROMISES.md", "| `absent_tag` |", "| - |", "not named in docs/PROMISES.md, section field"),
     ("docs/PROMISES.md", "| `absent_tag` |", "| `body_behind` |", "not as tools/promises.py makes it"),
     ("crates/field/src/reader.rt", "Header::Absent => 256,", "Header::Absent => 0 + 256,", "its old: stands 0 times"),
-    ("docs/PROMISES.md", "| `number_one_higher_defined` | `in-range` |", "| `number_one_higher_defined` | `number-in` |", "`number_one_higher_defined` changes `in-range`"),
+    ("docs/PROMISES.md", "_higher_defined` | `in-range` |", "_higher_defined` | `number-in` |", "`number_one_higher_defined` changes `in-range`"),
     ("README.md", "| `utf8` |", "| `text` |", "crates.txt has utf8 here, not text"),
     ("docs/PROMISES.md", r"The last \w+ are used", "The last one are used", "are used within the crate only, not one"),
 ]

@@ -5,8 +5,8 @@
     tools/promises.py --check    says what it would write, and fails if that is anything
 
 Under "The contracts" each crate has a section. Made from the tree there are
-- the column Edit of a table of functions: the must-fail edits that change a row's function, or an item of its crate without a row of its own
-  that the function's code names, directly or through other such items;
+- the column Edit of a table of functions: the must-fail edits that change a row's function, or an item of its crate without a row of its
+  own that the function's code names, directly or through other such items;
 - the line "Edits of definitions", where no table with the column "Refused by" has them;
 - the line "Besides", with the functions that have no row, each with the definitions that its contract names.
 The columns Definition, Rules out and Refused by are written by hand; tools/check_docs.py holds them to the tree where it can.

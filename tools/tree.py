@@ -42,7 +42,7 @@ class Item:
 
 @dataclass
 class Edit:
-    """A must-fail edit: the file that it changes and the places, by line, of its `old:` texts there; `wrong` says why rt would not take it."""
+    """A must-fail edit: the file that it changes and the lines of its `old:` texts there; `wrong` says why rt would not take it."""
 
     crate: str
     name: str
@@ -165,8 +165,8 @@ class Tree:
         return [i for i in self.items[crate] if i.kind == "fn"]
 
     def definitions(self, function):
-        """The names in a function's contract that its file takes from a crate's specs/, in order: by name (`ghost use … .{a, b}`), through
-        a module that has another name there (`ghost use … as M`, `M.a`), or as a field of a record (`.a`)."""
+        """The names in a function's contract that its file takes from a crate's specs/, in order: by name (`ghost use … .{a, b}`),
+        through a module that has another name there (`ghost use … as M`, `M.a`), or as a field of a record (`.a`)."""
         text = self.read(function.path)
         taken, modules = set(), set()
         for names in re.findall(r"^ghost use Rattle·[^;{]*specs\.[^;{]*\{([^}]*)\};", text, flags=re.M):
@@ -215,7 +215,7 @@ class Tree:
         return names
 
     def uses(self, item):
-        """The other items that an item's code names: functions of its crate by a call, public items of the crate, and all of its own file."""
+        """The other items that an item's code names: functions of its crate by a call, its public items, and all of its own file."""
         code = re.split(r"^\{$", item.text, maxsplit=1, flags=re.M)[-1]
         calls, words = set(re.findall(r"(\w+)\(", code)), set(re.findall(r"\w+", code))
         seen = [i for i in self.items[item.crate] if i.path == item.path or i.public or i.kind == "fn"]
