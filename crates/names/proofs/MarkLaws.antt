@@ -1,5 +1,5 @@
 -- The attributes' table: what a mark says of its name is what the name becomes, and a name without one goes to small letters.
--- Main statements: `mark-says`, `mark-none`, `mark-other`.
+-- Main statements: `mark-says`, `mark-none`, `mark-other`, `mark-hyphen`.
 -- Assumes nothing.
 use mathlib.Core.Path.{_≡_, refl, sym, ap, ap₂, _∙_}
 use mathlib.Core.Bool.{Bool, true, false, not, false≢true}
@@ -52,3 +52,7 @@ mark-says t s k n a e c b p q =
 pub mark-other : (m : ℕ) (n : Bytes) → (m ≡ 61 → ⊥) → (m ≡ 99 → ⊥) → (m ≡ 102 → ⊥) → (m ≡ 104 → ⊥) → (m ≡ 112 → ⊥) → by-mark m n ≡ spelled m n
 unfolding by-mark
 mark-other m n a b c d e = rw (ne-eqb m 61 a, ne-eqb m 99 b, ne-eqb m 102 c, ne-eqb m 104 d, ne-eqb m 112 e)
+
+pub mark-hyphen : (m : ℕ) (n : Bytes) → m ≡ 45 → spelled 45 n ≡ by-mark m n
+unfolding by-mark
+mark-hyphen m n e = rw e

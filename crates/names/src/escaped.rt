@@ -8,6 +8,7 @@ ghost use Rattle.names.specs.Names.{small-letters, normalize-dom-attr-na
 use crate::attributes::is_plain;
 use crate::attributes::is_xlink_href;
 use crate::attributes::put_marked;
+use crate::attributes::put_spelled;
 use crate::compare::letter;
 use crate::compare::same_bytes;
 use crate::listed::find_mark;
@@ -47,6 +48,9 @@ pub fn put_attr_name(out: &mut [u8], at: usize, name: &[u8]) -> usize
         return put_small_escaped(out, at, name);
     }
     let mark = find_mark(name);
+    if mark == b'-' {
+        return put_spelled(out, at, name, b'-');
+    }
     put_marked(out, at, name, mark)
 }
 

@@ -1,9 +1,10 @@
--- `put_attr_name` meets its contract: className, plain names, names with a sign, and all others by the table.
+-- `put_attr_name` meets its contract: className, plain names, names with a sign, and all others by the table, the hyphenated first.
 use borrow.Author.Needs.{needs}
 use mathlib.Core.Path.{sym, ap, _∙_}
 use borrow.Author.Tests.{not-true, not-false}
 use Rattle.field.proofs.PutLaws.{wrote-is}
 use Rattle.text.specs.Escape.{escape-byte, escape-html}
+use Rattle.names.proofs.MarkLaws.{mark-hyphen}
 use Rattle.names.proofs.NormalizeLaws.{normalize-class-name, normalize-plain}
 use Rattle.names.proofs.EscapedLaws.{plain-escaped, signs-unlisted, escaped-normalize}
 use Rattle.names.proofs.escaped.put_attr_name.Statement.{statement}
@@ -64,18 +65,37 @@ returns-3 c =
 find-mark-requires : tie.Need-find-mark-requires
 find-mark-requires c κs = search needs
 
-put-marked-requires : tie.Need-put-marked-requires
-put-marked-requires c κs =
-    let h = sym (c .before .before .before .is-escaped .ensures) ∙ not-false (c .before .before .before .is-escaped .result) (c .before .before .if3 .left) in
-    rw (c .before .find-mark .ensures) (rw (escaped-normalize (c .before .before .before .before .before .before .before .before .before .before .before .args .name .now) h) at (c .before .before .before .before .before .before .before .before .before .before .before .pre))
+-- a hyphenated name
+put-spelled-requires : tie.Need-put-spelled-requires
+put-spelled-requires c κs =
+    let f = c .before .before .before .before .before .before .before .before .before .before .before .before in
+    let m = c .before .before .find-mark in
+    let h = sym (c .before .before .before .before .is-escaped .ensures) ∙ not-false (c .before .before .before .before .is-escaped .result) (c .before .before .before .if3 .left) in
+    rw (mark-hyphen (m .result) (f .args .name .now) (c .before .if4 .taken), m .ensures) (rw (escaped-normalize (f .args .name .now) h) at (f .pre))
 
 same-length-4 : tie.Need-same-length-4
 same-length-4 c = search needs
 
 returns-4 : tie.Need-returns-4
 returns-4 c =
-    let h = sym (c .before .before .before .before .before .before .is-escaped .ensures) ∙ not-false (c .before .before .before .before .before .before .is-escaped .result) (c .before .before .before .before .before .if3 .left) in
-    wrote-is (c .before .before .before .before .find-mark .ensures ∙ sym (escaped-normalize (c .before .before .before .before .before .before .before .before .before .before .before .before .before .before .args .name .now) h)) (c .before .before .put-marked .ensures)
+    let n = c .before .before .before .before .before .before .before .before .before .before .before .before .before .before .before .args .name .now in
+    let m = c .before .before .before .before .before .find-mark in
+    let h = sym (c .before .before .before .before .before .before .before .is-escaped .ensures) ∙ not-false (c .before .before .before .before .before .before .before .is-escaped .result) (c .before .before .before .before .before .before .if3 .left) in
+    wrote-is (mark-hyphen (m .result) n (c .before .before .before .before .if4 .taken) ∙ m .ensures ∙ sym (escaped-normalize n h)) (c .before .before .put-spelled .ensures)
+
+put-marked-requires : tie.Need-put-marked-requires
+put-marked-requires c κs =
+    let f = c .before .before .before .before .before .before .before .before .before .before .before .before in
+    let h = sym (c .before .before .before .before .is-escaped .ensures) ∙ not-false (c .before .before .before .before .is-escaped .result) (c .before .before .before .if3 .left) in
+    rw (c .before .before .find-mark .ensures) (rw (escaped-normalize (f .args .name .now) h) at (f .pre))
+
+same-length-5 : tie.Need-same-length-5
+same-length-5 c = search needs
+
+returns-5 : tie.Need-returns-5
+returns-5 c =
+    let h = sym (c .before .before .before .before .before .before .before .is-escaped .ensures) ∙ not-false (c .before .before .before .before .before .before .before .is-escaped .result) (c .before .before .before .before .before .before .if3 .left) in
+    wrote-is (c .before .before .before .before .before .find-mark .ensures ∙ sym (escaped-normalize (c .before .before .before .before .before .before .before .before .before .before .before .before .before .before .before .args .name .now) h)) (c .before .before .put-marked .ensures)
 
 pub put-attr-name-spec : {M : Type 1} → statement M
 put-attr-name-spec =
@@ -96,6 +116,9 @@ put-attr-name-spec =
     same-length-3
     returns-3
     find-mark-requires
-    put-marked-requires
+    put-spelled-requires
     same-length-4
-    returns-4)
+    returns-4
+    put-marked-requires
+    same-length-5
+    returns-5)
