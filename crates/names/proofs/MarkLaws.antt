@@ -1,9 +1,9 @@
 -- The attributes' table: what a mark says of its name is what the name becomes, and a name without one goes to small letters.
--- Main statements: `mark-says`, `mark-none`, `mark-other`, `mark-hyphen`.
+-- Main statements: `mark-says`, `mark-found`, `mark-none`, `mark-other`, `mark-hyphen`.
 -- Assumes nothing.
 use mathlib.Core.Path.{_≡_, refl, sym, ap, ap₂, _∙_}
 use mathlib.Core.Bool.{Bool, true, false, not, false≢true}
-use mathlib.Core.Logic.{⊎-elim}
+use mathlib.Core.Logic.{_⊎_, ⊎-elim}
 use mathlib.Core.List.{List, [], _∷_, _++_}
 use Prim.Native.Nat.{ℕ, _+_, _<_}
 use lib.ListN.{length}
@@ -46,6 +46,10 @@ mark-says t s k n a e c b p q =
     (λ z. rw z (unlisted-none n (refuted (listed n) (λ h. false≢true (sym (ap not (eq-eqb x 0 z)) ∙ normalize-listed (λ w v. has t s w) q n h)))))
     (λ y. same-eq (by-mark x n) (normalize-dom-attr-name n) y)
     (table-mark (λ w y. same (by-mark y w) (normalize-dom-attr-name w)) t s k p n (rw e b))
+
+-- what passes at each entry holds of a name that was found
+pub mark-found : (f : Bytes → Bool) (t : Bytes) (s : List ℕ) (k : ℕ) (n : Bytes) {r : Bytes} {m l : ℕ} → m ≡ mark-in r n → length n ≡ l → r ≡ row-of t s l → l < k → all-entries (λ w m. f w) t s k ≡ true → (m ≡ 0) ⊎ (f n ≡ true)
+mark-found f t s k n a e c b p = rw (mark-at t s n a e c) (table-mark (λ w y. f w) t s k p n (rw e b))
 
 -- ---- what each mark says
 

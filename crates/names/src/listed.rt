@@ -1,5 +1,9 @@
 // The 150 attribute names that do not simply go to small letters, as they are written.
 ghost use mathlib.Core.Path.{_≡_};
+ghost use mathlib.Core.Bool.{true};
+ghost use mathlib.Core.Logic.{_⊎_};
+ghost use Rattle.field.specs.Bytes.{same};
+ghost use Rattle.text.specs.Escape.{escape-html};
 ghost use Rattle.names.specs.Names.{normalize-dom-attr-name};
 ghost use Rattle.names.specs.Table.{by-mark};
 use crate::table::find_in;
@@ -103,10 +107,11 @@ const FIRSTS: [u32; 27] = [
     0x80,
 ];
 
-// What the table says of a name, or 0 where it does not have it. Each arm has its own copy of a row, and no place of the whole table is
-// worked out: so LLVM lays only the bytes of that row on the stack, and none of a row with one name.
-pub fn find_mark(name: &[u8]) -> u8
-    ensures { λ r. ⌜ by-mark r (now (name .entry)) ≡ normalize-dom-attr-name (now (name .entry)) ⌝ }
+// What the table says of a name, or 0 where it does not have it; no name of the table has a sign that is escaped. Each arm has its own
+// copy of a row, and no place of the whole table is worked out: so LLVM lays only the bytes of that row on the stack, and none of a row
+// with one name.
+pub fn find_listed(name: &[u8]) -> u8
+    ensures { λ r. ⌜ (by-mark r (now (name .entry)) ≡ normalize-dom-attr-name (now (name .entry))) × ((r ≡ 0) ⊎ (same (now (name .entry)) (escape-html (now (name .entry))) ≡ true)) ⌝ }
 {
     if !fits(&FIRSTS, name) {
         return 0;
@@ -135,4 +140,11 @@ pub fn find_mark(name: &[u8]) -> u8
         26 => find_in(&{ names.of_26 }, name, false),
         _ => 0,
     }
+}
+
+// The same, where nothing is escaped.
+pub fn find_mark(name: &[u8]) -> u8
+    ensures { λ r. ⌜ by-mark r (now (name .entry)) ≡ normalize-dom-attr-name (now (name .entry)) ⌝ }
+{
+    find_listed(name)
 }
