@@ -1,8 +1,8 @@
 //! No constant of the built library holds one of the 76 hyphenated names (02, A5). Its bytes are searched for each, and so are the
 //! programs over it. Rattle has no statics: a constant is laid on the stack where it is used, so that a name can stand in the bytes
 //! - whole;
-//! - in pieces: constants of sixteen bytes, in an order of the linker's own, and behind them stores of immediate bytes, eight, four,
-//!   two and one;
+//! - in pieces: constants of sixteen bytes, in an order of the linker's own, and then stores of immediate bytes, eight, four, two and
+//!   one;
 //! - letter by letter, each the immediate byte of a comparison.
 //!
 //! What shows that nothing is overlooked: the same search finds the 76 names as they are written.
@@ -41,28 +41,26 @@ fn number(bytes: &[u8], at: usize, width: usize) -> usize {
     (0..width).rev().fold(0, |n, i| n * 256 + usize::from(bytes[at + i]))
 }
 
-/// The ELF files of an archive, or the one that the file is.
-fn elf_files(bytes: &[u8]) -> Vec<Range<usize>> {
+/// Where the ELF files of an archive begin, or the one that the file is.
+fn elf_files(bytes: &[u8]) -> Vec<usize> {
     if !bytes.starts_with(b"!<arch>\n") {
-        return vec![0..bytes.len()];
+        return vec![0];
     }
     let mut files = vec![];
     let mut at = 8;
-    while at + 60 <= bytes.len() {
-        let size =
-            std::str::from_utf8(&bytes[at + 48..at + 58]).expect("digits").trim().parse::<usize>().expect("a size");
-        files.push(at + 60..at + 60 + size);
+    while let Some(header) = bytes.get(at..at + 60) {
+        files.push(at + 60);
+        let size = std::str::from_utf8(&header[48..58]).expect("digits").trim().parse::<usize>().expect("a size");
         at += 60 + size.next_multiple_of(2);
     }
-    files.retain(|file| bytes[file.clone()].starts_with(b"\x7fELF"));
+    files.retain(|file| bytes[*file..].starts_with(b"\x7fELF"));
     files
 }
 
 impl Binary {
     fn new(bytes: Vec<u8>) -> Self {
         let (mut data, mut code) = (vec![], vec![]);
-        for file in elf_files(&bytes) {
-            let from = file.start;
+        for from in elf_files(&bytes) {
             let (table, width, count) =
                 (number(&bytes, from + 40, 8), number(&bytes, from + 58, 2), number(&bytes, from + 60, 2));
             for header in (0..count).map(|i| from + table + i * width) {
@@ -76,7 +74,9 @@ impl Binary {
                 }
             }
         }
-        let stores = code.iter().flat_map(|part| part.clone().filter_map(|at| store_at(&bytes, at))).collect();
+        let found = code.iter().flat_map(|part| part.clone().filter_map(|at| store_at(&bytes, at)));
+        let mut stores: Vec<_> = found.collect();
+        stores.sort_by_key(|store| store.start);
         Self { bytes, data, code, stores }
     }
 

@@ -28,13 +28,15 @@ pub struct AttributeNames {
 /// Read from the source by the comments that part its lists; nothing where the source is not there.
 pub fn attribute_names() -> AttributeNames {
     let body = body_of("normalize_dom_attr_name");
-    let between = |from: &str, to: &str| body.split_once(from).map_or("", |(_, rest)| rest.split(to).next().unwrap_or(""));
-    let quoted = |part: &'static str| part.split('"').skip(1).step_by(2).collect();
+    let behind = |comment: &str| -> Vec<&'static str> {
+        let list = body.split_once(comment).map_or("", |(_, rest)| rest.split("=>").next().unwrap_or(""));
+        list.split('"').skip(1).step_by(2).collect()
+    };
     let singled = body.lines().filter_map(|line| line.trim().strip_prefix('"')?.split_once("\" => "));
     AttributeNames {
         singled: singled.map(|(name, to)| (name, to.split('"').nth(1).unwrap_or(name))).collect(),
-        hyphenated: quoted(between("// Attributes that are kebab-cased", "=>")),
-        kept: quoted(between("// Attributes that are camelCased", "=>")),
+        hyphenated: behind("// Attributes that are kebab-cased"),
+        kept: behind("// Attributes that are camelCased"),
     }
 }
 
