@@ -100,7 +100,7 @@ impl Binary {
     }
 
     fn ends_piece(&self, front: &[u8]) -> bool {
-        front.len() < PIECE && self.pieces().any(|piece| piece.ends_with(front))
+        front.len() <= PIECE && self.pieces().any(|piece| piece.ends_with(front))
     }
 
     /// What begins a piece or a store: the rest of a word.
@@ -232,7 +232,7 @@ fn planted_names_are_found() {
         };
         assert_eq!(put(&[(data.start + 5, word)]), Some(Way::Whole), "{spelling}");
         // cut over two or three pieces that do not follow each other
-        for k in (1..word.len().min(PIECE)).filter(|k| word.len() - k <= 2 * PIECE) {
+        for k in (1..word.len().min(PIECE + 1)).filter(|k| word.len() - k <= 2 * PIECE) {
             let (front, rest) = word.split_at(k);
             let (second, third) = rest.split_at(rest.len().min(PIECE));
             let end = data.start + 4 * PIECE;
