@@ -1,11 +1,11 @@
 //! The text rules of 01, written again from its words alone, against the Rust on random texts.
 
 use oracle::field::read;
-use oracle::generate::names::listed_in;
+use oracle::generate::names::{AttributeNames, attribute_names, listed_in};
 use oracle::generate::rng::Rng;
 use oracle::generate::texts::{self, WHITE_SPACE};
 use oracle::make::*;
-use oracle::{SOURCE, outcome, private};
+use oracle::{outcome, private};
 
 const TEXTS: u64 = 200_000;
 
@@ -223,32 +223,17 @@ fn numbers_in_decimal_digits() {
     }
 }
 
-/// The names between two places of `normalize_dom_attr_name`.
-fn names_between(from: &str, to: &str) -> Vec<&'static str> {
-    let start = SOURCE.find("fn normalize_dom_attr_name").unwrap();
-    let body = &SOURCE[start..start + SOURCE[start..].find("\n}").unwrap()];
-    let body = &body[body.find(from).unwrap()..];
-    body[..body.find(to).unwrap()].split('"').skip(1).step_by(2).collect()
-}
-
 #[test]
 #[cfg_attr(not(jsx_source), ignore = "jsx_precompile.rs is not there")]
 fn counts_of_names() {
-    let singled: Vec<(&str, &str)> = SOURCE.lines().filter_map(|line| line.trim().split_once("\" => ")).collect();
-    let hyphenated = names_between("// Attributes that are kebab-cased", "=>");
-    let kept = names_between("// Attributes that are camelCased", "=>");
+    let AttributeNames { singled, hyphenated, kept } = attribute_names();
     let void = listed_in("is_void_element");
     let boolean = listed_in("is_boolean_attr");
-    let singled: Vec<(&str, &str)> = singled.into_iter().filter(|(_, to)| to.ends_with(".to_string(),")).collect();
-    // The last of the 59 stands on a line of the same look.
-    let singled: Vec<(&str, &str)> = singled.into_iter().filter(|(name, _)| !name.starts_with('|')).collect();
     assert_eq!((singled.len(), hyphenated.len(), kept.len()), (15, 76, 59));
     assert_eq!((void.len(), boolean.len()), (14, 24));
 
     for (name, to) in &singled {
-        let name = name.trim_start_matches('"');
-        let to = to.split('"').nth(1).unwrap_or(name);
-        assert_eq!(private::normalize_dom_attr_name(name), to);
+        assert_eq!(private::normalize_dom_attr_name(name), *to);
     }
     for name in &hyphenated {
         let hyphens: String = name

@@ -1,8 +1,8 @@
 -- Laws of a name copied letter by letter, and of a name that is copied as it stands.
--- Main statements: `spelled-next`, `spelled-bound`, `plain-on`, `plain-off`.
+-- Main statements: `spelled-next`, `spelled-bound`, `spelled-least`, `spelled-most`, `plain-on`, `plain-off`.
 -- Assumes nothing.
 use mathlib.Core.Path.{_≡_, refl, sym, ap, _∙_}
-use mathlib.Core.Bool.{true, false, _&&_, _||_, or-true}
+use mathlib.Core.Bool.{Bool, true, false, _&&_, _||_, or-true}
 use mathlib.Core.Logic.{_⊎_, ⊎-elim}
 use mathlib.Core.List.{[], _∷_, _++_, append-nil, append-assoc}
 use Prim.Native.Nat.{ℕ, suc, _+_, _≤_, _<_}
@@ -12,7 +12,8 @@ use lib.Dec.{leb, eqb}
 use lib.ListN.{length, getD, take, drop, length-append, take-append-drop}
 use lib.Seq.{take-suc, drop-cons, drop-length}
 use borrow.Author.Tests.{eq-eqb, ne-eqb, le-leb, lt-leb}
-use Rattle.field.specs.Bytes.{Bytes}
+use Rattle.field.specs.Bytes.{Bytes, pick}
+use Rattle.names.specs.Names.{capital}
 use Rattle.names.specs.Table.{spelled-letter, spelled, plain-name}
 use Rattle.names.proofs.CompareLaws.{capital-below, capital-above, capital-within}
 
@@ -56,6 +57,26 @@ spelled-bound s n i =
     let f = ap length (spelled-append s (take i n) (drop i n)) in
     let g = length-append (spelled s (take i n)) (spelled s (drop i n)) in
     omega (arith, e, f, g)
+
+-- a letter becomes one byte or two
+letter-bounds : (s c : ℕ) → (1 ≤ length (spelled-letter s c)) × (length (spelled-letter s c) ≤ 2)
+unfolding spelled-letter
+letter-bounds s c = on (capital c) (eqb s 0)
+  where
+    on : (b d : Bool) → (1 ≤ length (pick b (pick d ((c + 32) ∷ []) (s ∷ (c + 32) ∷ [])) (c ∷ []))) × (length (pick b (pick d ((c + 32) ∷ []) (s ∷ (c + 32) ∷ [])) (c ∷ [])) ≤ 2)
+    on true true = (omega arith, omega arith)
+    on true false = (omega arith, omega arith)
+    on false d = (omega arith, omega arith)
+
+pub spelled-least : (s : ℕ) (n : Bytes) → length n ≤ length (spelled s n)
+unfolding spelled
+spelled-least s [] = omega arith
+spelled-least s (c ∷ cs) = omega (arith, letter-bounds s c .0, spelled-least s cs, length-append (spelled-letter s c) (spelled s cs))
+
+pub spelled-most : (s : ℕ) (n : Bytes) → length (spelled s n) ≤ length n + length n
+unfolding spelled
+spelled-most s [] = omega arith
+spelled-most s (c ∷ cs) = omega (arith, letter-bounds s c .1, spelled-most s cs, length-append (spelled-letter s c) (spelled s cs))
 
 -- ---- a plain name
 

@@ -1,6 +1,6 @@
 // What an attribute's name becomes. The hyphens are worked out while the name is copied, and nowhere is a normalised name held.
 ghost use mathlib.Core.Path.{_≡_};
-ghost use Prim.Native.Nat.{_+_, _<_, _^_};
+ghost use Prim.Native.Nat.{_+_, _≤_, _<_, _^_};
 ghost use mathlib.Core.Bool.{_&&_};
 ghost use mathlib.Core.List.{_∷_, _++_};
 ghost use lib.ListN.{length};
@@ -54,11 +54,38 @@ fn put_letter(out: &mut [u8], at: usize, c: u8, sep: u8) -> usize
     put_byte(out, a, c + 32)
 }
 
-fn put_spelled(out: &mut [u8], at: usize, name: &[u8], sep: u8) -> usize
+// With room for a sign before each letter. Most letters are small, and are copied as they stand.
+fn put_within(out: &mut [u8], at: usize, name: &[u8], sep: u8) -> usize
+    requires { ⌜ (at + (length (now name) + length (now name)) ≤ length (now out)) × (at + length (spelled sep (now name)) < 2 ^ 63) ⌝ }
+    ensures { λ r. ⌜ Wrote (now (out .entry)) at (spelled sep (now (name .entry))) (now (out .exit)) r ⌝ }
+{
+    let n = name.len();
+    let mut a = at;
+    let mut i: usize = 0;
+    while i < n {
+        let c = name[i];
+        if c > b'Z' {
+            out[a] = c;
+            a += 1;
+            i += 1;
+            continue;
+        }
+        let b = put_letter(out, a, c, sep);
+        a = b;
+        i += 1;
+    }
+    a
+}
+
+// Room is tested once, where there is plenty.
+pub fn put_spelled(out: &mut [u8], at: usize, name: &[u8], sep: u8) -> usize
     requires { ⌜ at + length (spelled sep (now name)) < 2 ^ 63 ⌝ }
     ensures { λ r. ⌜ Wrote (now (out .entry)) at (spelled sep (now (name .entry))) (now (out .exit)) r ⌝ }
 {
     let n = name.len();
+    if at + (n + n) <= out.len() {
+        return put_within(out, at, name, sep);
+    }
     let mut a = at;
     let mut i: usize = 0;
     while i < n {
@@ -83,7 +110,7 @@ pub fn put_marked(out: &mut [u8], at: usize, name: &[u8], mark: u8) -> usize
     }
 }
 
-// className is asked for by itself: it is the one name of the table that pages are full of, and a search lays the table on the stack.
+// className is asked for by itself: it is the one name of the table that pages are full of. Hyphenated names are most of the others.
 pub fn normalize_dom_attr_name(out: &mut [u8], at: usize, name: &[u8]) -> usize
     requires { ⌜ at + length (normalize-dom-attr-name (now name)) < 2 ^ 63 ⌝ }
     ensures { λ r. ⌜ Wrote (now (out .entry)) at (normalize-dom-attr-name (now (name .entry))) (now (out .exit)) r ⌝ }
@@ -95,6 +122,9 @@ pub fn normalize_dom_attr_name(out: &mut [u8], at: usize, name: &[u8]) -> usize
         return put_bytes(out, at, name);
     }
     let mark = find_mark(name);
+    if mark == b'-' {
+        return put_spelled(out, at, name, b'-');
+    }
     put_marked(out, at, name, mark)
 }
 

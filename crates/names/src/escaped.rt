@@ -8,9 +8,10 @@ ghost use Rattle.names.specs.Names.{small-letters, normalize-dom-attr-na
 use crate::attributes::is_plain;
 use crate::attributes::is_xlink_href;
 use crate::attributes::put_marked;
+use crate::attributes::put_spelled;
 use crate::compare::letter;
 use crate::compare::same_bytes;
-use crate::listed::find_mark;
+use crate::listed::find_listed;
 use field::writer::put_byte;
 use field::writer::put_bytes;
 use text::escape::is_escaped;
@@ -43,10 +44,13 @@ pub fn put_attr_name(out: &mut [u8], at: usize, name: &[u8]) -> usize
     if is_plain(name) {
         return put_bytes(out, at, name);
     }
+    let mark = find_listed(name);
+    if mark == b'-' {
+        return put_spelled(out, at, name, b'-');
+    }
     if !is_escaped(name) {
         return put_small_escaped(out, at, name);
     }
-    let mark = find_mark(name);
     put_marked(out, at, name, mark)
 }
 

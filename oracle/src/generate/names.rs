@@ -4,13 +4,40 @@ use super::rng::Rng;
 use crate::SOURCE;
 use std::sync::LazyLock;
 
+fn body_of(function: &str) -> &'static str {
+    let Some(start) = SOURCE.find(&format!("\nfn {function}(")) else { return "" };
+    SOURCE[start..].split("\n}").next().unwrap_or("")
+}
+
 /// Every string in the body of a function of the source, in its order.
 pub fn listed_in(function: &str) -> Vec<&'static str> {
-    let Some(start) = SOURCE.find(&format!("\nfn {function}(")) else { return vec![] };
-    let body = &SOURCE[start..];
-    let body = &body[..body.find("\n}").unwrap_or(body.len())];
-    let code = body.lines().map(|line| line.split("//").next().unwrap_or(""));
+    let code = body_of(function).lines().map(|line| line.split("//").next().unwrap_or(""));
     code.flat_map(|line| line.split('"').skip(1).step_by(2)).filter(|name| !name.is_empty()).collect()
+}
+
+/// The names of `normalize_dom_attr_name`, in its order.
+pub struct AttributeNames {
+    /// Singled out, and what each becomes.
+    pub singled: Vec<(&'static str, &'static str)>,
+    /// Those that become hyphenated, as they are written.
+    pub hyphenated: Vec<&'static str>,
+    /// Those that stay as they are.
+    pub kept: Vec<&'static str>,
+}
+
+/// Read from the source by the comments that part its lists; nothing where the source is not there.
+pub fn attribute_names() -> AttributeNames {
+    let body = body_of("normalize_dom_attr_name");
+    let behind = |comment: &str| -> Vec<&'static str> {
+        let list = body.split_once(comment).map_or("", |(_, rest)| rest.split("=>").next().unwrap_or(""));
+        list.split('"').skip(1).step_by(2).collect()
+    };
+    let singled = body.lines().filter_map(|line| line.trim().strip_prefix('"')?.split_once("\" => "));
+    AttributeNames {
+        singled: singled.map(|(name, to)| (name, to.split('"').nth(1).unwrap_or(name))).collect(),
+        hyphenated: behind("// Attributes that are kebab-cased"),
+        kept: behind("// Attributes that are camelCased"),
+    }
 }
 
 struct Listed {

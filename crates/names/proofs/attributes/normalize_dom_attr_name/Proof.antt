@@ -1,7 +1,8 @@
--- `normalize_dom_attr_name` meets its contract: className, plain names, and all others by the table.
+-- `normalize_dom_attr_name` meets its contract: className, plain names, and all others by the table, the hyphenated first.
 use borrow.Author.Needs.{needs}
 use mathlib.Core.Path.{sym, _∙_}
 use Rattle.field.proofs.PutLaws.{wrote-is}
+use Rattle.names.proofs.MarkLaws.{mark-hyphen}
 use Rattle.names.proofs.NormalizeLaws.{normalize-class-name, normalize-plain}
 use Rattle.names.proofs.attributes.normalize_dom_attr_name.Statement.{statement}
 use Rattle.names.proofs.attributes.normalize_dom_attr_name.Tie as tie
@@ -39,14 +40,29 @@ returns-2 c = wrote-is (sym (normalize-plain (c .before .before .before .before 
 find-mark-requires : tie.Need-find-mark-requires
 find-mark-requires c κs = search needs
 
-put-marked-requires : tie.Need-put-marked-requires
-put-marked-requires c κs = rw (c .before .find-mark .ensures) (c .before .before .before .before .before .before .before .before .before .pre)
+-- a hyphenated name
+put-spelled-requires : tie.Need-put-spelled-requires
+put-spelled-requires c κs =
+    let f = c .before .before .before .before .before .before .before .before .before .before in
+    let m = c .before .before .find-mark in
+    rw (mark-hyphen (m .result) (f .args .name .now) (c .before .if3 .taken), m .ensures) (f .pre)
 
 same-length-3 : tie.Need-same-length-3
 same-length-3 c = search needs
 
 returns-3 : tie.Need-returns-3
-returns-3 c = wrote-is (c .before .before .before .before .find-mark .ensures) (c .before .before .put-marked .ensures)
+returns-3 c =
+    let m = c .before .before .before .before .before .find-mark in
+    wrote-is (mark-hyphen (m .result) (c .before .before .before .before .before .before .before .before .before .before .before .before .before .args .name .now) (c .before .before .before .before .if3 .taken) ∙ m .ensures) (c .before .before .put-spelled .ensures)
+
+put-marked-requires : tie.Need-put-marked-requires
+put-marked-requires c κs = rw (c .before .before .find-mark .ensures) (c .before .before .before .before .before .before .before .before .before .before .pre)
+
+same-length-4 : tie.Need-same-length-4
+same-length-4 c = search needs
+
+returns-4 : tie.Need-returns-4
+returns-4 c = wrote-is (c .before .before .before .before .before .find-mark .ensures) (c .before .before .put-marked .ensures)
 
 pub normalize-dom-attr-name-spec : {M : Type 1} → statement M
 normalize-dom-attr-name-spec =
@@ -63,6 +79,9 @@ normalize-dom-attr-name-spec =
     same-length-2
     returns-2
     find-mark-requires
-    put-marked-requires
+    put-spelled-requires
     same-length-3
-    returns-3)
+    returns-3
+    put-marked-requires
+    same-length-4
+    returns-4)
