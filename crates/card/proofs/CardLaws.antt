@@ -88,7 +88,7 @@ module _ (page options scratch t g : Bytes) {a : Answer} {s′ t′ g′ : Bytes
       on true e = outs-text (eqb-true (a .number) 0 e)
       on false e = refused-text what (x .number-is) (eqb-false (a .number) 0 e)
 
-  -- so `print_card`, whose contract is the first line, writes it
+  -- so `print_card`, whose contract is the premise, writes the text of that answer
   pub prints-answer : {o o′ : Bytes} {r : ℕ} → Wrote o 0 (card-text what) o′ r → Wrote o 0 (answer-text (a .number) (a .«templates_bytes») (a .«page_bytes») t′ g′) o′ r
   prints-answer u = wrote-is (sym answer-printed) u
 

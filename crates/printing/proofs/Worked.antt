@@ -35,7 +35,8 @@ reply-text x m e z =
     reply-number (refused n) = refl
     reply-number (accepted w) = refl
 
--- 01's worked card: const a = <p class="t">Hi {n}</p>; by its row of the table, the transform is not computed again
+-- 01's worked card: const a = <p class="t">Hi {n}</p>; by its row of the table of marks, the thirteenth, so that the transform is not
+-- computed again
 pub worked :
     card (fld 0x01 (fld 0x12 (fld 0x20 (ascii "const a = ") ++ (fld 0x30 (fld 0x40 (ascii "p") ++ (fld 0x50 (fld 0x40 (ascii "class") ++ fld 0x51 (ascii "t")) ++ (fld 0x60 (ascii "Hi ") ++ fld 0x52 (fld 0x79 (fld 0x20 (ascii "n")))))) ++ fld 0x20 (ascii ";")))))
     ≡ (ascii "import { jsxTemplate as _jsxTemplate, jsxEscape as _jsxEscape } from \"react/jsx-runtime\";" ++ (10 ∷ (ascii "const $$_tpl_1 = [\"<p class=\\\"t\\\">Hi \", \"</p>\"];" ++ (10 ∷ (ascii "const a = _jsxTemplate($$_tpl_1, _jsxEscape(n));" ++ (10 ∷ []))))))
