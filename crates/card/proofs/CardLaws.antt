@@ -1,12 +1,15 @@
 -- What is printed of the export's answer: of a refusal the number; of an accepted page both outputs as they stand in the buffers, and that
--- text is short. Main statements: `refused-printed`, `outs-stand`. Assumes nothing.
+-- text is short. Main statements: `refused-printed`, `outs-stand`; `answer-printed`, `card-is`, `prints-answer`. Assumes nothing.
 use Prim.Native.Nat.{ℕ, _+_, _^_, _≤_, _<_}
 use native.Mathlib.Omega.{arith}
 use mathlib.Core.Path.{_≡_, refl, sym, ap, ap₂, _∙_, subst}
+use mathlib.Core.Bool.{Bool, true, false}
 use mathlib.Core.List.{[], _∷_, _++_}
+use lib.Dec.{eqb}
 use lib.ListN.{length, take, drop, getD}
 use lib.Seq.{take-at, length-take-le}
-use Rattle.field.specs.Bytes.{Bytes, AllBytes}
+use borrow.Author.Tests.{eqb-true, eqb-false}
+use Rattle.field.specs.Bytes.{Bytes, AllBytes, pick}
 use Rattle.field.specs.Row.{read}
 use Rattle.field.specs.Put.{put, Wrote}
 use Rattle.field.proofs.NumberLaws.{all-from, all-take}
@@ -22,7 +25,7 @@ use Rattle.spec.proofs.Export.{zero-written}
 use Rattle.transform.specs.declared.Answer.{Answer}
 use Rattle.transform.specs.Run.{Answers}
 use Rattle.transform.proofs.PageLaws.{source-short}
-use Rattle.printing.specs.Card.{page-text, card-text}
+use Rattle.printing.specs.Card.{page-text, card-text, answer-text, card}
 use Rattle.printing.proofs.TextLength.{page-text-low}
 
 -- ---- fronts
@@ -64,7 +67,32 @@ module _ (page options scratch t g : Bytes) {a : Answer} {s′ t′ g′ : Bytes
   pub refused-printed : (a .number ≡ 0 → ⊥) → {o o₁ o₂ : Bytes} {n r : ℕ} → Wrote o 0 (decimal (a .number)) o₁ n → Wrote o₁ n (10 ∷ []) o₂ r → Wrote o 0 (card-text what) o₂ r
   refused-printed z u v = wrote-is (refused-text what (x .number-is) z) (wrote-then u v)
 
-  -- accepted: what is written stands at the front of both outs, and its text is as short as `print_page` requires
+  -- accepted: what is written stands at the front of both outs
+  outs-text : a .number ≡ 0 → page-text (read (take (a .«templates_bytes») t′)) (read (take (a .«page_bytes») g′)) ≡ card-text what
+  unfolding templates-bytes page-bytes templates-left page-left card-text
+  outs-text z =
+      let k = zero-written what (sym (x .number-is) ∙ z) in
+      let w : Written = k .0 in
+      let b : Answers (accepted w) scratch t g a s′ t′ g′ = subst (λ (y : Outcome). Answers y scratch t g a s′ t′ g′) (k .1) x in
+      let f = accepted-fits page options (length scratch) (length t) (length g) w (accepted-says page options (length scratch) (length t) (length g) w (k .1)) in
+      let et : take (a .«templates_bytes») t′ ≡ w .templates-out = ap₂ take (b .templates-bytes-is) (b .templates-out-is) ∙ front-put t (w .templates-out) (f .0) in
+      let eg : take (a .«page_bytes») g′ ≡ w .page-out = ap₂ take (b .page-bytes-is) (b .page-out-is) ∙ front-put g (w .page-out) (f .1) in
+      ap₂ (λ (u v : Bytes). page-text (read u) (read v)) et eg ∙ sym (ap card-text (k .1))
+
+  -- what is printed is the text of the export's own answer and of the bytes that it left
+  pub answer-printed : answer-text (a .number) (a .«templates_bytes») (a .«page_bytes») t′ g′ ≡ card-text what
+  unfolding answer-text
+  answer-printed = on (eqb (a .number) 0) refl
+    where
+      on : (z : Bool) → eqb (a .number) 0 ≡ z → pick z (page-text (read (take (a .«templates_bytes») t′)) (read (take (a .«page_bytes») g′))) (decimal (a .number) ++ (10 ∷ [])) ≡ card-text what
+      on true e = outs-text (eqb-true (a .number) 0 e)
+      on false e = refused-text what (x .number-is) (eqb-false (a .number) 0 e)
+
+  -- so `print_card`, whose contract is the premise, writes the text of that answer
+  pub prints-answer : {o o′ : Bytes} {r : ℕ} → Wrote o 0 (card-text what) o′ r → Wrote o 0 (answer-text (a .number) (a .«templates_bytes») (a .«page_bytes») t′ g′) o′ r
+  prints-answer u = wrote-is (sym answer-printed) u
+
+  -- accepted: what is written lies within both outs, and its text is as short as `print_page` requires
   pub record Stand : Type 0 where
     pub templates-within : a .«templates_bytes» ≤ length t′
     pub page-within : a .«page_bytes» ≤ length g′
@@ -89,6 +117,12 @@ module _ (page options scratch t g : Bytes) {a : Answer} {s′ t′ g′ : Bytes
       record {
         templates-within = omega (arith, b .templates-bytes-is, f .0);
         page-within = omega (arith, b .page-bytes-is, f .1);
-        text-is = ap₂ (λ (u v : Bytes). page-text (read u) (read v)) et eg ∙ sym (ap card-text (k .1));
+        text-is = outs-text z;
         text-low = omega arith;
       }
+
+-- 01's card of a page is the text of the export's answer to it, without options and in buffers as long as the program's
+pub card-is : (page scratch t g : Bytes) {a : Answer} {s′ t′ g′ : Bytes} → Answers (outcome page [] (length scratch) (length t) (length g)) scratch t g a s′ t′ g′ →
+    length scratch ≡ 65536 → length t ≡ 65536 → length g ≡ 65536 → answer-text (a .number) (a .«templates_bytes») (a .«page_bytes») t′ g′ ≡ card page
+unfolding card
+card-is page scratch t g x es et eg = answer-printed page [] scratch t g x ∙ rw (es, et, eg)

@@ -1,19 +1,19 @@
 -- The kinds of JSX, after the grammar of its draft specification (facebook.github.io/jsx): a constructor for each alternative of a
--- production, and under which tag and with which body 01 has it. No copy of the draft was at hand; it is written from knowledge of it.
+-- production, and under which tag and with which body 01 has it. A name's body is held to JSX's productions alone; the bodies of attributes,
+-- values and children are the checks of what they hold. No copy of the draft was at hand; it is written from knowledge of it.
 -- 01 differs from JSX so: names are of ASCII, without escapes, and of at most 128 bytes; a member has two to eight names, and none with
 -- a hyphen; empty braces are taken as an attribute's value; a text may be empty or follow another, and texts and strings hold any UTF-8,
 -- as character references are resolved. Assumes nothing: these are definitions.
-use Prim.Native.Nat.{ℕ}
+use Prim.Native.Nat.{ℕ, _≤_}
 use mathlib.Core.Path.{_≡_}
 use mathlib.Core.Bool.{_||_, _&&_}
-use mathlib.Core.List.{[], _∷_, _++_}
+use mathlib.Core.List.{List, [], _∷_, _++_}
 use lib.Dec.{T, leb, eqb}
+use lib.ListN.{length}
 use Rattle.field.specs.Bytes.{Bytes}
-use Rattle.field.specs.Row.{Row}
-use Rattle.page.specs.Refusal.{after, unless}
-use Rattle.page.specs.Check.{check-end, check-text, check-name, check-members, at-least, check-ident, check-element, check-attribute, check-children, check-expr}
+use Rattle.field.specs.Row.{Row, end, field}
+use Rattle.page.specs.Check.{check-end, check-text, check-element, check-attribute, check-children, check-expr}
 use Rattle.page.specs.Limits.{Deep}
-use Rattle.page.specs.declared.Refusal.the-variants as R
 use Rattle.page.specs.declared.Verdict.{Verdict}
 use Rattle.page.specs.declared.Verdict.the-variants.{Fine}
 
@@ -33,7 +33,44 @@ pub data JsxIdentifier : Bytes → Type 0 where
   and-digit : (n : Bytes) (c : ℕ) → JsxIdentifier n → Digit c → JsxIdentifier (n ++ c ∷ [])
   and-hyphen : (n : Bytes) → JsxIdentifier n → JsxIdentifier (n ++ 45 ∷ [])
 
--- ---- the kinds in each place, their tags, and the check of their bodies at the depth of these
+-- ---- JSXNamespacedName and JSXMemberExpression, by their identifiers in order: a page has no `:` and no `.` between them
+
+-- JSXIdentifier : JSXIdentifier
+pub data JsxNamespacedName : List Bytes → Type 0 where
+  namespaced : (n m : Bytes) → JsxIdentifier n → JsxIdentifier m → JsxNamespacedName (n ∷ m ∷ [])
+
+-- JSXIdentifier . JSXIdentifier; JSXMemberExpression . JSXIdentifier
+pub data JsxMemberExpression : List Bytes → Type 0 where
+  member : (n m : Bytes) → JsxIdentifier n → JsxIdentifier m → JsxMemberExpression (n ∷ m ∷ [])
+  and-member : (ns : List Bytes) (m : Bytes) → JsxMemberExpression ns → JsxIdentifier m → JsxMemberExpression (ns ++ m ∷ [])
+
+-- ---- 01's limits on names
+
+abbrev pub Short : Bytes → Type 0
+Short n = length n ≤ 128
+
+unfoldable pub NoHyphen : Bytes → Type 0
+NoHyphen [] = Unit {0}
+NoHyphen (c ∷ cs) = (c ≡ 45 → ⊥) × NoHyphen cs
+
+unfoldable pub Each : (Bytes → Type 0) → List Bytes → Type 0
+Each P [] = Unit {0}
+Each P (n ∷ ns) = P n × Each P ns
+
+-- a row of 40s, one for each name, and nothing else
+pub data Idents : List Bytes → Row → Type 0 where
+  none : Idents [] end
+  one-more : (n : Bytes) (ns : List Bytes) (i r : Row) → Idents ns r → Idents (n ∷ ns) (field 0x40 n i r)
+
+-- the 40s of a 41 or 42: not too deep, none too long, and their names as the production wants them
+pub record IdentsOf (Production : List Bytes → Type 0) (depth : ℕ) (i : Row) : Type 0 where
+  pub names : List Bytes
+  pub fields : Idents names i
+  pub deep : Deep depth
+  pub short : Each Short names
+  pub production : Production names
+
+-- ---- the kinds in each place, their tags, and what their bodies are at the depth of these
 
 -- JSXElementName
 pub data ElementName : Type 0 where
@@ -46,10 +83,10 @@ element-name-tag identifier = 0x40
 element-name-tag namespaced-name = 0x42
 element-name-tag member-expression = 0x41
 
-unfoldable pub element-name-body : ElementName → ℕ → Bytes → Row → Verdict
-element-name-body identifier depth f i = check-name f
-element-name-body namespaced-name depth f i = check-ident depth i λ r. check-ident depth r check-end
-element-name-body member-expression depth f i = after (check-members 8 depth i) λ _. unless (at-least 2 i) R.Misplaced
+unfoldable pub ElementNameBody : ElementName → ℕ → Bytes → Row → Type 0
+ElementNameBody identifier depth f i = JsxIdentifier f × Short f
+ElementNameBody namespaced-name depth f i = IdentsOf JsxNamespacedName depth i
+ElementNameBody member-expression depth f i = IdentsOf (λ ns. JsxMemberExpression ns × Each NoHyphen ns × (length ns ≤ 8)) depth i
 
 -- JSXAttributeName
 pub data AttributeName : Type 0 where
@@ -128,9 +165,9 @@ child-body spread depth f i = check-expr depth i
 -- ---- a field of one of the kinds
 
 -- its tag is the kind's, it is not too deep, its body is as the kind wants it, and what follows it is taken
-pub record OneOf (K : Type 0) (tag : K → ℕ) (body : K → Verdict) (t depth : ℕ) (rest : Verdict) : Type 0 where
+pub record OneOf (K : Type 0) (tag : K → ℕ) (Body : K → Type 0) (t depth : ℕ) (rest : Verdict) : Type 0 where
   pub kind : K
   pub tag-is : tag kind ≡ t
   pub deep : Deep depth
-  pub body-fine : body kind ≡ Fine
+  pub body : Body kind
   pub rest-fine : rest ≡ Fine

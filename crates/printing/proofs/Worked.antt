@@ -1,6 +1,6 @@
--- 01's worked card and other texts, by computation, from the bytes of both outputs (`k-table` of spec says that they are the page's).
--- Main statements: `worked`, `calls`, `quotes`. Assumes nothing.
-use mathlib.Core.Path.{_≡_, refl}
+-- 01's worked card, from the page to the text, and other texts by computation.
+-- Main statements: `worked`, `calls`, `quotes`, `refusals`. Assumes nothing.
+use mathlib.Core.Path.{_≡_, refl, sym, ap, _∙_}
 use mathlib.Core.List.{[], _∷_, _++_}
 use Prim.Native.Nat.{ℕ}
 use Rattle.field.specs.Bytes.{Bytes, ascii}
@@ -10,17 +10,38 @@ use Rattle.text.specs.Decimal.{digits, decimal}
 use Rattle.page.specs.Tree.{choose, boolean-in}
 use Rattle.page.specs.Refusal.{refusal-number}
 use Rattle.page.specs.declared.Refusal.the-variants as R
-use Rattle.spec.specs.Answer.{refused}
-use Rattle.spec.specs.Marks.{fld}
-use Rattle.printing.specs.Card.{quoted-byte, quoted-bytes, quoted, goes-on, is-identifier, pointed-more, pointed, text-by, all-text, parted-text, behind-text, first-text, second-text, helper-text, helpers-text, import-text, templates-text, page-text, card-text}
+use Rattle.spec.specs.Answer.{Outcome, refused, accepted, number}
+use Rattle.spec.specs.Marks.{Reply, reply, fld, AllHold}
+use Rattle.spec.proofs.Export.{zero-written}
+use Rattle.spec.proofs.Marks.{k-table}
+use Rattle.printing.specs.Card.{quoted-byte, quoted-bytes, quoted, goes-on, is-identifier, pointed-more, pointed, text-by, all-text, parted-text, behind-text, first-text, second-text, helper-text, helpers-text, import-text, templates-text, page-text, card-text, card}
 
--- const a = <p class="t">Hi {n}</p>;
-pub worked :
+-- the text of both outputs of the worked page
+worked-text :
     page-text (read (fld 0x80 ((0 ∷ 1 ∷ []) ++ (fld 0x81 (ascii "<p class=\"t\">Hi ") ++ fld 0x81 (ascii "</p>")))))
     (read (fld 0x82 (fld 0x81 (ascii "react/jsx-runtime") ++ (10 ∷ [])) ++ (fld 0x83 [] ++ fld 0x12 (fld 0x20 (ascii "const a = ") ++ (fld 0x90 ((0 ∷ 1 ∷ []) ++ fld 0x92 (fld 0x79 (fld 0x20 (ascii "n")))) ++ fld 0x20 (ascii ";"))))))
     ≡ (ascii "import { jsxTemplate as _jsxTemplate, jsxEscape as _jsxEscape } from \"react/jsx-runtime\";" ++ (10 ∷ (ascii "const $$_tpl_1 = [\"<p class=\\\"t\\\">Hi \", \"</p>\"];" ++ (10 ∷ (ascii "const a = _jsxTemplate($$_tpl_1, _jsxEscape(n));" ++ (10 ∷ []))))))
 unfolding big-endian number-from field-bytes inside next-of opened built read-from read digits decimal choose boolean-in quoted-byte quoted-bytes goes-on is-identifier pointed-more pointed text-by all-text parted-text behind-text first-text second-text helper-text helpers-text import-text templates-text page-text
-worked = refl
+worked-text = refl
+
+-- a row of the table of marks with number 0 says what is printed of its page
+reply-text : (x : Outcome) (m : Reply) → reply x ≡ m → m .number ≡ 0 → card-text x ≡ page-text (read (m .templates-out)) (read (m .page-out))
+unfolding reply card-text
+reply-text x m e z =
+    let k = zero-written x (reply-number x ∙ ap (λ (r : Reply). r .number) e ∙ z) in
+    ap card-text (k .1) ∙ ap (λ (r : Reply). page-text (read (r .templates-out)) (read (r .page-out))) (sym (ap reply (k .1)) ∙ e)
+  where
+    reply-number : (x : Outcome) → number x ≡ reply x .number
+    reply-number (refused n) = refl
+    reply-number (accepted w) = refl
+
+-- 01's worked card: const a = <p class="t">Hi {n}</p>; by its row of the table of marks, the sixteenth, so that the transform is not
+-- computed again
+pub worked :
+    card (fld 0x01 (fld 0x12 (fld 0x20 (ascii "const a = ") ++ (fld 0x30 (fld 0x40 (ascii "p") ++ (fld 0x50 (fld 0x40 (ascii "class") ++ fld 0x51 (ascii "t")) ++ (fld 0x60 (ascii "Hi ") ++ fld 0x52 (fld 0x79 (fld 0x20 (ascii "n")))))) ++ fld 0x20 (ascii ";")))))
+    ≡ (ascii "import { jsxTemplate as _jsxTemplate, jsxEscape as _jsxEscape } from \"react/jsx-runtime\";" ++ (10 ∷ (ascii "const $$_tpl_1 = [\"<p class=\\\"t\\\">Hi \", \"</p>\"];" ++ (10 ∷ (ascii "const a = _jsxTemplate($$_tpl_1, _jsxEscape(n));" ++ (10 ∷ []))))))
+unfolding card AllHold
+worked = reply-text _ _ (k-table .1 .1 .1 .1 .1 .1 .1 .1 .1 .1 .1 .1 .1 .1 .1 .0) refl ∙ worked-text
 
 -- a call with properties, a spread, a hole, a member and a key; a choice and an attribute
 pub calls :

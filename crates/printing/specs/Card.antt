@@ -179,6 +179,11 @@ unfoldable pub card-text : Outcome → Bytes
 card-text (refused n) = decimal (refusal-number n) ++ (10 ∷ [])
 card-text (accepted w) = page-text (read (w .templates-out)) (read (w .page-out))
 
+-- the same by an answer of the export and the outs behind the call, without a word of what the transform is (`answer-printed` of card:
+-- the two are equal)
+unfoldable pub answer-text : (number templates-bytes page-bytes : ℕ) → (templates-out page-out : Bytes) → Bytes
+answer-text n tb pb t g = pick (eqb n 0) (page-text (read (take tb t)) (read (take pb g))) (decimal n ++ (10 ∷ []))
+
 -- the program: no options, 65,536 bytes for each out; one byte past the limit is read, so that a longer page is seen
 unfoldable pub card : Bytes → Bytes
 card page = card-text (outcome page [] 65536 65536 65536)

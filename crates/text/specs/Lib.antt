@@ -3,6 +3,7 @@
 pub mod Escape
 pub mod Lines
 pub mod Trim
+pub mod WhiteSpace
 pub mod Text
 pub mod Decimal
 pub mod Runs
