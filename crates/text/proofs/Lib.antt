@@ -5,6 +5,7 @@ pub mod LineLaws
 pub mod TrimLaws
 pub mod EscapeLaws
 pub mod TextLaws
+pub mod IndentLaws
 pub mod DecimalLaws
 pub mod TextBounds
 pub mod WhiteSpace

@@ -1,14 +1,14 @@
 -- Laws of `run` and `all`: how a scan byte by byte, or block by block, finds where a run ends.
--- Main statements: `scan-step`, `scan-block`, `scan-stop`, `scan-end`, `all-more`.
+-- Main statements: `scan-step`, `scan-block`, `scan-stop`, `scan-end`, `all-more`; `all-on`, `all-refused`, `all-last` for a test of all.
 -- Assumes nothing.
-use mathlib.Core.Path.{_≡_, refl, sym, _∙_}
+use mathlib.Core.Path.{_≡_, refl, sym, ap, _∙_}
 use mathlib.Core.Bool.{Bool, true, false, _&&_, false≢true, and-true, and-assoc}
 use Prim.Native.Nat.{ℕ, zero, suc, _+_, _-_, _≤_, _<_}
 use native.Mathlib.Nat.{le-of-suc-le-suc, not-suc-le-zero}
 use native.Mathlib.Numerals.{add-one}
 use native.Mathlib.Omega.{arith}
 use mathlib.Core.List.{[], _∷_, _++_}
-use lib.ListN.{length, getD, take, drop, length-drop}
+use lib.ListN.{length, getD, take, drop, length-drop, take-append-drop, drop-of-length-le}
 use lib.Seq.{take-suc, take-all, take-length, drop-cons, drop-drop, getD-drop}
 use Rattle.field.specs.Bytes.{Bytes, pick}
 use Rattle.text.specs.Runs.{run, all}
@@ -125,7 +125,7 @@ scan-back p s i h e q = q ∙ scan-step p s i h e refl
 
 -- ---- the last block, which may begin in front of the place
 
-run-whole : (p : ℕ → Bool) (t : Bytes) → all p t ≡ true → run p t ≡ length t
+pub run-whole : (p : ℕ → Bool) (t : Bytes) → all p t ≡ true → run p t ≡ length t
 run-whole p t h =
     let e = run-take p (length t) t (omega arith) (rw take-length h) in
     omega (arith, run-le p (drop (length t) t), length-drop (length t) t)
@@ -147,3 +147,41 @@ scan-last p s i k h l w e q =
     let block = take-all k (drop m s) (rw length-drop (omega arith)) in
     let whole : all p (drop i s) ≡ true = rw (← j, ← drop-drop (i - m) m s) (all-drop p (i - m) (drop m s) (rw block at e)) in
     omega (arith, run-whole p (drop i s) whole, length-drop i s)
+
+-- ---- a test of all bytes that has passed those in front of i: r is its answer
+
+all-cut : (p : ℕ → Bool) (s : Bytes) (i k : ℕ) → all p (drop i s) ≡ (all p (take k (drop i s)) && all p (drop (i + k) s))
+all-cut p s i k =
+    ap (all p) (sym (take-append-drop k (drop i s)))
+    ∙ all-append p (take k (drop i s)) (drop k (drop i s))
+    ∙ ap (λ (t : Bytes). all p (take k (drop i s)) && all p t) (drop-drop k i s)
+
+module _ {r : Bool} (p : ℕ → Bool) (s : Bytes) (i k : ℕ) (sofar : all p (drop i s) ≡ r) where
+  pub all-on : all p (take k (drop i s)) ≡ true → all p (drop (i + k) s) ≡ r
+  all-on e = sym (all-cut p s i k ∙ ap (λ (b : Bool). b && all p (drop (i + k) s)) e) ∙ sofar
+
+  pub all-refused : all p (take k (drop i s)) ≡ false → false ≡ r
+  all-refused e = sym (all-cut p s i k ∙ ap (λ (b : Bool). b && all p (drop (i + k) s)) e) ∙ sofar
+
+-- one byte is a block of one
+pub all-one : {b : Bool} (p : ℕ → Bool) (s : Bytes) (i : ℕ) → i < length s → b ≡ p (getD s i 0) → all p (take 1 (drop i s)) ≡ b
+unfolding all
+all-one p s i h e = rw (drop-cons s i 0) (and-true (p (getD s i 0)) ∙ sym e)
+
+pub all-end : {r : Bool} (p : ℕ → Bool) (s : Bytes) (i : ℕ) → length s ≤ i → all p (drop i s) ≡ r → true ≡ r
+unfolding all
+all-end p s i h q = ap (all p) (sym (drop-of-length-le s {i = i} h)) ∙ q
+
+-- the last block, which may begin in front of the place
+pub all-last : (p : ℕ → Bool) (s : Bytes) (i k : ℕ) → i ≤ length s → k ≤ length s → length s - i < k → all p (drop i s) ≡ all p s → all p (take k (drop (length s - k) s)) ≡ all p s
+all-last p s i k h l w q =
+    let m = length s - k in
+    let j : m + (i - m) ≡ i = omega arith in
+    let back : drop (i - m) (drop m s) ≡ drop i s = drop-drop (i - m) m s ∙ ap (λ (x : ℕ). drop x s) j in
+    rw (take-all k (drop m s) (rw length-drop (omega arith)))
+    (both (all p (drop m s)) (all p s) refl refl (λ e. sym q ∙ ap (all p) (sym back) ∙ all-drop p (i - m) (drop m s) e))
+  where
+    both : (a b : Bool) → all p (drop (length s - k) s) ≡ a → all p s ≡ b → (all p (drop (length s - k) s) ≡ true → all p s ≡ true) → a ≡ b
+    both true b ea eb f = sym (f ea) ∙ eb
+    both false false ea eb f = refl
+    both false true ea eb f = sym ea ∙ all-drop p (length s - k) s eb

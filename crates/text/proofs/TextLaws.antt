@@ -71,13 +71,13 @@ pub kept-first : (e later : Bool) (t : Bytes) → (length t ≡ 0 → ⊥) → l
 unfolding kept-line spaced-line
 kept-first e later t h l = rw (not-null t h, l)
 
-null-kept : (t : Bytes) (ls : List Bytes) → 0 < length t → null? (joined (kept (t ∷ ls))) ≡ false
+pub null-kept : (t : Bytes) (ls : List Bytes) → 0 < length t → null? (joined (kept (t ∷ ls))) ≡ false
 unfolding kept joined
 null-kept [] ls h = absurd (not-suc-le-zero h)
 null-kept (c ∷ t) ls h = refl
 
 -- an empty line stays empty
-trimmed-nil : (front back : Bool) → [] ≡ trimmed front back []
+pub trimmed-nil : (front back : Bool) → [] ≡ trimmed front back []
 unfolding trimmed trim-start trim-end trim-by
 trimmed-nil true true = refl
 trimmed-nil true false = refl

@@ -1,6 +1,6 @@
 -- Laws of trimming: the white space character at either end by the bytes there, and how a walk over such characters trims.
 -- Main statements: `space-one`, `space-two`, `space-three` and what says that none stands there; `trim-step`, `trim-stop`, `trim-run`;
--- `last-byte`, `drop-last` for the walk from the back; `length-trim-start`, `length-trim-end`.
+-- `last-byte`, `drop-last` for the walk from the back; `length-trim-start`, `length-trim-end`; `trim-spaces`, `trim-visible`.
 -- Assumes nothing.
 use mathlib.Core.Path.{_≡_, refl, sym, ap, _∙_}
 use mathlib.Core.Bool.{Bool, true, false, or-true, and-false}
@@ -8,13 +8,14 @@ use Prim.Native.Nat.{ℕ, zero, suc, _+_, _-_, _≤_, _<_}
 use native.Mathlib.Nat.{le-of-suc-le-suc, not-suc-le-zero, suc-sub-suc, sub-zero}
 use native.Mathlib.Numerals.{add-one}
 use native.Mathlib.Omega.{arith}
-use mathlib.Core.List.{[], _∷_, reverse, reverse-append, reverse-reverse}
-use lib.ListN.{length, getD, take, drop, length-drop, length-reverse}
+use mathlib.Core.List.{[], _∷_, _++_, reverse, reverse-cons, reverse-append, reverse-reverse}
+use lib.ListN.{length, getD, take, drop, length-drop, length-reverse, drop-of-length-le}
 use lib.Seq.{drop-cons, take-suc, take-all, length-take-le, drop-drop}
 use borrow.Author.Tests.{ne-eqb, lt-leb}
 use Rattle.field.specs.Bytes.{Bytes, pick}
-use Rattle.text.specs.Runs.{run, is-space}
+use Rattle.text.specs.Runs.{run, all, is-space}
 use Rattle.text.specs.Trim.{one-byte-space, two-byte-space, three-byte-space, space-by, front-space, back-space, trim-by, trim-start, trim-end}
+use Rattle.text.proofs.RunLaws.{run-whole}
 
 -- ---- the character in front, by its bytes
 
@@ -154,6 +155,55 @@ trim-run (c ∷ cs) = on (is-space c) refl (trim-run cs)
     on : (b : Bool) → is-space c ≡ b → trim-by front-space 0 (drop (run is-space cs) cs) ≡ trim-by front-space 0 cs → trim-by front-space 0 (drop (pick b (suc (run is-space cs)) 0) (c ∷ cs)) ≡ trim-by front-space 0 (c ∷ cs)
     on true e ih = ih ∙ sym (trim-step front-space (c ∷ cs) 1 (front-one c cs e))
     on false e ih = refl
+
+-- spaces alone
+pub trim-spaces : (t : Bytes) → all is-space t ≡ true → trim-start t ≡ []
+unfolding trim-start trim-by
+trim-spaces t e = sym (trim-run t) ∙ ap trim-start (drop-of-length-le t {i = run is-space t} (omega (arith, run-whole is-space t e)))
+
+-- ---- a visible byte of ASCII, which belongs to no white space character: what is trimmed at the back ends behind it
+
+module _ (c : ℕ) (low : 32 < c) (high : c < 0x80) where
+  visible-one : one-byte-space c ≡ false
+  unfolding one-byte-space
+  visible-one = rw (lt-leb c 13 (omega arith), ne-eqb c 32 (λ e. omega arith), and-false)
+
+  back-before : (x : Bytes) → back-space (x ++ (c ∷ [])) ≤ length x
+  unfolding back-space space-by
+  back-before [] = rw visible-one (omega arith)
+  back-before (a ∷ []) = rw (low-two c a (omega arith)) (on (one-byte-space a))
+    where
+      on : (x : Bool) → pick x 1 0 ≤ 1
+      on true = omega arith
+      on false = omega arith
+  back-before (a ∷ b ∷ []) = rw (low-three c b a (omega arith)) (on (one-byte-space a) (two-byte-space b a))
+    where
+      on : (x y : Bool) → pick x 1 (pick y 2 0) ≤ 2
+      on true y = omega arith
+      on false true = omega arith
+      on false false = omega arith
+  back-before (a ∷ b ∷ d ∷ x) = on (one-byte-space a) (two-byte-space b a) (three-byte-space d b a)
+    where
+      on : (u v w : Bool) → pick u 1 (pick v 2 (pick w 3 0)) ≤ suc (suc (suc (length x)))
+      on true v w = omega arith
+      on false true w = omega arith
+      on false false true = omega arith
+      on false false false = omega arith
+
+  back-stays : (k : ℕ) (x : Bytes) → k ≤ length x → 0 < length (trim-by back-space k (x ++ (c ∷ [])))
+  unfolding trim-by
+  back-stays zero [] h = omega (arith, ap (λ (t : Bytes). length t) (trim-stop back-space (c ∷ []) (omega (arith, back-before []))))
+  back-stays (suc k) [] h = absurd (not-suc-le-zero h)
+  back-stays (suc k) (y ∷ x) h = back-stays k x (le-of-suc-le-suc h)
+  back-stays zero (y ∷ x) h = on (back-space (y ∷ (x ++ (c ∷ [])))) (back-before (y ∷ x)) (λ k. back-stays k x)
+    where
+      on : (n : ℕ) → n ≤ suc (length x) → ((k : ℕ) → k ≤ length x → 0 < length (trim-by back-space k (x ++ (c ∷ [])))) → 0 < length {A = ℕ} (elim n [ zero ↦ y ∷ (x ++ (c ∷ [])) | suc k ↦ trim-by back-space k (x ++ (c ∷ [])) ])
+      on zero l f = omega arith
+      on (suc k) l f = f k (le-of-suc-le-suc l)
+
+  pub trim-visible : (t : Bytes) → 0 < length (trim-end (c ∷ t))
+  unfolding trim-end
+  trim-visible t = rw (length-reverse, reverse-cons c t) (back-stays 0 (reverse t) (omega arith))
 
 -- ---- the bytes at a place, and those in front of a place taken backwards
 

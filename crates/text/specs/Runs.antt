@@ -1,6 +1,6 @@
 -- What the helper functions answer: runs of bytes that pass a test, and a line with the space in front of it. Assumes nothing: these are definitions.
 use Prim.Native.Nat.{ℕ, suc}
-use mathlib.Core.Bool.{Bool, true, _&&_, not}
+use mathlib.Core.Bool.{Bool, true, _&&_, _||_, not}
 use mathlib.Core.List.{[], _∷_}
 use lib.Dec.{eqb}
 use Rattle.field.specs.Bytes.{Bytes, pick, null?}
@@ -25,6 +25,10 @@ not-lf c = not (eqb c 10)
 
 unfoldable pub is-space : ℕ → Bool
 is-space c = eqb c 32
+
+-- a byte of an indent: a space, or an LF
+unfoldable pub indent : ℕ → Bool
+indent c = eqb c 32 || eqb c 10
 
 -- a space in front where asked
 unfoldable pub spaced-line : Bool → Bytes → Bytes

@@ -1,7 +1,7 @@
 -- UTF-8 at the places of a slice s, as the code reads them.
 -- Assumes nothing.
 use mathlib.Core.Path.{_≡_, refl, sym, ap, _∙_}
-use Prim.Native.Nat.{ℕ, zero, suc, _+_, _≤_, _<_}
+use Prim.Native.Nat.{ℕ, zero, suc, _+_, _-_, _≤_, _<_}
 use native.Mathlib.Omega.{arith}
 use native.Mathlib.Nat.{add-suc, not-suc-le-zero, le-of-suc-le-suc}
 use native.Mathlib.Numerals.{add-one}
@@ -15,6 +15,7 @@ use Rattle.utf8.specs.Utf8.{Range, within, forms, utf8-behind, utf8, asc
 use Rattle.utf8.specs.Parts.{Skips, Takes}
 use Rattle.utf8.proofs.Forms.{whole, begun-by, goes-on, utf8-begun}
 use Rattle.utf8.proofs.Laws.{utf8-append, utf8-cons, ascii-utf8}
+use Rattle.utf8.proofs.Words.{last-word}
 
 -- too few bytes for the ranges
 pub cut-off : (rs : List Range) (t : List ℕ) → length t < length rs → utf8-behind rs t ≡ false
@@ -22,6 +23,10 @@ unfolding utf8-behind
 cut-off [] t h = absurd (not-suc-le-zero h)
 cut-off (r ∷ rs) [] h = refl
 cut-off (r ∷ rs) (b ∷ t) h = rw (cut-off rs t (le-of-suc-le-suc h)) (and-false (within r b))
+
+utf8-none : utf8 [] ≡ true
+unfolding utf8 utf8-behind
+utf8-none = refl
 
 module _ (s : List ℕ) (i : ℕ) where
   next : i < length s → drop i s ≡ getD s i 0 ∷ drop (i + 1) s
@@ -53,6 +58,15 @@ module _ (s : List ℕ) (i : ℕ) where
 
   pub skips-on : (k r : ℕ) → Skips s i k → Skips s k r → Skips s i r
   skips-on k r t u = record { after = omega (arith, t .after, u .after); inside = u .inside; same = t .same ∙ u .same }
+
+  pub skips-last : (k : ℕ) → Skips s i k → 8 ≤ length s → length s - k < 8 → ascii (take 8 (drop (length s - 8) s)) ≡ true → Skips s i (length s)
+  skips-last k t l w e =
+      let rest = last-word s k (t .inside) l w e in
+      record {
+        after = omega (arith, t .after, t .inside);
+        inside = omega arith;
+        same = t .same ∙ ascii-utf8 (drop k s) rest ∙ sym (ap utf8 (drop-of-length-le s {i = length s} (omega arith)) ∙ utf8-none);
+      }
 
   -- the byte k behind i, and a range for it
   module _ (r : Range) (rs : List Range) (k : ℕ) (n : i + k < length s) where

@@ -1,16 +1,17 @@
--- Eight bytes tested as one number: no highest bit is set exactly if each byte is ASCII. Main statement: word-step, from n bytes to one more in front.
+-- Eight bytes tested as one number: no highest bit is set exactly if each byte is ASCII; and words of eight bytes one after the other.
+-- Main statements: word-step, from n bytes to one more in front; word-passed and word-failed, from m bytes to a word more in front; last-word.
 -- Assumes nothing.
 use mathlib.Core.Path.{_≡_, refl, sym, ap, _∙_}
-use Prim.Native.Nat.{ℕ, zero, suc, _+_, _*_, _/_, _%_, _<_}
+use Prim.Native.Nat.{ℕ, zero, suc, _+_, _-_, _*_, _/_, _%_, _≤_, _<_}
 use native.Mathlib.Omega.{arith}
 use native.Mathlib.Numerals.{add-one}
-use mathlib.Core.Bool.{Bool, true, false, _&&_}
-use mathlib.Core.List.{List, _∷_}
-use borrow.Author.Tests.{eq-eqb, ne-eqb, lt-ltb, le-ltb, ltb-true, ltb-false}
+use mathlib.Core.Bool.{Bool, true, false, _&&_, not, and-assoc, and-eq-true-iff}
+use mathlib.Core.List.{List, [], _∷_, _++_}
+use borrow.Author.Tests.{eq-eqb, ne-eqb, lt-ltb, le-ltb, ltb-true, ltb-false, not-true, not-false}
 use lib.Bits.{bitAnd, and-block, and-high}
 use lib.Dec.{eqb, ltb, eqb·suc-zero}
-use lib.ListN.{length, take, drop, getD}
-use lib.Seq.{drop-cons}
+use lib.ListN.{length, take, drop, getD, length-drop}
+use lib.Seq.{drop-cons, drop-drop, take-add, take-all}
 use Rattle.utf8.specs.Utf8.{ascii}
 
 -- the highest bits of n bytes
@@ -50,3 +51,38 @@ word-step s n x y j k l e h q ih =
     ∙ one-more (getD s j 0) x (mask n) h
     ∙ ap (λ (v : Bool). ltb (getD s j 0) 128 && v) (ih ∙ ap (λ (z : ℕ). ascii (take n (drop z s))) (e ∙ add-one j))
     ∙ ap (λ (t : List ℕ). ascii (take (suc n) t)) (sym (drop-cons s j 0 l))
+
+-- ---- words one after the other
+
+ascii-append : (a b : List ℕ) → ascii (a ++ b) ≡ (ascii a && ascii b)
+unfolding ascii
+ascii-append [] b = refl
+ascii-append (x ∷ a) b = rw (ascii-append a b) (sym (and-assoc (ltb x 0x80) (ascii a) (ascii b)))
+
+-- v is what was answered of the word at i, and m bytes behind it are still to be tested
+module _ {v : Bool} (s : List ℕ) (i j m : ℕ) (next : j ≡ i + 8) (word : v ≡ ascii (take 8 (drop i s))) where
+  word-cut : ascii (take (8 + m) (drop i s)) ≡ (v && ascii (take m (drop j s)))
+  word-cut =
+      ap ascii (take-add 8 m (drop i s))
+      ∙ ascii-append (take 8 (drop i s)) (take m (drop 8 (drop i s)))
+      ∙ rw (word, next, drop-drop)
+
+  pub word-passed : not v ≡ false → ascii (take (8 + m) (drop i s)) ≡ ascii (take m (drop j s))
+  word-passed t = word-cut ∙ rw (not-false v t)
+
+  pub word-failed : not v ≡ true → ascii (take (8 + m) (drop i s)) ≡ false
+  word-failed t = word-cut ∙ rw (not-true v t)
+
+ascii-drop : (j : ℕ) (t : List ℕ) → ascii t ≡ true → ascii (drop j t) ≡ true
+unfolding ascii
+ascii-drop zero t h = h
+ascii-drop (suc j) [] h = refl
+ascii-drop (suc j) (c ∷ cs) h = ascii-drop j cs (and-eq-true-iff (ltb c 0x80) (ascii cs) .0 h .1)
+
+-- the last word, which may begin in front of the place k
+pub last-word : (s : List ℕ) (k : ℕ) → k ≤ length s → 8 ≤ length s → length s - k < 8 → ascii (take 8 (drop (length s - 8) s)) ≡ true → ascii (drop k s) ≡ true
+last-word s k h l w e =
+    let m = length s - 8 in
+    let j : m + (k - m) ≡ k = omega arith in
+    let word = take-all 8 (drop m s) (rw length-drop (omega arith)) in
+    rw (← j, ← drop-drop (k - m) m s) (ascii-drop (k - m) (drop m s) (rw word at e))

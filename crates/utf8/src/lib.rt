@@ -41,19 +41,54 @@ fn skip_ascii(s: &[u8], i: usize) -> usize
     k
 }
 
-// The same, in steps of eight bytes.
+// The same by words of eight bytes, four at a time while there are as many.
 fn skip_words(s: &[u8], i: usize) -> usize
     requires { ⌜ i ≤ length (now s) ⌝ }
     ensures { λ r. ⌜ Skips (now (s .entry)) i r ⌝ }
 {
-    let mut k = i;
-    while 8 <= s.len() - k {
+    let n = s.len();
+    if n - i < 8 {
+        return i;
+    }
+    // one word apart, so that bytes which are no ASCII are soon left to others
+    if !ascii_word(s, i) {
+        return i;
+    }
+    let mut k = i + 8;
+    while 32 <= n - k {
+        if !ascii_words(s, k) {
+            return k;
+        }
+        k += 32;
+    }
+    while 8 <= n - k {
         if !ascii_word(s, k) {
             return k;
         }
         k += 8;
     }
+    // fewer than eight are left: the last eight, some of them anew
+    if ascii_word(s, n - 8) {
+        return n;
+    }
     k
+}
+
+// Whether the four words at i are ASCII. Four tests: LLVM makes more of one test of all.
+fn ascii_words(s: &[u8], i: usize) -> bool
+    requires { ⌜ i + 32 ≤ length (now s) ⌝ }
+    ensures { λ r. ⌜ r ≡ ascii (take 32 (drop i (now (s .entry)))) ⌝ }
+{
+    if !ascii_word(s, i) {
+        return false;
+    }
+    if !ascii_word(s, i + 8) {
+        return false;
+    }
+    if !ascii_word(s, i + 16) {
+        return false;
+    }
+    ascii_word(s, i + 24)
 }
 
 // Whether the eight bytes at i are ASCII. LLVM makes one load and one test of the whole function.

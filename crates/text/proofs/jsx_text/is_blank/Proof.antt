@@ -1,109 +1,72 @@
--- `text::jsx_text::is_blank` meets its contract. The loop's invariant: the lines read so far leave nothing. Assumes nothing.
+-- `text::jsx_text::is_blank` meets its contract, by the first byte where that decides. Assumes nothing.
 use native.Mathlib.Omega.{arith}
-use Prim.Native.Nat.{_≤_, _-_}
-use lib.ListN.{length}
-use Rattle.text.proofs.LineLaws.{line-cut}
-use Rattle.text.proofs.TextLaws.{Blank, blank-start, blank-step, blank-skip, blank-line, blank-end}
+use mathlib.Core.Path.{_≡_, refl, sym, ap, _∙_}
+use mathlib.Core.Bool.{Bool, true, false, _&&_, and-eq-true-iff}
+use Prim.Native.Nat.{_<_}
+use mathlib.Core.List.{[], _∷_}
+use lib.Dec.{ltb}
+use lib.ListN.{length, getD}
 use borrow.Author.Needs.{needs}
+use borrow.Author.Tests.{eq-eqb, ltb-true}
+use Rattle.field.specs.Bytes.{Bytes, null?}
+use Rattle.text.specs.Lines.{starts-with-lf, lines}
+use Rattle.text.specs.Runs.{all, indent}
+use Rattle.text.specs.Text.{trimmed-lines, kept, joined, escape-if, jsx-text-to-str}
+use Rattle.text.proofs.IndentLaws.{indent-none, visible-stays}
 use Rattle.text.proofs.jsx_text.is_blank.Statement.{statement}
 use Rattle.text.proofs.jsx_text.is_blank.Tie as tie
 
-abbrev Inv-loop : tie.InvT-loop
-Inv-loop s last n i₀ i = (i ≤ length s) × Blank s last i
+empty-blank : (s : Bytes) (last : Bool) → length s ≡ 0 → true ≡ null? (jsx-text-to-str s false last)
+unfolding jsx-text-to-str escape-if lines trimmed-lines kept joined
+empty-blank [] last h = refl
+empty-blank (c ∷ s) last h = absurd (omega arith)
 
-abbrev μ-loop : tie.MeasureT-loop
-μ-loop s last n i₀ i = length s - i
+visible-not : (s : Bytes) (last : Bool) → (length s ≡ 0 → ⊥) → (ltb 32 (getD s 0 0) && ltb (getD s 0 0) 0x80) ≡ true → false ≡ null? (jsx-text-to-str s false last)
+visible-not [] last h e = absurd (h refl)
+visible-not (c ∷ s) last h e =
+    let p = and-eq-true-iff (ltb 32 c) (ltb c 0x80) .0 e in
+    sym (visible-stays c (ltb-true 32 c (p .0)) (ltb-true c 0x80 (p .1)) s last)
 
-loop-holds : tie.Need-loop-holds Inv-loop μ-loop
-loop-holds c = (omega arith, blank-start _ _)
+indent-blank : (s : Bytes) (last : Bool) → (length s ≡ 0 → ⊥) → getD s 0 0 ≡ 10 → all indent s ≡ true → true ≡ null? (jsx-text-to-str s false last)
+indent-blank [] last h q e = absurd (h refl)
+indent-blank (c ∷ s) last h q e = ap null? (sym (indent-none (c ∷ s) false last (eq-eqb c 10 q) e))
 
-read-line-requires : tie.Need-read-line-requires Inv-loop μ-loop
-read-line-requires c κs = search needs
+returns : tie.Need-returns
+returns c = let args = c .before .before .args in empty-blank (args .s .now) (args .last) (c .if1 .taken)
 
-loop-less : tie.Need-loop-less Inv-loop μ-loop
-loop-less c =
-    let args = c .before .before .before .before .before .args in
-    let loop = c .before .before .before .loop in
-    omega (arith, line-cut (args .s .now) (loop .i) (c .before .before .loop-test .taken) (c .before .read-line .ensures))
+shared-slice-read-c : tie.Need-shared-slice-read-c
+shared-slice-read-c c = search needs
 
-loop-again : tie.Need-loop-again Inv-loop μ-loop
-loop-again c =
-    let args = c .before .before .before .before .before .args in
-    let loop = c .before .before .before .loop in
-    let read-line′ = c .before .read-line in
-    let cut = line-cut (args .s .now) (loop .i) (c .before .before .loop-test .taken) (read-line′ .ensures) in
-    (cut .within, blank-skip (args .s .now) (args .last) (loop .i) (read-line′ .result .end) (read-line′ .result .next) cut (loop .inv .1) (c .if1 .taken))
-
-sub-trim-line : tie.Need-sub-trim-line Inv-loop μ-loop
-sub-trim-line c =
-    let args = c .before .before .before .before .before .args in
-    let loop = c .before .before .before .loop in
-    omega (arith, line-cut (args .s .now) (loop .i) (c .before .before .loop-test .taken) (c .before .read-line .ensures))
-
-part-trim-line-start : tie.Need-part-trim-line-start Inv-loop μ-loop
-part-trim-line-start c =
-    let args = c .before .before .before .before .before .args in
-    let loop = c .before .before .before .loop in
-    omega (arith, line-cut (args .s .now) (loop .i) (c .before .before .loop-test .taken) (c .before .read-line .ensures))
-
-part-trim-line-end : tie.Need-part-trim-line-end Inv-loop μ-loop
-part-trim-line-end c =
-    let args = c .before .before .before .before .before .args in
-    let loop = c .before .before .before .loop in
-    omega (arith, line-cut (args .s .now) (loop .i) (c .before .before .loop-test .taken) (c .before .read-line .ensures))
-
-trim-line-requires : tie.Need-trim-line-requires Inv-loop μ-loop
-trim-line-requires c κs = search needs
-
-returns : tie.Need-returns Inv-loop μ-loop
-returns c =
-    let args = c .before .before .before .before .before .before .before .before .args in
-    let loop = c .before .before .before .before .before .before .loop in
-    let test = c .before .before .before .before .before .loop-test in
-    let read-line′ = c .before .before .before .before .read-line in
-    let trim-line′ = c .before .trim-line in
-    let cut = line-cut (args .s .now) (loop .i) (test .taken) (read-line′ .ensures) in
-    blank-line (args .s .now) (args .last) (loop .i) (read-line′ .result .end) (read-line′ .result .next) (trim-line′ .result .now) cut (trim-line′ .ensures) (loop .inv .1) (c .if2 .taken)
-
-loop-less-2 : tie.Need-loop-less-2 Inv-loop μ-loop
-loop-less-2 c =
-    let args = c .before .before .before .before .before .before .before .before .args in
-    let loop = c .before .before .before .before .before .before .loop in
-    let test = c .before .before .before .before .before .loop-test in
-    let read-line′ = c .before .before .before .before .read-line in
-    omega (arith, line-cut (args .s .now) (loop .i) (test .taken) (read-line′ .ensures))
-
-loop-again-2 : tie.Need-loop-again-2 Inv-loop μ-loop
-loop-again-2 c =
-    let args = c .before .before .before .before .before .before .before .before .args in
-    let loop = c .before .before .before .before .before .before .loop in
-    let test = c .before .before .before .before .before .loop-test in
-    let read-line′ = c .before .before .before .before .read-line in
-    let trim-line′ = c .before .trim-line in
-    let cut = line-cut (args .s .now) (loop .i) (test .taken) (read-line′ .ensures) in
-    (cut .within, blank-step (args .s .now) (args .last) (loop .i) (read-line′ .result .end) (read-line′ .result .next) (trim-line′ .result .now) cut (trim-line′ .ensures) (loop .inv .1) (c .if2 .left))
-
-returns-2 : tie.Need-returns-2 Inv-loop μ-loop
+returns-2 : tie.Need-returns-2
 returns-2 c =
-    let args = c .before .before .before .args in
-    let loop = c .before .loop in
-    blank-end (args .s .now) (args .last) (loop .i) (omega arith) (loop .inv .1)
+    let first = c .before .before in
+    let args = first .before .before .args in
+    visible-not (args .s .now) (args .last) (first .if1 .left) (c .if2 .taken)
+
+is-indent-requires : tie.Need-is-indent-requires
+is-indent-requires c κs = search needs
+
+returns-3 : tie.Need-returns-3
+returns-3 c =
+    let lf = c .before .before in
+    let first = lf .before .before .before in
+    let args = first .before .before .args in
+    indent-blank (args .s .now) (args .last) (first .if1 .left) (lf .if3 .taken) (sym (c .before .is-indent .ensures) ∙ c .if4 .taken)
+
+is-blank-by-lines-requires : tie.Need-is-blank-by-lines-requires
+is-blank-by-lines-requires c κs = search needs
+
+returns-4 : tie.Need-returns-4
+returns-4 c = search needs
 
 pub is-blank-spec : {M : Type 1} → statement M
 is-blank-spec =
     tie.close
     (tie.spec
-    Inv-loop
-    μ-loop
-    loop-holds
-    read-line-requires
-    loop-less
-    loop-again
-    sub-trim-line
-    part-trim-line-start
-    part-trim-line-end
-    trim-line-requires
     returns
-    loop-less-2
-    loop-again-2
-    returns-2)
+    shared-slice-read-c
+    returns-2
+    is-indent-requires
+    returns-3
+    is-blank-by-lines-requires
+    returns-4)
