@@ -26,6 +26,7 @@ pub mod Answers
 pub mod Lent
 pub mod Export
 pub mod TagLeft
+pub mod LongRun
 pub mod Accept
 pub mod Kept
 pub mod KeptCases

@@ -87,7 +87,7 @@ pub data Part : Type 0 where
   chars : Bytes → Part
   gap : Pass Mid → Part
 
--- 01, 11: a body or a merged run over 65,535. A run of the last merge stands whole in a static string or in a 70, where it is a body's part;
--- only a run that is merged a second time is looked at by itself
+-- 01, 11: a body or a merged run over 65,535. Only a run that is merged a second time is looked at by itself: one of the last merge stands
+-- whole in a static string or in a 70, so that a body is too long as well (`run-in-template`, `run-in-call`)
 abbrev pub over : Bytes → Bool
 over b = ltb 65535 (length b)
