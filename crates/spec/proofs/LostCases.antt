@@ -43,6 +43,9 @@ key v = fld 0x50 (name (ascii "key") ++ v)
 abbrev lost : Counted
 lost = record { number = 0; before = 1; after = 0 }
 
+abbrev kept : Counted
+kept = record { number = 0; before = 1; after = 1 }
+
 record Lost : Type 0 where
   -- `<br>{/a/}</br>`
   void-children : counted (page-of (fld 0x30 (name (ascii "br") ++ held))) [] ≡ lost
@@ -54,9 +57,15 @@ record Lost : Type 0 where
   emptied-key : counted (page-of (fld 0x30 (name (ascii "P") ++ (key held ++ key (fld 0x52 []))))) [] ≡ lost
   -- `<p>{.../a/}</p>`
   spread-child : counted (page-of (fld 0x30 (name (ascii "p") ++ fld 0x61 (fld 0x74 (ascii "/a/"))))) [] ≡ lost
-  -- and nothing is lost of `<p a={/a/}/>`
-  elsewhere : counted (page-of (fld 0x30 (name (ascii "p") ++ fld 0x50 (name (ascii "a") ++ held)))) [] ≡ record { number = 0; before = 1; after = 1 }
+  -- the same of a call, `<P>a{.../a/}</P>`
+  spread-child-of-a-call : counted (page-of (fld 0x30 (name (ascii "P") ++ (fld 0x60 (ascii "a") ++ fld 0x61 (fld 0x74 (ascii "/a/")))))) [] ≡ lost
+  -- and nothing is lost, or doubled, of `<p a={/a/}/>`, `<P>{/a/}</P>`, `<P>a{/a/}</P>`, `<P key={/a/}/>` and, with `a` listed, `<p a={/a/}/>`
+  attribute : counted (page-of (fld 0x30 (name (ascii "p") ++ fld 0x50 (name (ascii "a") ++ held)))) [] ≡ kept
+  only-child : counted (page-of (fld 0x30 (name (ascii "P") ++ held))) [] ≡ kept
+  child-among-others : counted (page-of (fld 0x30 (name (ascii "P") ++ (fld 0x60 (ascii "a") ++ held)))) [] ≡ kept
+  only-key : counted (page-of (fld 0x30 (name (ascii "P") ++ key held))) [] ≡ kept
+  listed-attribute : counted (page-of (fld 0x30 (name (ascii "p") ++ fld 0x50 (name (ascii "a") ++ held)))) (fld 0x03 (fld 0x20 (ascii "a"))) ≡ kept
 
 lost-cases : Lost
 unfolding counted literals-in computed reply in-row
-lost-cases = record { void-children = refl; tag-value = refl; tag-value-in-a-call = refl; earlier-key = refl; emptied-key = refl; spread-child = refl; elsewhere = refl }
+lost-cases = record { void-children = refl; tag-value = refl; tag-value-in-a-call = refl; earlier-key = refl; emptied-key = refl; spread-child = refl; spread-child-of-a-call = refl; attribute = refl; only-child = refl; child-among-others = refl; only-key = refl; listed-attribute = refl }
