@@ -104,11 +104,7 @@ module _ {tr pr : ℕ} {o : Options} {d : Done Row} where
   -- and nothing is left to refuse where none of 10 to 13 has its cause
   late-taken : {x : Outcome} → Late tr pr o d x → (T (d .flags .left) → ⊥) → T (not (over-long o d)) → templates-need d ≤ tr → page-need o d ≤ pr → x ≡ accepted (written o d)
   late-taken (tag-left l) hl hg ht hp = absurd (hl l)
-  late-taken (too-long l g) hl hg ht hp = absurd (never (over-long o d) g hg)
-    where
-      never : (b : Bool) → T b → T (not b) → ⊥
-      never true t f = f
-      never false t f = t
+  late-taken (too-long l g) hl hg ht hp = absurd (never (over-long o d) hg g)
   late-taken (templates-small l g t) hl hg ht hp = absurd (omega arith)
   late-taken (page-small l g t p) hl hg ht hp = absurd (omega arith)
   late-taken (taken l g t p) hl hg ht hp = refl

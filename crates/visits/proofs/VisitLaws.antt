@@ -29,7 +29,7 @@ use Rattle.spec.specs.Children.{children-to-string, serialize-jsx, found-of, en
 use Rattle.spec.specs.Visit.{visit-exprs, visit-inside, visit-after, visit-found, visit-only-child, visit-fragment, leave}
 use Rattle.spec.specs.Transform.{templates-row, stands, element-of, fragment-of, element-raw, shape-of, raw-tag, expr, children, child}
 use Rattle.decisions.specs.At.{opts, element-at, children-at, is-none, few, FirstChild}
-use Rattle.decisions.proofs.Series.{tested, any-front, children-61, contained-field, expr-70, expr-71, expr-72, expr-74, expr-75, expr-76, expr-79, expr-30, expr-31}
+use Rattle.decisions.proofs.Series.{tested, any-front, children-61, expr-70, expr-71, expr-72, expr-74, expr-75, expr-76, expr-79, expr-30, expr-31}
 use Rattle.strings.proofs.TreeLaws.{held, kids-60, kids-52, kids-30, kids-31}
 use Rattle.records.specs.declared.Records.{Records}
 use Rattle.records.specs.Keep as K
@@ -322,16 +322,15 @@ found-raw skip props s = visit-found (children-to-expr (children-at skip props (
 record TagAt (c : Bytes) : Type 0 where
   the-tag : P.Tag
   expr-is : expr-in (read c) ≡ P.tag-expr the-tag
-  contained-is : contained-in (read c) ≡ contained (P.tag-expr the-tag)
 
-tag-at : (c : Bytes) (t : P.Tag) (u : ℕ) → tag-of c ≡ u → (u ≡ 256 → ⊥) → expr-in (read c) ≡ P.tag-expr t → TagAt c
-tag-at c t u k n e = record { the-tag = t; expr-is = e; contained-is = contained-field c (tag-of c) refl (λ z. n (sym k ∙ z)) ∙ ap contained e }
+tag-at : (c : Bytes) (t : P.Tag) → expr-in (read c) ≡ P.tag-expr t → TagAt c
+tag-at c t e = record { the-tag = t; expr-is = e }
 
 tagged : (c : Bytes) → (eqb (tag-of c) 0x30 || eqb (tag-of c) 0x31) ≡ true → TagAt c
 tagged c h =
     let t = tag-of c in
-    tested t 0x30 (λ k. tag-at c (element-in (read (body-of c))) 0x30 k (λ z. omega (arith, z)) (expr-30 c t refl k)) λ a.
-    tested t 0x31 (λ k. tag-at c (fragment-in (read (body-of c))) 0x31 k (λ z. omega (arith, z)) (expr-31 c t refl k)) λ b.
+    tested t 0x30 (λ k. tag-at c (element-in (read (body-of c))) (expr-30 c t refl k)) λ a.
+    tested t 0x31 (λ k. tag-at c (fragment-in (read (body-of c))) (expr-31 c t refl k)) λ b.
     absurd (false≢true (let z : (eqb t 0x30 || eqb t 0x31) ≡ false = rw (ne-eqb t 0x30 a, ne-eqb t 0x31 b) in sym z ∙ h))
 
 module _ (o : Options) (n : ℕ) where
