@@ -1,5 +1,6 @@
 -- Laws of decimal digits: the loop of `put_decimal` fills its buffer from the back.
--- Main statements: `filling-start`, `filled`, `filling-more` for `put_decimal`; `length-decimal`, `decimal-all-bytes`.
+-- Main statements: `filling-start`, `filled`, `filling-more` for `put_decimal`; `length-decimal`, `decimal-all-bytes`, `decimal-some`, and
+-- `decimal-each`, by which every byte is a digit.
 -- Assumes nothing.
 use mathlib.Core.Path.{_≡_, refl, sym, ap, _∙_}
 use mathlib.Core.Bool.{Bool, true, false}
@@ -11,7 +12,7 @@ use lib.Dec.{eqb, lit<, lit≤}
 use lib.ListN.{length, set, take, drop, length-set, length-drop, drop-of-length-le}
 use lib.Seq.{take-all}
 use borrow.Author.Tests.{eq-eqb, ne-eqb}
-use Rattle.field.specs.Bytes.{Bytes, AllBytes, pick}
+use Rattle.field.specs.Bytes.{Bytes, AllBytes, pick, null?}
 use Rattle.text.specs.Decimal.{digits, decimal}
 
 digits-last : (i m : ℕ) (acc : Bytes) → 0 < i → m / 10 ≡ 0 → digits i m acc ≡ (48 + m % 10) ∷ acc
@@ -30,11 +31,11 @@ set-at [] j x h = absurd (not-suc-le-zero h)
 set-at (y ∷ b) zero x h = refl
 set-at (y ∷ b) (suc j) x h = set-at b j x (le-of-suc-le-suc h)
 
-set-front : (b : Bytes) (i x : ℕ) → 0 < i → i ≤ length b → drop (i - 1) (set b (i - 1) x) ≡ x ∷ drop i b
+pub set-front : (b : Bytes) (i x : ℕ) → 0 < i → i ≤ length b → drop (i - 1) (set b (i - 1) x) ≡ x ∷ drop i b
 set-front b i x h l = let p : suc (i - 1) ≡ i = omega arith in set-at b (i - 1) x (omega arith) ∙ ap {B = Bytes} (λ k. x ∷ drop k b) p
 
 -- each digit makes the number ten times smaller
-tenth : (i m : ℕ) → 0 < i → m < 10 ^ i → m / 10 < 10 ^ (i - 1)
+pub tenth : (i m : ℕ) → 0 < i → m < 10 ^ i → m / 10 < 10 ^ (i - 1)
 tenth zero m h l = absurd (not-suc-le-zero h)
 tenth (suc i) m h l =
     let p : suc i - 1 ≡ i = omega arith in
@@ -42,7 +43,7 @@ tenth (suc i) m h l =
     rw p (omega arith)
 
 -- a number that is left has a place left
-place-left : (i m : ℕ) → m < 10 ^ i → (m ≡ 0 → ⊥) → 0 < i
+pub place-left : (i m : ℕ) → m < 10 ^ i → (m ≡ 0 → ⊥) → 0 < i
 place-left zero m h e = absurd (e (omega arith))
 place-left (suc i) m h e = omega arith
 
@@ -101,15 +102,31 @@ pub length-decimal : (n : ℕ) → length (decimal n) ≤ 20
 unfolding decimal
 length-decimal n = omega (arith, length-digits 20 n [])
 
-digits-all-bytes : (fuel n : ℕ) (acc : Bytes) → AllBytes acc → AllBytes (digits fuel n acc)
-unfolding digits AllBytes
-digits-all-bytes zero n acc h = h
-digits-all-bytes (suc fuel) n acc h = on (eqb (n / 10) 0) (digits-all-bytes fuel (n / 10) ((48 + n % 10) ∷ acc) (omega arith, h))
-  where
-    on : (b : Bool) → AllBytes (digits fuel (n / 10) ((48 + n % 10) ∷ acc)) → AllBytes (pick b ((48 + n % 10) ∷ acc) (digits fuel (n / 10) ((48 + n % 10) ∷ acc)))
-    on true q = (omega arith, h)
-    on false q = q
+-- what holds of both holds of either
+pub pick-each : (P : Bytes → Type 0) (t : Bool) {a b : Bytes} → P a → P b → P (pick t a b)
+pick-each P true p q = p
+pick-each P false p q = q
+
+-- what putting a digit in front keeps, putting all of them in front keeps
+module _ (P : Bytes → Type 0) (digit : (k : ℕ) (b : Bytes) → k < 10 → P b → P ((48 + k) ∷ b)) where
+  pub digits-each : (fuel n : ℕ) (acc : Bytes) → P acc → P (digits fuel n acc)
+  unfolding digits
+  digits-each zero n acc h = h
+  digits-each (suc fuel) n acc h =
+      let q : P ((48 + n % 10) ∷ acc) = digit (n % 10) acc (omega arith) h in
+      pick-each P (eqb (n / 10) 0) q (digits-each fuel (n / 10) ((48 + n % 10) ∷ acc) q)
+
+  pub decimal-each : P [] → (n : ℕ) → P (decimal n)
+  unfolding decimal
+  decimal-each h n = digits-each 20 n [] h
 
 pub decimal-all-bytes : (n : ℕ) → AllBytes (decimal n)
-unfolding decimal AllBytes
-decimal-all-bytes n = digits-all-bytes 20 n [] tt
+unfolding AllBytes
+decimal-all-bytes = decimal-each AllBytes (λ k b l h. (omega arith, h)) tt
+
+-- there is a digit
+pub decimal-some : (n : ℕ) → null? (decimal n) ≡ false
+unfolding decimal digits
+decimal-some n =
+    pick-each (λ b. null? b ≡ false) (eqb (n / 10) 0) refl
+    (digits-each (λ b. null? b ≡ false) (λ k b l h. refl) 19 (n / 10) ((48 + n % 10) ∷ []) refl)

@@ -7,5 +7,7 @@ pub mod EscapeLaws
 pub mod TextLaws
 pub mod IndentLaws
 pub mod DecimalLaws
+pub mod PlacesLaws
+pub mod Decimals
 pub mod TextBounds
 pub mod WhiteSpace
