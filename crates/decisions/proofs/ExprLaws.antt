@@ -1,51 +1,23 @@
--- What the code of src/expr.rt learns: a number of several bytes read one by one, and the shape of an expression by its tag.
--- Main statements: `number-next`, `number-all`, `number-room`, `shape-70` and the like. Assumes nothing.
+-- What the code of src/expr.rt learns: the shape of an expression by its tag.
+-- Main statements: `boolean-first`, `shape-70` and the like. Assumes nothing.
 use mathlib.Core.Path.{_≡_, refl, sym, ap, _∙_}
 use mathlib.Core.Bool.{Bool, false}
-use Prim.Native.Nat.{ℕ, _+_, _*_, _^_, _≤_, _<_}
+use mathlib.Core.Logic.{_⊎_, ⊎-elim}
+use Prim.Native.Nat.{ℕ, _≤_, _<_}
 use native.Mathlib.Omega.{arith}
-use native.Mathlib.Numerals.{add-one}
-use native.Mathlib.Nat.{pow-suc, pow-le-pow-right}
 use mathlib.Core.List.{[], _∷_}
 use lib.Dec.{eqb}
-use lib.ListN.{length, take, getD}
-use lib.Seq.{take-suc, take-all}
+use lib.ListN.{length, getD}
 use Rattle.field.specs.Bytes.{Bytes}
-use Rattle.field.specs.Number.{number-from, number-of}
 use Rattle.field.specs.Row.{read, Ended}
 use Rattle.field.specs.Front.{tag-of, body-of}
-use Rattle.field.proofs.NumberLaws.{number-append}
 use Rattle.page.specs.Page.{Expr}
 use Rattle.page.specs.Tree.{boolean-in, contained, contained-in, expr-in}
 use Rattle.decisions.specs.At.{shape-by, shape-of-contained}
 use Rattle.decisions.specs.declared.expr.Shape.the-variants as Form
-use Rattle.decisions.proofs.Series.{contained-none, contained-field, expr-70, expr-71, expr-72, expr-74, expr-75, expr-76, expr-79, expr-30, expr-31, expr-other}
+use Rattle.decisions.proofs.Series.{contained-none, contained-field, expr-70, expr-71, expr-72, expr-74, expr-75, expr-76, expr-79, expr-7a, expr-7b, expr-30, expr-31, expr-other}
 
--- ---- numbers and booleans
-
-pub number-start : 0 ≡ number-of []
-unfolding number-from
-number-start = refl
-
-module _ (s : Bytes) (i n : ℕ) where
-  pub number-next : i < length s → n ≡ number-of (take i s) → {r : ℕ} → r ≡ n * 256 + getD s i 0 → r ≡ number-of (take (i + 1) s)
-  unfolding number-from
-  number-next h e {r} q =
-      q ∙ (ap (λ (m : ℕ). m * 256 + getD s i 0) e ∙ sym (ap number-of (ap (λ (k : ℕ). take k s) (add-one i) ∙ take-suc s i 0 h) ∙ number-append 0 (take i s) (getD s i 0 ∷ [])))
-
-  pub number-all : length s ≤ i → i < 8 → n ≡ number-of (take i s) → n ≡ number-of (take 8 s)
-  number-all h l e = e ∙ ap number-of (take-all i s h ∙ sym (take-all 8 s (omega arith)))
-
-  pub number-end : 8 ≤ i → i ≤ 8 → n ≡ number-of (take i s) → n ≡ number-of (take 8 s)
-  number-end h l e = e ∙ ap (λ (k : ℕ). number-of (take k s)) (let k : i ≡ 8 = omega arith in k)
-
--- a number of i bytes has room for one more
-module _ (i n : ℕ) (h : n < 256 ^ i) where
-  pub number-room : i < 8 → n < 2 ^ 56
-  number-room l = omega (arith, pow-le-pow-right {n = 256} (let z : 0 < 256 = omega arith in z) {i = i} {j = 7} (let z : i ≤ 7 = omega arith in z))
-
-  pub number-grown : {r : ℕ} → r < 256 * (n + 1) → r < 256 ^ (i + 1)
-  number-grown {r} l = rw (add-one i, pow-suc 256 i) (omega arith)
+-- ---- booleans
 
 pub boolean-first : (s : Bytes) → 0 < length s → eqb (getD s 0 0) 1 ≡ boolean-in s
 unfolding boolean-in
@@ -68,9 +40,9 @@ module _ (s : Bytes) (t : ℕ) (e : t ≡ tag-of s) where
   unfolding shape-by
   shape-70 k = shaped (λ z. omega arith) (expr-70 s t e k)
 
-  pub shape-71 : t ≡ 0x71 → Form.Number ≡ shape-of-contained (contained-in (read s))
+  pub shape-number : (t ≡ 0x71) ⊎ (t ≡ 0x7a) → Form.Number ≡ shape-of-contained (contained-in (read s))
   unfolding shape-by
-  shape-71 k = shaped (λ z. omega arith) (expr-71 s t e k)
+  shape-number k = ⊎-elim (λ z. shaped (λ y. omega arith) (expr-71 s t e z)) (λ z. shaped (λ y. omega arith) (expr-7a s t e z)) k
 
   pub shape-72 : t ≡ 0x72 → {b : Bytes} → b ≡ body-of s → {v : Bool} → v ≡ boolean-in b → Form.Boolean v ≡ shape-of-contained (contained-in (read s))
   unfolding shape-by
@@ -80,9 +52,9 @@ module _ (s : Bytes) (t : ℕ) (e : t ≡ tag-of s) where
   unfolding shape-by
   shape-74 k = shaped (λ z. omega arith) (expr-74 s t e k)
 
-  pub shape-75 : t ≡ 0x75 → Form.Minus ≡ shape-of-contained (contained-in (read s))
+  pub shape-minus : (t ≡ 0x75) ⊎ (t ≡ 0x7b) → Form.Minus ≡ shape-of-contained (contained-in (read s))
   unfolding shape-by
-  shape-75 k = shaped (λ z. omega arith) (expr-75 s t e k)
+  shape-minus k = ⊎-elim (λ z. shaped (λ y. omega arith) (expr-75 s t e z)) (λ z. shaped (λ y. omega arith) (expr-7b s t e z)) k
 
   pub shape-76 : t ≡ 0x76 → Form.Other ≡ shape-of-contained (contained-in (read s))
   unfolding shape-by
@@ -100,7 +72,7 @@ module _ (s : Bytes) (t : ℕ) (e : t ≡ tag-of s) where
   unfolding shape-by
   shape-31 k = shaped (λ z. omega arith) (expr-31 s t e k)
 
-  pub shape-null : (t ≡ 256 → ⊥) → (t ≡ 0x70 → ⊥) → (t ≡ 0x71 → ⊥) → (t ≡ 0x72 → ⊥) → (t ≡ 0x74 → ⊥) → (t ≡ 0x75 → ⊥) → (t ≡ 0x76 → ⊥) → (t ≡ 0x79 → ⊥) → (t ≡ 0x30 → ⊥) → (t ≡ 0x31 → ⊥) →
+  pub shape-null : (t ≡ 256 → ⊥) → (t ≡ 0x70 → ⊥) → ((t ≡ 0x71) ⊎ (t ≡ 0x7a) → ⊥) → (t ≡ 0x72 → ⊥) → (t ≡ 0x74 → ⊥) → ((t ≡ 0x75) ⊎ (t ≡ 0x7b) → ⊥) → (t ≡ 0x76 → ⊥) → (t ≡ 0x79 → ⊥) → (t ≡ 0x30 → ⊥) → (t ≡ 0x31 → ⊥) →
       Form.Null ≡ shape-of-contained (contained-in (read s))
   unfolding shape-by
   shape-null h a b c d f g i j k = shaped h (expr-other s t e h a b c d f g i j k)

@@ -28,7 +28,7 @@ use Rattle.decisions.specs.declared.attribute.Value.{Value}
 use Rattle.decisions.specs.declared.attribute.Value.the-variants as Held
 use Rattle.decisions.specs.declared.expr.Shape.{Shape}
 use Rattle.decisions.specs.declared.expr.Shape.the-variants as Form
-use Rattle.decisions.proofs.Series.{tested, any-front, value-in-at, fragment-is, value-51, value-52, value-30, value-31, value-other, contained-field, expr-70, expr-71, expr-72, expr-74, expr-75, expr-76, expr-79, expr-30, expr-31}
+use Rattle.decisions.proofs.Series.{tested, any-front, value-in-at, fragment-is, value-51, value-52, value-30, value-31, value-other, contained-field, expr-70, expr-71, expr-72, expr-74, expr-75, expr-76, expr-79, expr-7a, expr-7b, expr-30, expr-31}
 use Rattle.decisions.proofs.AttributeLaws.{held-contained, held-element, held-fragment}
 
 -- ---- an element and a fragment, by their bytes
@@ -178,11 +178,11 @@ module _ (a : Bytes) where
 pub data ContainedAt (s : Bytes) : Contained → Shape → Type 0 where
   is-empty : ContainedAt s nothing-contained Form.Empty
   is-text : ContainedAt s (contained (string-literal (body-of s))) Form.String
-  is-number : ContainedAt s (contained (number-literal (number-in (body-of s)))) Form.Number
+  is-number : ContainedAt s (contained (number-literal (number-in (tag-of s) (body-of s)))) Form.Number
   is-boolean : ContainedAt s (contained (boolean-literal (boolean-in (body-of s)))) (Form.Boolean (boolean-in (body-of s)))
   is-null : ContainedAt s (contained null-literal) Form.Null
   is-literal : ContainedAt s (contained (other-literal (body-of s))) Form.Literal
-  is-minus : ContainedAt s (contained (minus-literal (number-in (body-of s)))) Form.Minus
+  is-minus : ContainedAt s (contained (minus-literal (number-in (tag-of s) (body-of s)))) Form.Minus
   is-other : {e : Expr} → shape-of e ≡ M.other-shape → ContainedAt s (contained e) Form.Other
 
 module _ (s : Bytes) where
@@ -203,10 +203,12 @@ module _ (s : Bytes) where
       tested t 0x75 (λ k. held t refl (λ z. omega arith) (expr-75 s t refl k) is-minus) λ e.
       tested t 0x76 (λ k. held t refl (λ z. omega arith) (expr-76 s t refl k) (is-other refl)) λ g.
       tested t 0x79 (λ k. held t refl (λ z. omega arith) (expr-79 s t refl k) (is-other refl)) λ h.
+      tested t 0x7a (λ k. held t refl (λ z. omega arith) (expr-7a s t refl k) is-number) λ m.
+      tested t 0x7b (λ k. held t refl (λ z. omega arith) (expr-7b s t refl k) is-minus) λ n.
       tested t 0x30 (λ k. held t refl (λ z. omega arith) (expr-30 s t refl k) (is-other refl)) λ j.
       tested t 0x31 (λ k. held t refl (λ z. omega arith) (expr-31 s t refl k) (is-other refl)) λ l.
       any-front (λ (r : Row). Viewed (contained-in r)) s t refl is-empty (λ x. is-empty) λ f i.
-      rw (ne-eqb t 0x70 a, ne-eqb t 0x71 b, ne-eqb t 0x72 c, ne-eqb t 0x74 d, ne-eqb t 0x75 e, ne-eqb t 0x76 g, ne-eqb t 0x79 h, ne-eqb t 0x30 j, ne-eqb t 0x31 l) is-null
+      rw (ne-eqb t 0x70 a, ne-eqb t 0x71 b, ne-eqb t 0x72 c, ne-eqb t 0x74 d, ne-eqb t 0x75 e, ne-eqb t 0x76 g, ne-eqb t 0x79 h, ne-eqb t 0x7a m, ne-eqb t 0x7b n, ne-eqb t 0x30 j, ne-eqb t 0x31 l) is-null
 
 empty-view : {s : Bytes} {c : Contained} → ContainedAt s c Form.Empty → c ≡ nothing-contained
 empty-view is-empty = refl
@@ -214,7 +216,7 @@ empty-view is-empty = refl
 text-view : {s : Bytes} {c : Contained} → ContainedAt s c Form.String → c ≡ contained (string-literal (body-of s))
 text-view is-text = refl
 
-number-view : {s : Bytes} {c : Contained} → ContainedAt s c Form.Number → c ≡ contained (number-literal (number-in (body-of s)))
+number-view : {s : Bytes} {c : Contained} → ContainedAt s c Form.Number → c ≡ contained (number-literal (number-in (tag-of s) (body-of s)))
 number-view is-number = refl
 
 boolean-view : {s : Bytes} {c : Contained} {b : Bool} → ContainedAt s c (Form.Boolean b) → c ≡ contained (boolean-literal b)
@@ -226,7 +228,7 @@ null-view is-null = refl
 literal-view : {s : Bytes} {c : Contained} → ContainedAt s c Form.Literal → c ≡ contained (other-literal (body-of s))
 literal-view is-literal = refl
 
-minus-view : {s : Bytes} {c : Contained} → ContainedAt s c Form.Minus → c ≡ contained (minus-literal (number-in (body-of s)))
+minus-view : {s : Bytes} {c : Contained} → ContainedAt s c Form.Minus → c ≡ contained (minus-literal (number-in (tag-of s) (body-of s)))
 minus-view is-minus = refl
 
 -- an expression that no other shape tells apart
@@ -261,7 +263,7 @@ module _ (c : Bytes) where
   pub string-contained : shape-of-contained (contained-in (read c)) ≡ Form.String → contained-in (read c) ≡ contained (string-literal (body-of c))
   string-contained h = text-view (seen h)
 
-  pub number-contained : shape-of-contained (contained-in (read c)) ≡ Form.Number → contained-in (read c) ≡ contained (number-literal (number-in (body-of c)))
+  pub number-contained : shape-of-contained (contained-in (read c)) ≡ Form.Number → contained-in (read c) ≡ contained (number-literal (number-in (tag-of c) (body-of c)))
   number-contained h = number-view (seen h)
 
   pub boolean-contained : {b : Bool} → shape-of-contained (contained-in (read c)) ≡ Form.Boolean b → contained-in (read c) ≡ contained (boolean-literal b)
@@ -273,7 +275,7 @@ module _ (c : Bytes) where
   pub literal-contained : shape-of-contained (contained-in (read c)) ≡ Form.Literal → contained-in (read c) ≡ contained (other-literal (body-of c))
   literal-contained h = literal-view (seen h)
 
-  pub minus-contained : shape-of-contained (contained-in (read c)) ≡ Form.Minus → contained-in (read c) ≡ contained (minus-literal (number-in (body-of c)))
+  pub minus-contained : shape-of-contained (contained-in (read c)) ≡ Form.Minus → contained-in (read c) ≡ contained (minus-literal (number-in (tag-of c) (body-of c)))
   minus-contained h = minus-view (seen h)
 
   pub other-contained : shape-of-contained (contained-in (read c)) ≡ Form.Other → OtherShape (read c)

@@ -3,6 +3,7 @@
 -- `contained-field`, `expr-70`, `items-77`, `pieces-20` and the like; `-none` where no field stands. Assumes nothing.
 use mathlib.Core.Path.{_≡_, refl, sym, ap, _∙_, subst}
 use mathlib.Core.Bool.{Bool, true, false}
+use mathlib.Core.Logic.{_⊎_, inl, inr}
 use Prim.Native.Nat.{ℕ}
 use mathlib.Core.List.{[], _∷_}
 use lib.Dec.{T, ltb, eqb}
@@ -257,9 +258,9 @@ module _ (s : Bytes) (t : ℕ) (e : t ≡ tag-of s) where
   unfolding expr-in expr-by choose inside
   expr-70 k = ap expr-in (leaf-at s t e 0x70 k tt refl)
 
-  pub expr-71 : t ≡ 0x71 → expr-in (read s) ≡ number-literal (number-in (body-of s))
+  pub expr-71 : t ≡ 0x71 → expr-in (read s) ≡ number-literal (number-in (tag-of s) (body-of s))
   unfolding expr-in expr-by choose inside
-  expr-71 k = ap expr-in (leaf-at s t e 0x71 k tt refl)
+  expr-71 k = ap expr-in (leaf-at s t e 0x71 k tt refl) ∙ ap (λ (x : ℕ). number-literal (number-in x (body-of s))) (sym k ∙ e)
 
   pub expr-72 : t ≡ 0x72 → expr-in (read s) ≡ boolean-literal (boolean-in (body-of s))
   unfolding expr-in expr-by choose inside
@@ -269,9 +270,9 @@ module _ (s : Bytes) (t : ℕ) (e : t ≡ tag-of s) where
   unfolding expr-in expr-by choose inside
   expr-74 k = ap expr-in (leaf-at s t e 0x74 k tt refl)
 
-  pub expr-75 : t ≡ 0x75 → expr-in (read s) ≡ minus-literal (number-in (body-of s))
+  pub expr-75 : t ≡ 0x75 → expr-in (read s) ≡ minus-literal (number-in (tag-of s) (body-of s))
   unfolding expr-in expr-by choose inside
-  expr-75 k = ap expr-in (leaf-at s t e 0x75 k tt refl)
+  expr-75 k = ap expr-in (leaf-at s t e 0x75 k tt refl) ∙ ap (λ (x : ℕ). minus-literal (number-in x (body-of s))) (sym k ∙ e)
 
   pub expr-76 : t ≡ 0x76 → expr-in (read s) ≡ array-literal (items-in (read (body-of s)))
   unfolding expr-in expr-by choose inside
@@ -280,6 +281,14 @@ module _ (s : Bytes) (t : ℕ) (e : t ≡ tag-of s) where
   pub expr-79 : t ≡ 0x79 → expr-in (read s) ≡ other-expr (pieces-in (read (body-of s)))
   unfolding expr-in expr-by choose inside
   expr-79 k = ap expr-in (nest-at s t e 0x79 k tt refl)
+
+  pub expr-7a : t ≡ 0x7a → expr-in (read s) ≡ number-literal (number-in (tag-of s) (body-of s))
+  unfolding expr-in expr-by choose inside
+  expr-7a k = ap expr-in (leaf-at s t e 0x7a k tt refl) ∙ ap (λ (x : ℕ). number-literal (number-in x (body-of s))) (sym k ∙ e)
+
+  pub expr-7b : t ≡ 0x7b → expr-in (read s) ≡ minus-literal (number-in (tag-of s) (body-of s))
+  unfolding expr-in expr-by choose inside
+  expr-7b k = ap expr-in (leaf-at s t e 0x7b k tt refl) ∙ ap (λ (x : ℕ). minus-literal (number-in x (body-of s))) (sym k ∙ e)
 
   pub expr-30 : t ≡ 0x30 → expr-in (read s) ≡ tag-expr (element-in (read (body-of s)))
   unfolding expr-in expr-by choose inside
@@ -290,12 +299,12 @@ module _ (s : Bytes) (t : ℕ) (e : t ≡ tag-of s) where
   expr-31 k = ap expr-in (nest-at s t e 0x31 k tt refl)
 
   -- a 73, and all that is no expression
-  pub expr-other : (t ≡ 256 → ⊥) → (t ≡ 0x70 → ⊥) → (t ≡ 0x71 → ⊥) → (t ≡ 0x72 → ⊥) → (t ≡ 0x74 → ⊥) → (t ≡ 0x75 → ⊥) → (t ≡ 0x76 → ⊥) → (t ≡ 0x79 → ⊥) → (t ≡ 0x30 → ⊥) → (t ≡ 0x31 → ⊥) →
+  pub expr-other : (t ≡ 256 → ⊥) → (t ≡ 0x70 → ⊥) → ((t ≡ 0x71) ⊎ (t ≡ 0x7a) → ⊥) → (t ≡ 0x72 → ⊥) → (t ≡ 0x74 → ⊥) → ((t ≡ 0x75) ⊎ (t ≡ 0x7b) → ⊥) → (t ≡ 0x76 → ⊥) → (t ≡ 0x79 → ⊥) → (t ≡ 0x30 → ⊥) → (t ≡ 0x31 → ⊥) →
       expr-in (read s) ≡ null-literal
   unfolding expr-in expr-by choose
   expr-other h a b c d g j k l m =
       any-field (λ (r : Row). expr-in r ≡ null-literal) s t e h λ f i.
-      rw (ne-eqb t 0x70 a, ne-eqb t 0x71 b, ne-eqb t 0x72 c, ne-eqb t 0x74 d, ne-eqb t 0x75 g, ne-eqb t 0x76 j, ne-eqb t 0x79 k, ne-eqb t 0x30 l, ne-eqb t 0x31 m)
+      rw (ne-eqb t 0x70 a, ne-eqb t 0x71 (λ z. b (inl z)), ne-eqb t 0x7a (λ z. b (inr z)), ne-eqb t 0x72 c, ne-eqb t 0x74 d, ne-eqb t 0x75 (λ z. g (inl z)), ne-eqb t 0x7b (λ z. g (inr z)), ne-eqb t 0x76 j, ne-eqb t 0x79 k, ne-eqb t 0x30 l, ne-eqb t 0x31 m)
 
   -- items of an array
   pub items-77 : t ≡ 0x77 → items-in (read s) ≡ spread-item (expr-in (read (body-of s))) (items-in (read (behind-of s)))

@@ -7,9 +7,10 @@ use lib.Dec.{T}
 use lib.ListN.{length}
 use Rattle.field.specs.Bytes.{Bytes, ascii, same, among, pick, null?}
 use Rattle.field.specs.Row.{Row, end, loose, field, read}
-use Rattle.field.specs.Front.{tag-of}
+use Rattle.field.specs.Front.{tag-of, body-of}
 use Rattle.text.specs.Text.{jsx-text-to-str}
 use Rattle.names.specs.Names.{get-attr-name}
+use Rattle.page.specs.Number.{Number, render, number-in}
 use Rattle.page.specs.Check.{is-child}
 use Rattle.page.specs.Page as P
 use Rattle.page.specs.Page.{Options, Name, identifier, member, namespaced}
@@ -96,6 +97,15 @@ shape-by (P.tag-expr t) = Form.Other
 unfoldable pub shape-of-contained : Contained → Shape
 shape-of-contained nothing-contained = Form.Empty
 shape-of-contained (contained e) = shape-by e
+
+-- ---- numbers
+
+-- the number in front of a series, where one stands, and its text
+abbrev pub number-at : Bytes → Number
+number-at s = number-in (tag-of s) (body-of s)
+
+abbrev pub number-text : Bytes → Bytes
+number-text s = render (number-at s)
 
 -- ---- children
 

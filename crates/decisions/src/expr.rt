@@ -1,13 +1,16 @@
 // The expression at the front of a series, by the shapes that 000 tells apart.
 ghost use mathlib.Core.Path.{_≡_};
-ghost use Prim.Native.Nat.{_+_, _*_, _^_, _<_};
-ghost use lib.ListN.{take};
-ghost use Rattle.field.specs.Number.{number-of};
+ghost use Prim.Native.Nat.{_+_, _<_, _^_};
+ghost use lib.ListN.{length};
+ghost use Rattle.field.specs.Put.{Wrote};
 ghost use Rattle.field.specs.Row.{read};
+ghost use Rattle.page.specs.Number.{number-bytes};
 ghost use Rattle.page.specs.Tree.{boolean-in, contained-in};
-ghost use Rattle.decisions.specs.At.{shape-of-contained};
+ghost use Rattle.decisions.specs.At.{shape-of-contained, number-at, number-text};
 use field::reader::body;
 use field::reader::tag_at;
+use page::number::put_number;
+use page::number::put_number_bytes;
 
 pub enum Shape {
     // no expression: an empty container
@@ -19,31 +22,6 @@ pub enum Shape {
     Literal,
     Minus,
     Other,
-}
-
-// n with one byte more behind it.
-fn shifted(n: u64, b: u8) -> u64
-    requires { ⌜ n < 2 ^ 56 ⌝ }
-    ensures { λ r. ⌜ (r ≡ n * 256 + b) × (r < 256 * (n + 1)) ⌝ }
-{
-    n * 256 + b as u64
-}
-
-// The number in the first eight bytes, the high byte first.
-pub fn number_in(s: &[u8]) -> u64
-    ensures { λ r. ⌜ r ≡ number-of (take 8 (now (s .entry))) ⌝ }
-{
-    let mut n: u64 = 0;
-    let mut i: usize = 0;
-    while i < 8 {
-        if i < s.len() {
-            n = shifted(n, s[i]);
-        } else {
-            return n;
-        }
-        i += 1;
-    }
-    n
 }
 
 pub fn boolean_in(s: &[u8]) -> bool
@@ -60,10 +38,10 @@ pub fn shape_at(c: &[u8]) -> Shape
 {
     match tag_at(c) {
         0x70 => Shape::String,
-        0x71 => Shape::Number,
+        0x71 | 0x7a => Shape::Number,
         0x72 => Shape::Boolean(boolean_in(body(c))),
         0x74 => Shape::Literal,
-        0x75 => Shape::Minus,
+        0x75 | 0x7b => Shape::Minus,
         0x76 => Shape::Other,
         0x79 => Shape::Other,
         0x30 => Shape::Other,
@@ -71,4 +49,20 @@ pub fn shape_at(c: &[u8]) -> Shape
         256 => Shape::Empty,
         _ => Shape::Null,
     }
+}
+
+// The text of the number in front.
+pub fn put_number_at(out: &mut [u8], at: usize, c: &[u8]) -> usize
+    requires { ⌜ at + length (number-text (now c)) < 2 ^ 63 ⌝ }
+    ensures { λ r. ⌜ Wrote (now (out .entry)) at (number-text (now (c .entry))) (now (out .exit)) r ⌝ }
+{
+    put_number(out, at, tag_at(c), body(c))
+}
+
+// Its body, as it came.
+pub fn put_number_bytes_at(out: &mut [u8], at: usize, c: &[u8]) -> usize
+    requires { ⌜ at + 9 < 2 ^ 64 ⌝ }
+    ensures { λ r. ⌜ Wrote (now (out .entry)) at (number-bytes (number-at (now (c .entry)))) (now (out .exit)) r ⌝ }
+{
+    put_number_bytes(out, at, tag_at(c), body(c))
 }

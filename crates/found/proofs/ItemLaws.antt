@@ -14,6 +14,7 @@ use Rattle.field.specs.Front.{tag-of, body-of, behind-of}
 use Rattle.field.proofs.FrontLaws.{leaf-at, nest-at}
 use Rattle.page.specs.Page as P
 use Rattle.page.specs.Page.{Options, Expr, Items, Pieces, Tag}
+use Rattle.page.specs.Number.{Number, whole, scaled, number-tag, minus-tag, is-number, is-minus, number-in}
 use Rattle.page.specs.Tree.{choose, expr-by, expr-in, items-in}
 use Rattle.spec.specs.Pass as S
 use Rattle.spec.specs.Pass.{Mid, node}
@@ -140,13 +141,15 @@ module _ (skip props : Bytes) where
 
 module _ (o : Options) where
   pub sole-of : (e : Expr) → sole-mid (expr o e S.none) ≡ found-of (expr o e S.none)
-  unfolding sole-mid found-of expr
+  unfolding sole-mid found-of expr number-tag minus-tag
   sole-of (P.string-literal b) = refl
-  sole-of (P.number-literal n) = refl
+  sole-of (P.number-literal (whole n)) = refl
+  sole-of (P.number-literal (scaled n p)) = refl
   sole-of (P.boolean-literal b) = refl
   sole-of P.null-literal = refl
   sole-of (P.other-literal b) = refl
-  sole-of (P.minus-literal n) = refl
+  sole-of (P.minus-literal (whole n)) = refl
+  sole-of (P.minus-literal (scaled n p)) = refl
   sole-of (P.array-literal is) = refl
   sole-of (P.other-expr ps) = refl
   sole-of (P.tag-expr t) = refl
@@ -155,14 +158,24 @@ module _ (o : Options) where
   abbrev Plain : Expr → Type 0
   Plain e = found-of (expr o e S.none) ≡ one-found (still (expr o e S.none))
 
+  plain-number : (n : Number) → Plain (P.number-literal n)
+  unfolding found-of expr number-tag
+  plain-number (whole n) = refl
+  plain-number (scaled n p) = refl
+
+  plain-minus : (n : Number) → Plain (P.minus-literal n)
+  unfolding found-of expr minus-tag
+  plain-minus (whole n) = refl
+  plain-minus (scaled n p) = refl
+
   plain-by : (t : ℕ) (f : Bytes) (is : Unit {0} → Items) (ps : Unit {0} → Pieces) (el fr : Unit {0} → Tag) → (t ≡ 0x76 → ⊥) → Plain (expr-by t f is ps el fr)
   unfolding found-of expr expr-by
   plain-by t f is ps el fr n =
       choose-all Plain (eqb t 0x70) _ _ refl
-      (choose-all Plain (eqb t 0x71) _ _ refl
+      (choose-all Plain (is-number t) _ _ (plain-number (number-in t f))
       (choose-all Plain (eqb t 0x72) _ _ refl
       (choose-all Plain (eqb t 0x74) _ _ refl
-      (choose-all Plain (eqb t 0x75) _ _ refl
+      (choose-all Plain (is-minus t) _ _ (plain-minus (number-in t f))
       (choose-second Plain (eqb t 0x76) _ _ (ne-eqb t 0x76 n)
       (choose-all Plain (eqb t 0x79) _ _ refl
       (choose-all Plain (eqb t 0x30) _ _ refl

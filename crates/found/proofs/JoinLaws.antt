@@ -2,17 +2,15 @@
 -- `joined-number`, `joined-boolean`, `joined-null` and the like. Assumes nothing.
 use mathlib.Core.Path.{_≡_, refl, sym, ap, _∙_}
 use mathlib.Core.Bool.{Bool, true, false}
-use Prim.Native.Nat.{ℕ, zero, suc, _+_, _/_, _%_}
 use native.Mathlib.Omega.{arith}
 use mathlib.Core.List.{[], _∷_}
-use lib.Dec.{eqb}
 use lib.ListN.{length}
 use Rattle.field.specs.Bytes.{Bytes, pick, null?}
 use Rattle.field.specs.Row.{read}
-use Rattle.field.specs.Front.{body-of}
-use Rattle.text.specs.Decimal.{digits, decimal}
+use Rattle.field.specs.Front.{tag-of, body-of}
 use Rattle.text.proofs.EscapeLaws.{null-escape-html}
-use Rattle.page.specs.Number.{Number, whole, render, number-in}
+use Rattle.page.specs.Number.{number-in}
+use Rattle.page.proofs.NumberLaws.{render-some}
 use Rattle.page.specs.Tree.{Contained, contained-in}
 use Rattle.spec.specs.Merge.{joined-text}
 use Rattle.spec.specs.Transform.{shape-of}
@@ -23,28 +21,6 @@ use Rattle.decisions.proofs.Laws.{empty-contained, string-contained, number-con
 use Rattle.found.specs.Finds.{joined-of, joined-by-text}
 use Rattle.found.specs.declared.Joined.{Joined}
 use Rattle.found.specs.declared.Joined.the-variants as J
-
--- a number has digits
-digits-behind : (k n c : ℕ) (acc : Bytes) → null? (digits k n (c ∷ acc)) ≡ false
-unfolding digits
-digits-behind zero n c acc = refl
-digits-behind (suc k) n c acc = on (eqb (n / 10) 0) (digits-behind k (n / 10) (48 + n % 10) (c ∷ acc))
-  where
-    on : (b : Bool) → null? (digits k (n / 10) ((48 + n % 10) ∷ c ∷ acc)) ≡ false → null? (pick b ((48 + n % 10) ∷ c ∷ acc) (digits k (n / 10) ((48 + n % 10) ∷ c ∷ acc))) ≡ false
-    on true h = refl
-    on false h = h
-
-digits-some : (k n : ℕ) → null? (digits (suc k) n []) ≡ false
-unfolding digits
-digits-some k n = on (eqb (n / 10) 0)
-  where
-    on : (b : Bool) → null? (pick b ((48 + n % 10) ∷ []) (digits k (n / 10) ((48 + n % 10) ∷ []))) ≡ false
-    on true = refl
-    on false = digits-behind k (n / 10) (48 + n % 10) []
-
-null-render : (n : Number) → null? (render n) ≡ false
-unfolding render decimal
-null-render (whole n) = digits-some 19 n
 
 null-none : (b : Bytes) → length b ≡ 0 → null? b ≡ true
 null-none [] h = refl
@@ -79,7 +55,7 @@ module _ (c : Bytes) {v : Shape} (e : v ≡ shape-of-contained (contained-in (re
 
   pub joined-number : v ≡ Form.Number → J.Something ≡ joined-of (contained-in (read c))
   unfolding joined-of joined-by-text joined-text shape-of
-  joined-number k = joined-is (number-contained c (held-is k)) (ap (λ (x : Bool). pick x J.Nothing J.Something) (null-render (number-in (body-of c))))
+  joined-number k = joined-is (number-contained c (held-is k)) (ap (λ (x : Bool). pick x J.Nothing J.Something) (render-some (number-in (tag-of c) (body-of c))))
 
   pub joined-boolean : {b : Bool} → v ≡ Form.Boolean b → J.Nothing ≡ joined-of (contained-in (read c))
   unfolding joined-of joined-by-text joined-text shape-of

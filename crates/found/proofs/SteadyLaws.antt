@@ -11,7 +11,9 @@ use borrow.Author.Tests.{eqb-true, ne-eqb}
 use Rattle.field.specs.Bytes.{Bytes, pick}
 use Rattle.field.specs.Row.{Row, field, read}
 use Rattle.field.specs.Front.{tag-of, body-of}
+use Rattle.page.specs.Page as P
 use Rattle.page.specs.Page.{Options, Expr, Items, Pieces, Tag}
+use Rattle.page.specs.Number.{Number, whole, scaled, number-tag, minus-tag, is-number, is-minus, number-in}
 use Rattle.page.specs.Tree.{expr-by, expr-in, items-in}
 use Rattle.spec.specs.Pass.{Mid, none, node, raw}
 use Rattle.spec.specs.Merge.{Entry, still, passed, array-found, one-found}
@@ -109,14 +111,24 @@ module _ (o : Options) where
   abbrev Kept : Expr → Type 0
   Kept e = (one-stays (expr o e none) ≡ true) × ((m : Mid) → any-stays (expr o e m) ≡ true)
 
+  kept-number : (n : Number) → Kept (P.number-literal n)
+  unfolding one-stays any-stays expr number-tag
+  kept-number (whole n) = (refl, λ m. refl)
+  kept-number (scaled n p) = (refl, λ m. refl)
+
+  kept-minus : (n : Number) → Kept (P.minus-literal n)
+  unfolding one-stays any-stays expr minus-tag
+  kept-minus (whole n) = (refl, λ m. refl)
+  kept-minus (scaled n p) = (refl, λ m. refl)
+
   kept-by : (t : ℕ) (f : Bytes) (is : Unit {0} → Items) (ps : Unit {0} → Pieces) (el fr : Unit {0} → Tag) → (t ≡ 0x76 → ⊥) → Kept (expr-by t f is ps el fr)
   unfolding one-stays any-stays expr expr-by
   kept-by t f is ps el fr n =
       choose-all Kept (eqb t 0x70) _ _ (refl, λ m. refl)
-      (choose-all Kept (eqb t 0x71) _ _ (refl, λ m. refl)
+      (choose-all Kept (is-number t) _ _ (kept-number (number-in t f))
       (choose-all Kept (eqb t 0x72) _ _ (refl, λ m. refl)
       (choose-all Kept (eqb t 0x74) _ _ (refl, λ m. refl)
-      (choose-all Kept (eqb t 0x75) _ _ (refl, λ m. refl)
+      (choose-all Kept (is-minus t) _ _ (kept-minus (number-in t f))
       (choose-second Kept (eqb t 0x76) _ _ (ne-eqb t 0x76 n)
       (choose-all Kept (eqb t 0x79) _ _ (refl, λ m. refl)
       (choose-all Kept (eqb t 0x30) _ _ (refl, λ m. refl)

@@ -90,7 +90,7 @@ module _ (depth t : ℕ) (w : Bytes) where
 
   expr-body : is-expr t ≡ true → expr-row depth t (front (inside t) w) (inner (inside t) w) ≡ expr-row depth t w (read w)
   unfolding inside choose check-expr-by
-  expr-body = expr-cases (λ (t : ℕ). expr-row depth t (front (inside t) w) (inner (inside t) w) ≡ expr-row depth t w (read w)) t refl refl refl refl refl refl refl refl refl refl
+  expr-body = expr-cases (λ (t : ℕ). expr-row depth t (front (inside t) w) (inner (inside t) w) ≡ expr-row depth t w (read w)) t refl refl refl refl refl refl refl refl refl refl refl refl
 
   value-body : (eqb t 0x51 || eqb t 0x52 || is-tag t) ≡ true → value-row depth t (front (inside t) w) (inner (inside t) w) ≡ value-row depth t w (read w)
   unfolding inside choose
@@ -98,7 +98,7 @@ module _ (depth t : ℕ) (w : Bytes) where
 
   item-body : (is-expr t || eqb t 0x77 || eqb t 0x78) ≡ true → item-row depth t (front (inside t) w) (inner (inside t) w) ≡ item-row depth t w (read w)
   unfolding inside choose check-expr-by
-  item-body = item-cases (λ (t : ℕ). item-row depth t (front (inside t) w) (inner (inside t) w) ≡ item-row depth t w (read w)) t refl refl refl refl refl refl refl refl refl refl refl refl
+  item-body = item-cases (λ (t : ℕ). item-row depth t (front (inside t) w) (inner (inside t) w) ≡ item-row depth t w (read w)) t refl refl refl refl refl refl refl refl refl refl refl refl refl refl
 
   piece-body : (eqb t 0x20 || is-tag t) ≡ true → piece-row depth t (front (inside t) w) (inner (inside t) w) ≡ piece-row depth t w (read w)
   unfolding inside choose
@@ -327,9 +327,13 @@ module _ (depth : ℕ) {t : ℕ} (w : Bytes) where
   unfolding check-expr-field check-expr-by choose
   expr-text k = record { checked = ⊎-elim (λ z. rw z) (λ z. rw z) k }
 
-  pub expr-number : (t ≡ 0x71) ⊎ (t ≡ 0x75) → Checked (check-expr-field depth t w) depth (check-number w)
+  pub expr-number : (t ≡ 0x71) ⊎ (t ≡ 0x7a) → Checked (check-expr-field depth t w) depth (check-number t w)
   unfolding check-expr-field check-expr-by choose
   expr-number k = record { checked = ⊎-elim (λ z. rw z) (λ z. rw z) k }
+
+  pub expr-minus : (t ≡ 0x75) ⊎ (t ≡ 0x7b) → Checked (check-expr-field depth t w) depth (check-number t w)
+  unfolding check-expr-field check-expr-by choose
+  expr-minus k = record { checked = ⊎-elim (λ z. rw z) (λ z. rw z) k }
 
   pub expr-72 : t ≡ 0x72 → Checked (check-expr-field depth t w) depth (check-boolean w)
   unfolding check-expr-field check-expr-by choose
@@ -347,18 +351,24 @@ module _ (depth : ℕ) {t : ℕ} (w : Bytes) where
   unfolding check-expr-field check-expr-by choose
   expr-79 k = record { checked = rw (k, add-one depth) }
 
-  pub expr-tag : ((t ≡ 0x70) ⊎ (t ≡ 0x74) → ⊥) → ((t ≡ 0x71) ⊎ (t ≡ 0x75) → ⊥) → (t ≡ 0x72 → ⊥) → (t ≡ 0x73 → ⊥) → (t ≡ 0x76 → ⊥) → (t ≡ 0x79 → ⊥) →
+  pub expr-tag : ((t ≡ 0x70) ⊎ (t ≡ 0x74) → ⊥) → ((t ≡ 0x71) ⊎ (t ≡ 0x7a) → ⊥) → (t ≡ 0x72 → ⊥) → (t ≡ 0x73 → ⊥) → ((t ≡ 0x75) ⊎ (t ≡ 0x7b) → ⊥) → (t ≡ 0x76 → ⊥) → (t ≡ 0x79 → ⊥) →
       check-tag-field depth t w ≡ check-expr-field depth t w
   unfolding check-tag-field check-expr-field check-expr-by choose
-  expr-tag a b c d e f =
-      rw (ranged, ne-eqb t 0x70 (λ z. a (inl z)), ne-eqb t 0x74 (λ z. a (inr z)), ne-eqb t 0x71 (λ z. b (inl z)), ne-eqb t 0x75 (λ z. b (inr z)), ne-eqb t 0x72 c, ne-eqb t 0x73 d, ne-eqb t 0x76 e, ne-eqb t 0x79 f)
+  expr-tag a b c d e f g =
+      rw (early, late, ne-eqb t 0x70 (λ z. a (inl z)), ne-eqb t 0x74 (λ z. a (inr z)), ne-eqb t 0x71 (λ z. b (inl z)), ne-eqb t 0x7a (λ z. b (inr z)), ne-eqb t 0x75 (λ z. e (inl z)), ne-eqb t 0x7b (λ z. e (inr z)), ne-eqb t 0x72 c, ne-eqb t 0x73 d, ne-eqb t 0x76 f, ne-eqb t 0x79 g)
     where
-      ranged : (leb 0x70 t && leb t 0x76) ≡ false
-      ranged = on (leb 0x70 t && leb t 0x76) refl
+      outside : (x y : ℕ) → (x ≤ t → t ≤ y → ⊥) → (leb x t && leb t y) ≡ false
+      outside x y n = on (leb x t && leb t y) refl
         where
-          on : (x : Bool) → (leb 0x70 t && leb t 0x76) ≡ x → (leb 0x70 t && leb t 0x76) ≡ false
+          on : (u : Bool) → (leb x t && leb t y) ≡ u → (leb x t && leb t y) ≡ false
           on false q = q
-          on true q = absurd (between (λ (x : ℕ). ⊥) t 0x70 0x76 q λ l u. seventies t l u (λ z. a (inl z)) (λ z. b (inl z)) c d (λ z. a (inr z)) (λ z. b (inr z)) e)
+          on true q = absurd (between (λ (k : ℕ). ⊥) t x y q n)
+
+      early : (leb 0x70 t && leb t 0x76) ≡ false
+      early = outside 0x70 0x76 λ l u. seventies t l u (λ z. a (inl z)) (λ z. b (inl z)) c d (λ z. a (inr z)) (λ z. e (inl z)) f
+
+      late : (leb 0x79 t && leb t 0x7b) ≡ false
+      late = outside 0x79 0x7b λ l u. tested t 0x79 g λ x. tested t 0x7a (λ z. b (inr z)) λ y. e (inr (omega arith))
 
   pub item-77 : t ≡ 0x77 → Checked (check-item-field depth t w) depth (check-expr (depth + 1) (read w))
   unfolding check-item-field choose

@@ -11,13 +11,11 @@ use lib.Dec.{T, leb, eqb, eqb-refl, leb→le}
 use lib.ListN.{length}
 use borrow.Author.Tests.{ne-eqb}
 use Rattle.field.specs.Bytes.{Bytes}
-use Rattle.field.specs.Number.{big-endian, number-of}
 use Rattle.field.specs.Row.{Row, end, loose, field}
-use Rattle.field.proofs.NumberLaws.{length-big-endian, number-read}
 use Rattle.utf8.specs.Utf8.{utf8}
 use Rattle.names.specs.Names as A
 use Rattle.names.specs.Names.{AttrName}
-use Rattle.page.specs.Number.{Number, whole, number-bytes, number-in, in-range}
+use Rattle.page.specs.Number.{Number, whole, scaled, number-tag, minus-tag, number-bytes, number-in}
 use Rattle.page.specs.Page.{Name, identifier, member, namespaced, Tag, element, fragment, Attributes, no-attributes, attribute, spread-attribute, Value, absent, string-value, empty-value, container-value, tag-value, Children, no-children, text-child, empty-child, container-child, tag-child, spread-child, Expr, string-literal, number-literal, boolean-literal, null-literal, other-literal, minus-literal, array-literal, other-expr, tag-expr, Items, no-items, item, spread-item, hole-item, Pieces, no-pieces, source-piece, tag-piece, export-item, declaration-item, statement-item, empty-item, Page}
 use Rattle.page.specs.Tree.{choose, texts-in, first-in, second-in, name-by, attr-name-by, boolean-in, expr-by, contained, contained-value, contained-child, value-by, child-by, element-in, fragment-in, attributes-in, attr-name-in, value-in, value-behind, children-in, contained-in, expr-in, items-in, pieces-in, module-item-by, module-items-in, page-in}
 use Rattle.page.specs.Refusal.{unless}
@@ -26,6 +24,7 @@ use Rattle.page.specs.Encode.{boolean-byte, texts-row, name-row, attr-na
 use Rattle.page.specs.Limits.{Deep, NameOk, Utf8Ok, NumberOk, MembersOk, ElementNameOk, AttrNameOk, TagOk, AttributesOk, ValueOk, ChildrenOk, ExprOk, ItemsOk, PiecesOk, ModuleItemsOk}
 use Rattle.page.specs.declared.Refusal.the-variants as R
 use Rattle.page.specs.declared.Verdict.the-variants.{Fine}
+use Rattle.page.proofs.NumberLaws.{whole-back, scaled-back}
 use Rattle.page.proofs.Verdicts.{refused, after-fine, header-fine, fine-after, fine-unless, fine-header, or-left}
 use Rattle.page.proofs.Tags.{ChildTag, text-tag, container-tag, element-child-tag, fragment-child-tag, spread-child-tag, child-tag}
 use Rattle.page.proofs.Sound.{texts-here, expr-of, check-expr-of, fragment-children}
@@ -35,17 +34,6 @@ use Rattle.page.proofs.Sound.{texts-here, expr-of, check-expr-of, fragm
 pub fine-text : (b : Bytes) → Utf8Ok b → check-text b ≡ Fine
 unfolding check-text
 fine-text b h = fine-unless (utf8 b) R.NotUtf8 h
-
-number-whole : (n : Number) → NumberOk n → (check-number (number-bytes n) ≡ Fine) × (number-in (number-bytes n) ≡ n)
-unfolding check-number number-bytes number-in in-range big-endian
-number-whole (whole n) h =
-    let l : n ≤ 9_007_199_254_740_991 = leb→le n 9_007_199_254_740_991 h in
-    let k : number-of (big-endian 8 n []) ≡ n = number-read 8 n (omega arith) in (
-      fine-after (unless (eqb (length (big-endian 8 n [])) 8) R.Misplaced) (λ _. unless (leb (number-of (big-endian 8 n [])) 9_007_199_254_740_991) R.NumberTooLarge)
-          (fine-unless (eqb (length (big-endian 8 n [])) 8) R.Misplaced (subst (λ (x : ℕ). T (eqb x 8)) (sym (length-big-endian 8 n [])) tt))
-          (fine-unless (leb (number-of (big-endian 8 n [])) 9_007_199_254_740_991) R.NumberTooLarge (subst (λ (x : ℕ). T (leb x 9_007_199_254_740_991)) (sym k) h)),
-      ap (λ (x : ℕ). whole x) k,
-    )
 
 boolean-whole : (b : Bool) → (check-boolean (boolean-byte b ∷ []) ≡ Fine) × (boolean-in (boolean-byte b ∷ []) ≡ b)
 unfolding check-boolean boolean-in
@@ -197,7 +185,7 @@ expr-as-item e d r w g =
 -- ---- every tree within the limits
 
 mutual
-  unfolding tag-row TagOk TagWhole check-attributes check-child-by check-expr-by check-end check-empty attributes-in child-by expr-by value-by contained-value contained-child choose
+  unfolding tag-row TagOk TagWhole check-attributes check-child-by check-expr-by check-end check-empty attributes-in child-by expr-by value-by contained-value contained-child choose number-tag minus-tag number-in
 
   pub tag-whole : (t : Tag) (d : ℕ) → TagOk t d → TagWhole t d
   tag-whole (element n as′ cs) d h =
@@ -257,17 +245,23 @@ mutual
 
   pub expr-whole : (e : Expr) (d : ℕ) → ExprOk e d → ExprWhole e d
   expr-whole (string-literal b) d h = record { tag = 0x70; front = b; inner = end; row-is = λ r. refl; tag-ok = tt; deep = h .0; fine = fine-text b (h .1); back = refl }
-  expr-whole (number-literal n) d h =
-      let w = number-whole n (h .1) in
-      record { tag = 0x71; front = number-bytes n; inner = end; row-is = λ r. refl; tag-ok = tt; deep = h .0; fine = w .0; back = ap (λ (x : Number). number-literal x) (w .1) }
+  expr-whole (number-literal (whole n)) d h =
+      let w = whole-back 0x71 n refl (h .1) in
+      record { tag = 0x71; front = number-bytes (whole n); inner = end; row-is = λ r. refl; tag-ok = tt; deep = h .0; fine = w .0; back = ap (λ (x : Number). number-literal x) (w .1) }
+  expr-whole (number-literal (scaled n p)) d h =
+      let w = scaled-back 0x7a n p refl (h .1) in
+      record { tag = 0x7a; front = number-bytes (scaled n p); inner = end; row-is = λ r. refl; tag-ok = tt; deep = h .0; fine = w .0; back = ap (λ (x : Number). number-literal x) (w .1) }
   expr-whole (boolean-literal b) d h =
       let w = boolean-whole b in
       record { tag = 0x72; front = boolean-byte b ∷ []; inner = end; row-is = λ r. refl; tag-ok = tt; deep = h; fine = w .0; back = ap (λ (x : Bool). boolean-literal x) (w .1) }
   expr-whole null-literal d h = record { tag = 0x73; front = []; inner = end; row-is = λ r. refl; tag-ok = tt; deep = h; fine = refl; back = refl }
   expr-whole (other-literal b) d h = record { tag = 0x74; front = b; inner = end; row-is = λ r. refl; tag-ok = tt; deep = h .0; fine = fine-text b (h .1); back = refl }
-  expr-whole (minus-literal n) d h =
-      let w = number-whole n (h .1) in
-      record { tag = 0x75; front = number-bytes n; inner = end; row-is = λ r. refl; tag-ok = tt; deep = h .0; fine = w .0; back = ap (λ (x : Number). minus-literal x) (w .1) }
+  expr-whole (minus-literal (whole n)) d h =
+      let w = whole-back 0x75 n refl (h .1) in
+      record { tag = 0x75; front = number-bytes (whole n); inner = end; row-is = λ r. refl; tag-ok = tt; deep = h .0; fine = w .0; back = ap (λ (x : Number). minus-literal x) (w .1) }
+  expr-whole (minus-literal (scaled n p)) d h =
+      let w = scaled-back 0x7b n p refl (h .1) in
+      record { tag = 0x7b; front = number-bytes (scaled n p); inner = end; row-is = λ r. refl; tag-ok = tt; deep = h .0; fine = w .0; back = ap (λ (x : Number). minus-literal x) (w .1) }
   expr-whole (array-literal is) d h =
       let w = items-whole is (suc d) (h .1) in
       record { tag = 0x76; front = []; inner = items-row is; row-is = λ r. refl; tag-ok = tt; deep = h .0; fine = w .0; back = ap (λ (x : Items). array-literal x) (w .1) }

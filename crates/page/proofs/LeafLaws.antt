@@ -2,16 +2,18 @@
 -- `part-small`, `name-from`, `parts-on`, `hyphen-on`. Assumes nothing.
 use mathlib.Core.Path.{_≡_, refl, sym, ap, _∙_}
 use mathlib.Core.Bool.{Bool, true, false, _&&_, _||_, not, or-false}
-use Prim.Native.Nat.{ℕ, zero, suc, _+_, _*_, _≤_, _<_}
+use Prim.Native.Nat.{ℕ, zero, suc, _+_, _*_, _^_, _≤_, _<_}
 use native.Mathlib.Omega.{arith}
 use native.Mathlib.Numerals.{add-one}
+use native.Mathlib.Nat.{pow-suc, pow-le-pow-right}
 use mathlib.Core.List.{List, [], _∷_}
-use lib.ListN.{length, drop, getD}
-use lib.Seq.{drop-cons}
+use lib.ListN.{length, take, drop, getD, drop-of-length-le}
+use lib.Seq.{drop-cons, take-suc, take-all}
 use lib.Dec.{leb, eqb}
 use borrow.Author.Tests.{le-leb, lt-leb, eq-eqb, ne-eqb}
 use Rattle.field.specs.Bytes.{Bytes}
 use Rattle.field.specs.Number.{number-from, number-of}
+use Rattle.field.proofs.NumberLaws.{number-append}
 use Rattle.page.specs.Refusal.{unless}
 use Rattle.page.specs.Check.{check-boolean, name-start, name-part, name-parts, no-hyphen, is-name}
 use Rattle.page.specs.declared.Refusal.{Refusal}
@@ -59,6 +61,40 @@ number-eight (x0 ∷ x1 ∷ x2 ∷ x3 ∷ x4 ∷ x5 ∷ []) l = absurd (omega ar
 number-eight (x0 ∷ x1 ∷ x2 ∷ x3 ∷ x4 ∷ x5 ∷ x6 ∷ []) l = absurd (omega arith)
 number-eight (x0 ∷ x1 ∷ x2 ∷ x3 ∷ x4 ∷ x5 ∷ x6 ∷ x7 ∷ []) l = λ p q r s t u v w. cc
 number-eight (x0 ∷ x1 ∷ x2 ∷ x3 ∷ x4 ∷ x5 ∷ x6 ∷ x7 ∷ x8 ∷ s) l = absurd (omega arith)
+
+-- one by one, where there are fewer
+pub number-start : 0 ≡ number-of []
+unfolding number-from
+number-start = refl
+
+module _ (s : Bytes) (i n : ℕ) where
+  pub number-next : i < length s → n ≡ number-of (take i s) → {r : ℕ} → r ≡ n * 256 + getD s i 0 → r ≡ number-of (take (i + 1) s)
+  unfolding number-from
+  number-next h e {r} q =
+      q ∙ (ap (λ (m : ℕ). m * 256 + getD s i 0) e ∙ sym (ap number-of (ap (λ (k : ℕ). take k s) (add-one i) ∙ take-suc s i 0 h) ∙ number-append 0 (take i s) (getD s i 0 ∷ [])))
+
+  pub number-all : length s ≤ i → i < 8 → n ≡ number-of (take i s) → n ≡ number-of (take 8 s)
+  number-all h l e = e ∙ ap number-of (take-all i s h ∙ sym (take-all 8 s (omega arith)))
+
+  pub number-end : 8 ≤ i → i ≤ 8 → n ≡ number-of (take i s) → n ≡ number-of (take 8 s)
+  number-end h l e = e ∙ ap (λ (k : ℕ). number-of (take k s)) (let k : i ≡ 8 = omega arith in k)
+
+-- a number of i bytes has room for one more
+module _ (i n : ℕ) (h : n < 256 ^ i) where
+  pub number-room : i < 8 → n < 2 ^ 56
+  number-room l = omega (arith, pow-le-pow-right {n = 256} (let z : 0 < 256 = omega arith in z) {i = i} {j = 7} (let z : i ≤ 7 = omega arith in z))
+
+  pub number-grown : {r : ℕ} → r < 256 * (n + 1) → r < 256 ^ (i + 1)
+  number-grown {r} l = rw (add-one i, pow-suc 256 i) (omega arith)
+
+-- one byte, at a place or past the end
+pub one-at : (s : Bytes) (i : ℕ) → i < length s → getD s i 0 ≡ number-of (take 1 (drop i s))
+unfolding number-from
+one-at s i h = rw (drop-cons s i 0 h) (omega arith)
+
+pub none-at : (s : Bytes) (i : ℕ) → length s ≤ i → 0 ≡ number-of (take 1 (drop i s))
+unfolding number-from
+none-at s i h = rw (drop-of-length-le s {i = i} h)
 
 -- ---- the letters of names
 

@@ -2,6 +2,7 @@
 -- `LeafLaws`, `RowEnds`, `Steps`, `CheckLaws` and `WholeLaws` are for the proofs of the checker's code.
 pub mod Verdicts
 pub mod Tags
+pub mod NumberLaws
 pub mod Sound
 pub mod Complete
 pub mod Options

@@ -10,15 +10,15 @@ use lib.Dec.{T, ltb, ltb→lt}
 use lib.ListN.{length, length-append}
 use Rattle.field.specs.Bytes.{Bytes, AllBytes}
 use Rattle.field.specs.Row.{Row, end, loose, field, bytes, long-body, inside}
-use Rattle.field.proofs.NumberLaws.{all-big-endian}
 use Rattle.field.proofs.RowLaws.{FrontFits, Shaped, Sane, length-bytes}
 use Rattle.names.specs.Names as A
 use Rattle.names.specs.Names.{AttrName}
-use Rattle.page.specs.Number.{Number, whole, number-bytes}
+use Rattle.page.specs.Number.{whole, scaled, number-tag, minus-tag}
 use Rattle.page.specs.Page.{Name, identifier, member, namespaced, Tag, element, fragment, Attributes, no-attributes, attribute, spread-attribute, Value, absent, string-value, empty-value, container-value, tag-value, Children, no-children, text-child, empty-child, container-child, tag-child, spread-child, Expr, string-literal, number-literal, boolean-literal, null-literal, other-literal, minus-literal, array-literal, other-expr, tag-expr, Items, no-items, item, spread-item, hole-item, Pieces, no-pieces, source-piece, tag-piece, export-item, declaration-item, statement-item, empty-item, Page}
 use Rattle.page.specs.Check.{is-name, no-hyphen}
 use Rattle.page.specs.Encode.{boolean-byte, texts-row, name-row, attr-name-row, tag-row, attributes-row, value-row, children-row, expr-row, items-row, pieces-row, module-items-row, page-row}
 use Rattle.page.specs.Limits.{MembersOk, ElementNameOk, AttrNameOk, TagOk, AttributesOk, ValueOk, ChildrenOk, ExprOk, ItemsOk, PiecesOk, ModuleItemsOk, TextsOk}
+use Rattle.page.proofs.NumberLaws.{number-all}
 use Rattle.page.proofs.Verdicts.{and-both}
 use Rattle.page.proofs.Letters.{utf8-bytes, name-bytes}
 use Rattle.page.proofs.Options.{Given, given-list, given-source, given-row, ListOk, SourceOk, GivenOk}
@@ -61,17 +61,13 @@ attr-name-tight (A.namespaced n m) d r h k = (tt, tt, tt, (tt, name-bytes n (h .
 
 -- ---- tags, expressions and their series
 
-number-all : (n : Number) → AllBytes (number-bytes n)
-unfolding number-bytes AllBytes
-number-all (whole n) = all-big-endian 8 n [] tt
-
 boolean-all : (b : Bool) → AllBytes (boolean-byte b ∷ [])
 unfolding AllBytes
 boolean-all true = (ltb→lt 1 256 tt, tt)
 boolean-all false = (ltb→lt 0 256 tt, tt)
 
 mutual
-  unfolding tag-row TagOk Tight inside FrontFits AllBytes
+  unfolding tag-row TagOk Tight inside FrontFits AllBytes number-tag minus-tag
 
   tag-tight : (t : Tag) (d : ℕ) (r : Row) → TagOk t d → Tight r → Tight (tag-row t r)
   tag-tight (element n as′ cs) d r h k =
@@ -100,11 +96,13 @@ mutual
 
   expr-tight : (e : Expr) (d : ℕ) (r : Row) → ExprOk e d → Tight r → Tight (expr-row e r)
   expr-tight (string-literal b) d r h k = (tt, utf8-bytes b (h .1), tt, tt, k)
-  expr-tight (number-literal n) d r h k = (tt, number-all n, tt, tt, k)
+  expr-tight (number-literal (whole n)) d r h k = (tt, number-all (whole n), tt, tt, k)
+  expr-tight (number-literal (scaled n p)) d r h k = (tt, number-all (scaled n p), tt, tt, k)
   expr-tight (boolean-literal b) d r h k = (tt, boolean-all b, tt, tt, k)
   expr-tight null-literal d r h k = (tt, tt, tt, tt, k)
   expr-tight (other-literal b) d r h k = (tt, utf8-bytes b (h .1), tt, tt, k)
-  expr-tight (minus-literal n) d r h k = (tt, number-all n, tt, tt, k)
+  expr-tight (minus-literal (whole n)) d r h k = (tt, number-all (whole n), tt, tt, k)
+  expr-tight (minus-literal (scaled n p)) d r h k = (tt, number-all (scaled n p), tt, tt, k)
   expr-tight (array-literal is) d r h k = (tt, tt, tt, items-tight is (suc d) (h .1), k)
   expr-tight (other-expr ps) d r h k = (tt, tt, tt, pieces-tight ps (suc d) (h .1), k)
   expr-tight (tag-expr t) d r h k = tag-tight t d r h k

@@ -17,7 +17,7 @@ use Rattle.field.specs.Row.{Row, end, loose, field, only-bytes, fields-after, i
 use Rattle.field.proofs.NumberLaws.{big-endian-back}
 use Rattle.field.proofs.RowLaws.{FrontFits, Sane}
 use Rattle.utf8.specs.Utf8.{utf8}
-use Rattle.page.specs.Number.{number-bytes, number-in, in-range}
+use Rattle.page.specs.Number.{number-tag, minus-tag, number-in}
 use Rattle.page.specs.Page.{Tag, fragment, Attributes, no-attributes, Children, Expr, Items, item, Page}
 use Rattle.page.specs.Tree.{choose, texts-in, first-in, second-in, name-by, attr-name-by, boolean-in, expr-by, Contained, nothing-contained, contained, contained-value, contained-child, value-by, child-by, element-in, fragment-in, attributes-in, attr-name-in, value-in, value-behind, children-in, contained-in, expr-in, items-in, pieces-in, module-item-by, module-items-in, page-in}
 use Rattle.page.specs.Refusal.{after, unless}
@@ -28,7 +28,8 @@ use Rattle.page.specs.declared.Refusal.the-variants as R
 use Rattle.page.specs.declared.Verdict.{Verdict}
 use Rattle.page.specs.declared.Verdict.the-variants.{Fine}
 use Rattle.page.proofs.Verdicts.{refused, after-fine, unless-fine, header-fine}
-use Rattle.page.proofs.Tags.{ExprTag, string-tag, number-tag, boolean-tag, null-tag, other-literal-tag, minus-tag, array-tag, other-expr-tag, element-expr-tag, fragment-expr-tag, ChildTag, text-tag, container-tag, element-child-tag, fragment-child-tag, spread-child-tag, AttributeTag, named-attribute-tag, spread-attribute-tag, child-behind-tag, ValueTag, string-value-tag, container-value-tag, element-value-tag, fragment-value-tag, NameTag, identifier-tag, member-tag, namespaced-tag, AttrNameTag, ident-attr-tag, namespaced-attr-tag, ItemTag, expr-item-tag, spread-item-tag, hole-item-tag, PieceTag, source-tag, element-piece-tag, fragment-piece-tag, ModuleItemTag, export-tag, declaration-tag, statement-tag, empty-item-tag, expr-tag, child-tag, attribute-tag, value-tag, name-tag, attr-name-tag, item-tag, piece-tag, module-item-tag}
+use Rattle.page.proofs.NumberLaws.{whole-sound, scaled-sound}
+use Rattle.page.proofs.Tags.{ExprTag, string-tag, whole-tag, scaled-tag, boolean-tag, null-tag, other-literal-tag, minus-whole-tag, minus-scaled-tag, array-tag, other-expr-tag, element-expr-tag, fragment-expr-tag, ChildTag, text-tag, container-tag, element-child-tag, fragment-child-tag, spread-child-tag, AttributeTag, named-attribute-tag, spread-attribute-tag, child-behind-tag, ValueTag, string-value-tag, container-value-tag, element-value-tag, fragment-value-tag, NameTag, identifier-tag, member-tag, namespaced-tag, AttrNameTag, ident-attr-tag, namespaced-attr-tag, ItemTag, expr-item-tag, spread-item-tag, hole-item-tag, PieceTag, source-tag, element-piece-tag, fragment-piece-tag, ModuleItemTag, export-tag, declaration-tag, statement-tag, empty-item-tag, expr-tag, child-tag, attribute-tag, value-tag, name-tag, attr-name-tag, item-tag, piece-tag, module-item-tag}
 
 -- the first of two, where the test holds
 chosen : {A : Type 0} (b : Bool) (f g : Unit {0} → A) → T b → choose b f g ≡ f tt
@@ -68,14 +69,6 @@ empty-is : (f : Bytes) → check-empty f ≡ Fine → [] ≡ f
 unfolding check-empty
 empty-is [] e = refl
 empty-is (c ∷ f) e = absurd (let z = eqb→eq (suc (length f)) 0 (unless-fine (eqb (suc (length f)) 0) R.Misplaced e) in omega arith)
-
-number-sound : (f : Bytes) → AllBytes f → check-number f ≡ Fine → (number-bytes (number-in f) ≡ f) × NumberOk (number-in f)
-unfolding check-number number-bytes number-in
-number-sound f a e =
-    let p = after-fine (unless (eqb (length f) 8) R.Misplaced) (λ _. unless (in-range (number-in f)) R.NumberTooLarge) e in
-    let l = eqb→eq (length f) 8 (unless-fine (eqb (length f) 8) R.Misplaced (p .0)) in
-    let q : take 8 f ≡ f = take-all 8 f (omega arith) in
-    (ap (λ (x : Bytes). big-endian 8 (number-of x) []) q ∙ subst (λ (k : ℕ). big-endian k (number-of f) [] ≡ f) l (big-endian-back f a), unless-fine (in-range (number-in f)) R.NumberTooLarge (p .1))
 
 bit-sound : (c : ℕ) (b : Bool) → c ≤ 1 → eqb c 1 ≡ b → boolean-byte b ≡ c
 bit-sound c true l e = sym (eqb-true c 1 e)
@@ -211,13 +204,15 @@ check-expr-of t d f i = check-expr-by t f (λ _. check-items d i) (λ _. check-p
 
 expr-sound : (t d : ℕ) (f : Bytes) (i : Row) → ExprTag t → FrontFits (inside t) f i → AllBytes f → Sound i → Deep d → check-expr-of t (suc d) f i ≡ Fine →
     ((r : Row) → expr-row (expr-of t f i) r ≡ field t f i r) × ExprOk (expr-of t f i) d
-unfolding check-expr-by expr-by choose expr-row ExprOk inside
+unfolding check-expr-by expr-by choose expr-row ExprOk inside number-tag minus-tag number-in
 expr-sound t d f i string-tag h a s g e = (λ r. leaf-row 0x70 f i r h, (g, text-ok f e))
-expr-sound t d f i number-tag h a s g e = let n = number-sound f a e in (λ r. ap (λ (x : Bytes). field 0x71 x end r) (n .0) ∙ leaf-row 0x71 f i r h, (g, n .1))
+expr-sound t d f i whole-tag h a s g e = let n = whole-sound 0x71 f a e refl in (λ r. ap (λ (x : Bytes). field 0x71 x end r) (n .0) ∙ leaf-row 0x71 f i r h, (g, n .1))
+expr-sound t d f i scaled-tag h a s g e = let n = scaled-sound 0x7a f a e refl in (λ r. ap (λ (x : Bytes). field 0x7a x end r) (n .0) ∙ leaf-row 0x7a f i r h, (g, n .1))
 expr-sound t d f i boolean-tag h a s g e = (λ r. ap (λ (x : Bytes). field 0x72 x end r) (boolean-sound f e) ∙ leaf-row 0x72 f i r h, g)
 expr-sound t d f i null-tag h a s g e = (λ r. ap (λ (x : Bytes). field 0x73 x end r) (empty-is f e) ∙ leaf-row 0x73 f i r h, g)
 expr-sound t d f i other-literal-tag h a s g e = (λ r. leaf-row 0x74 f i r h, (g, text-ok f e))
-expr-sound t d f i minus-tag h a s g e = let n = number-sound f a e in (λ r. ap (λ (x : Bytes). field 0x75 x end r) (n .0) ∙ leaf-row 0x75 f i r h, (g, n .1))
+expr-sound t d f i minus-whole-tag h a s g e = let n = whole-sound 0x75 f a e refl in (λ r. ap (λ (x : Bytes). field 0x75 x end r) (n .0) ∙ leaf-row 0x75 f i r h, (g, n .1))
+expr-sound t d f i minus-scaled-tag h a s g e = let n = scaled-sound 0x7b f a e refl in (λ r. ap (λ (x : Bytes). field 0x7b x end r) (n .0) ∙ leaf-row 0x7b f i r h, (g, n .1))
 expr-sound t d f i array-tag h a s g e = let n = s .items-are (suc d) e in (λ r. ap (λ (x : Row). field 0x76 [] x r) (n .0) ∙ node-row 0x76 f i r h, (g, n .1))
 expr-sound t d f i other-expr-tag h a s g e = let n = s .pieces-are (suc d) e in (λ r. ap (λ (x : Row). field 0x79 [] x r) (n .0) ∙ node-row 0x79 f i r h, (g, n .1))
 expr-sound t d f i element-expr-tag h a s g e = let n = s .element-is d g e in (λ r. n .0 r ∙ node-row 0x30 f i r h, n .1)

@@ -148,9 +148,13 @@ module _ (P : ℕ → Type 0) (t : ℕ) where
   pub piece-cases : P 0x20 → P 0x30 → P 0x31 → (eqb t 0x20 || is-tag t) ≡ true → P t
   piece-cases a c d h = either _ _ (is-one 0x20 a) (tag-cases c d) h
 
-  pub expr-cases : P 0x70 → P 0x71 → P 0x72 → P 0x73 → P 0x74 → P 0x75 → P 0x76 → P 0x79 → P 0x30 → P 0x31 → is-expr t ≡ true → P t
-  expr-cases a b c d e f g i j k h =
-      either _ _ (either _ _ (λ z. between 0x70 0x76 z λ l u. seventies t l u (at 0x70 a) (at 0x71 b) (at 0x72 c) (at 0x73 d) (at 0x74 e) (at 0x75 f) (at 0x76 g)) (is-one 0x79 i)) (tag-cases j k) h
+  pub expr-cases : P 0x70 → P 0x71 → P 0x72 → P 0x73 → P 0x74 → P 0x75 → P 0x76 → P 0x79 → P 0x7a → P 0x7b → P 0x30 → P 0x31 → is-expr t ≡ true → P t
+  expr-cases a b c d e f g i x y j k h =
+      either _ _
+      (either _ _
+      (λ z. between 0x70 0x76 z λ l u. seventies t l u (at 0x70 a) (at 0x71 b) (at 0x72 c) (at 0x73 d) (at 0x74 e) (at 0x75 f) (at 0x76 g))
+      (λ z. between 0x79 0x7b z λ l u. tested t 0x79 (at 0x79 i) λ n. tested t 0x7a (at 0x7a x) λ m. at 0x7b y (omega arith)))
+      (tag-cases j k) h
 
-  pub item-cases : P 0x70 → P 0x71 → P 0x72 → P 0x73 → P 0x74 → P 0x75 → P 0x76 → P 0x79 → P 0x30 → P 0x31 → P 0x77 → P 0x78 → (is-expr t || eqb t 0x77 || eqb t 0x78) ≡ true → P t
-  item-cases a b c d e f g i j k m n h = either _ _ (either _ _ (expr-cases a b c d e f g i j k) (is-one 0x77 m)) (is-one 0x78 n) h
+  pub item-cases : P 0x70 → P 0x71 → P 0x72 → P 0x73 → P 0x74 → P 0x75 → P 0x76 → P 0x79 → P 0x7a → P 0x7b → P 0x30 → P 0x31 → P 0x77 → P 0x78 → (is-expr t || eqb t 0x77 || eqb t 0x78) ≡ true → P t
+  item-cases a b c d e f g i x y j k m n h = either _ _ (either _ _ (expr-cases a b c d e f g i x y j k) (is-one 0x77 m)) (is-one 0x78 n) h

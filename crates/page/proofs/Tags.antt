@@ -13,11 +13,13 @@ use Rattle.page.proofs.Verdicts.{and-both, or-either}
 
 pub data ExprTag : ℕ → Type 0 where
   string-tag : ExprTag 0x70
-  number-tag : ExprTag 0x71
+  whole-tag : ExprTag 0x71
+  scaled-tag : ExprTag 0x7a
   boolean-tag : ExprTag 0x72
   null-tag : ExprTag 0x73
   other-literal-tag : ExprTag 0x74
-  minus-tag : ExprTag 0x75
+  minus-whole-tag : ExprTag 0x75
+  minus-scaled-tag : ExprTag 0x7b
   array-tag : ExprTag 0x76
   other-expr-tag : ExprTag 0x79
   element-expr-tag : ExprTag 0x30
@@ -99,21 +101,31 @@ literal-tag t h =
     let l = leb→le 0x70 t (k .0) in
     let m = leb→le t 0x76 (k .1) in
     least-or t 0x70 l (at ExprTag t 0x70 string-tag) λ l.
-    least-or t 0x71 l (at ExprTag t 0x71 number-tag) λ l.
+    least-or t 0x71 l (at ExprTag t 0x71 whole-tag) λ l.
     least-or t 0x72 l (at ExprTag t 0x72 boolean-tag) λ l.
     least-or t 0x73 l (at ExprTag t 0x73 null-tag) λ l.
     least-or t 0x74 l (at ExprTag t 0x74 other-literal-tag) λ l.
-    least-or t 0x75 l (at ExprTag t 0x75 minus-tag) λ l.
+    least-or t 0x75 l (at ExprTag t 0x75 minus-whole-tag) λ l.
     least-or t 0x76 l (at ExprTag t 0x76 array-tag) λ l.
+    absurd (omega arith)
+
+-- 79 to 7B
+later-tag : (t : ℕ) → T (leb 0x79 t && leb t 0x7b) → ExprTag t
+later-tag t h =
+    let k = and-both (leb 0x79 t) (leb t 0x7b) h in
+    let l = leb→le 0x79 t (k .0) in
+    let m = leb→le t 0x7b (k .1) in
+    least-or t 0x79 l (at ExprTag t 0x79 other-expr-tag) λ l.
+    least-or t 0x7a l (at ExprTag t 0x7a scaled-tag) λ l.
+    least-or t 0x7b l (at ExprTag t 0x7b minus-scaled-tag) λ l.
     absurd (omega arith)
 
 pub expr-tag : (t : ℕ) → T (is-expr t) → ExprTag t
 expr-tag t h =
-    is-or t 0x79 (at ExprTag t 0x79 other-expr-tag) λ a.
     is-or t 0x30 (at ExprTag t 0x30 element-expr-tag) λ b.
     is-or t 0x31 (at ExprTag t 0x31 fragment-expr-tag) λ c.
-    or-either (leb 0x70 t && leb t 0x76 || eqb t 0x79) (is-tag t) h
-    (λ k. or-either (leb 0x70 t && leb t 0x76) (eqb t 0x79) k (literal-tag t) (λ l. absurd (rw a at l)))
+    or-either ((leb 0x70 t && leb t 0x76) || (leb 0x79 t && leb t 0x7b)) (is-tag t) h
+    (λ k. or-either (leb 0x70 t && leb t 0x76) (leb 0x79 t && leb t 0x7b) k (literal-tag t) (later-tag t))
     (λ k. absurd (rw (b, c) at k))
 
 pub attribute-tag : (t : ℕ) → T (is-attribute t || is-child t) → AttributeTag t

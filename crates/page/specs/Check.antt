@@ -8,7 +8,7 @@ use lib.ListN.{length}
 use Rattle.field.specs.Bytes.{Bytes}
 use Rattle.field.specs.Row.{Row, end, loose, field}
 use Rattle.utf8.specs.Utf8.{utf8}
-use Rattle.page.specs.Number.{number-in, in-range}
+use Rattle.page.specs.Number.{is-number, is-minus, number-in, number-length, in-range}
 use Rattle.page.specs.Refusal.{after, unless}
 use Rattle.page.specs.Tree.{choose}
 use Rattle.page.specs.declared.Refusal.the-variants as R
@@ -33,8 +33,8 @@ check-text b = unless (utf8 b) R.NotUtf8
 unfoldable pub check-empty : Bytes → Verdict
 check-empty b = unless (eqb (length b) 0) R.Misplaced
 
-unfoldable pub check-number : Bytes → Verdict
-check-number b = after (unless (eqb (length b) 8) R.Misplaced) λ _. unless (in-range (number-in b)) R.NumberTooLarge
+unfoldable pub check-number : ℕ → Bytes → Verdict
+check-number t b = after (unless (eqb (length b) (number-length t)) R.Misplaced) λ _. unless (in-range (number-in t b)) R.NumberTooLarge
 
 unfoldable pub check-boolean : Bytes → Verdict
 check-boolean [] = Refused R.Misplaced
@@ -105,7 +105,7 @@ abbrev pub is-tag : ℕ → Bool
 is-tag t = eqb t 0x30 || eqb t 0x31
 
 abbrev pub is-expr : ℕ → Bool
-is-expr t = (leb 0x70 t && leb t 0x76) || eqb t 0x79 || is-tag t
+is-expr t = (leb 0x70 t && leb t 0x76) || (leb 0x79 t && leb t 0x7b) || is-tag t
 
 abbrev pub is-child : ℕ → Bool
 is-child t = eqb t 0x60 || eqb t 0x52 || is-tag t || eqb t 0x61
@@ -118,7 +118,7 @@ is-attribute t = eqb t 0x50 || eqb t 0x53
 unfoldable pub check-expr-by : ℕ → Bytes → (Unit {0} → Verdict) → (Unit {0} → Verdict) → (Unit {0} → Verdict) → (Unit {0} → Verdict) → Verdict
 check-expr-by t f is ps el fr =
     choose (eqb t 0x70 || eqb t 0x74) (λ _. check-text f) λ _.
-    choose (eqb t 0x71 || eqb t 0x75) (λ _. check-number f) λ _.
+    choose (is-number t || is-minus t) (λ _. check-number t f) λ _.
     choose (eqb t 0x72) (λ _. check-boolean f) λ _.
     choose (eqb t 0x73) (λ _. check-empty f) λ _.
     choose (eqb t 0x76) is λ _.

@@ -4,7 +4,7 @@ use mathlib.Core.Bool.{Bool, true, false}
 use mathlib.Core.List.{List, [], _∷_}
 use Rattle.field.specs.Bytes.{Bytes}
 use Rattle.field.specs.Row.{Row, end, loose, field, bytes}
-use Rattle.page.specs.Number.{number-bytes}
+use Rattle.page.specs.Number.{number-tag, minus-tag, number-bytes}
 use Rattle.names.specs.Names as A
 use Rattle.names.specs.Names.{AttrName}
 use Rattle.page.specs.Page.{Name, identifier, member, namespaced, Tag, element, fragment, Attributes, no-attributes, attribute, spread-attribute, Value, absent, string-value, empty-value, container-value, tag-value, Children, no-children, text-child, empty-child, container-child, tag-child, spread-child, Expr, string-literal, number-literal, boolean-literal, null-literal, other-literal, minus-literal, array-literal, other-expr, tag-expr, Items, no-items, item, spread-item, hole-item, Pieces, no-pieces, source-piece, tag-piece, ModuleItem, export-item, declaration-item, statement-item, empty-item, Page, Options}
@@ -54,11 +54,11 @@ unfoldable mutual
 
   pub expr-row : Expr → Row → Row
   expr-row (string-literal b) r = field 0x70 b end r
-  expr-row (number-literal n) r = field 0x71 (number-bytes n) end r
+  expr-row (number-literal n) r = field (number-tag n) (number-bytes n) end r
   expr-row (boolean-literal b) r = field 0x72 (boolean-byte b ∷ []) end r
   expr-row null-literal r = field 0x73 [] end r
   expr-row (other-literal b) r = field 0x74 b end r
-  expr-row (minus-literal n) r = field 0x75 (number-bytes n) end r
+  expr-row (minus-literal n) r = field (minus-tag n) (number-bytes n) end r
   expr-row (array-literal is) r = field 0x76 [] (items-row is) r
   expr-row (other-expr ps) r = field 0x79 [] (pieces-row ps) r
   expr-row (tag-expr t) r = tag-row t r

@@ -6,7 +6,7 @@ use mathlib.Core.List.{List, [], _∷_}
 use lib.Dec.{leb, eqb}
 use Rattle.field.specs.Bytes.{Bytes, ascii}
 use Rattle.field.specs.Row.{Row, end, loose, field}
-use Rattle.page.specs.Number.{number-in}
+use Rattle.page.specs.Number.{is-number, is-minus, number-in}
 use Rattle.names.specs.Names as A
 use Rattle.names.specs.Names.{AttrName}
 use Rattle.page.specs.Page.{Name, identifier, member, namespaced, Tag, element, fragment, Attributes, no-attributes, attribute, spread-attribute, Value, absent, string-value, empty-value, container-value, tag-value, Children, no-children, text-child, empty-child, container-child, tag-child, spread-child, Expr, string-literal, number-literal, boolean-literal, null-literal, other-literal, minus-literal, array-literal, other-expr, tag-expr, Items, no-items, item, spread-item, hole-item, Pieces, no-pieces, source-piece, tag-piece, ModuleItem, export-item, declaration-item, statement-item, empty-item, Page, Options}
@@ -54,10 +54,10 @@ boolean-in (c ∷ cs) = eqb c 1
 unfoldable pub expr-by : ℕ → Bytes → (Unit {0} → Items) → (Unit {0} → Pieces) → (Unit {0} → Tag) → (Unit {0} → Tag) → Expr
 expr-by t f is ps el fr =
     choose (eqb t 0x70) (λ _. string-literal f) λ _.
-    choose (eqb t 0x71) (λ _. number-literal (number-in f)) λ _.
+    choose (is-number t) (λ _. number-literal (number-in t f)) λ _.
     choose (eqb t 0x72) (λ _. boolean-literal (boolean-in f)) λ _.
     choose (eqb t 0x74) (λ _. other-literal f) λ _.
-    choose (eqb t 0x75) (λ _. minus-literal (number-in f)) λ _.
+    choose (is-minus t) (λ _. minus-literal (number-in t f)) λ _.
     choose (eqb t 0x76) (λ _. array-literal (is tt)) λ _.
     choose (eqb t 0x79) (λ _. other-expr (ps tt)) λ _.
     choose (eqb t 0x30) (λ _. tag-expr (el tt)) λ _.

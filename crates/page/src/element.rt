@@ -12,13 +12,13 @@ use crate::Refusal;
 use crate::Verdict;
 use crate::leaf::check_boolean;
 use crate::leaf::check_empty;
-use crate::leaf::check_number;
 use crate::leaf::check_text;
 use crate::name::check_element_name;
 use crate::name::check_end;
 use crate::name::check_missing;
 use crate::name::check_name_by;
 use crate::name::check_nothing_after;
+use crate::number::check_number;
 use field::reader::behind;
 use field::reader::body;
 use field::reader::tag_at;
@@ -266,11 +266,11 @@ fn check_expr_field(tag: usize, b: &[u8], depth: usize) -> Verdict
             }
             return check_text(b);
         }
-        0x71 | 0x75 => {
+        0x71 | 0x7a => {
             if MAX_DEPTH < depth {
                 return Verdict::Refused(Refusal::TooDeep);
             }
-            return check_number(b);
+            return check_number(tag, b);
         }
         0x72 => {
             if MAX_DEPTH < depth {
@@ -283,6 +283,12 @@ fn check_expr_field(tag: usize, b: &[u8], depth: usize) -> Verdict
                 return Verdict::Refused(Refusal::TooDeep);
             }
             return check_empty(b);
+        }
+        0x75 | 0x7b => {
+            if MAX_DEPTH < depth {
+                return Verdict::Refused(Refusal::TooDeep);
+            }
+            return check_number(tag, b);
         }
         0x76 => {
             if MAX_DEPTH < depth {

@@ -3,6 +3,7 @@
 pub mod element;
 pub mod leaf;
 pub mod name;
+pub mod number;
 pub mod whole;
 
 // 01, Limits and the answer: the depth of the deepest field.

@@ -4,7 +4,7 @@
 use mathlib.Core.Path.{_≡_, refl, sym, ap, _∙_, subst}
 use Prim.Native.Nat.{ℕ, _≤_, _<_}
 use native.Mathlib.Omega.{arith}
-use mathlib.Core.List.{[], _++_}
+use mathlib.Core.List.{[], _∷_, _++_}
 use mathlib.Core.Logic.{_⊎_, inl, inr, ⊎-elim}
 use lib.Dec.{T, ltb, ltb→lt}
 use lib.ListN.{length}
@@ -14,6 +14,7 @@ use Rattle.field.specs.Row.{Row, end, loose, field, Next, nothing, no-field, ne
 use Rattle.field.specs.Front.{tag-of, behind-of, behind-by}
 use Rattle.field.proofs.RowLaws.{next-sizes}
 use Rattle.page.specs.Tree.{choose}
+use Rattle.page.specs.Number.{number-in, render}
 use Rattle.printing.specs.Card.{quoted, first-front, second-front, text-by, all-text, parted-text, behind-text, first-text, second-text}
 use Rattle.printing.specs.Front.{front-of, inner-of}
 use Rattle.printing.proofs.FrontLaws.{read-field, read-by, inner-less}
@@ -51,6 +52,14 @@ module _ (s : Bytes) (t : ℕ) (e : t ≡ tag-of s) where
     unfolding text-by choose
     first-quoted = ⊎-elim (first-at 0x70) (first-at 0x81)
 
+    pub first-number : (t ≡ 0x71) ⊎ (t ≡ 0x7a) → first-text (read s) ≡ render (number-in t f)
+    unfolding text-by choose
+    first-number = ⊎-elim (λ z. first-at 0x71 z ∙ ap (λ (x : ℕ). render (number-in x f)) (sym z)) (λ z. first-at 0x7a z ∙ ap (λ (x : ℕ). render (number-in x f)) (sym z))
+
+    pub first-minus : (t ≡ 0x75) ⊎ (t ≡ 0x7b) → first-text (read s) ≡ 45 ∷ render (number-in t f)
+    unfolding text-by choose
+    first-minus = ⊎-elim (λ z. first-at 0x75 z ∙ ap (λ (x : ℕ). 45 ∷ render (number-in x f)) (sym z)) (λ z. first-at 0x7b z ∙ ap (λ (x : ℕ). 45 ∷ render (number-in x f)) (sym z))
+
     pub first-spread : (t ≡ 0x53) ⊎ (t ≡ 0x77) → first-text (read s) ≡ ascii "..." ++ first-text (read i)
     unfolding text-by choose
     first-spread = ⊎-elim (first-at 0x53) (first-at 0x77)
@@ -63,9 +72,9 @@ module _ (s : Bytes) (t : ℕ) (e : t ≡ tag-of s) where
     inner-spread = ⊎-elim (inner-at 0x53 tt) (inner-at 0x77 tt)
 
   -- any other tag, and none: nothing
-  pub first-other : ((t ≡ 0x20) ⊎ ((t ≡ 0x40) ⊎ (t ≡ 0x74)) → ⊥) → (t ≡ 0x41 → ⊥) → ((t ≡ 0x70) ⊎ (t ≡ 0x81) → ⊥) → (t ≡ 0x71 → ⊥) → (t ≡ 0x72 → ⊥) → (t ≡ 0x73 → ⊥) → (t ≡ 0x75 → ⊥) → (t ≡ 0x76 → ⊥) → ((t ≡ 0x53) ⊎ (t ≡ 0x77) → ⊥) → (t ≡ 0x79 → ⊥) → (t ≡ 0x90 → ⊥) → (t ≡ 0x91 → ⊥) → (t ≡ 0x92 → ⊥) → (t ≡ 0x93 → ⊥) → (t ≡ 0x94 → ⊥) → (t ≡ 0x95 → ⊥) → (t ≡ 0x96 → ⊥) → first-text (read s) ≡ []
+  pub first-other : ((t ≡ 0x20) ⊎ ((t ≡ 0x40) ⊎ (t ≡ 0x74)) → ⊥) → (t ≡ 0x41 → ⊥) → ((t ≡ 0x70) ⊎ (t ≡ 0x81) → ⊥) → ((t ≡ 0x71) ⊎ (t ≡ 0x7a) → ⊥) → (t ≡ 0x72 → ⊥) → (t ≡ 0x73 → ⊥) → ((t ≡ 0x75) ⊎ (t ≡ 0x7b) → ⊥) → (t ≡ 0x76 → ⊥) → ((t ≡ 0x53) ⊎ (t ≡ 0x77) → ⊥) → (t ≡ 0x79 → ⊥) → (t ≡ 0x90 → ⊥) → (t ≡ 0x91 → ⊥) → (t ≡ 0x92 → ⊥) → (t ≡ 0x93 → ⊥) → (t ≡ 0x94 → ⊥) → (t ≡ 0x95 → ⊥) → (t ≡ 0x96 → ⊥) → first-text (read s) ≡ []
   unfolding text-by choose
-  first-other n20 n41 n70 n71 n72 n73 n75 n76 n53 n79 n90 n91 n92 n93 n94 n95 n96 = first-is ∙ rw (ne-eqb t 0x20 (λ z. n20 (inl z)), ne-eqb t 0x40 (λ z. n20 (inr (inl z))), ne-eqb t 0x74 (λ z. n20 (inr (inr z))), ne-eqb t 0x41 n41, ne-eqb t 0x70 (λ z. n70 (inl z)), ne-eqb t 0x81 (λ z. n70 (inr z)), ne-eqb t 0x71 n71, ne-eqb t 0x72 n72, ne-eqb t 0x73 n73, ne-eqb t 0x75 n75, ne-eqb t 0x76 n76, ne-eqb t 0x53 (λ z. n53 (inl z)), ne-eqb t 0x77 (λ z. n53 (inr z)), ne-eqb t 0x79 n79, ne-eqb t 0x90 n90, ne-eqb t 0x91 n91, ne-eqb t 0x92 n92, ne-eqb t 0x93 n93, ne-eqb t 0x94 n94, ne-eqb t 0x95 n95, ne-eqb t 0x96 n96) refl
+  first-other n20 n41 n70 n71 n72 n73 n75 n76 n53 n79 n90 n91 n92 n93 n94 n95 n96 = first-is ∙ rw (ne-eqb t 0x20 (λ z. n20 (inl z)), ne-eqb t 0x40 (λ z. n20 (inr (inl z))), ne-eqb t 0x74 (λ z. n20 (inr (inr z))), ne-eqb t 0x41 n41, ne-eqb t 0x70 (λ z. n70 (inl z)), ne-eqb t 0x81 (λ z. n70 (inr z)), ne-eqb t 0x71 (λ z. n71 (inl z)), ne-eqb t 0x7a (λ z. n71 (inr z)), ne-eqb t 0x72 n72, ne-eqb t 0x73 n73, ne-eqb t 0x75 (λ z. n75 (inl z)), ne-eqb t 0x7b (λ z. n75 (inr z)), ne-eqb t 0x76 n76, ne-eqb t 0x53 (λ z. n53 (inl z)), ne-eqb t 0x77 (λ z. n53 (inr z)), ne-eqb t 0x79 n79, ne-eqb t 0x90 n90, ne-eqb t 0x91 n91, ne-eqb t 0x92 n92, ne-eqb t 0x93 n93, ne-eqb t 0x94 n94, ne-eqb t 0x95 n95, ne-eqb t 0x96 n96) refl
 
 -- ---- the front of the first field and of the second
 

@@ -16,6 +16,8 @@ use Rattle.field.specs.Row.{Row, end, loose, field, bytes, read}
 use Rattle.field.proofs.RowLaws.{bytes-read, length-bytes}
 use Rattle.text.proofs.DecimalLaws.{length-decimal}
 use Rattle.page.specs.Tree.{choose, boolean-in}
+use Rattle.page.specs.Number.{is-number, is-minus, number-in}
+use Rattle.page.proofs.NumberLaws.{render-length}
 use Rattle.printing.specs.Card.{quoted-byte, quoted-bytes, quoted, is-identifier, prop-name, first-front, second-front, pointed-more, pointed, template-name, text-by, all-text, parted-text, behind-text, first-text, second-text, helper-text, odd, helpers-text, sum-in, import-text, templates-text, page-text}
 
 -- ---- strings and names
@@ -107,10 +109,10 @@ module _ (t : ℕ) (f : Bytes) (i : Row) (l : Lengths i) where
       choose-length (eqb t 0x20 || (eqb t 0x40 || eqb t 0x74)) _ _ n (omega arith)
       (choose-length (eqb t 0x41) _ _ n (omega (arith, length-pointed i))
       (choose-length (eqb t 0x70 || eqb t 0x81) _ _ n (omega (arith, length-quoted f))
-      (choose-length (eqb t 0x71) _ _ n (omega (arith, length-decimal (number-of (take 8 f))))
+      (choose-length (is-number t) _ _ n (omega (arith, render-length (number-in t f)))
       (choose-length (eqb t 0x72) _ _ n (pick-length (boolean-in f) (ascii "true") (ascii "false") n (omega arith) (omega arith))
       (choose-length (eqb t 0x73) _ _ n (omega arith)
-      (choose-length (eqb t 0x75) _ _ n (omega (arith, length-decimal (number-of (take 8 f))))
+      (choose-length (is-minus t) _ _ n (omega (arith, render-length (number-in t f)))
       (choose-length (eqb t 0x76) _ _ n (omega (arith, length-append (parted-text i) (93 ∷ [])))
       (choose-length (eqb t 0x53 || eqb t 0x77) _ _ n (omega arith)
       (choose-length (eqb t 0x79) _ _ n (omega arith)

@@ -6,6 +6,7 @@ use Prim.Native.Nat.{ℕ}
 use Rattle.field.specs.Bytes.{Bytes, ascii}
 use Rattle.field.specs.Number.{big-endian, number-from}
 use Rattle.field.specs.Row.{field-bytes, inside, next-of, opened, built, read-from, read}
+use Rattle.page.specs.Number.{render, number-in}
 use Rattle.text.specs.Decimal.{digits, decimal}
 use Rattle.page.specs.Tree.{choose, boolean-in}
 use Rattle.page.specs.Refusal.{refusal-number}
@@ -21,7 +22,7 @@ worked-text :
     page-text (read (fld 0x80 ((0 ∷ 1 ∷ []) ++ (fld 0x81 (ascii "<p class=\"t\">Hi ") ++ fld 0x81 (ascii "</p>")))))
     (read (fld 0x82 (fld 0x81 (ascii "react/jsx-runtime") ++ (10 ∷ [])) ++ (fld 0x83 [] ++ fld 0x12 (fld 0x20 (ascii "const a = ") ++ (fld 0x90 ((0 ∷ 1 ∷ []) ++ fld 0x92 (fld 0x79 (fld 0x20 (ascii "n")))) ++ fld 0x20 (ascii ";"))))))
     ≡ (ascii "import { jsxTemplate as _jsxTemplate, jsxEscape as _jsxEscape } from \"react/jsx-runtime\";" ++ (10 ∷ (ascii "const $$_tpl_1 = [\"<p class=\\\"t\\\">Hi \", \"</p>\"];" ++ (10 ∷ (ascii "const a = _jsxTemplate($$_tpl_1, _jsxEscape(n));" ++ (10 ∷ []))))))
-unfolding big-endian number-from field-bytes inside next-of opened built read-from read digits decimal choose boolean-in quoted-byte quoted-bytes goes-on is-identifier pointed-more pointed text-by all-text parted-text behind-text first-text second-text helper-text helpers-text import-text templates-text page-text
+unfolding big-endian number-from field-bytes inside next-of opened built read-from read digits decimal render number-in choose boolean-in quoted-byte quoted-bytes goes-on is-identifier pointed-more pointed text-by all-text parted-text behind-text first-text second-text helper-text helpers-text import-text templates-text page-text
 worked-text = refl
 
 -- a row of the table of marks with number 0 says what is printed of its page
@@ -50,7 +51,7 @@ pub calls :
     (fld 0x94 (fld 0x41 (fld 0x40 (ascii "a") ++ fld 0x40 (ascii "b")) ++ (fld 0x95 (fld 0x96 (fld 0x81 (ascii "class") ++ fld 0x72 (1 ∷ [])) ++ (fld 0x96 (fld 0x81 (ascii "data-x") ++ fld 0x75 (0 ∷ 0 ∷ 0 ∷ 0 ∷ 0 ∷ 0 ∷ 1 ∷ 0 ∷ [])) ++ (fld 0x53 (fld 0x74 (ascii "/r/")) ++ fld 0x96 (fld 0x81 (ascii "children") ++ fld 0x76 (fld 0x78 [] ++ fld 0x77 (fld 0x79 (fld 0x20 (ascii "z")))))))) ++ fld 0x70 (ascii "k")))
     ++ (fld 0x93 (fld 0x79 (fld 0x20 (ascii "f")) ++ fld 0x81 (ascii "disabled")) ++ fld 0x91 (fld 0x81 (ascii "id") ++ fld 0x73 []))))
     ≡ ascii "_jsx(a.b, { class: true, \"data-x\": -256, .../r/, children: [, ...z] }, \"k\")f ? \"disabled\" : \"\"_jsxAttr(\"id\", null)"
-unfolding big-endian number-from field-bytes inside next-of opened built read-from read digits decimal choose boolean-in quoted-byte quoted-bytes goes-on is-identifier pointed-more pointed text-by all-text parted-text behind-text first-text second-text
+unfolding big-endian number-from field-bytes inside next-of opened built read-from read digits decimal render number-in choose boolean-in quoted-byte quoted-bytes goes-on is-identifier pointed-more pointed text-by all-text parted-text behind-text first-text second-text
 calls = refl
 
 -- `\"`, `\\`, `\n`, `\r`, and other bytes as `\x` and two small hex digits

@@ -8,6 +8,7 @@ use Rattle.field.specs.Bytes.{Bytes, ascii, pick}
 use Rattle.field.specs.Number.{number-of}
 use Rattle.field.specs.Row.{Row, end, loose, field, read}
 use Rattle.text.specs.Decimal.{decimal}
+use Rattle.page.specs.Number.{is-number, is-minus, number-in, render}
 use Rattle.page.specs.Tree.{choose, boolean-in}
 use Rattle.page.specs.Refusal.{refusal-number}
 use Rattle.spec.specs.Answer.{Outcome, refused, accepted, outcome}
@@ -82,10 +83,10 @@ text-by t f i all parted behind first second =
     choose (eqb t 0x20 || (eqb t 0x40 || eqb t 0x74)) (λ _. f) λ _.
     choose (eqb t 0x41) (λ _. pointed i) λ _.
     choose (eqb t 0x70 || eqb t 0x81) (λ _. quoted f) λ _.
-    choose (eqb t 0x71) (λ _. decimal (number-of (take 8 f))) λ _.
+    choose (is-number t) (λ _. render (number-in t f)) λ _.
     choose (eqb t 0x72) (λ _. pick (boolean-in f) (ascii "true") (ascii "false")) λ _.
     choose (eqb t 0x73) (λ _. ascii "null") λ _.
-    choose (eqb t 0x75) (λ _. 45 ∷ decimal (number-of (take 8 f))) λ _.
+    choose (is-minus t) (λ _. 45 ∷ render (number-in t f)) λ _.
     choose (eqb t 0x76) (λ _. 91 ∷ (parted tt ++ (93 ∷ []))) λ _.
     choose (eqb t 0x53 || eqb t 0x77) (λ _. ascii "..." ++ first tt) λ _.
     choose (eqb t 0x79) (λ _. all tt) λ _.

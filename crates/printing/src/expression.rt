@@ -12,7 +12,6 @@ use crate::front::front;
 use crate::front::inner;
 use crate::name::put_boolean;
 use crate::name::put_minus;
-use crate::name::put_number;
 use crate::name::put_pointed;
 use crate::name::put_template_name;
 use crate::quoted::put_prop_name;
@@ -21,6 +20,7 @@ use field::reader::behind;
 use field::reader::tag_at;
 use field::writer::put_byte;
 use field::writer::put_bytes;
+use page::number::put_number;
 
 // The expression in front.
 fn print_first(out: &mut [u8], at: usize, s: &[u8]) -> usize
@@ -29,14 +29,15 @@ fn print_first(out: &mut [u8], at: usize, s: &[u8]) -> usize
 {
     let f = front(s);
     let i = inner(s);
-    match tag_at(s) {
+    let t = tag_at(s);
+    match t {
         0x20 | 0x40 | 0x74 => put_bytes(out, at, f),
         0x41 => put_pointed(out, at, i),
         0x70 | 0x81 => put_quoted(out, at, f),
-        0x71 => put_number(out, at, f),
+        0x71 | 0x7a => put_number(out, at, t, f),
         0x72 => put_boolean(out, at, f),
         0x73 => put_bytes(out, at, b"null"),
-        0x75 => put_minus(out, at, f),
+        0x75 | 0x7b => put_minus(out, at, t, f),
         0x76 => print_between(out, at, b"[", i, b"]"),
         0x53 | 0x77 => print_spread(out, at, i),
         0x79 => print_all(out, at, i),

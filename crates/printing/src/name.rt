@@ -3,21 +3,20 @@ ghost use mathlib.Core.Path.{_≡_};
 ghost use Prim.Native.Nat.{_+_, _<_, _^_};
 ghost use lib.ListN.{length};
 ghost use Rattle.field.specs.Put.{Wrote};
-ghost use lib.ListN.{take};
 ghost use mathlib.Core.List.{_∷_, _++_};
 ghost use Rattle.field.specs.Bytes.{ascii, pick};
-ghost use Rattle.field.specs.Number.{number-of};
 ghost use Rattle.field.specs.Row.{read};
-ghost use Rattle.text.specs.Decimal.{decimal};
+ghost use Rattle.page.specs.Number.{number-in, render};
 ghost use Rattle.page.specs.Tree.{boolean-in};
 ghost use Rattle.printing.specs.Card.{pointed, template-name};
 use crate::front::front;
 use decisions::expr::boolean_in;
-use decisions::expr::number_in;
 use field::reader::behind;
 use field::reader::tag_at;
 use field::writer::put_byte;
 use field::writer::put_bytes;
+use page::number::number_in;
+use page::number::put_number;
 use text::decimal::put_decimal;
 
 // Names with points between.
@@ -61,18 +60,11 @@ pub fn put_boolean(out: &mut [u8], at: usize, f: &[u8]) -> usize
     put_bytes(out, at, b"false")
 }
 
-pub fn put_number(out: &mut [u8], at: usize, f: &[u8]) -> usize
-    requires { ⌜ at + length (decimal (number-of (take 8 (now f)))) < 2 ^ 63 ⌝ }
-    ensures { λ r. ⌜ Wrote (now (out .entry)) at (decimal (number-of (take 8 (now (f .entry))))) (now (out .exit)) r ⌝ }
-{
-    put_decimal(out, at, number_in(f))
-}
-
 // A minus before its number.
-pub fn put_minus(out: &mut [u8], at: usize, f: &[u8]) -> usize
-    requires { ⌜ at + length (45 ∷ decimal (number-of (take 8 (now f)))) < 2 ^ 63 ⌝ }
-    ensures { λ r. ⌜ Wrote (now (out .entry)) at (45 ∷ decimal (number-of (take 8 (now (f .entry))))) (now (out .exit)) r ⌝ }
+pub fn put_minus(out: &mut [u8], at: usize, tag: usize, f: &[u8]) -> usize
+    requires { ⌜ at + length (45 ∷ render (number-in tag (now f))) < 2 ^ 63 ⌝ }
+    ensures { λ r. ⌜ Wrote (now (out .entry)) at (45 ∷ render (number-in tag (now (f .entry)))) (now (out .exit)) r ⌝ }
 {
     let a = put_byte(out, at, 45);
-    put_number(out, a, f)
+    put_number(out, a, tag, f)
 }

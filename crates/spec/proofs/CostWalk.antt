@@ -16,6 +16,7 @@ use Rattle.text.proofs.EscapeLaws.{length-escape-html}
 use Rattle.text.proofs.TextBounds.{length-jsx-text, length-normalize}
 use Rattle.names.specs.Names.{AttrName, get-attr-name, is-void-element, is-boolean-attr}
 use Rattle.page.specs.Number.{render}
+use Rattle.page.proofs.NumberLaws.{render-escaped, minus-escaped}
 use Rattle.page.specs.Tree.{choose}
 use Rattle.page.specs.Page.{Name, identifier, member, namespaced, Options}
 use Rattle.spec.specs.Pass.{Pass, pure, raise, long-if, Mid, none, node, _+++_, Part, chars, gap, over}
@@ -33,11 +34,11 @@ use Rattle.spec.proofs.Cost.{written-size, RawCosts, Costs, none-costs,
 -- what a literal costs where it is written out, escaped
 unfoldable pub shape-size : Shape → ℕ
 shape-size (string-shape b) = 6 * length b
-shape-size (number-shape n) = 6 * length (render n)
+shape-size (number-shape n) = length (render n)
 shape-size (boolean-shape b) = 0
 shape-size null-shape = 0
 shape-size literal-shape = 0
-shape-size (minus-shape n) = 6 + 6 * length (render n)
+shape-size (minus-shape n) = 1 + length (render n)
 shape-size other-shape = 0
 
 pub data EntryCosts : Entry → ℕ → Type 0 where
@@ -171,20 +172,27 @@ dynamic-attr-costs : (n : Bytes) {m : Mid} {w : ℕ} (a : ℕ) → 20 + length n
 unfolding dynamic-attr
 dynamic-attr-costs n a h x = parts-pick (is-boolean-attr n) (gap-parts (6 + length n + a) (omega arith) (pure-costs (choice-costs n a (omega arith) x))) (attr-gap-costs n a (omega arith) x)
 
-serialized-costs : (n v : Bytes) {w : ℕ} → 4 + 6 * length n + 6 * length v ≤ w → PartsCosts (chars (serialize-attr n v) ∷ []) w
+-- by the value's own length, escaped
+serialized-by : (n v : Bytes) {w : ℕ} → 4 + 6 * length n + length (escape-html v) ≤ w → PartsCosts (chars (serialize-attr n v) ∷ []) w
 unfolding serialize-attr
-serialized-costs n v h =
+serialized-by n v h =
     let back : Bytes = 61 ∷ 34 ∷ (escape-html v ++ (34 ∷ [])) in
-    text-parts (omega (arith, length-append (escape-html n) back, length-append (escape-html v) (34 ∷ []), length-escape-html n, length-escape-html v))
+    text-parts (omega (arith, length-append (escape-html n) back, length-append (escape-html v) (34 ∷ []), length-escape-html n))
+
+serialized-costs : (n v : Bytes) {w : ℕ} → 4 + 6 * length n + 6 * length v ≤ w → PartsCosts (chars (serialize-attr n v) ∷ []) w
+serialized-costs n v h = serialized-by n v (omega (arith, length-escape-html v))
+
+serialized-plain : (n v : Bytes) {w : ℕ} → escape-html v ≡ v → 4 + 6 * length n + length v ≤ w → PartsCosts (chars (serialize-attr n v) ∷ []) w
+serialized-plain n v e h = serialized-by n v (omega (arith, ap (λ (x : Bytes). length x) e))
 
 container-attr-costs : (n : Bytes) (s : Shape) {m : Mid} {w : ℕ} (a : ℕ) → 20 + 7 * length n + a ≤ w → shape-size s ≤ a → Costs m a → PartsCosts (container-attr n s m) w
 unfolding container-attr shape-size
 container-attr-costs n (string-shape b) a h k x = serialized-costs n b (omega arith)
-container-attr-costs n (number-shape l) a h k x = serialized-costs n (render l) (omega arith)
+container-attr-costs n (number-shape l) a h k x = serialized-plain n (render l) (render-escaped l) (omega arith)
 container-attr-costs n (boolean-shape b) a h k x = parts-pick (is-boolean-attr n) (parts-pick b (text-parts (omega arith)) no-parts) (dynamic-attr-costs n a (omega arith) x)
 container-attr-costs n null-shape a h k x = dynamic-attr-costs n a (omega arith) x
 container-attr-costs n literal-shape a h k x = dynamic-attr-costs n a (omega arith) x
-container-attr-costs n (minus-shape l) a h k x = serialized-costs n (45 ∷ render l) (omega arith)
+container-attr-costs n (minus-shape l) a h k x = serialized-plain n (45 ∷ render l) (minus-escaped l) (omega arith)
 container-attr-costs n other-shape a h k x = dynamic-attr-costs n a (omega arith) x
 
 plain-attr-costs : (n : Bytes) (v : Value) {w : ℕ} (a : ℕ) → 20 + 7 * length n + a ≤ w → ValueCosts v a → PartsCosts (plain-attr n v) w
@@ -321,7 +329,7 @@ merge-costs esc par k h buf q (more-children {c = empty} a b p x y) = merge-cost
 merge-costs esc par k h buf q (more-children {c = container (string-shape s) m} a b p x y) =
     merge-costs esc par k h (buf ++ escape-html s) (omega (arith, x .0, joined-run k (6 * length s) buf (escape-html s) (omega (arith, length-escape-html s)))) y
 merge-costs esc par k h buf q (more-children {c = container (number-shape n) m} a b p x y) =
-    merge-costs esc par k h (buf ++ render n) (omega (arith, x .0, joined-run k (6 * length (render n)) buf (render n) (omega arith))) y
+    merge-costs esc par k h (buf ++ render n) (omega (arith, x .0, joined-run k (length (render n)) buf (render n) (omega arith))) y
 merge-costs esc par k h buf q (more-children {c = container (boolean-shape s) m} a b p x y) = merge-costs esc par k h (buf ++ []) (omega (arith, x .0, joined-run k 0 buf [] (omega arith))) y
 merge-costs esc par k h buf {w = w} q (more-children {c = container null-shape m} {cs = cs} a b p x y) = kept-costs k h buf (container null-shape m) a b q p x (merge-costs esc par k h [] {w = b} (omega arith) y)
 merge-costs esc par k h buf {w = w} q (more-children {c = container literal-shape m} {cs = cs} a b p x y) = kept-costs k h buf (container literal-shape m) a b q p x (merge-costs esc par k h [] {w = b} (omega arith) y)

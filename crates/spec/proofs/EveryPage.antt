@@ -8,6 +8,7 @@ use mathlib.Core.List.{[], _∷_}
 use lib.Dec.{T}
 use Rattle.field.specs.Bytes.{Bytes}
 use Rattle.field.specs.Row.{inside}
+use Rattle.page.specs.Number.{whole, scaled, number-tag, minus-tag}
 use Rattle.page.specs.Page as P
 use Rattle.page.specs.Page.{Name, identifier, member, namespaced, Options, Page}
 use Rattle.spec.specs.Pass.{Mid, none}
@@ -53,7 +54,7 @@ module _ (I : Invariant) (light : I .tag ≡ 0) (spares : (w : ℕ) → w ≡ 0 
   lighten = omega (arith, light)
 
   mutual
-    unfolding child in-tag ChildOk ChildrenOk ValueOk AttributesOk own-pieces FormedBy inside
+    unfolding child in-tag ChildOk ChildrenOk ValueOk AttributesOk own-pieces FormedBy inside number-tag minus-tag
 
     child-ok : (t : P.Tag) → ChildOk I (child o t) (in-tag literal other o t)
     child-ok (P.element n as′ cs) = subst (ElementOk I _) lighten (element-ok I o n (named n) (attributes o as′) (children o cs) _ _ _ (attributes-ok as′ (not (is-component n))) (children-ok cs))
@@ -86,11 +87,13 @@ module _ (I : Invariant) (light : I .tag ≡ 0) (spares : (w : ℕ) → w ≡ 0 
     -- in front of others
     expr-ok : (e : P.Expr) (r : Mid) {v w : ℕ} → in-expr literal other o e + v ≡ w → MidOk 0 r v → MidOk 0 (expr o e r) w
     expr-ok (P.string-literal b) r k x = mid-node 0x70 _ tt tt (omega arith) k mid-none x
-    expr-ok (P.number-literal n) r k x = mid-node 0x71 _ tt tt (omega arith) k mid-none x
+    expr-ok (P.number-literal (whole n)) r k x = mid-node 0x71 _ tt tt (omega arith) k mid-none x
+    expr-ok (P.number-literal (scaled n p)) r k x = mid-node 0x7a _ tt tt (omega arith) k mid-none x
     expr-ok (P.boolean-literal b) r k x = mid-node 0x72 _ tt tt (omega arith) k mid-none x
     expr-ok P.null-literal r k x = mid-node 0x73 _ tt tt (omega arith) k mid-none x
     expr-ok (P.other-literal b) r k x = mid-literal b k x
-    expr-ok (P.minus-literal n) r k x = mid-node 0x75 _ tt tt (omega arith) k mid-none x
+    expr-ok (P.minus-literal (whole n)) r k x = mid-node 0x75 _ tt tt (omega arith) k mid-none x
+    expr-ok (P.minus-literal (scaled n p)) r k x = mid-node 0x7b _ tt tt (omega arith) k mid-none x
     expr-ok (P.array-literal is) r k x = mid-node 0x76 _ tt tt (omega arith) k (items-ok is) x
     expr-ok (P.other-expr ps) r k x = mid-other (pieces o ps) (rw (pieces-sources o ps) (omega arith)) (pieces-ok ps) x
     expr-ok (P.tag-expr t) r k x = mid-raw k (tag-ok t) x

@@ -1,5 +1,5 @@
 -- Texts with neither `<` nor `>`: what 000 writes into static strings beside its tags. Assumes nothing.
-use Prim.Native.Nat.{ℕ, zero, suc, _+_, _/_, _%_}
+use Prim.Native.Nat.{ℕ}
 use mathlib.Core.Path.{_≡_, refl, ap, subst}
 use mathlib.Core.Bool.{Bool, true, false, _&&_, _||_, false≢true}
 use mathlib.Core.List.{List, [], _∷_, _++_}
@@ -9,9 +9,9 @@ use Rattle.field.specs.Bytes.{Bytes, same, among}
 use Rattle.names.specs.Names.{is-boolean-attr, boolean-names}
 use Rattle.text.specs.Escape.{escape-byte, escape-html}
 use Rattle.text.specs.Text.{escape-if, jsx-text-to-str}
-use Rattle.text.specs.Decimal.{digits, decimal}
-use Rattle.page.specs.Number.{Number, whole, render}
+use Rattle.page.specs.Number.{Number, render}
 use Rattle.page.specs.Check.{name-part, name-parts, is-name}
+use Rattle.page.proofs.NumberLaws.{render-escaped}
 use Rattle.spec.specs.Attributes.{serialize-attr}
 use Rattle.spec.specs.Words.{WellNested, free}
 use Rattle.spec.proofs.Markup.{NameFront, read-free-outside, both-true, eqb-false, free-front, not-name-byte, name-has-parts, name-front}
@@ -65,25 +65,10 @@ pub text-free : (t : Bytes) (trim : Bool) → T (free (jsx-text-to-str t true tr
 unfolding jsx-text-to-str escape-if
 text-free t trim = escape-free _
 
--- ---- digits
-
-digit-free : (n : ℕ) (b : Bytes) → T (free b) → T (free ((48 + n % 10) ∷ b))
-unfolding free
-digit-free n b h = rw (eqb-false (48 + n % 10) 60 (λ e. omega arith), eqb-false (48 + n % 10) 62 (λ e. omega arith)) h
-
-digits-free : (fuel n : ℕ) (b : Bytes) → T (free b) → T (free (digits fuel n b))
-unfolding digits
-digits-free zero n b h = h
-digits-free (suc fuel) n b h = on (eqb (n / 10) 0) refl (digit-free n b h) (digits-free fuel (n / 10) ((48 + n % 10) ∷ b) (digit-free n b h))
-  where
-    on : (t : Bool) → eqb (n / 10) 0 ≡ t → T (free ((48 + n % 10) ∷ b)) → T (free (digits fuel (n / 10) ((48 + n % 10) ∷ b))) →
-        T (free (digits (suc fuel) n b))
-    on true e last more = rw e last
-    on false e last more = rw e more
+-- ---- numbers
 
 pub render-free : (n : Number) → T (free (render n))
-unfolding render decimal free
-render-free (whole n) = digits-free 20 n [] tt
+render-free n = subst (λ (b : Bytes). T (free b)) (render-escaped n) (escape-free (render n))
 
 -- ---- boolean attributes: the 24 are free
 

@@ -8,13 +8,12 @@ use mathlib.Core.List.{List, [], _∷_, _++_}
 use lib.ListN.{length, length-append}
 use Rattle.field.specs.Bytes.{Bytes, ascii}
 use Rattle.field.specs.Row.{Row, end, loose, field, bytes}
-use Rattle.field.proofs.NumberLaws.{length-big-endian}
 use Rattle.field.proofs.RowLaws.{length-bytes}
-use Rattle.text.proofs.DecimalLaws.{length-decimal}
 use Rattle.names.specs.Names as N
 use Rattle.names.specs.Names.{AttrName, get-attr-name}
 use Rattle.names.proofs.NameLaws.{normalize-longer}
-use Rattle.page.specs.Number.{Number, whole, render, number-bytes}
+use Rattle.page.specs.Number.{number-tag, minus-tag, number-bytes}
+use Rattle.page.proofs.NumberLaws.{number-size, render-length}
 use Rattle.page.specs.Page as P
 use Rattle.page.specs.Page.{Page, Options}
 use Rattle.page.specs.Encode.{boolean-byte, texts-row, name-row, attr-name-row, tag-row, attributes-row, value-row, children-row, expr-row, items-row, pieces-row, module-items-row, page-row, encode}
@@ -43,11 +42,11 @@ tag-front (P.fragment cs) r = length-bytes 0x31 [] (children-row cs) r
 pub expr-front : (e : P.Expr) (r : Row) → size (expr-row e r) ≡ size (expr-row e end) + size r
 unfolding expr-row bytes
 expr-front (P.string-literal b) r = omega (arith, length-bytes 0x70 b end r, length-bytes 0x70 b end end)
-expr-front (P.number-literal n) r = omega (arith, length-bytes 0x71 (number-bytes n) end r, length-bytes 0x71 (number-bytes n) end end)
+expr-front (P.number-literal n) r = omega (arith, length-bytes (number-tag n) (number-bytes n) end r, length-bytes (number-tag n) (number-bytes n) end end)
 expr-front (P.boolean-literal b) r = omega (arith, length-bytes 0x72 (boolean-byte b ∷ []) end r, length-bytes 0x72 (boolean-byte b ∷ []) end end)
 expr-front P.null-literal r = omega (arith, length-bytes 0x73 [] end r, length-bytes 0x73 [] end end)
 expr-front (P.other-literal b) r = omega (arith, length-bytes 0x74 b end r, length-bytes 0x74 b end end)
-expr-front (P.minus-literal n) r = omega (arith, length-bytes 0x75 (number-bytes n) end r, length-bytes 0x75 (number-bytes n) end end)
+expr-front (P.minus-literal n) r = omega (arith, length-bytes (minus-tag n) (number-bytes n) end r, length-bytes (minus-tag n) (number-bytes n) end end)
 expr-front (P.array-literal is) r = omega (arith, length-bytes 0x76 [] (items-row is) r, length-bytes 0x76 [] (items-row is) end)
 expr-front (P.other-expr ps) r = omega (arith, length-bytes 0x79 [] (pieces-row ps) r, length-bytes 0x79 [] (pieces-row ps) end)
 expr-front (P.tag-expr t) r = omega (arith, tag-front t r, tag-front t end)
@@ -93,22 +92,14 @@ attr-name-longer (N.ident n) true = normalize-longer n
 attr-name-longer (N.ident n) false = omega arith
 attr-name-longer (N.namespaced n m) norm = omega (arith, normalize-longer (n ++ (58 ∷ m)), length-append n (58 ∷ m))
 
-render-length : (n : Number) → length (render n) ≤ 20
-unfolding render
-render-length (whole n) = length-decimal n
-
-pub number-length : (n : Number) → length (number-bytes n) ≡ 8
-unfolding number-bytes
-number-length (whole n) = length-big-endian 8 n []
-
 shape-fits : (e : P.Expr) → shape-size (shape-of e) ≤ 12 * size (expr-row e end)
 unfolding shape-size shape-of expr-row bytes
 shape-fits (P.string-literal b) = omega (arith, length-bytes 0x70 b end end)
-shape-fits (P.number-literal n) = omega (arith, length-bytes 0x71 (number-bytes n) end end, number-length n, render-length n)
+shape-fits (P.number-literal n) = omega (arith, length-bytes (number-tag n) (number-bytes n) end end, number-size n, render-length n)
 shape-fits (P.boolean-literal b) = omega arith
 shape-fits P.null-literal = omega arith
 shape-fits (P.other-literal b) = omega arith
-shape-fits (P.minus-literal n) = omega (arith, length-bytes 0x75 (number-bytes n) end end, number-length n, render-length n)
+shape-fits (P.minus-literal n) = omega (arith, length-bytes (minus-tag n) (number-bytes n) end end, number-size n, render-length n)
 shape-fits (P.array-literal is) = omega arith
 shape-fits (P.other-expr ps) = omega arith
 shape-fits (P.tag-expr t) = omega arith
@@ -164,11 +155,11 @@ module _ (o : Options) where
     -- in front of others
     expr-cost : (e : P.Expr) (r : Mid) {b : ℕ} → Costs r b → Costs (expr o e r) (512 * size (expr-row e end) + b)
     expr-cost (P.string-literal s) r {b} x = costs-leaf b (omega (arith, length-bytes 0x70 s end end)) x
-    expr-cost (P.number-literal n) r {b} x = costs-leaf b (omega (arith, length-bytes 0x71 (number-bytes n) end end)) x
+    expr-cost (P.number-literal n) r {b} x = costs-leaf b (omega (arith, length-bytes (number-tag n) (number-bytes n) end end)) x
     expr-cost (P.boolean-literal c) r {b} x = costs-leaf b (omega (arith, length-bytes 0x72 (boolean-byte c ∷ []) end end)) x
     expr-cost P.null-literal r {b} x = costs-leaf b (omega (arith, length-bytes 0x73 [] end end)) x
     expr-cost (P.other-literal s) r {b} x = costs-leaf b (omega (arith, length-bytes 0x74 s end end)) x
-    expr-cost (P.minus-literal n) r {b} x = costs-leaf b (omega (arith, length-bytes 0x75 (number-bytes n) end end)) x
+    expr-cost (P.minus-literal n) r {b} x = costs-leaf b (omega (arith, length-bytes (minus-tag n) (number-bytes n) end end)) x
     expr-cost (P.array-literal is) r {b} x = costs-node (512 * size (items-row is)) b (omega (arith, length-bytes 0x76 [] (items-row is) end)) (items-cost is) x
     expr-cost (P.other-expr ps) r {b} x = costs-node (512 * size (pieces-row ps)) b (omega (arith, length-bytes 0x79 [] (pieces-row ps) end)) (pieces-cost ps) x
     expr-cost (P.tag-expr t) r {b} x = costs-raw (1500 + 512 * size (tag-body t)) b (omega (arith, tag-front t end)) (tag-raw t) x

@@ -14,7 +14,8 @@ use Rattle.field.specs.Bytes.{Bytes}
 use Rattle.field.specs.Row.{Row, end, loose, field, bytes, read}
 use Rattle.field.proofs.RowLaws.{length-bytes, next-sizes, next-nothing, read-ind}
 use Rattle.names.specs.Names.{AttrName}
-use Rattle.page.specs.Number.{number-bytes, number-in}
+use Rattle.page.specs.Number.{is-number, is-minus, number-tag, minus-tag, number-bytes, number-in}
+use Rattle.page.proofs.NumberLaws.{number-size}
 use Rattle.page.specs.Page as P
 use Rattle.page.specs.Page.{Options}
 use Rattle.page.specs.Encode.{boolean-byte, texts-row, name-row, attr-name-row, tag-row, attributes-row, value-row, children-row, expr-row, items-row, pieces-row}
@@ -23,7 +24,7 @@ use Rattle.spec.specs.Pass.{none}
 use Rattle.spec.specs.Visit.{visit-exprs}
 use Rattle.spec.specs.Transform.{templates-row, expr}
 use Rattle.spec.proofs.Cost.{templates-size, written-size, none-costs, visit-costs}
-use Rattle.spec.proofs.Growth.{size, tag-body, tag-front, expr-front, two-names, number-length, expr-growth}
+use Rattle.spec.proofs.Growth.{size, tag-body, tag-front, expr-front, two-names, expr-growth}
 
 -- ---- by a tag
 
@@ -116,10 +117,10 @@ module _ (t : ℕ) (f : Bytes) (i r : Row) (a : Fits i) (b : Fits r) where
   this-expr-fits =
       let fit : P.Expr → Type 0 = λ e. size (expr-row e end) ≤ 12 + 4 * length f + 4 * size i in
       chosen fit (eqb t 0x70) _ _ (omega (arith, length-bytes 0x70 f end end))
-      (chosen fit (eqb t 0x71) _ _ (omega (arith, length-bytes 0x71 (number-bytes (number-in f)) end end, number-length (number-in f)))
+      (chosen fit (is-number t) _ _ (omega (arith, length-bytes (number-tag (number-in t f)) (number-bytes (number-in t f)) end end, number-size (number-in t f)))
       (chosen fit (eqb t 0x72) _ _ (omega (arith, length-bytes 0x72 (boolean-byte (boolean-in f) ∷ []) end end))
       (chosen fit (eqb t 0x74) _ _ (omega (arith, length-bytes 0x74 f end end))
-      (chosen fit (eqb t 0x75) _ _ (omega (arith, length-bytes 0x75 (number-bytes (number-in f)) end end, number-length (number-in f)))
+      (chosen fit (is-minus t) _ _ (omega (arith, length-bytes (minus-tag (number-in t f)) (number-bytes (number-in t f)) end end, number-size (number-in t f)))
       (chosen fit (eqb t 0x76) _ _ (omega (arith, length-bytes 0x76 [] (items-row (items-in i)) end, a .items-fit))
       (chosen fit (eqb t 0x79) _ _ (omega (arith, length-bytes 0x79 [] (pieces-row (pieces-in i)) end, a .pieces-fit))
       (chosen fit (eqb t 0x30) _ _ (omega (arith, element-front end))

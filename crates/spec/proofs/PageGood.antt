@@ -7,6 +7,7 @@ use mathlib.Core.List.{List, [], _∷_}
 use lib.Dec.{T, eqb}
 use Rattle.field.specs.Bytes.{Bytes, pick, among}
 use Rattle.field.specs.Row.{inside}
+use Rattle.page.specs.Number.{whole, scaled, number-tag, minus-tag}
 use Rattle.page.specs.Page as P
 use Rattle.page.specs.Page.{Page, Options}
 use Rattle.page.specs.Limits.{TagOk, ElementNameOk, AttributesOk, ValueOk, ChildrenOk, ExprOk, ItemsOk, PiecesOk, ModuleItemsOk}
@@ -76,7 +77,7 @@ module _ (Fragments : Type 0) (o : Options) where
       (W.element-ok I o n ok (attributes o as′) (children o cs) a a c g h)
 
   mutual
-    unfolding child TagOk tag-weight tag-has-fragment W.ChildOk W.AttributesOk W.ValueOk W.ChildrenOk FormedBy inside good-invariant element-raw
+    unfolding child TagOk tag-weight tag-has-fragment W.ChildOk W.AttributesOk W.ValueOk W.ChildrenOk FormedBy inside good-invariant element-raw number-tag minus-tag
 
     tag-child : (t : P.Tag) (d : ℕ) → TagOk t d → (T (tag-has-fragment t) → Fragments) → W.ChildOk I (child o t) (tag-weight t)
     tag-child (P.element n as′ cs) d h f =
@@ -147,11 +148,13 @@ module _ (Fragments : Type 0) (o : Options) where
     -- in front of others
     expr-on : (e : P.Expr) (r : Mid) {b : ℕ} (d : ℕ) → ExprOk e d → (T (expr-has-fragment e) → Fragments) → Still Fragments b r → Still Fragments (expr-weight e + b) (expr o e r)
     expr-on (P.string-literal s) r d h f x = still-weaken Fragments (omega arith) (leaf-on 0x70 s tt tt x)
-    expr-on (P.number-literal n) r d h f x = still-weaken Fragments (omega arith) (leaf-on 0x71 _ tt tt x)
+    expr-on (P.number-literal (whole n)) r d h f x = still-weaken Fragments (omega arith) (leaf-on 0x71 _ tt tt x)
+    expr-on (P.number-literal (scaled n p)) r d h f x = still-weaken Fragments (omega arith) (leaf-on 0x7a _ tt tt x)
     expr-on (P.boolean-literal c) r d h f x = still-weaken Fragments (omega arith) (leaf-on 0x72 _ tt tt x)
     expr-on P.null-literal r d h f x = still-weaken Fragments (omega arith) (leaf-on 0x73 [] tt tt x)
     expr-on (P.other-literal s) r d h f x = still-weaken Fragments (omega arith) (leaf-on 0x74 s tt tt x)
-    expr-on (P.minus-literal n) r d h f x = still-weaken Fragments (omega arith) (leaf-on 0x75 _ tt tt x)
+    expr-on (P.minus-literal (whole n)) r d h f x = still-weaken Fragments (omega arith) (leaf-on 0x75 _ tt tt x)
+    expr-on (P.minus-literal (scaled n p)) r d h f x = still-weaken Fragments (omega arith) (leaf-on 0x7b _ tt tt x)
     expr-on (P.array-literal is) r d h f x = still-node Fragments 0x76 [] tt tt (items-still is (suc d) (h .1) f) x
     expr-on (P.other-expr ps) r d h f x = still-node Fragments 0x79 [] tt tt (pieces-still ps (suc d) (h .1) f) x
     expr-on (P.tag-expr t) r d h f x = still-raw Fragments (tag-raw t d h f) x

@@ -10,7 +10,7 @@ use mathlib.Core.Option as O
 use lib.Dec.{T, eqb}
 use Rattle.field.specs.Bytes.{Bytes, pick}
 use Rattle.text.specs.Escape.{escape-html}
-use Rattle.page.specs.Number.{render}
+use Rattle.page.specs.Number.{whole, scaled, number-tag, minus-tag, render}
 use Rattle.page.specs.Page as P
 use Rattle.page.specs.Page.{Options}
 use Rattle.spec.specs.Pass.{Mid, none, node, raw}
@@ -127,40 +127,46 @@ merge-free par buf (spread m ∷ cs) h = merge-free par buf cs h
 
 module _ (o : Options) where
   pub expr-alone : (e : P.Expr) → Alone (expr o e none)
-  unfolding expr Alone
+  unfolding expr Alone number-tag minus-tag
   expr-alone (P.string-literal b) = tt
-  expr-alone (P.number-literal n) = tt
+  expr-alone (P.number-literal (whole n)) = tt
+  expr-alone (P.number-literal (scaled n p)) = tt
   expr-alone (P.boolean-literal b) = tt
   expr-alone P.null-literal = tt
   expr-alone (P.other-literal b) = tt
-  expr-alone (P.minus-literal n) = tt
+  expr-alone (P.minus-literal (whole n)) = tt
+  expr-alone (P.minus-literal (scaled n p)) = tt
   expr-alone (P.array-literal is) = tt
   expr-alone (P.other-expr ps) = tt
   expr-alone (P.tag-expr t) = tt
 
   -- no tag but where the shape says so
   pub expr-bare : (e : P.Expr) → T (is-bare (shape-of e)) → AloneField (expr o e none)
-  unfolding expr shape-of is-bare AloneField
+  unfolding expr shape-of is-bare AloneField number-tag minus-tag
   expr-bare (P.string-literal b) h = tt
-  expr-bare (P.number-literal n) h = tt
+  expr-bare (P.number-literal (whole n)) h = tt
+  expr-bare (P.number-literal (scaled n p)) h = tt
   expr-bare (P.boolean-literal b) h = tt
   expr-bare P.null-literal h = tt
   expr-bare (P.other-literal b) h = tt
-  expr-bare (P.minus-literal n) h = absurd h
+  expr-bare (P.minus-literal (whole n)) h = absurd h
+  expr-bare (P.minus-literal (scaled n p)) h = absurd h
   expr-bare (P.array-literal is) h = absurd h
   expr-bare (P.other-expr ps) h = absurd h
   expr-bare (P.tag-expr t) h = absurd h
 
   mutual
-    unfolding expr Items
+    unfolding expr Items number-tag minus-tag
 
     pub expr-items : (e : P.Expr) (r : Mid) → Items r → Items (expr o e r)
     expr-items (P.string-literal b) r h = (tt, (λ k. absurd k), (λ k. absurd k), h)
-    expr-items (P.number-literal n) r h = (tt, (λ k. absurd k), (λ k. absurd k), h)
+    expr-items (P.number-literal (whole n)) r h = (tt, (λ k. absurd k), (λ k. absurd k), h)
+    expr-items (P.number-literal (scaled n p)) r h = (tt, (λ k. absurd k), (λ k. absurd k), h)
     expr-items (P.boolean-literal b) r h = (tt, (λ k. absurd k), (λ k. absurd k), h)
     expr-items P.null-literal r h = (tt, (λ k. absurd k), (λ k. absurd k), h)
     expr-items (P.other-literal b) r h = (tt, (λ k. absurd k), (λ k. absurd k), h)
-    expr-items (P.minus-literal n) r h = (tt, (λ k. absurd k), (λ k. absurd k), h)
+    expr-items (P.minus-literal (whole n)) r h = (tt, (λ k. absurd k), (λ k. absurd k), h)
+    expr-items (P.minus-literal (scaled n p)) r h = (tt, (λ k. absurd k), (λ k. absurd k), h)
     expr-items (P.array-literal is) r h = (tt, (λ k. items-items is), (λ k. absurd k), h)
     expr-items (P.other-expr ps) r h = (tt, (λ k. absurd k), (λ k. absurd k), h)
     expr-items (P.tag-expr t) r h = h

@@ -8,7 +8,7 @@ use Rattle.field.specs.Row.{Row, end, bytes}
 use Rattle.field.proofs.RowLaws.{length-bytes}
 use Rattle.names.specs.Names as A
 use Rattle.names.specs.Names.{AttrName}
-use Rattle.page.specs.Number.{number-bytes}
+use Rattle.page.specs.Number.{number-tag, minus-tag, number-bytes}
 use Rattle.page.specs.Page.{Name, identifier, member, namespaced, Tag, element, fragment, Attributes, no-attributes, attribute, spread-attribute, Value, absent, string-value, empty-value, container-value, tag-value, Children, no-children, text-child, empty-child, container-child, tag-child, spread-child, Expr, string-literal, number-literal, boolean-literal, null-literal, other-literal, minus-literal, array-literal, other-expr, tag-expr, Items, no-items, item, spread-item, hole-item, Pieces, no-pieces, source-piece, tag-piece, export-item, declaration-item, statement-item, empty-item, Page}
 use Rattle.page.specs.Encode.{boolean-byte, texts-row, name-row, attr-name-row, tag-row, attributes-row, value-row, children-row, expr-row, items-row, pieces-row, module-items-row, page-row, encode}
 use Rattle.spec.proofs.Weight.{tag-weight, attributes-weight, value-weight, children-weight, expr-weight, items-weight, pieces-weight, page-weight}
@@ -55,11 +55,11 @@ mutual
 
   expr-within : (e : Expr) (r : Row) → expr-weight e * 3 + length (bytes r) ≤ length (bytes (expr-row e r))
   expr-within (string-literal b) r = omega (arith, length-bytes 0x70 b end r)
-  expr-within (number-literal n) r = omega (arith, length-bytes 0x71 (number-bytes n) end r)
+  expr-within (number-literal n) r = omega (arith, length-bytes (number-tag n) (number-bytes n) end r)
   expr-within (boolean-literal b) r = omega (arith, length-bytes 0x72 (boolean-byte b ∷ []) end r)
   expr-within null-literal r = omega (arith, length-bytes 0x73 [] end r)
   expr-within (other-literal b) r = omega (arith, length-bytes 0x74 b end r)
-  expr-within (minus-literal n) r = omega (arith, length-bytes 0x75 (number-bytes n) end r)
+  expr-within (minus-literal n) r = omega (arith, length-bytes (minus-tag n) (number-bytes n) end r)
   expr-within (array-literal is) r = omega (arith, length-bytes 0x76 [] (items-row is) r, items-within is)
   expr-within (other-expr ps) r = omega (arith, length-bytes 0x79 [] (pieces-row ps) r, pieces-within ps)
   expr-within (tag-expr t) r = tag-within t r

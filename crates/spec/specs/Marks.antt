@@ -85,6 +85,34 @@ marks =
     mark (fld 0x01 (fld 0x12 (fld 0x30 ((fld 0x40 (ascii "a")) ++ (fld 0x50 ((fld 0x40 (ascii "b")) ++ (fld 0x52 (fld 0x71 (0 ∷ 31 ∷ 255 ∷ 255 ∷ 255 ∷ 255 ∷ 255 ∷ 255 ∷ []))))))))) [] 65536 65536 65536 0 1 (fld 0x80 ((0 ∷ 1 ∷ []) ++ (fld 0x81 (ascii "<a b=\"9007199254740991\"></a>")))) ((fld 0x82 ((fld 0x81 (ascii "react/jsx-runtime")) ++ (2 ∷ []))) ++ ((fld 0x83 []) ++ (fld 0x12 (fld 0x90 (0 ∷ 1 ∷ []))))) ∷
     -- one more
     mark (fld 0x01 (fld 0x12 (fld 0x30 ((fld 0x40 (ascii "a")) ++ (fld 0x50 ((fld 0x40 (ascii "b")) ++ (fld 0x52 (fld 0x71 (0 ∷ 32 ∷ 0 ∷ 0 ∷ 0 ∷ 0 ∷ 0 ∷ 0 ∷ []))))))))) [] 65536 65536 65536 7 0 [] [] ∷
+    -- 12.50
+    mark (fld 0x01 (fld 0x12 (fld 0x30 ((fld 0x40 (ascii "a")) ++ (fld 0x50 ((fld 0x40 (ascii "b")) ++ (fld 0x52 (fld 0x7a (0 ∷ 0 ∷ 0 ∷ 0 ∷ 0 ∷ 0 ∷ 4 ∷ 226 ∷ 2 ∷ []))))))))) [] 65536 65536 65536 0 1 (fld 0x80 ((0 ∷ 1 ∷ []) ++ (fld 0x81 (ascii "<a b=\"12.5\"></a>")))) ((fld 0x82 ((fld 0x81 (ascii "react/jsx-runtime")) ++ (2 ∷ []))) ++ ((fld 0x83 []) ++ (fld 0x12 (fld 0x90 (0 ∷ 1 ∷ []))))) ∷
+    -- 0.000000000000001
+    mark (fld 0x01 (fld 0x12 (fld 0x30 ((fld 0x40 (ascii "a")) ++ (fld 0x50 ((fld 0x40 (ascii "b")) ++ (fld 0x52 (fld 0x7a (0 ∷ 0 ∷ 0 ∷ 0 ∷ 0 ∷ 0 ∷ 0 ∷ 1 ∷ 15 ∷ []))))))))) [] 65536 65536 65536 0 1 (fld 0x80 ((0 ∷ 1 ∷ []) ++ (fld 0x81 (ascii "<a b=\"0.000000000000001\"></a>")))) ((fld 0x82 ((fld 0x81 (ascii "react/jsx-runtime")) ++ (2 ∷ []))) ++ ((fld 0x83 []) ++ (fld 0x12 (fld 0x90 (0 ∷ 1 ∷ []))))) ∷
+    -- 999,999,999,999,999 with no place
+    mark (fld 0x01 (fld 0x12 (fld 0x30 ((fld 0x40 (ascii "a")) ++ (fld 0x50 ((fld 0x40 (ascii "b")) ++ (fld 0x52 (fld 0x7a (0 ∷ 3 ∷ 141 ∷ 126 ∷ 164 ∷ 198 ∷ 127 ∷ 255 ∷ 0 ∷ []))))))))) [] 65536 65536 65536 0 1 (fld 0x80 ((0 ∷ 1 ∷ []) ++ (fld 0x81 (ascii "<a b=\"999999999999999\"></a>")))) ((fld 0x82 ((fld 0x81 (ascii "react/jsx-runtime")) ++ (2 ∷ []))) ++ ((fld 0x83 []) ++ (fld 0x12 (fld 0x90 (0 ∷ 1 ∷ []))))) ∷
+    -- 0.999999999999999
+    mark (fld 0x01 (fld 0x12 (fld 0x30 ((fld 0x40 (ascii "a")) ++ (fld 0x50 ((fld 0x40 (ascii "b")) ++ (fld 0x52 (fld 0x7a (0 ∷ 3 ∷ 141 ∷ 126 ∷ 164 ∷ 198 ∷ 127 ∷ 255 ∷ 15 ∷ []))))))))) [] 65536 65536 65536 0 1 (fld 0x80 ((0 ∷ 1 ∷ []) ++ (fld 0x81 (ascii "<a b=\"0.999999999999999\"></a>")))) ((fld 0x82 ((fld 0x81 (ascii "react/jsx-runtime")) ++ (2 ∷ []))) ++ ((fld 0x83 []) ++ (fld 0x12 (fld 0x90 (0 ∷ 1 ∷ []))))) ∷
+    -- 0.00
+    mark (fld 0x01 (fld 0x12 (fld 0x30 ((fld 0x40 (ascii "a")) ++ (fld 0x50 ((fld 0x40 (ascii "b")) ++ (fld 0x52 (fld 0x7a (0 ∷ 0 ∷ 0 ∷ 0 ∷ 0 ∷ 0 ∷ 0 ∷ 0 ∷ 2 ∷ []))))))))) [] 65536 65536 65536 0 1 (fld 0x80 ((0 ∷ 1 ∷ []) ++ (fld 0x81 (ascii "<a b=\"0\"></a>")))) ((fld 0x82 ((fld 0x81 (ascii "react/jsx-runtime")) ++ (2 ∷ []))) ++ ((fld 0x83 []) ++ (fld 0x12 (fld 0x90 (0 ∷ 1 ∷ []))))) ∷
+    -- 100.00
+    mark (fld 0x01 (fld 0x12 (fld 0x30 ((fld 0x40 (ascii "a")) ++ (fld 0x50 ((fld 0x40 (ascii "b")) ++ (fld 0x52 (fld 0x7a (0 ∷ 0 ∷ 0 ∷ 0 ∷ 0 ∷ 0 ∷ 39 ∷ 16 ∷ 2 ∷ []))))))))) [] 65536 65536 65536 0 1 (fld 0x80 ((0 ∷ 1 ∷ []) ++ (fld 0x81 (ascii "<a b=\"100\"></a>")))) ((fld 0x82 ((fld 0x81 (ascii "react/jsx-runtime")) ++ (2 ∷ []))) ++ ((fld 0x83 []) ++ (fld 0x12 (fld 0x90 (0 ∷ 1 ∷ []))))) ∷
+    -- -0.00
+    mark (fld 0x01 (fld 0x12 (fld 0x30 ((fld 0x40 (ascii "a")) ++ (fld 0x50 ((fld 0x40 (ascii "b")) ++ (fld 0x52 (fld 0x7b (0 ∷ 0 ∷ 0 ∷ 0 ∷ 0 ∷ 0 ∷ 0 ∷ 0 ∷ 2 ∷ []))))))))) [] 65536 65536 65536 0 1 (fld 0x80 ((0 ∷ 1 ∷ []) ++ (fld 0x81 (ascii "<a b=\"-0\"></a>")))) ((fld 0x82 ((fld 0x81 (ascii "react/jsx-runtime")) ++ (2 ∷ []))) ++ ((fld 0x83 []) ++ (fld 0x12 (fld 0x90 (0 ∷ 1 ∷ []))))) ∷
+    -- <p>{12.50}</p>
+    mark (fld 0x01 (fld 0x12 (fld 0x30 ((fld 0x40 (ascii "p")) ++ (fld 0x52 (fld 0x7a (0 ∷ 0 ∷ 0 ∷ 0 ∷ 0 ∷ 0 ∷ 4 ∷ 226 ∷ 2 ∷ []))))))) [] 65536 65536 65536 0 1 (fld 0x80 ((0 ∷ 1 ∷ []) ++ (fld 0x81 (ascii "<p>12.5</p>")))) ((fld 0x82 ((fld 0x81 (ascii "react/jsx-runtime")) ++ (2 ∷ []))) ++ ((fld 0x83 []) ++ (fld 0x12 (fld 0x90 (0 ∷ 1 ∷ []))))) ∷
+    -- <p>{-12.50}</p>
+    mark (fld 0x01 (fld 0x12 (fld 0x30 ((fld 0x40 (ascii "p")) ++ (fld 0x52 (fld 0x7b (0 ∷ 0 ∷ 0 ∷ 0 ∷ 0 ∷ 0 ∷ 4 ∷ 226 ∷ 2 ∷ []))))))) [] 65536 65536 65536 0 1 (fld 0x80 ((0 ∷ 1 ∷ []) ++ ((fld 0x81 (ascii "<p>")) ++ (fld 0x81 (ascii "</p>"))))) ((fld 0x82 ((fld 0x81 (ascii "react/jsx-runtime")) ++ (10 ∷ []))) ++ ((fld 0x83 []) ++ (fld 0x12 (fld 0x90 ((0 ∷ 1 ∷ []) ++ (fld 0x92 (fld 0x7b (0 ∷ 0 ∷ 0 ∷ 0 ∷ 0 ∷ 0 ∷ 4 ∷ 226 ∷ 2 ∷ [])))))))) ∷
+    -- <Foo a={12.50}/>
+    mark (fld 0x01 (fld 0x12 (fld 0x30 ((fld 0x40 (ascii "Foo")) ++ (fld 0x50 ((fld 0x40 (ascii "a")) ++ (fld 0x52 (fld 0x7a (0 ∷ 0 ∷ 0 ∷ 0 ∷ 0 ∷ 0 ∷ 4 ∷ 226 ∷ 2 ∷ []))))))))) [] 65536 65536 65536 0 0 [] ((fld 0x82 ((fld 0x81 (ascii "react/jsx-runtime")) ++ (1 ∷ []))) ++ (fld 0x12 (fld 0x94 ((fld 0x40 (ascii "Foo")) ++ (fld 0x95 (fld 0x96 ((fld 0x81 (ascii "a")) ++ (fld 0x7a (0 ∷ 0 ∷ 0 ∷ 0 ∷ 0 ∷ 0 ∷ 4 ∷ 226 ∷ 2 ∷ []))))))))) ∷
+    -- digits one over
+    mark (fld 0x01 (fld 0x12 (fld 0x30 ((fld 0x40 (ascii "a")) ++ (fld 0x50 ((fld 0x40 (ascii "b")) ++ (fld 0x52 (fld 0x7a (0 ∷ 3 ∷ 141 ∷ 126 ∷ 164 ∷ 198 ∷ 128 ∷ 0 ∷ 0 ∷ []))))))))) [] 65536 65536 65536 7 0 [] [] ∷
+    -- sixteen places
+    mark (fld 0x01 (fld 0x12 (fld 0x30 ((fld 0x40 (ascii "a")) ++ (fld 0x50 ((fld 0x40 (ascii "b")) ++ (fld 0x52 (fld 0x7a (0 ∷ 0 ∷ 0 ∷ 0 ∷ 0 ∷ 0 ∷ 0 ∷ 1 ∷ 16 ∷ []))))))))) [] 65536 65536 65536 7 0 [] [] ∷
+    -- a 7A of eight bytes
+    mark (fld 0x01 (fld 0x12 (fld 0x30 ((fld 0x40 (ascii "a")) ++ (fld 0x50 ((fld 0x40 (ascii "b")) ++ (fld 0x52 (fld 0x7a (0 ∷ 0 ∷ 0 ∷ 0 ∷ 0 ∷ 0 ∷ 0 ∷ 1 ∷ []))))))))) [] 65536 65536 65536 4 0 [] [] ∷
+    -- a 71 of nine bytes
+    mark (fld 0x01 (fld 0x12 (fld 0x30 ((fld 0x40 (ascii "a")) ++ (fld 0x50 ((fld 0x40 (ascii "b")) ++ (fld 0x52 (fld 0x71 (0 ∷ 0 ∷ 0 ∷ 0 ∷ 0 ∷ 0 ∷ 0 ∷ 1 ∷ 0 ∷ []))))))))) [] 65536 65536 65536 4 0 [] [] ∷
     -- scratch of 65,535 bytes
     mark (fld 0x01 (fld 0x12 (fld 0x30 (fld 0x40 (ascii "br"))))) [] 65535 65536 65536 1 0 [] [] ∷
     -- an empty page

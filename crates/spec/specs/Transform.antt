@@ -6,7 +6,7 @@ use mathlib.Core.List.{List, [], _∷_, _++_}
 use lib.Dec.{eqb}
 use Rattle.field.specs.Bytes.{Bytes, ascii, pick}
 use Rattle.field.specs.Row.{Row, end, loose, field}
-use Rattle.page.specs.Number.{number-bytes}
+use Rattle.page.specs.Number.{number-tag, minus-tag, number-bytes}
 use Rattle.page.specs.Encode.{boolean-byte}
 use Rattle.page.specs.Page as P
 use Rattle.page.specs.Page.{Options, Page}
@@ -73,11 +73,11 @@ module _ (o : Options) where
     -- an expression in front of others
     pub expr : P.Expr → Mid → Mid
     expr (P.string-literal b) r = node 0x70 b none r
-    expr (P.number-literal n) r = node 0x71 (number-bytes n) none r
+    expr (P.number-literal n) r = node (number-tag n) (number-bytes n) none r
     expr (P.boolean-literal b) r = node 0x72 (boolean-byte b ∷ []) none r
     expr P.null-literal r = node 0x73 [] none r
     expr (P.other-literal b) r = node 0x74 b none r
-    expr (P.minus-literal n) r = node 0x75 (number-bytes n) none r
+    expr (P.minus-literal n) r = node (minus-tag n) (number-bytes n) none r
     expr (P.array-literal is) r = node 0x76 [] (items is) r
     expr (P.other-expr ps) r = node 0x79 [] (pieces ps) r
     expr (P.tag-expr t) r = raw (raw-tag t) r

@@ -11,7 +11,6 @@ use lib.Dec.{eqb}
 use lib.ListN.{length, getD, take, length-append, length-take}
 use lib.Seq.{take-suc}
 use Rattle.field.specs.Bytes.{Bytes, pick}
-use Rattle.field.specs.Number.{number-of}
 use Rattle.field.specs.Row.{read, Ended}
 use Rattle.field.specs.Front.{tag-of, body-of, behind-of}
 use Rattle.field.specs.Put.{Wrote}
@@ -19,14 +18,13 @@ use Rattle.field.proofs.Actions.{by, on, finish, room, keeps}
 use Rattle.field.proofs.FrontLaws.{body-less, behind-less}
 use Rattle.field.proofs.PutLaws.{wrote-then, wrote-is}
 use Rattle.text.specs.Escape.{escape-html}
-use Rattle.text.specs.Decimal.{decimal}
 use Rattle.text.specs.Text.{jsx-text-to-str}
 use Rattle.names.specs.Names.{is-void-element}
 use Rattle.page.specs.Page.{Options}
 use Rattle.page.specs.Tree.{children-in, contained-in}
 use Rattle.spec.specs.Pass.{Part, chars}
 use Rattle.spec.specs.Children.{children-to-string}
-use Rattle.decisions.specs.At.{opts, element-name, identifier-bytes, element-at, serializable, is-none, FirstChild, shape-of-contained}
+use Rattle.decisions.specs.At.{opts, element-name, identifier-bytes, element-at, serializable, is-none, FirstChild, shape-of-contained, number-text}
 use Rattle.decisions.specs.declared.expr.Shape.the-variants as Form
 use Rattle.strings.specs.declared.writer.Open.{Open}
 use Rattle.strings.specs.Carve.{Carved, at, close, carve, contained-parts, Low}
@@ -41,8 +39,9 @@ module _ (o : Options) (c out : Bytes) (st : Open) (l : Low (carve (contained-pa
   pub string-low : Form.String ≡ shape-of-contained (contained-in (read c)) → st .head + 3 + st .len + length (escape-html v) < 2 ^ 63
   string-low e = put-low out st (escape-html v) (subst Low (child-string o c (at out st) b e) l)
 
-  pub number-low : {k : ℕ} → k ≡ number-of (take 8 v) → Form.Number ≡ shape-of-contained (contained-in (read c)) → st .head + 3 + st .len + length (decimal k) < 2 ^ 63
-  number-low {k} q e = put-low out st (decimal k) (subst Low (child-number o c (at out st) b q e) l)
+pub number-low : (o : Options) (c out : Bytes) (st : Open) → Low (carve (contained-parts o (contained-in (read c))) (at out st)) →
+    Form.Number ≡ shape-of-contained (contained-in (read c)) → st .head + 3 + st .len + length (number-text c) < 2 ^ 63
+number-low o c out st l e = put-low out st (number-text c) (subst Low (child-number o c (at out st) e) l)
 
 -- ---- a name, byte by byte: the first i bytes of s are written
 

@@ -124,7 +124,7 @@ module _ (skip props s : Bytes) (start : Carved) (big : ℕ) where
 
     module _ {b r : Bytes} (p : b ≡ body-of t) (q : r ≡ behind-of t) where
       -- something is written into scratch
-      more : {j scratch′ : Bytes} {n′ : ℕ} → (k ≡ 256 → ⊥) → Wrote scratch n j scratch′ n′ → length j ≤ 6 * length b + 20 →
+      more : {j scratch′ : Bytes} {n′ : ℕ} → (k ≡ 256 → ⊥) → Wrote scratch n j scratch′ n′ → length j ≤ 6 * length b + 36 →
           twice (m .buf) (kids skip props t) w ≡ twice (m .buf ++ j) (kids skip props r) w → Merging scratch′ w r n′
       more {j} h u l z =
           record {

@@ -7,17 +7,14 @@ use native.Mathlib.Omega.{arith}
 use mathlib.Core.Bool.{Bool, true, false, _||_}
 use mathlib.Core.List.{List, [], _∷_}
 use mathlib.Core.Option.{Option, none, some}
-use lib.ListN.{length, take}
+use lib.ListN.{length}
 use Rattle.field.specs.Bytes.{Bytes, ascii, pick, same, among}
-use Rattle.field.specs.Number.{number-of}
 use Rattle.field.specs.Row.{read}
 use Rattle.field.specs.Front.{body-of, behind-of}
 use Rattle.text.specs.Escape.{escape-html}
-use Rattle.text.specs.Decimal.{decimal}
 use Rattle.text.proofs.EscapeLaws.{length-escape-html}
-use Rattle.text.proofs.DecimalLaws.{length-decimal}
 use Rattle.names.specs.Names.{get-attr-name, is-boolean-attr}
-use Rattle.page.specs.Number.{render, number-in}
+use Rattle.page.proofs.NumberLaws.{render-length}
 use Rattle.page.specs.Page as P
 use Rattle.page.specs.Page.{Options}
 use Rattle.page.specs.Tree.{Contained, nothing-contained, contained, contained-value, contained-in, attr-name-in, value-in}
@@ -28,7 +25,7 @@ use Rattle.spec.specs.Attributes as A
 use Rattle.spec.specs.Attributes.{attribute, serialize-attr, listed-attr, dynamic-attr, container-attr, plain-attr, attr-parts}
 use Rattle.spec.specs.Children.{maybe-wrap}
 use Rattle.spec.specs.Transform.{shape-of, value, expr}
-use Rattle.decisions.specs.At.{shape-of-contained, value-of}
+use Rattle.decisions.specs.At.{shape-of-contained, number-at, number-text, value-of}
 use Rattle.decisions.specs.declared.attribute.Value.{Value}
 use Rattle.decisions.specs.declared.attribute.Value.the-variants as Held
 use Rattle.decisions.specs.declared.expr.Shape.{Shape}
@@ -45,19 +42,15 @@ use Rattle.strings.proofs.FrontSizes.{body-le}
 abbrev space-gap : List Part
 space-gap = chars (32 ∷ []) ∷ gap (pure M.none) ∷ []
 
--- the number in a body
-abbrev pub digits-in : Bytes → Bytes
-digits-in b = decimal (number-of (take 8 b))
-
 abbrev pub attr-by : Bytes → Shape → Bytes → List Part
-attr-by n Form.Empty b = []
-attr-by n Form.String b = chars (serialize-attr n b) ∷ []
-attr-by n Form.Number b = chars (serialize-attr n (digits-in b)) ∷ []
-attr-by n (Form.Boolean v) b = pick (is-boolean-attr n) (pick v (chars (32 ∷ n) ∷ []) []) space-gap
-attr-by n Form.Null b = space-gap
-attr-by n Form.Literal b = space-gap
-attr-by n Form.Minus b = chars (serialize-attr n (45 ∷ digits-in b)) ∷ []
-attr-by n Form.Other b = space-gap
+attr-by n Form.Empty c = []
+attr-by n Form.String c = chars (serialize-attr n (body-of c)) ∷ []
+attr-by n Form.Number c = chars (serialize-attr n (number-text c)) ∷ []
+attr-by n (Form.Boolean v) c = pick (is-boolean-attr n) (pick v (chars (32 ∷ n) ∷ []) []) space-gap
+attr-by n Form.Null c = space-gap
+attr-by n Form.Literal c = space-gap
+attr-by n Form.Minus c = chars (serialize-attr n (45 ∷ number-text c)) ∷ []
+attr-by n Form.Other c = space-gap
 
 -- parts that a test decides between
 either-carve : (b : Bool) (p q r : List Part) (w : Carved) → carve p w ≡ carve r w → carve q w ≡ carve r w → carve (pick b p q) w ≡ carve r w
@@ -77,8 +70,8 @@ unfolding dynamic-attr carve
 dynamic-carve n m w = either-carve (is-boolean-attr n) _ _ space-gap w refl refl
 
 module _ (o : Options) (n c : Bytes) (w : Carved) where
-  shape-carve : {x : Contained} {r : Shape} → ContainedAt c x r → carve (plain-attr n (value o (contained-value x))) w ≡ carve (attr-by n r (body-of c)) w
-  unfolding plain-attr container-attr value contained-value shape-of render number-in
+  shape-carve : {x : Contained} {r : Shape} → ContainedAt c x r → carve (plain-attr n (value o (contained-value x))) w ≡ carve (attr-by n r c) w
+  unfolding plain-attr container-attr value contained-value shape-of
   shape-carve is-empty = refl
   shape-carve is-text = refl
   shape-carve is-number = refl
@@ -90,27 +83,23 @@ module _ (o : Options) (n c : Bytes) (w : Carved) where
 
   -- the container with the fields c, of the shape that was found
   pub container-shape : {r : Shape} → r ≡ shape-of-contained (contained-in (read c)) →
-      carve (plain-attr n (value o (contained-value (contained-in (read c))))) w ≡ carve (attr-by n r (body-of c)) w
-  container-shape e = shape-carve (contained-view c) ∙ ap (λ (r : Shape). carve (attr-by n r (body-of c)) w) (sym e)
+      carve (plain-attr n (value o (contained-value (contained-in (read c))))) w ≡ carve (attr-by n r c) w
+  container-shape e = shape-carve (contained-view c) ∙ ap (λ (r : Shape). carve (attr-by n r c) w) (sym e)
 
 module _ (o : Options) (n c : Bytes) (w : Carved) {v : Bytes} (b : v ≡ body-of c) where
   pub container-string : Form.String ≡ shape-of-contained (contained-in (read c)) →
       carve (plain-attr n (value o (contained-value (contained-in (read c))))) w ≡ carve (chars (serialize-attr n v) ∷ []) w
   container-string e = container-shape o n c w e ∙ ap (λ (x : Bytes). carve (chars (serialize-attr n x) ∷ []) w) (sym b)
 
-  module _ {k : ℕ} (q : k ≡ number-of (take 8 v)) where
-    digits-is : digits-in (body-of c) ≡ decimal k
-    digits-is = ap digits-in (sym b) ∙ ap decimal (sym q)
-
-    pub container-number : Form.Number ≡ shape-of-contained (contained-in (read c)) →
-        carve (plain-attr n (value o (contained-value (contained-in (read c))))) w ≡ carve (chars (serialize-attr n (decimal k)) ∷ []) w
-    container-number e = container-shape o n c w e ∙ ap (λ (x : Bytes). carve (chars (serialize-attr n x) ∷ []) w) digits-is
-
-    pub container-minus : Form.Minus ≡ shape-of-contained (contained-in (read c)) →
-        carve (plain-attr n (value o (contained-value (contained-in (read c))))) w ≡ carve (chars (serialize-attr n (45 ∷ decimal k)) ∷ []) w
-    container-minus e = container-shape o n c w e ∙ ap (λ (x : Bytes). carve (chars (serialize-attr n (45 ∷ x)) ∷ []) w) digits-is
-
 module _ (o : Options) (n c : Bytes) (w : Carved) where
+  pub container-number : Form.Number ≡ shape-of-contained (contained-in (read c)) →
+      carve (plain-attr n (value o (contained-value (contained-in (read c))))) w ≡ carve (chars (serialize-attr n (number-text c)) ∷ []) w
+  container-number e = container-shape o n c w e
+
+  pub container-minus : Form.Minus ≡ shape-of-contained (contained-in (read c)) →
+      carve (plain-attr n (value o (contained-value (contained-in (read c))))) w ≡ carve (chars (serialize-attr n (45 ∷ number-text c)) ∷ []) w
+  container-minus e = container-shape o n c w e
+
   pub container-empty : Form.Empty ≡ shape-of-contained (contained-in (read c)) → carve (plain-attr n (value o (contained-value (contained-in (read c))))) w ≡ w
   unfolding carve
   container-empty e = container-shape o n c w e
@@ -155,14 +144,14 @@ joins-by Form.Minus = false
 joins-by Form.Other = false
 
 abbrev joined-at : Shape → Bytes → Bytes
-joined-at Form.Empty b = []
-joined-at Form.String b = escape-html b
-joined-at Form.Number b = digits-in b
-joined-at (Form.Boolean v) b = []
-joined-at Form.Null b = []
-joined-at Form.Literal b = []
-joined-at Form.Minus b = []
-joined-at Form.Other b = []
+joined-at Form.Empty c = []
+joined-at Form.String c = escape-html (body-of c)
+joined-at Form.Number c = number-text c
+joined-at (Form.Boolean v) c = []
+joined-at Form.Null c = []
+joined-at Form.Literal c = []
+joined-at Form.Minus c = []
+joined-at Form.Other c = []
 
 shape-joins : {c : Bytes} {x : Contained} {r : Shape} → ContainedAt c x r → is-joined x ≡ joins-by r
 unfolding is-joined joined-text shape-of
@@ -175,8 +164,8 @@ shape-joins is-literal = refl
 shape-joins is-minus = refl
 shape-joins (is-other {e} h) = ap (λ s. is-some (joined-text s)) h
 
-shape-joined : {c : Bytes} {x : Contained} {r : Shape} → ContainedAt c x r → joined-by x ≡ joined-at r (body-of c)
-unfolding joined-by joined-text shape-of render number-in
+shape-joined : {c : Bytes} {x : Contained} {r : Shape} → ContainedAt c x r → joined-by x ≡ joined-at r c
+unfolding joined-by joined-text shape-of
 shape-joined is-empty = refl
 shape-joined is-text = refl
 shape-joined is-number = refl
@@ -190,30 +179,30 @@ module _ (c : Bytes) {r : Shape} (e : r ≡ shape-of-contained (contained-in (re
   pub joins-shape : is-joined (contained-in (read c)) ≡ joins-by r
   joins-shape = shape-joins (contained-view c) ∙ ap joins-by (sym e)
 
-  pub joined-shape : joined-by (contained-in (read c)) ≡ joined-at r (body-of c)
-  joined-shape = shape-joined (contained-view c) ∙ ap (λ (r : Shape). joined-at r (body-of c)) (sym e)
+  pub joined-shape : joined-by (contained-in (read c)) ≡ joined-at r c
+  joined-shape = shape-joined (contained-view c) ∙ ap (λ (r : Shape). joined-at r c) (sym e)
 
 module _ (c : Bytes) {v : Bytes} (b : v ≡ body-of c) where
   pub joined-string : Form.String ≡ shape-of-contained (contained-in (read c)) → joined-by (contained-in (read c)) ≡ escape-html v
   joined-string e = joined-shape c e ∙ ap escape-html (sym b)
 
-  pub joined-number : {k : ℕ} → k ≡ number-of (take 8 v) → Form.Number ≡ shape-of-contained (contained-in (read c)) → joined-by (contained-in (read c)) ≡ decimal k
-  joined-number q e = joined-shape c e ∙ ap digits-in (sym b) ∙ ap decimal (sym q)
+pub joined-number : (c : Bytes) → Form.Number ≡ shape-of-contained (contained-in (read c)) → joined-by (contained-in (read c)) ≡ number-text c
+joined-number c e = joined-shape c e
 
 -- what joins is not much longer than the body
-joined-most : (b : Bytes) (r : Shape) → length (joined-at r b) ≤ 6 * length b + 20
-joined-most b Form.Empty = omega arith
-joined-most b Form.String = omega (arith, length-escape-html b)
-joined-most b Form.Number = omega (arith, length-decimal (number-of (take 8 b)))
-joined-most b (Form.Boolean v) = omega arith
-joined-most b Form.Null = omega arith
-joined-most b Form.Literal = omega arith
-joined-most b Form.Minus = omega arith
-joined-most b Form.Other = omega arith
+joined-most : (c : Bytes) (r : Shape) → length (joined-at r c) ≤ 6 * length (body-of c) + 36
+joined-most c Form.Empty = omega arith
+joined-most c Form.String = omega (arith, length-escape-html (body-of c))
+joined-most c Form.Number = omega (arith, render-length (number-at c))
+joined-most c (Form.Boolean v) = omega arith
+joined-most c Form.Null = omega arith
+joined-most c Form.Literal = omega arith
+joined-most c Form.Minus = omega arith
+joined-most c Form.Other = omega arith
 
-pub joined-length : (c : Bytes) → length (joined-by (contained-in (read c))) ≤ 6 * length c + 20
+pub joined-length : (c : Bytes) → length (joined-by (contained-in (read c))) ≤ 6 * length c + 36
 joined-length c =
-    omega (arith, joined-most (body-of c) (shape-of-contained (contained-in (read c))), ap length (joined-shape c refl), body-le c)
+    omega (arith, joined-most c (shape-of-contained (contained-in (read c))), ap length (joined-shape c refl), body-le c)
 
 -- a child: what joins a run, or a gap
 parts-joined : (o : Options) (x : Contained) (w : Carved) → carve (contained-parts o x) w ≡ carve (pick (is-joined x) (chars (joined-by x) ∷ []) (gap (pure M.none) ∷ [])) w
@@ -229,7 +218,7 @@ parts-joined o (contained e) w = on (joined-text (shape-of e))
 
 module _ (o : Options) (c : Bytes) (w : Carved) where
   child-shape : (r : Shape) → r ≡ shape-of-contained (contained-in (read c)) →
-      carve (contained-parts o (contained-in (read c))) w ≡ carve (pick (joins-by r) (chars (joined-at r (body-of c)) ∷ []) (gap (pure M.none) ∷ [])) w
+      carve (contained-parts o (contained-in (read c))) w ≡ carve (pick (joins-by r) (chars (joined-at r c) ∷ []) (gap (pure M.none) ∷ [])) w
   child-shape r e =
       parts-joined o (contained-in (read c)) w
       ∙ ap (λ (j : Bool). carve (pick j (chars (joined-by (contained-in (read c))) ∷ []) (gap (pure M.none) ∷ [])) w) (joins-shape c e)
@@ -263,9 +252,9 @@ module _ (o : Options) (c : Bytes) (w : Carved) where
     pub child-string : Form.String ≡ shape-of-contained (contained-in (read c)) → carve (contained-parts o (contained-in (read c))) w ≡ carve (chars (escape-html v) ∷ []) w
     child-string e = child-shape Form.String e ∙ ap (λ (x : Bytes). carve (chars (escape-html x) ∷ []) w) (sym b)
 
-    pub child-number : {k : ℕ} → k ≡ number-of (take 8 v) → Form.Number ≡ shape-of-contained (contained-in (read c)) →
-        carve (contained-parts o (contained-in (read c))) w ≡ carve (chars (decimal k) ∷ []) w
-    child-number q e = child-shape Form.Number e ∙ ap (λ (x : Bytes). carve (chars x ∷ []) w) (ap digits-in (sym b) ∙ ap decimal (sym q))
+  pub child-number : Form.Number ≡ shape-of-contained (contained-in (read c)) →
+      carve (contained-parts o (contained-in (read c))) w ≡ carve (chars (number-text c) ∷ []) w
+  child-number e = child-shape Form.Number e
 
 -- ---- an attribute by its value
 

@@ -8,12 +8,11 @@ ghost use Rattle.field.specs.Bytes.{pick};
 ghost use Rattle.field.specs.Row.{read};
 ghost use Rattle.field.specs.Put.{Wrote};
 ghost use Rattle.text.specs.Escape.{escape-html};
-ghost use Rattle.text.specs.Decimal.{decimal};
 ghost use Rattle.page.specs.Tree.{attr-name-in, value-in, attributes-in, contained-in, contained-value};
 ghost use Rattle.spec.specs.Pass.{chars};
 ghost use Rattle.spec.specs.Attributes.{attribute, serialize-attr, plain-attr, attr-parts, attrs-parts};
 ghost use Rattle.spec.specs.Transform.{value, attributes};
-ghost use Rattle.decisions.specs.At.{opts};
+ghost use Rattle.decisions.specs.At.{opts, number-text};
 ghost use Rattle.strings.specs.Carve.{at, carve, name-at, Low};
 use crate::writer::Open;
 use crate::writer::ended;
@@ -27,7 +26,7 @@ use decisions::attribute::is_ref;
 use decisions::attribute::second_name;
 use decisions::attribute::value_at;
 use decisions::expr::Shape;
-use decisions::expr::number_in;
+use decisions::expr::put_number_at;
 use decisions::expr::shape_at;
 use field::reader::behind;
 use field::reader::body;
@@ -38,7 +37,6 @@ use names::normalize_dom_attr_name;
 use names::normalize_namespaced;
 use names::put_attr_name;
 use names::put_namespaced;
-use text::decimal::put_decimal;
 use text::escape::put_escaped;
 
 // The normalised name.
@@ -92,19 +90,19 @@ fn put_serialized(out: &mut [u8], st: Open, a: &[u8], v: &[u8]) -> Open
     ended(st, f)
 }
 
-// The same of a number.
-fn put_serialized_number(out: &mut [u8], st: Open, a: &[u8], minus: bool, n: u64) -> Open
-    requires { ⌜ Low (carve (chars (serialize-attr (name-at (now a)) (pick minus (45 ∷ decimal n) (decimal n))) ∷ []) (at (now out) st)) ⌝ }
-    ensures { λ r. ⌜ at (now (out .exit)) r ≡ carve (chars (serialize-attr (name-at (now (a .entry))) (pick minus (45 ∷ decimal n) (decimal n))) ∷ []) (at (now (out .entry)) st) ⌝ }
+// The same of the number in front of c.
+fn put_serialized_number(out: &mut [u8], st: Open, a: &[u8], minus: bool, c: &[u8]) -> Open
+    requires { ⌜ Low (carve (chars (serialize-attr (name-at (now a)) (pick minus (45 ∷ number-text (now c)) (number-text (now c)))) ∷ []) (at (now out) st)) ⌝ }
+    ensures { λ r. ⌜ at (now (out .exit)) r ≡ carve (chars (serialize-attr (name-at (now (a .entry))) (pick minus (45 ∷ number-text (now (c .entry))) (number-text (now (c .entry))))) ∷ []) (at (now (out .entry)) st) ⌝ }
 {
     let p = put_attr_front(out, st.head + 3 + st.len, a);
     if minus {
         let m = put_byte(out, p, b'-');
-        let e = put_decimal(out, m, n);
+        let e = put_number_at(out, m, c);
         let f = put_byte(out, e, b'"');
         return ended(st, f);
     }
-    let e = put_decimal(out, p, n);
+    let e = put_number_at(out, p, c);
     let f = put_byte(out, e, b'"');
     ended(st, f)
 }
@@ -144,7 +142,7 @@ fn container_strings(
     match shape_at(c) {
         Shape::Empty => st,
         Shape::String => put_serialized(out, st, a, body(c)),
-        Shape::Number => put_serialized_number(out, st, a, false, number_in(body(c))),
+        Shape::Number => put_serialized_number(out, st, a, false, c),
         Shape::Boolean(b) => {
             if is_boolean(a) {
                 if b {
@@ -156,7 +154,7 @@ fn container_strings(
         }
         Shape::Null => space_and_cut(out, st),
         Shape::Literal => space_and_cut(out, st),
-        Shape::Minus => put_serialized_number(out, st, a, true, number_in(body(c))),
+        Shape::Minus => put_serialized_number(out, st, a, true, c),
         Shape::Other => space_and_cut(out, st),
     }
 }

@@ -23,7 +23,7 @@ use decisions::children::children_at;
 use decisions::element::identifier;
 use decisions::element::is_serializable;
 use decisions::expr::Shape;
-use decisions::expr::number_in;
+use decisions::expr::put_number_at;
 use decisions::expr::shape_at;
 use field::reader::behind;
 use field::reader::body;
@@ -31,7 +31,6 @@ use field::reader::tag_at;
 use field::writer::put_byte;
 use field::writer::put_bytes;
 use names::is_void_element;
-use text::decimal::put_decimal;
 use text::escape::put_escaped;
 use text::escape::put_short_escaped;
 
@@ -86,7 +85,7 @@ fn container_child(skip: &[u8], props: &[u8], c: &[u8], out: &mut [u8], st: Open
             ended(st, end)
         }
         Shape::Number => {
-            let end = put_decimal(out, st.head + 3 + st.len, number_in(body(c)));
+            let end = put_number_at(out, st.head + 3 + st.len, c);
             ended(st, end)
         }
         Shape::Boolean(_) => st,

@@ -17,12 +17,11 @@ use crate::writer::Open;
 use crate::writer::cut;
 use crate::writer::put_text;
 use decisions::expr::Shape;
-use decisions::expr::number_in;
+use decisions::expr::put_number_at;
 use decisions::expr::shape_at;
 use field::reader::behind;
 use field::reader::body;
 use field::reader::tag_at;
-use text::decimal::put_decimal;
 use text::escape::put_escaped;
 use text::jsx_text::jsx_text_to_str;
 
@@ -65,7 +64,7 @@ pub fn put_joined(out: &mut [u8], at: usize, c: &[u8]) -> usize
     match shape_at(c) {
         Shape::Empty => at,
         Shape::String => put_escaped(out, at, body(c)),
-        Shape::Number => put_decimal(out, at, number_in(body(c))),
+        Shape::Number => put_number_at(out, at, c),
         Shape::Boolean(_) => at,
         Shape::Null => at,
         Shape::Literal => at,

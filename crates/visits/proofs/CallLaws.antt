@@ -16,6 +16,7 @@ use Rattle.field.proofs.FrontLaws.{read-empty}
 use Rattle.field.proofs.Actions.{Action, Lows, by, on, room, finish}
 use Rattle.text.specs.Text.{normalize-lit-str}
 use Rattle.names.specs.Names.{AttrName, get-attr-name}
+use Rattle.page.specs.Number.{whole, scaled, number-tag, minus-tag}
 use Rattle.page.specs.Page as P
 use Rattle.page.specs.Page.{Name, identifier, member, namespaced, Options}
 use Rattle.page.specs.Tree.{choose, attr-name-in, attributes-in, children-in, value-in, expr-in}
@@ -55,13 +56,15 @@ serialize-stands j e h = either (e .serializable)
     either false = h
 
 expr-stands : (o : Options) (j : ℕ) (e : P.Expr) → is-none (found-pass (found-of (expr o e S.none)) j .value) ≡ false
-unfolding expr found-of found-pass entry-pass pure map
+unfolding expr found-of found-pass entry-pass pure map number-tag minus-tag
 expr-stands o j (P.string-literal b) = refl
-expr-stands o j (P.number-literal n) = refl
+expr-stands o j (P.number-literal (whole n)) = refl
+expr-stands o j (P.number-literal (scaled n p)) = refl
 expr-stands o j (P.boolean-literal b) = refl
 expr-stands o j P.null-literal = refl
 expr-stands o j (P.other-literal b) = refl
-expr-stands o j (P.minus-literal n) = refl
+expr-stands o j (P.minus-literal (whole n)) = refl
+expr-stands o j (P.minus-literal (scaled n p)) = refl
 expr-stands o j (P.array-literal is) = refl
 expr-stands o j (P.other-expr ps) = refl
 expr-stands o j (P.tag-expr t) = refl

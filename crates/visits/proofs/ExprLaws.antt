@@ -4,6 +4,7 @@
 -- Assumes nothing.
 use mathlib.Core.Path.{_≡_, refl, sym, ap, _∙_, subst}
 use mathlib.Core.Bool.{true}
+use mathlib.Core.Logic.{⊎-elim}
 use Prim.Native.Nat.{ℕ, _+_, _≤_, _<_, _^_}
 use mathlib.Core.List.{[]}
 use Rattle.field.specs.Bytes.{Bytes}
@@ -16,7 +17,7 @@ use Rattle.spec.specs.Pass.{Raw, Mid, none, node, raw, _+++_}
 use Rattle.spec.specs.Output.{leaf}
 use Rattle.spec.specs.Transform.{expr, items, pieces}
 use Rattle.decisions.specs.At.{opts}
-use Rattle.decisions.proofs.Series.{tested, contained-none, contained-field, expr-none, items-none, pieces-none, expr-70, expr-71, expr-72, expr-74, expr-75, expr-76, expr-79, expr-30, expr-31, expr-other, items-77, items-78, items-other, pieces-20, pieces-30, pieces-31, pieces-other}
+use Rattle.decisions.proofs.Series.{tested, contained-none, contained-field, expr-none, items-none, pieces-none, expr-70, expr-71, expr-72, expr-74, expr-75, expr-76, expr-79, expr-7a, expr-7b, expr-30, expr-31, expr-other, items-77, items-78, items-other, pieces-20, pieces-30, pieces-31, pieces-other}
 use Rattle.decisions.proofs.Laws.{raw-element, raw-fragment}
 use Rattle.walk.specs.declared.state.Walk.{Walk}
 use Rattle.walk.specs.Plan.{contained-mid}
@@ -68,8 +69,10 @@ module _ (k p : Bytes) where
         tested n 0x72 (λ q. is-literal _ (expr-72 s n e q) refl) λ c.
         tested n 0x74 (λ q. is-literal _ (expr-74 s n e q) refl) λ d.
         tested n 0x75 (λ q. is-literal _ (expr-75 s n e q) refl) λ f.
+        tested n 0x7a (λ q. is-literal _ (expr-7a s n e q) refl) λ u.
+        tested n 0x7b (λ q. is-literal _ (expr-7b s n e q) refl) λ v.
         tested n 256 (λ q. is-literal _ (expr-none (read s) (i q)) refl) λ g.
-        is-literal _ (expr-other s n e g a b c d f j l x y) refl
+        is-literal _ (expr-other s n e g a (⊎-elim b u) c d (⊎-elim f v) j l x y) refl
 
     module _ {b : Bytes} (v : b ≡ body-of s) where
       pub expr-array : n ≡ 0x76 → expr-at k p s ≡ node 0x76 [] (items-at k p b) none

@@ -16,6 +16,7 @@ use Rattle.field.specs.Row.{Row, read}
 use Rattle.field.specs.Front.{tag-of, body-of}
 use Rattle.field.proofs.FrontLaws.{body-less}
 use Rattle.text.specs.Text.{jsx-text-to-str}
+use Rattle.page.specs.Number.{is-number, is-minus}
 use Rattle.page.specs.Page as P
 use Rattle.page.specs.Page.{Options}
 use Rattle.page.specs.Tree.{choose, expr-by, expr-in, items-in}
@@ -140,8 +141,8 @@ module _ (o : Options) where
   alone-by : (t : ℕ) (f : Bytes) (is : Unit {0} → P.Items) (ps : Unit {0} → P.Pieces) (el fr : Unit {0} → P.Tag) → eqb t 0x76 ≡ false → Alone o (expr-by t f is ps el fr)
   unfolding expr-by elements-of
   alone-by t f is ps el fr h =
-      chosen (Alone o) (eqb t 0x70) _ _ refl (chosen (Alone o) (eqb t 0x71) _ _ refl (chosen (Alone o) (eqb t 0x72) _ _ refl
-      (chosen (Alone o) (eqb t 0x74) _ _ refl (chosen (Alone o) (eqb t 0x75) _ _ refl (passed-by (Alone o) (eqb t 0x76) _ _ h
+      chosen (Alone o) (eqb t 0x70) _ _ refl (chosen (Alone o) (is-number t) _ _ refl (chosen (Alone o) (eqb t 0x72) _ _ refl
+      (chosen (Alone o) (eqb t 0x74) _ _ refl (chosen (Alone o) (is-minus t) _ _ refl (passed-by (Alone o) (eqb t 0x76) _ _ h
       (chosen (Alone o) (eqb t 0x79) _ _ refl (chosen (Alone o) (eqb t 0x30) _ _ refl (chosen (Alone o) (eqb t 0x31) _ _ refl refl))))))))
 
   module _ (u : Bytes) {n : ℕ} (e : n ≡ tag-of u) where

@@ -17,6 +17,7 @@ use Rattle.field.specs.Row.{Row, end, loose, field, read, bytes, long-body}
 use Rattle.field.specs.Front.{tag-of, body-of, behind-of}
 use Rattle.field.specs.Put.{put}
 use Rattle.field.proofs.PutLaws.{put-nil}
+use Rattle.page.specs.Number.{Number, whole, scaled, number-tag, minus-tag, number-in}
 use Rattle.page.specs.Page as P
 use Rattle.page.specs.Page.{Options}
 use Rattle.page.specs.Tree.{choose, expr-by, Contained, nothing-contained, contained, element-in, fragment-in, children-in, contained-in, expr-in}
@@ -29,7 +30,7 @@ use Rattle.spec.specs.Children.{children-to-string, serialize-jsx, found-of, en
 use Rattle.spec.specs.Visit.{visit-exprs, visit-inside, visit-after, visit-found, visit-only-child, visit-fragment, leave}
 use Rattle.spec.specs.Transform.{templates-row, stands, element-of, fragment-of, element-raw, shape-of, raw-tag, expr, children, child}
 use Rattle.decisions.specs.At.{opts, element-at, children-at, is-none, few, FirstChild}
-use Rattle.decisions.proofs.Series.{tested, any-front, children-61, expr-70, expr-71, expr-72, expr-74, expr-75, expr-76, expr-79, expr-30, expr-31}
+use Rattle.decisions.proofs.Series.{tested, any-front, children-61, expr-70, expr-71, expr-72, expr-74, expr-75, expr-76, expr-79, expr-7a, expr-7b, expr-30, expr-31}
 use Rattle.strings.proofs.TreeLaws.{held, kids-60, kids-52, kids-30, kids-31}
 use Rattle.records.specs.declared.Records.{Records}
 use Rattle.records.specs.Keep as K
@@ -243,6 +244,16 @@ neither : (a b : Bool) → (a || b) ≡ false → (a ≡ false) × (b ≡ false)
 neither true b h = absurd (false≢true (sym h))
 neither false b h = (refl, h)
 
+number-untagged : (o : Options) (n : ℕ) (x : Number) → is-raw (found-pass (found-of (expr o (P.number-literal x) none)) n .value) ≡ false
+unfolding expr found-of found-pass entry-pass pure map number-tag
+number-untagged o n (whole x) = refl
+number-untagged o n (scaled x p) = refl
+
+minus-untagged : (o : Options) (n : ℕ) (x : Number) → is-raw (found-pass (found-of (expr o (P.minus-literal x) none)) n .value) ≡ false
+unfolding expr found-of found-pass entry-pass pure map minus-tag
+minus-untagged o n (whole x) = refl
+minus-untagged o n (scaled x p) = refl
+
 module _ (skip props b : Bytes) where
   expr-untagged : (n : ℕ) → (eqb (tag-of b) 0x30 || eqb (tag-of b) 0x31) ≡ false → is-raw (found-pass (found-of (expr-at skip props b)) n .value) ≡ false
   unfolding expr-in expr-by choose expr found-of found-pass entry-pass pure map
@@ -251,14 +262,16 @@ module _ (skip props b : Bytes) where
       let k = neither (eqb t 0x30) (eqb t 0x31) h in
       let G : P.Expr → Bool = λ (e : P.Expr). is-raw (found-pass (found-of (expr (opts skip props) e none)) n .value) in
       tested t 0x70 (λ k. ap G (expr-70 b t refl k)) λ a.
-      tested t 0x71 (λ k. ap G (expr-71 b t refl k)) λ c.
+      tested t 0x71 (λ k. ap G (expr-71 b t refl k) ∙ number-untagged (opts skip props) n (number-in t (body-of b))) λ c.
       tested t 0x72 (λ k. ap G (expr-72 b t refl k)) λ d.
       tested t 0x74 (λ k. ap G (expr-74 b t refl k)) λ e.
-      tested t 0x75 (λ k. ap G (expr-75 b t refl k)) λ f.
+      tested t 0x75 (λ k. ap G (expr-75 b t refl k) ∙ minus-untagged (opts skip props) n (number-in t (body-of b))) λ f.
       tested t 0x76 (λ k. ap G (expr-76 b t refl k)) λ g.
       tested t 0x79 (λ k. ap G (expr-79 b t refl k)) λ i.
+      tested t 0x7a (λ k. ap G (expr-7a b t refl k) ∙ number-untagged (opts skip props) n (number-in t (body-of b))) λ j.
+      tested t 0x7b (λ k. ap G (expr-7b b t refl k) ∙ minus-untagged (opts skip props) n (number-in t (body-of b))) λ l.
       any-front (λ (r : Row). is-raw (found-pass (found-of (expr (opts skip props) (expr-in r) none)) n .value) ≡ false) b t refl refl (λ x. refl) λ x y.
-      rw (ne-eqb t 0x70 a, ne-eqb t 0x71 c, ne-eqb t 0x72 d, ne-eqb t 0x74 e, ne-eqb t 0x75 f, ne-eqb t 0x76 g, ne-eqb t 0x79 i, k .0, k .1)
+      rw (ne-eqb t 0x70 a, ne-eqb t 0x71 c, ne-eqb t 0x72 d, ne-eqb t 0x74 e, ne-eqb t 0x75 f, ne-eqb t 0x76 g, ne-eqb t 0x79 i, ne-eqb t 0x7a j, ne-eqb t 0x7b l, k .0, k .1)
 
   finds-untagged : (x : M.Found) (k : Kind) → Finds skip props x k b → untagged-kind k b → (n : ℕ) → is-raw (found-pass x n .value) ≡ false
   unfolding found-pass entry-pass pure map raise gen-template
@@ -339,13 +352,15 @@ module _ (o : Options) (n : ℕ) where
   left-tag t = refl
 
   visit-expr : (e : P.Expr) → visit-found (found-of (expr o e none)) n ≡ visit-after (found-pass (found-of (expr o e none))) n
-  unfolding visit-found expr found-of
+  unfolding visit-found expr found-of number-tag minus-tag
   visit-expr (P.string-literal c) = refl
-  visit-expr (P.number-literal m) = refl
+  visit-expr (P.number-literal (whole m)) = refl
+  visit-expr (P.number-literal (scaled m p)) = refl
   visit-expr (P.boolean-literal c) = refl
   visit-expr P.null-literal = refl
   visit-expr (P.other-literal c) = refl
-  visit-expr (P.minus-literal m) = refl
+  visit-expr (P.minus-literal (whole m)) = refl
+  visit-expr (P.minus-literal (scaled m p)) = refl
   visit-expr (P.array-literal is) = refl
   visit-expr (P.other-expr ps) = refl
   visit-expr (P.tag-expr t) = refl

@@ -16,6 +16,7 @@ use Rattle.field.specs.Row.{Row, end, loose, field, field-bytes, bytes, long-bo
 use Rattle.field.proofs.PutLaws.{length-put}
 use Rattle.text.specs.Text.{normalize-lit-str}
 use Rattle.names.specs.Names.{get-attr-name}
+use Rattle.page.specs.Number.{whole, scaled, number-tag, minus-tag}
 use Rattle.page.specs.Page as P
 use Rattle.page.specs.Page.{Name, Options}
 use Rattle.spec.specs.Pass.{Done, Pass, pure, map, both, bind, raise, join, long-if, Raw, Mid, none, node, raw, _+++_, _⧺_, Part, chars, gap}
@@ -342,25 +343,29 @@ elements-of o (P.tag-expr t) = expr o (P.tag-expr t) none
 
 module _ (o : Options) (w : World) where
   pub act-found-expr : (e : P.Expr) → act (found-pass (found-of (expr o e none))) w ≡ see (expr o e none) w
-  unfolding expr
+  unfolding expr number-tag minus-tag
   act-found-expr (P.string-literal b) = act-found-node w 0x70 b none none refl
-  act-found-expr (P.number-literal n) = act-found-node w 0x71 _ none none refl
+  act-found-expr (P.number-literal (whole n)) = act-found-node w 0x71 _ none none refl
+  act-found-expr (P.number-literal (scaled n p)) = act-found-node w 0x7a _ none none refl
   act-found-expr (P.boolean-literal b) = act-found-node w 0x72 _ none none refl
   act-found-expr P.null-literal = act-found-node w 0x73 [] none none refl
   act-found-expr (P.other-literal b) = act-found-node w 0x74 b none none refl
-  act-found-expr (P.minus-literal n) = act-found-node w 0x75 _ none none refl
+  act-found-expr (P.minus-literal (whole n)) = act-found-node w 0x75 _ none none refl
+  act-found-expr (P.minus-literal (scaled n p)) = act-found-node w 0x7b _ none none refl
   act-found-expr (P.array-literal is) = act-found-array w (items o is)
   act-found-expr (P.other-expr ps) = act-found-node w 0x79 [] (pieces o ps) none refl
   act-found-expr (P.tag-expr t) = act-found-raw w (raw-tag o t) none
 
   pub act-spliced-expr : (e : P.Expr) → act (entries-pass (spliced (found-of (expr o e none)))) w ≡ see (elements-of o e) w
-  unfolding expr elements-of
+  unfolding expr elements-of number-tag minus-tag
   act-spliced-expr (P.string-literal b) = act-spliced-node w 0x70 b none none refl
-  act-spliced-expr (P.number-literal n) = act-spliced-node w 0x71 _ none none refl
+  act-spliced-expr (P.number-literal (whole n)) = act-spliced-node w 0x71 _ none none refl
+  act-spliced-expr (P.number-literal (scaled n p)) = act-spliced-node w 0x7a _ none none refl
   act-spliced-expr (P.boolean-literal b) = act-spliced-node w 0x72 _ none none refl
   act-spliced-expr P.null-literal = act-spliced-node w 0x73 [] none none refl
   act-spliced-expr (P.other-literal b) = act-spliced-node w 0x74 b none none refl
-  act-spliced-expr (P.minus-literal n) = act-spliced-node w 0x75 _ none none refl
+  act-spliced-expr (P.minus-literal (whole n)) = act-spliced-node w 0x75 _ none none refl
+  act-spliced-expr (P.minus-literal (scaled n p)) = act-spliced-node w 0x7b _ none none refl
   act-spliced-expr (P.array-literal is) = act-spliced-array w [] (items o is) none
   act-spliced-expr (P.other-expr ps) = act-spliced-node w 0x79 [] (pieces o ps) none refl
   act-spliced-expr (P.tag-expr t) = act-spliced-raw w (raw-tag o t) none

@@ -2,6 +2,7 @@
 -- end of properties, both ends of what an attribute leaves, the key. Main statements: `literal-70` and the like, `names-on`, `namespaced-done`,
 -- `name-expr-41` and the like, `stands-is`, `props-is`, `front-true` and the like, `back-true` and the like, `key-51`. Assumes nothing.
 use mathlib.Core.Path.{_≡_, refl, sym, ap, _∙_}
+use mathlib.Core.Logic.{_⊎_, ⊎-elim}
 use mathlib.Core.Bool.{Bool, true, false, or-true, or-false}
 use mathlib.Core.List.{List, [], _∷_, _++_}
 use Prim.Native.Nat.{ℕ, _+_, _≤_, _<_, _^_}
@@ -10,14 +11,13 @@ use lib.Dec.{eqb}
 use lib.ListN.{length, length-append, take}
 use borrow.Author.Tests.{eq-eqb, ne-eqb}
 use Rattle.field.specs.Bytes.{Bytes, pick}
-use Rattle.field.specs.Number.{big-endian, number-of}
 use Rattle.field.specs.Row.{read, Ended}
 use Rattle.field.specs.Front.{tag-of, body-of, behind-of}
 use Rattle.field.specs.Put.{Wrote}
 use Rattle.field.proofs.PutLaws.{wrote-then}
 use Rattle.names.specs.Names.{AttrName, get-attr-name}
 use Rattle.text.specs.Text.{normalize-lit-str}
-use Rattle.page.specs.Number.{number-in, number-bytes}
+use Rattle.page.specs.Number.{number-tag, minus-tag, number-in, number-bytes}
 use Rattle.page.specs.Page as P
 use Rattle.page.specs.Page.{Options}
 use Rattle.page.specs.Tree.{boolean-in, texts-in, first-in, second-in, expr-in, value-in}
@@ -28,10 +28,10 @@ use Rattle.spec.specs.Attributes as A
 use Rattle.spec.specs.Attributes.{first-upper}
 use Rattle.spec.specs.Children.{members-row, name-expr}
 use Rattle.spec.specs.Transform.{value}
-use Rattle.decisions.specs.At.{element-name, identifier-bytes, value-of}
+use Rattle.decisions.specs.At.{element-name, identifier-bytes, value-of, number-at}
 use Rattle.decisions.specs.declared.attribute.Value.{Value}
 use Rattle.decisions.specs.declared.attribute.Value.the-variants as Held
-use Rattle.decisions.proofs.Series.{tested, texts-none, texts-40, texts-past, name-41, name-42, expr-none, expr-70, expr-71, expr-72, expr-74, expr-75, expr-76, expr-79, expr-30, expr-31, expr-other}
+use Rattle.decisions.proofs.Series.{tested, texts-none, texts-40, texts-past, name-41, name-42, expr-none, expr-70, expr-71, expr-72, expr-74, expr-75, expr-76, expr-79, expr-7a, expr-7b, expr-30, expr-31, expr-other}
 use Rattle.decisions.proofs.ElementLaws.{name-is-identifier}
 use Rattle.decisions.proofs.Laws.{string-held}
 use Rattle.walk.specs.declared.attribute.Gap.{Gap}
@@ -54,19 +54,6 @@ module _ (s : Bytes) (t : ℕ) (e : t ≡ tag-of s) where
     unfolding literal
     literal-74 k = ap literal (expr-74 s t e k) ∙ ap (leaf 0x74) (sym q)
 
-    module _ {n : ℕ} (h : n ≡ number-of (take 8 b)) where
-      number-is : number-bytes (number-in (body-of s)) ≡ big-endian 8 n []
-      unfolding number-bytes number-in
-      number-is = ap (λ (x : ℕ). big-endian 8 x []) (sym (h ∙ ap (λ (x : Bytes). number-of (take 8 x)) q))
-
-      pub literal-71 : t ≡ 0x71 → literal (expr-in (read s)) ≡ leaf 0x71 (big-endian 8 n [])
-      unfolding literal
-      literal-71 k = ap literal (expr-71 s t e k) ∙ ap (leaf 0x71) number-is
-
-      pub literal-75 : t ≡ 0x75 → literal (expr-in (read s)) ≡ leaf 0x75 (big-endian 8 n [])
-      unfolding literal
-      literal-75 k = ap literal (expr-75 s t e k) ∙ ap (leaf 0x75) number-is
-
     module _ (k : t ≡ 0x72) {v : Bool} (h : v ≡ boolean-in b) where
       literal-72 : literal (expr-in (read s)) ≡ leaf 0x72 (boolean-byte v ∷ [])
       unfolding literal
@@ -78,7 +65,24 @@ module _ (s : Bytes) (t : ℕ) (e : t ≡ tag-of s) where
       pub literal-false : v ≡ false → literal (expr-in (read s)) ≡ leaf 0x72 (0 ∷ [])
       literal-false g = literal-72 ∙ ap (λ (x : Bool). leaf 0x72 (boolean-byte x ∷ [])) g
 
-  pub literal-other : (t ≡ 256 → Ended (read s)) → (t ≡ 0x70 → ⊥) → (t ≡ 0x71 → ⊥) → (t ≡ 0x72 → ⊥) → (t ≡ 0x74 → ⊥) → (t ≡ 0x75 → ⊥) → literal (expr-in (read s)) ≡ null-node
+  -- a number under its tag
+  pub literal-number : (t ≡ 0x71) ⊎ (t ≡ 0x7a) → literal (expr-in (read s)) ≡ leaf t (number-bytes (number-at s))
+  unfolding literal number-tag number-in
+  literal-number k =
+      ⊎-elim (λ z. ap literal (expr-71 s t e z) ∙ under (sym e ∙ z) z refl) (λ z. ap literal (expr-7a s t e z) ∙ under (sym e ∙ z) z refl) k
+    where
+      under : {u : ℕ} → tag-of s ≡ u → t ≡ u → number-tag (number-in u (body-of s)) ≡ u → leaf (number-tag (number-at s)) (number-bytes (number-at s)) ≡ leaf t (number-bytes (number-at s))
+      under g h q = ap (λ (x : ℕ). leaf x (number-bytes (number-at s))) (ap (λ (x : ℕ). number-tag (number-in x (body-of s))) g ∙ q ∙ sym h)
+
+  pub literal-minus : (t ≡ 0x75) ⊎ (t ≡ 0x7b) → literal (expr-in (read s)) ≡ leaf t (number-bytes (number-at s))
+  unfolding literal minus-tag number-in
+  literal-minus k =
+      ⊎-elim (λ z. ap literal (expr-75 s t e z) ∙ under (sym e ∙ z) z refl) (λ z. ap literal (expr-7b s t e z) ∙ under (sym e ∙ z) z refl) k
+    where
+      under : {u : ℕ} → tag-of s ≡ u → t ≡ u → minus-tag (number-in u (body-of s)) ≡ u → leaf (minus-tag (number-at s)) (number-bytes (number-at s)) ≡ leaf t (number-bytes (number-at s))
+      under g h q = ap (λ (x : ℕ). leaf x (number-bytes (number-at s))) (ap (λ (x : ℕ). minus-tag (number-in x (body-of s))) g ∙ q ∙ sym h)
+
+  pub literal-other : (t ≡ 256 → Ended (read s)) → (t ≡ 0x70 → ⊥) → ((t ≡ 0x71) ⊎ (t ≡ 0x7a) → ⊥) → (t ≡ 0x72 → ⊥) → (t ≡ 0x74 → ⊥) → ((t ≡ 0x75) ⊎ (t ≡ 0x7b) → ⊥) → literal (expr-in (read s)) ≡ null-node
   unfolding literal
   literal-other z a b c d f =
       tested t 256 (λ k. ap literal (expr-none (read s) (z k))) λ n.

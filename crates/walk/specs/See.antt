@@ -9,7 +9,7 @@ use Rattle.field.specs.Number.{big-endian}
 use Rattle.field.specs.Row.{Row, bytes, long-body}
 use Rattle.field.specs.Put.{put, head}
 use Rattle.page.specs.Page as P
-use Rattle.page.specs.Number.{number-bytes}
+use Rattle.page.specs.Number.{number-tag, minus-tag, number-bytes}
 use Rattle.page.specs.Tree.{texts-in, first-in, second-in}
 use Rattle.page.specs.Encode.{boolean-byte}
 use Rattle.spec.specs.Pass.{Template, Done, Pass, Mid, none, node, raw}
@@ -151,11 +151,11 @@ props-closed q w = pick (eqb (w .st .page) (q + 3)) (see null-node (at (w .templ
 -- an expression in which no tag stands
 unfoldable pub literal : P.Expr → Mid
 literal (P.string-literal b) = leaf 0x70 b
-literal (P.number-literal n) = leaf 0x71 (number-bytes n)
+literal (P.number-literal n) = leaf (number-tag n) (number-bytes n)
 literal (P.boolean-literal b) = leaf 0x72 (boolean-byte b ∷ [])
 literal P.null-literal = null-node
 literal (P.other-literal b) = leaf 0x74 b
-literal (P.minus-literal n) = leaf 0x75 (number-bytes n)
+literal (P.minus-literal n) = leaf (minus-tag n) (number-bytes n)
 literal (P.array-literal is) = null-node
 literal (P.other-expr ps) = null-node
 literal (P.tag-expr t) = null-node

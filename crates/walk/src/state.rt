@@ -6,20 +6,20 @@ ghost use mathlib.Core.List.{[]};
 ghost use lib.Dec.{eqb, ltb};
 ghost use lib.ListN.{length};
 ghost use Rattle.field.specs.Row.{read};
-ghost use Rattle.field.specs.Number.{big-endian};
 ghost use Rattle.field.specs.Put.{Wrote};
 ghost use Rattle.text.specs.Text.{jsx-text-to-str, normalize-lit-str};
+ghost use Rattle.page.specs.Number.{number-bytes};
 ghost use Rattle.page.specs.Tree.{contained-in, expr-in};
 ghost use Rattle.spec.specs.Output.{string-node};
 ghost use Rattle.spec.specs.Output as O;
+ghost use Rattle.decisions.specs.At.{number-at};
 ghost use Rattle.strings.specs.Carve.{joined-by};
 ghost use Rattle.walk.specs.See.{at, see, to-page, marked, begun, begun-if, wrap, wrap-if, numbered, left, flushed, literal, Low};
 use decisions::expr::boolean_in;
-use decisions::expr::number_in;
+use decisions::expr::put_number_bytes_at;
 use field::reader::body;
 use field::reader::tag_at;
 use field::writer::put_bytes;
-use field::writer::put_eight;
 use field::writer::put_head;
 use field::writer::put_two;
 use strings::put_joined;
@@ -125,12 +125,13 @@ pub fn leaf(page: &mut [u8], st: Walk, tag: u8, b: &[u8]) -> Walk
     close(page, at_page(st, e), p, tag)
 }
 
-fn number_leaf(page: &mut [u8], st: Walk, tag: u8, n: u64) -> Walk
-    requires { ⌜ Low (see (O.leaf tag (big-endian 8 n [])) (at [] (now page) st) .st) ⌝ }
-    ensures { λ r. ⌜ at [] (now (page .exit)) r ≡ see (O.leaf tag (big-endian 8 n [])) (at [] (now (page .entry)) st) ⌝ }
+// A number in front of s under its tag, its body as it came.
+fn number_leaf(page: &mut [u8], st: Walk, tag: u8, s: &[u8]) -> Walk
+    requires { ⌜ Low (see (O.leaf tag (number-bytes (number-at (now s)))) (at [] (now page) st) .st) ⌝ }
+    ensures { λ r. ⌜ at [] (now (page .exit)) r ≡ see (O.leaf tag (number-bytes (number-at (now (s .entry))))) (at [] (now (page .entry)) st) ⌝ }
 {
     let p = st.page;
-    let e = put_eight(page, p + 3, n as usize);
+    let e = put_number_bytes_at(page, p + 3, s);
     close(page, at_page(st, e), p, tag)
 }
 
@@ -140,9 +141,10 @@ pub fn literal_leaf(page: &mut [u8], st: Walk, s: &[u8]) -> Walk
     ensures { λ r. ⌜ at [] (now (page .exit)) r ≡ see (literal (expr-in (read (now (s .entry))))) (at [] (now (page .entry)) st) ⌝ }
 {
     let b = body(s);
-    match tag_at(s) {
+    let t = tag_at(s);
+    match t {
         0x70 => leaf(page, st, 0x70, b),
-        0x71 => number_leaf(page, st, 0x71, number_in(b)),
+        0x71 | 0x7a => number_leaf(page, st, t as u8, s),
         0x72 => {
             if boolean_in(b) {
                 return leaf(page, st, 0x72, b"\x01");
@@ -150,7 +152,7 @@ pub fn literal_leaf(page: &mut [u8], st: Walk, s: &[u8]) -> Walk
             leaf(page, st, 0x72, b"\x00")
         }
         0x74 => leaf(page, st, 0x74, b),
-        0x75 => number_leaf(page, st, 0x75, number_in(b)),
+        0x75 | 0x7b => number_leaf(page, st, t as u8, s),
         _ => leaf(page, st, 0x73, b""),
     }
 }

@@ -1,4 +1,4 @@
-use Rattle.decisions.proofs.ExprLaws.{shape-70, shape-71, shape-72, shape-74, shape-75, shape-76, shape-79, shape-30, shape-31, shape-null, shape-none}
+use Rattle.decisions.proofs.ExprLaws.{shape-70, shape-number, shape-72, shape-74, shape-minus, shape-76, shape-79, shape-30, shape-31, shape-null, shape-none}
 use Rattle.decisions.proofs.expr.shape_at.Statement.{statement}
 use Rattle.decisions.proofs.expr.shape_at.Tie as tie
 
@@ -15,7 +15,7 @@ returns : tie.Need-returns
 returns c = shape-70 _ _ (c .before .tag-at .ensures .0) (c .match .keys1)
 
 returns-2 : tie.Need-returns-2
-returns-2 c = shape-71 _ _ (c .before .tag-at .ensures .0) (c .match .keys2)
+returns-2 c = shape-number _ _ (c .before .tag-at .ensures .0) (c .match .keys2)
 
 returns-3 : tie.Need-returns-3
 returns-3 c = shape-72 _ _ (c .before .before .before .tag-at .ensures .0) (c .before .before .match .keys3) (c .before .body .ensures) (c .boolean-in .ensures)
@@ -24,7 +24,7 @@ returns-4 : tie.Need-returns-4
 returns-4 c = shape-74 _ _ (c .before .tag-at .ensures .0) (c .match .keys4)
 
 returns-5 : tie.Need-returns-5
-returns-5 c = shape-75 _ _ (c .before .tag-at .ensures .0) (c .match .keys5)
+returns-5 c = shape-minus _ _ (c .before .tag-at .ensures .0) (c .match .keys5)
 
 returns-6 : tie.Need-returns-6
 returns-6 c = shape-76 _ _ (c .before .tag-at .ensures .0) (c .match .keys6)

@@ -22,7 +22,7 @@ use Rattle.page.proofs.element.+check_attribute+check_container+check_e
 use Rattle.page.proofs.element.+check_attribute+check_container+check_expr+check_expr_field+check_items+check_nodes+check_pieces+check_tag+check_value.Proof.CheckAttribute.{check-attribute-add-check-name-by, check-attribute-behind-requires, check-attribute-body-requires, check-attribute-calls, check-attribute-check-missing-requires, check-attribute-check-name-by-requires, check-attribute-check-value-requires, check-attribute-enum-known-e, check-attribute-enum-told, check-attribute-returns, check-attribute-returns-2, check-attribute-returns-3, check-attribute-returns-4, check-attribute-returns-5, check-attribute-tag-at-requires}
 use Rattle.page.proofs.element.+check_attribute+check_container+check_expr+check_expr_field+check_items+check_nodes+check_pieces+check_tag+check_value.Proof.CheckContainer.{check-container-check-expr-requires, check-container-returns, check-container-returns-2}
 use Rattle.page.proofs.element.+check_attribute+check_container+check_expr+check_expr_field+check_items+check_nodes+check_pieces+check_tag+check_value.Proof.CheckExpr.{check-expr-behind-requires, check-expr-body-requires, check-expr-calls, check-expr-check-end-requires, check-expr-check-expr-field-requires, check-expr-check-missing-requires, check-expr-enum-known-e, check-expr-enum-told, check-expr-returns, check-expr-returns-2, check-expr-returns-3, check-expr-tag-at-requires}
-use Rattle.page.proofs.element.+check_attribute+check_container+check_expr+check_expr_field+check_items+check_nodes+check_pieces+check_tag+check_value.Proof.CheckExprField.{check-expr-field-add-check-items, check-expr-field-add-check-pieces, check-expr-field-calls, check-expr-field-check-boolean-requires, check-expr-field-check-empty-requires, check-expr-field-check-items-requires, check-expr-field-check-number-requires, check-expr-field-check-pieces-requires, check-expr-field-check-tag-requires, check-expr-field-check-text-requires, check-expr-field-returns, check-expr-field-returns-10, check-expr-field-returns-11, check-expr-field-returns-12, check-expr-field-returns-13, check-expr-field-returns-2, check-expr-field-returns-3, check-expr-field-returns-4, check-expr-field-returns-5, check-expr-field-returns-6, check-expr-field-returns-7, check-expr-field-returns-8, check-expr-field-returns-9}
+use Rattle.page.proofs.element.+check_attribute+check_container+check_expr+check_expr_field+check_items+check_nodes+check_pieces+check_tag+check_value.Proof.CheckExprField.{check-expr-field-add-check-items, check-expr-field-add-check-pieces, check-expr-field-calls, check-expr-field-check-boolean-requires, check-expr-field-check-empty-requires, check-expr-field-check-items-requires, check-expr-field-check-number-requires, check-expr-field-check-pieces-requires, check-expr-field-check-tag-requires, check-expr-field-check-text-requires, check-expr-field-returns, check-expr-field-returns-10, check-expr-field-returns-11, check-expr-field-returns-12, check-expr-field-check-number-requires-2, check-expr-field-returns-13, check-expr-field-returns-14, check-expr-field-returns-15, check-expr-field-returns-2, check-expr-field-returns-3, check-expr-field-returns-4, check-expr-field-returns-5, check-expr-field-returns-6, check-expr-field-returns-7, check-expr-field-returns-8, check-expr-field-returns-9}
 use Rattle.page.proofs.element.+check_attribute+check_container+check_expr+check_expr_field+check_items+check_nodes+check_pieces+check_tag+check_value.Proof.CheckItems.{check-items-Inv-loop, check-items-add-check-expr, check-items-behind-requires, check-items-body-requires, check-items-body-requires-2, check-items-body-requires-3, check-items-calls, check-items-check-empty-requires, check-items-check-expr-field-requires, check-items-check-expr-requires, check-items-check-nothing-after-requires, check-items-enum-known-e, check-items-enum-known-e-2, check-items-enum-known-e-3, check-items-enum-told, check-items-enum-told-2, check-items-enum-told-3, check-items-loop-again, check-items-loop-again-2, check-items-loop-again-3, check-items-loop-holds, check-items-loop-less, check-items-loop-less-2, check-items-loop-less-3, check-items-returns, check-items-returns-2, check-items-returns-3, check-items-returns-4, check-items-returns-5, check-items-returns-6, check-items-tag-at-requires, check-items-μ-loop}
 use Rattle.page.proofs.element.+check_attribute+check_container+check_expr+check_expr_field+check_items+check_nodes+check_pieces+check_tag+check_value.Proof.CheckNodes.{check-nodes-Inv-loop, check-nodes-add-check-attribute, check-nodes-add-check-container, check-nodes-add-check-expr, check-nodes-add-check-expr-2, check-nodes-behind-requires, check-nodes-body-requires, check-nodes-calls, check-nodes-check-attribute-requires, check-nodes-check-container-requires, check-nodes-check-expr-requires, check-nodes-check-expr-requires-2, check-nodes-check-nothing-after-requires, check-nodes-check-tag-requires, check-nodes-enum-known-e, check-nodes-enum-known-e-2, check-nodes-enum-known-e-3, check-nodes-enum-known-e-4, check-nodes-enum-known-e-5, check-nodes-enum-told, check-nodes-enum-told-2, check-nodes-enum-told-3, check-nodes-enum-told-4, check-nodes-enum-told-5, check-nodes-is-utf8-requires, check-nodes-loop-again, check-nodes-loop-again-2, check-nodes-loop-again-3, check-nodes-loop-again-4, check-nodes-loop-again-5, check-nodes-loop-again-6, check-nodes-loop-holds, check-nodes-loop-less, check-nodes-loop-less-2, check-nodes-loop-less-3, check-nodes-loop-less-4, check-nodes-loop-less-5, check-nodes-loop-less-6, check-nodes-returns, check-nodes-returns-10, check-nodes-returns-11, check-nodes-returns-12, check-nodes-returns-13, check-nodes-returns-14, check-nodes-returns-2, check-nodes-returns-3, check-nodes-returns-4, check-nodes-returns-5, check-nodes-returns-6, check-nodes-returns-7, check-nodes-returns-8, check-nodes-returns-9, check-nodes-tag-at-requires, check-nodes-μ-loop}
 use Rattle.page.proofs.element.+check_attribute+check_container+check_expr+check_expr_field+check_items+check_nodes+check_pieces+check_tag+check_value.Proof.CheckPieces.{check-pieces-Inv-loop, check-pieces-behind-requires, check-pieces-body-requires, check-pieces-body-requires-2, check-pieces-calls, check-pieces-check-nothing-after-requires, check-pieces-check-tag-requires, check-pieces-enum-known-e, check-pieces-enum-told, check-pieces-is-utf8-requires, check-pieces-loop-again, check-pieces-loop-again-2, check-pieces-loop-holds, check-pieces-loop-less, check-pieces-loop-less-2, check-pieces-returns, check-pieces-returns-2, check-pieces-returns-3, check-pieces-returns-4, check-pieces-tag-at-requires, check-pieces-μ-loop}
@@ -107,15 +107,18 @@ pub +check-attribute+check-container+check-expr+check-expr-field+check-items+che
     (check-expr-field-check-empty-requires t)
     (check-expr-field-returns-8 t)
     (check-expr-field-returns-9 t)
-    (check-expr-field-add-check-items t)
-    (check-expr-field-check-items-requires t)
+    (check-expr-field-check-number-requires-2 t)
     (check-expr-field-returns-10 t)
     (check-expr-field-returns-11 t)
+    (check-expr-field-add-check-items t)
+    (check-expr-field-check-items-requires t)
+    (check-expr-field-returns-12 t)
+    (check-expr-field-returns-13 t)
     (check-expr-field-add-check-pieces t)
     (check-expr-field-check-pieces-requires t)
-    (check-expr-field-returns-12 t)
+    (check-expr-field-returns-14 t)
     (check-expr-field-check-tag-requires t)
-    (check-expr-field-returns-13 t))
+    (check-expr-field-returns-15 t))
     (λ t. check-items-lts.spec (check-items-calls t)
     (check-items-at t)
     check-items.Post

@@ -27,16 +27,10 @@ put-serialized-requires c κs =
 enum-told-3 : tie.Need-enum-told-3
 enum-told-3 c = search needs
 
-body-requires-2 : tie.Need-body-requires-2
-body-requires-2 c κs = search needs
-
-number-in-requires : tie.Need-number-in-requires
-number-in-requires c κs = search needs
-
 put-serialized-number-requires : tie.Need-put-serialized-number-requires
 put-serialized-number-requires c κs =
-    let a = c .before .before .before .before .before .before .before .before .before .before .before .args in
-    subst Low (container-number (opts (a .skip .now) (a .props .now)) (name-at (a .a .now)) (a .c .now) (at (a .out .now) (a .st)) (c .before .body2 .ensures) (c .number-in .ensures) (sym (c .before .before .before .enum-told3 .given .1) ∙ c .before .before .before .before .before .shape-at .ensures)) (c .before .before .before .before .before .before .before .before .before .before .before .pre)
+    let a = c .before .before .before .before .before .before .before .before .before .args in
+    subst Low (container-number (opts (a .skip .now) (a .props .now)) (name-at (a .a .now)) (a .c .now) (at (a .out .now) (a .st)) (sym (c .before .enum-told3 .given .1) ∙ c .before .before .before .shape-at .ensures)) (c .before .before .before .before .before .before .before .before .before .pre)
 
 enum-known-b : tie.Need-enum-known-b
 enum-known-b c = search needs
@@ -86,16 +80,10 @@ space-and-cut-requires-3 c κs =
 enum-told-6 : tie.Need-enum-told-6
 enum-told-6 c = search needs
 
-body-requires-3 : tie.Need-body-requires-3
-body-requires-3 c κs = search needs
-
-number-in-requires-2 : tie.Need-number-in-requires-2
-number-in-requires-2 c κs = search needs
-
 put-serialized-number-requires-2 : tie.Need-put-serialized-number-requires-2
 put-serialized-number-requires-2 c κs =
-    let a = c .before .before .before .before .before .before .before .before .before .before .before .args in
-    subst Low (container-minus (opts (a .skip .now) (a .props .now)) (name-at (a .a .now)) (a .c .now) (at (a .out .now) (a .st)) (c .before .body3 .ensures) (c .number-in2 .ensures) (sym (c .before .before .before .enum-told6 .given .1) ∙ c .before .before .before .before .before .shape-at .ensures)) (c .before .before .before .before .before .before .before .before .before .before .before .pre)
+    let a = c .before .before .before .before .before .before .before .before .before .args in
+    subst Low (container-minus (opts (a .skip .now) (a .props .now)) (name-at (a .a .now)) (a .c .now) (at (a .out .now) (a .st)) (sym (c .before .enum-told6 .given .1) ∙ c .before .before .before .shape-at .ensures)) (c .before .before .before .before .before .before .before .before .before .pre)
 
 enum-told-7 : tie.Need-enum-told-7
 enum-told-7 c = search needs
@@ -123,8 +111,8 @@ same-length-3 c = search needs
 
 returns-5 : tie.Need-returns-5
 returns-5 c =
-    let a = c .before .before .before .before .before .before .before .before .before .before .before .before .before .before .args in
-    c .before .before .put-serialized-number .ensures ∙ sym (container-number (opts (a .skip .now) (a .props .now)) (name-at (a .a .now)) (a .c .now) (at (a .out .now) (a .st)) (c .before .before .before .before .body2 .ensures) (c .before .before .before .number-in .ensures) (sym (c .before .before .before .before .before .before .enum-told3 .given .1) ∙ c .before .before .before .before .before .before .before .before .shape-at .ensures))
+    let a = c .before .before .before .before .before .before .before .before .before .before .before .before .args in
+    c .before .before .put-serialized-number .ensures ∙ sym (container-number (opts (a .skip .now) (a .props .now)) (name-at (a .a .now)) (a .c .now) (at (a .out .now) (a .st)) (sym (c .before .before .before .before .enum-told3 .given .1) ∙ c .before .before .before .before .before .before .shape-at .ensures))
 
 same-length-4 : tie.Need-same-length-4
 same-length-4 c = search needs
@@ -155,8 +143,8 @@ same-length-7 c = search needs
 
 returns-9 : tie.Need-returns-9
 returns-9 c =
-    let a = c .before .before .before .before .before .before .before .before .before .before .before .before .before .before .args in
-    c .before .before .put-serialized-number2 .ensures ∙ sym (container-minus (opts (a .skip .now) (a .props .now)) (name-at (a .a .now)) (a .c .now) (at (a .out .now) (a .st)) (c .before .before .before .before .body3 .ensures) (c .before .before .before .number-in2 .ensures) (sym (c .before .before .before .before .before .before .enum-told6 .given .1) ∙ c .before .before .before .before .before .before .before .before .shape-at .ensures))
+    let a = c .before .before .before .before .before .before .before .before .before .before .before .before .args in
+    c .before .before .put-serialized-number2 .ensures ∙ sym (container-minus (opts (a .skip .now) (a .props .now)) (name-at (a .a .now)) (a .c .now) (at (a .out .now) (a .st)) (sym (c .before .before .before .before .enum-told6 .given .1) ∙ c .before .before .before .before .before .before .shape-at .ensures))
 
 same-length-8 : tie.Need-same-length-8
 same-length-8 c = search needs
@@ -176,8 +164,6 @@ container-strings-spec =
     body-requires
     put-serialized-requires
     enum-told-3
-    body-requires-2
-    number-in-requires
     put-serialized-number-requires
     enum-known-b
     is-boolean-requires
@@ -191,8 +177,6 @@ container-strings-spec =
     enum-told-5
     space-and-cut-requires-3
     enum-told-6
-    body-requires-3
-    number-in-requires-2
     put-serialized-number-requires-2
     enum-told-7
     space-and-cut-requires-4

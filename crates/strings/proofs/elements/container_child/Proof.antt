@@ -49,32 +49,20 @@ ended-requires c κs = search needs
 enum-told-3 : tie.Need-enum-told-3
 enum-told-3 c = search needs
 
-add-put-decimal : tie.Need-add-put-decimal
-add-put-decimal c =
-    let p = c .before .before .before .before in
-    let start = p .before .before .before .before .before in
-    let a = start .args in
-    omega (arith, number-low (opts (a .skip .now) (a .props .now)) (a .c .now) (a .out .now) (a .st) (start .pre) refl refl (sym (c .before .before .enum-told3 .given .1) ∙ p .shape-at .ensures))
+add-put-number-at : tie.Need-add-put-number-at
+add-put-number-at c =
+    let a = c .before .before .before .before .before .before .before .before .before .args in
+    omega (arith, number-low (opts (a .skip .now) (a .props .now)) (a .c .now) (a .out .now) (a .st) (c .before .before .before .before .before .before .before .before .before .pre) (sym (c .before .before .enum-told3 .given .1) ∙ c .before .before .before .before .shape-at .ensures))
 
-add-put-decimal-2 : tie.Need-add-put-decimal-2
-add-put-decimal-2 c =
-    let p = c .before .before .before in
-    let start = p .before .before .before .before .before .before .before in
-    let a = start .args in
-    omega (arith, number-low (opts (a .skip .now) (a .props .now)) (a .c .now) (a .out .now) (a .st) (start .pre) refl refl (sym (p .enum-told3 .given .1) ∙ p .before .before .shape-at .ensures))
+add-put-number-at-2 : tie.Need-add-put-number-at-2
+add-put-number-at-2 c =
+    let a = c .before .before .before .before .before .before .before .before .before .before .args in
+    omega (arith, number-low (opts (a .skip .now) (a .props .now)) (a .c .now) (a .out .now) (a .st) (c .before .before .before .before .before .before .before .before .before .before .pre) (sym (c .before .before .before .enum-told3 .given .1) ∙ c .before .before .before .before .before .shape-at .ensures))
 
-body-requires-2 : tie.Need-body-requires-2
-body-requires-2 c κs = search needs
-
-number-in-requires : tie.Need-number-in-requires
-number-in-requires c κs = search needs
-
-put-decimal-requires : tie.Need-put-decimal-requires
-put-decimal-requires c κs =
-    let p = c .before .before .before .before .before in
-    let start = p .before .before .before .before .before .before .before in
-    let a = start .args in
-    number-low (opts (a .skip .now) (a .props .now)) (a .c .now) (a .out .now) (a .st) (start .pre) (c .before .body2 .ensures) (c .number-in .ensures) (sym (p .enum-told3 .given .1) ∙ p .before .before .shape-at .ensures)
+put-number-at-requires : tie.Need-put-number-at-requires
+put-number-at-requires c κs =
+    let a = c .before .before .before .before .before .before .before .before .before .before .args in
+    number-low (opts (a .skip .now) (a .props .now)) (a .c .now) (a .out .now) (a .st) (c .before .before .before .before .before .before .before .before .before .before .pre) (sym (c .before .before .before .enum-told3 .given .1) ∙ c .before .before .before .before .before .shape-at .ensures)
 
 ended-requires-2 : tie.Need-ended-requires-2
 ended-requires-2 c κs = search needs
@@ -144,11 +132,9 @@ same-length-2 c = search needs
 
 returns-3 : tie.Need-returns-3
 returns-3 c =
-    let p₁ = c .before .before .before in
-    let p₂ = p₁ .before .before .before .before .before .before in
-    let start = p₂ .before .before .before .before .before .before .before in
-    let a = start .args in
-    put-is (a .out .now) (a .st) (c .ended2 .ensures) (p₁ .put-decimal .ensures) ∙ sym (child-number (opts (a .skip .now) (a .props .now)) (a .c .now) (at (a .out .now) (a .st)) (p₁ .before .before .body2 .ensures) (p₁ .before .number-in .ensures) (sym (p₂ .enum-told3 .given .1) ∙ p₂ .before .before .shape-at .ensures))
+    let a = c .before .before .before .before .before .before .before .before .before .before .before .before .before .before .args in
+    put-is (a .out .now) (a .st) (c .ended2 .ensures) (c .before .before .before .put-number-at .ensures)
+    ∙ sym (child-number (opts (a .skip .now) (a .props .now)) (a .c .now) (at (a .out .now) (a .st)) (sym (c .before .before .before .before .before .before .before .enum-told3 .given .1) ∙ c .before .before .before .before .before .before .before .before .before .shape-at .ensures))
 
 returns-4 : tie.Need-returns-4
 returns-4 c =
@@ -209,11 +195,9 @@ container-child-spec =
     put-escaped-requires
     ended-requires
     enum-told-3
-    add-put-decimal
-    add-put-decimal-2
-    body-requires-2
-    number-in-requires
-    put-decimal-requires
+    add-put-number-at
+    add-put-number-at-2
+    put-number-at-requires
     ended-requires-2
     enum-told-4
     enum-told-5

@@ -26,14 +26,8 @@ put-escaped-requires c κs = omega (arith, c .before .before .before .before .be
 enum-told-3 : tie.Need-enum-told-3
 enum-told-3 c = search needs
 
-body-requires-2 : tie.Need-body-requires-2
-body-requires-2 c κs = search needs
-
-number-in-requires : tie.Need-number-in-requires
-number-in-requires c κs = search needs
-
-put-decimal-requires : tie.Need-put-decimal-requires
-put-decimal-requires c κs = omega (arith, c .before .before .before .before .before .before .before .before .pre, ap length (joined-number _ (c .before .body2 .ensures) (c .number-in .ensures) (sym (c .before .before .before .enum-told3 .given .1) ∙ c .before .before .before .before .before .shape-at .ensures)))
+put-number-at-requires : tie.Need-put-number-at-requires
+put-number-at-requires c κs = omega (arith, c .before .before .before .before .before .before .pre, ap length (joined-number _ (sym (c .before .enum-told3 .given .1) ∙ c .before .before .before .shape-at .ensures)))
 
 enum-told-4 : tie.Need-enum-told-4
 enum-told-4 c = search needs
@@ -63,7 +57,7 @@ same-length-2 : tie.Need-same-length-2
 same-length-2 c = search needs
 
 returns-3 : tie.Need-returns-3
-returns-3 c = wrote-is (sym (joined-number _ (c .before .before .before .before .body2 .ensures) (c .before .before .before .number-in .ensures) (sym (c .before .before .before .before .before .before .enum-told3 .given .1) ∙ c .before .before .before .before .before .before .before .before .shape-at .ensures))) (c .before .before .put-decimal .ensures)
+returns-3 c = wrote-is (sym (joined-number _ (sym (c .before .before .before .before .enum-told3 .given .1) ∙ c .before .before .before .before .before .before .shape-at .ensures))) (c .before .before .put-number-at .ensures)
 
 returns-4 : tie.Need-returns-4
 returns-4 c = wrote-is (sym (joined-shape _ (sym (c .enum-told4 .given .1) ∙ c .before .before .shape-at .ensures))) (wrote-none _ _)
@@ -90,9 +84,7 @@ put-joined-spec =
     body-requires
     put-escaped-requires
     enum-told-3
-    body-requires-2
-    number-in-requires
-    put-decimal-requires
+    put-number-at-requires
     enum-told-4
     enum-told-5
     enum-told-6

@@ -1,9 +1,11 @@
 -- What an arm writes is the expression that its tag says.
 use borrow.Author.Needs.{needs}
 use mathlib.Core.List.{[]}
+use mathlib.Core.Logic.{⊎-elim}
+use native.Mathlib.Omega.{arith}
 use Rattle.walk.specs.See.{at}
 use Rattle.walk.proofs.LeafLaws.{low-as, done-as}
-use Rattle.walk.proofs.ArmLaws.{literal-70, literal-71, literal-true, literal-false, literal-74, literal-75, literal-other}
+use Rattle.walk.proofs.ArmLaws.{literal-70, literal-number, literal-true, literal-false, literal-74, literal-minus, literal-other}
 use Rattle.walk.proofs.state.literal_leaf.Statement.{statement}
 use Rattle.walk.proofs.state.literal_leaf.Tie as tie
 
@@ -15,18 +17,16 @@ tag-at-requires c κs = search needs
 
 leaf-requires : tie.Need-leaf-requires
 leaf-requires c κs =
-    let start = c .before .before .before .before .before .before in
-    let a = start .args in
-    low-as (at [] (a .page .now) (a .st)) (literal-70 (a .s .now) _ (c .before .before .tag-at .ensures .0) (c .before .before .before .body .ensures) (c .before .match .keys1)) (start .pre)
+    let a = c .before .before .before .before .before .before .args in
+    low-as (at [] (a .page .now) (a .st)) (literal-70 (a .s .now) _ (c .before .before .tag-at .ensures .0) (c .before .before .before .body .ensures) (c .before .match .keys1)) (c .before .before .before .before .before .before .pre)
 
-number-in-requires : tie.Need-number-in-requires
-number-in-requires c κs = search needs
+cast-number-leaf : tie.Need-cast-number-leaf
+cast-number-leaf c = ⊎-elim (λ z. omega arith) (λ z. omega arith) (c .before .match .keys2)
 
 number-leaf-requires : tie.Need-number-leaf-requires
 number-leaf-requires c κs =
-    let start = c .before .before .before .before .before .before .before in
-    let a = start .args in
-    low-as (at [] (a .page .now) (a .st)) (literal-71 (a .s .now) _ (c .before .before .before .tag-at .ensures .0) (c .before .before .before .before .body .ensures) (c .number-in .ensures) (c .before .before .match .keys2)) (start .pre)
+    let a = c .before .before .before .before .before .before .args in
+    low-as (at [] (a .page .now) (a .st)) (literal-number (a .s .now) _ (c .before .before .tag-at .ensures .0) (c .before .match .keys2)) (c .before .before .before .before .before .before .pre)
 
 boolean-in-requires : tie.Need-boolean-in-requires
 boolean-in-requires c κs = search needs
@@ -36,9 +36,8 @@ slice-aggregate-leaf c = search needs
 
 leaf-requires-2 : tie.Need-leaf-requires-2
 leaf-requires-2 c κs =
-    let start = c .before .before .before .before .before .before .before .before .before in
-    let a = start .args in
-    low-as (at [] (a .page .now) (a .st)) (literal-true (a .s .now) _ (c .before .before .before .before .before .tag-at .ensures .0) (c .before .before .before .before .before .before .body .ensures) (c .before .before .before .before .match .keys3) (c .before .before .before .boolean-in .ensures) (c .before .before .if1 .taken)) (start .pre)
+    let a = c .before .before .before .before .before .before .before .before .before .args in
+    low-as (at [] (a .page .now) (a .st)) (literal-true (a .s .now) _ (c .before .before .before .before .before .tag-at .ensures .0) (c .before .before .before .before .before .before .body .ensures) (c .before .before .before .before .match .keys3) (c .before .before .before .boolean-in .ensures) (c .before .before .if1 .taken)) (c .before .before .before .before .before .before .before .before .before .pre)
 
 same-length : tie.Need-same-length
 same-length c = search needs
@@ -53,33 +52,29 @@ slice-aggregate-leaf-2 c = search needs
 
 leaf-requires-3 : tie.Need-leaf-requires-3
 leaf-requires-3 c κs =
-    let start = c .before .before .before .before .before .before .before .before .before in
-    let a = start .args in
-    low-as (at [] (a .page .now) (a .st)) (literal-false (a .s .now) _ (c .before .before .before .before .before .tag-at .ensures .0) (c .before .before .before .before .before .before .body .ensures) (c .before .before .before .before .match .keys3) (c .before .before .before .boolean-in .ensures) (c .before .before .if1 .left)) (start .pre)
+    let a = c .before .before .before .before .before .before .before .before .before .args in
+    low-as (at [] (a .page .now) (a .st)) (literal-false (a .s .now) _ (c .before .before .before .before .before .tag-at .ensures .0) (c .before .before .before .before .before .before .body .ensures) (c .before .before .before .before .match .keys3) (c .before .before .before .boolean-in .ensures) (c .before .before .if1 .left)) (c .before .before .before .before .before .before .before .before .before .pre)
 
 leaf-requires-4 : tie.Need-leaf-requires-4
 leaf-requires-4 c κs =
-    let start = c .before .before .before .before .before .before in
-    let a = start .args in
-    low-as (at [] (a .page .now) (a .st)) (literal-74 (a .s .now) _ (c .before .before .tag-at .ensures .0) (c .before .before .before .body .ensures) (c .before .match .keys4)) (start .pre)
+    let a = c .before .before .before .before .before .before .args in
+    low-as (at [] (a .page .now) (a .st)) (literal-74 (a .s .now) _ (c .before .before .tag-at .ensures .0) (c .before .before .before .body .ensures) (c .before .match .keys4)) (c .before .before .before .before .before .before .pre)
 
-number-in-requires-2 : tie.Need-number-in-requires-2
-number-in-requires-2 c κs = search needs
+cast-number-leaf-2 : tie.Need-cast-number-leaf-2
+cast-number-leaf-2 c = ⊎-elim (λ z. omega arith) (λ z. omega arith) (c .before .match .keys5)
 
 number-leaf-requires-2 : tie.Need-number-leaf-requires-2
 number-leaf-requires-2 c κs =
-    let start = c .before .before .before .before .before .before .before in
-    let a = start .args in
-    low-as (at [] (a .page .now) (a .st)) (literal-75 (a .s .now) _ (c .before .before .before .tag-at .ensures .0) (c .before .before .before .before .body .ensures) (c .number-in2 .ensures) (c .before .before .match .keys5)) (start .pre)
+    let a = c .before .before .before .before .before .before .args in
+    low-as (at [] (a .page .now) (a .st)) (literal-minus (a .s .now) _ (c .before .before .tag-at .ensures .0) (c .before .match .keys5)) (c .before .before .before .before .before .before .pre)
 
 slice-aggregate-leaf-3 : tie.Need-slice-aggregate-leaf-3
 slice-aggregate-leaf-3 c = search needs
 
 leaf-requires-5 : tie.Need-leaf-requires-5
 leaf-requires-5 c κs =
-    let start = c .before .before .before .before .before .before .before in
-    let a = start .args in
-    low-as (at [] (a .page .now) (a .st)) (literal-other (a .s .now) _ (c .before .before .before .tag-at .ensures .0) (c .before .before .before .tag-at .ensures .1) (c .before .before .match .rest .0 .0 .0 .0 .1) (c .before .before .match .rest .0 .0 .0 .1) (c .before .before .match .rest .0 .0 .1) (c .before .before .match .rest .0 .1) (c .before .before .match .rest .1)) (start .pre)
+    let a = c .before .before .before .before .before .before .before .args in
+    low-as (at [] (a .page .now) (a .st)) (literal-other (a .s .now) _ (c .before .before .before .tag-at .ensures .0) (c .before .before .before .tag-at .ensures .1) (c .before .before .match .rest .0 .0 .0 .0 .1) (c .before .before .match .rest .0 .0 .0 .1) (c .before .before .match .rest .0 .0 .1) (c .before .before .match .rest .0 .1) (c .before .before .match .rest .1)) (c .before .before .before .before .before .before .before .pre)
 
 same-length-2 : tie.Need-same-length-2
 same-length-2 c = search needs
@@ -94,8 +89,8 @@ same-length-3 c = search needs
 
 returns-3 : tie.Need-returns-3
 returns-3 c =
-    let a = c .before .before .before .before .before .before .before .before .before .before .args in
-    done-as (at [] (a .page .now) (a .st)) (literal-71 (a .s .now) _ (c .before .before .before .before .before .before .tag-at .ensures .0) (c .before .before .before .before .before .before .before .body .ensures) (c .before .before .before .number-in .ensures) (c .before .before .before .before .before .match .keys2)) (c .before .before .number-leaf .ensures)
+    let a = c .before .before .before .before .before .before .before .before .before .args in
+    done-as (at [] (a .page .now) (a .st)) (literal-number (a .s .now) _ (c .before .before .before .before .before .tag-at .ensures .0) (c .before .before .before .before .match .keys2)) (c .before .before .number-leaf .ensures)
 
 same-length-4 : tie.Need-same-length-4
 same-length-4 c = search needs
@@ -118,8 +113,8 @@ same-length-6 c = search needs
 
 returns-6 : tie.Need-returns-6
 returns-6 c =
-    let a = c .before .before .before .before .before .before .before .before .before .before .args in
-    done-as (at [] (a .page .now) (a .st)) (literal-75 (a .s .now) _ (c .before .before .before .before .before .before .tag-at .ensures .0) (c .before .before .before .before .before .before .before .body .ensures) (c .before .before .before .number-in2 .ensures) (c .before .before .before .before .before .match .keys5)) (c .before .before .number-leaf2 .ensures)
+    let a = c .before .before .before .before .before .before .before .before .before .args in
+    done-as (at [] (a .page .now) (a .st)) (literal-minus (a .s .now) _ (c .before .before .before .before .before .tag-at .ensures .0) (c .before .before .before .before .match .keys5)) (c .before .before .number-leaf2 .ensures)
 
 same-length-7 : tie.Need-same-length-7
 same-length-7 c = search needs
@@ -136,7 +131,7 @@ literal-leaf-spec =
     body-requires
     tag-at-requires
     leaf-requires
-    number-in-requires
+    cast-number-leaf
     number-leaf-requires
     boolean-in-requires
     slice-aggregate-leaf
@@ -146,7 +141,7 @@ literal-leaf-spec =
     slice-aggregate-leaf-2
     leaf-requires-3
     leaf-requires-4
-    number-in-requires-2
+    cast-number-leaf-2
     number-leaf-requires-2
     slice-aggregate-leaf-3
     leaf-requires-5

@@ -6,7 +6,7 @@ use Rattle.field.proofs.PutLaws.{wrote-none, wrote-is}
 use Rattle.page.specs.Tree.{choose}
 use Rattle.printing.specs.Card.{text-by}
 use Rattle.printing.proofs.RoomLaws.{room-is}
-use Rattle.printing.proofs.ByTag.{first-at, first-bytes, first-quoted, first-spread, first-other, inner-at, inner-spread}
+use Rattle.printing.proofs.ByTag.{first-at, first-bytes, first-quoted, first-number, first-minus, first-spread, first-other, inner-at, inner-spread}
 use borrow.Author.Needs.{needs}
 use Rattle.printing.proofs.expression.print_all.Reads as print-all
 use Rattle.printing.proofs.expression.print_between.Reads as print-between
@@ -22,7 +22,7 @@ use Rattle.printing.proofs.front.front.Reads as front-reads
 use Rattle.printing.proofs.front.inner.Reads as inner-reads
 use Rattle.printing.proofs.name.put_boolean.Reads as put-boolean-reads
 use Rattle.printing.proofs.name.put_minus.Reads as put-minus-reads
-use Rattle.printing.proofs.name.put_number.Reads as put-number-reads
+use Rattle.page.proofs.number.put_number.Reads as put-number-reads
 use Rattle.printing.proofs.name.put_pointed.Reads as put-pointed-reads
 use Rattle.printing.proofs.quoted.put_quoted.Reads as put-quoted-reads
 use Rattle.printing.proofs.expression.+print_all+print_behind+print_between+print_choice+print_first+print_parted+print_prop+print_spread+print_template.Proof.Cycle.{print-all-below, print-between-below, print-choice-below, print-first-at, print-prop-below, print-spread-below, print-template-below}
@@ -74,7 +74,7 @@ print-first-put-number-requires t c κs =
     let e = m .before .tag-at .ensures .0 in
     let i = m .before .before .inner .ensures in
     let f = m .before .before .before .front .ensures in
-    let q = first-at _ _ e f i 0x71 (m .match .keys4) in
+    let q = first-number _ _ e f i (m .match .keys4) in
     room-is _ q (m .before .before .before .before .before .before .pre .1)
 
 pub print-first-put-boolean-requires : (t : ℕ) → print-first-lts.Need-put-boolean-requires (print-first-calls t) (print-first-at t) print-first.Post
@@ -107,7 +107,7 @@ print-first-put-minus-requires t c κs =
     let e = m .before .tag-at .ensures .0 in
     let i = m .before .before .inner .ensures in
     let f = m .before .before .before .front .ensures in
-    let q = first-at _ _ e f i 0x75 (m .match .keys7) in
+    let q = first-minus _ _ e f i (m .match .keys7) in
     room-is _ q (m .before .before .before .before .before .before .pre .1)
 
 pub print-first-slice-aggregate-print-between : (t : ℕ) → print-first-lts.Need-slice-aggregate-print-between (print-first-calls t) (print-first-at t) print-first.Post
@@ -294,7 +294,7 @@ print-first-returns-4 t c =
     let e = m .before .tag-at .ensures .0 in
     let i = m .before .before .inner .ensures in
     let f = m .before .before .before .front .ensures in
-    let q = first-at _ _ e f i 0x71 (m .match .keys4) in
+    let q = first-number _ _ e f i (m .match .keys4) in
     wrote-is (sym q) (c .before .before .put-number .ensures)
 
 pub print-first-same-length-5 : (t : ℕ) → print-first-lts.Need-same-length-5 (print-first-calls t) (print-first-at t) print-first.Post
@@ -333,7 +333,7 @@ print-first-returns-7 t c =
     let e = m .before .tag-at .ensures .0 in
     let i = m .before .before .inner .ensures in
     let f = m .before .before .before .front .ensures in
-    let q = first-at _ _ e f i 0x75 (m .match .keys7) in
+    let q = first-minus _ _ e f i (m .match .keys7) in
     wrote-is (sym q) (c .before .before .put-minus .ensures)
 
 pub print-first-same-length-8 : (t : ℕ) → print-first-lts.Need-same-length-8 (print-first-calls t) (print-first-at t) print-first.Post
