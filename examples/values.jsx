@@ -1,1 +1,1 @@
-const a = <Plan row={[1, , -2, ...extra, []]} most={9007199254740991} data-floor={-0} xml:lang="en" code={/^[A-Z]\d+$/} none={null} open={true} shut={false} aisle icon={<i/>} left={n > 1 && <b>{n}</b>}/>;
+const a = <Plan row={[1, , -2, ...extra, []]} most={9007199254740991} data-floor={-0} price={12.5} less={-0.05} xml:lang="en" code={/^[A-Z]\d+$/} none={null} open={true} shut={false} aisle icon={<i/>} left={n > 1 && <b>{n}</b>}/>;

@@ -1,6 +1,7 @@
 //! The grammar of document 01, with the place and the reason of a refusal. Front to back: at each field its header
 //! (torn, then misplaced), then its depth, then its body; a missing field where what should hold it ends.
 
+use crate::decimal::{Decimal, DecimalError};
 use crate::field::{HEADER, around, tag_name};
 use crate::limits::*;
 use crate::path::Path;
@@ -297,7 +298,7 @@ impl Takes {
             Identifier => tag == 0x40,
             AttributeName => matches!(tag, 0x40 | 0x42),
             Value => matches!(tag, 0x51 | 0x52 | 0x30 | 0x31),
-            Expression => matches!(tag, 0x70..=0x76 | 0x79 | 0x30 | 0x31),
+            Expression => matches!(tag, 0x70..=0x76 | 0x79..=0x7b | 0x30 | 0x31),
             ArrayItems => matches!(tag, 0x77 | 0x78) || Expression.tag(tag),
             Template => tag == 0x80,
             StaticString => tag == 0x81,
@@ -305,7 +306,7 @@ impl Takes {
                 Items.tag(tag) || tag == 0x82 && first || tag == 0x83 && templates_place
             }
             PiecesOut => tag == 0x20 || ExpressionOut.tag(tag),
-            ExpressionOut => matches!(tag, 0x70..=0x76 | 0x79 | 0x90..=0x94),
+            ExpressionOut => matches!(tag, 0x70..=0x76 | 0x79..=0x7b | 0x90..=0x94),
             ArrayItemsOut => matches!(tag, 0x77 | 0x78) || ExpressionOut.tag(tag),
             CalledName => matches!(tag, 0x81 | 0x40 | 0x41),
             Props => matches!(tag, 0x73 | 0x95),
@@ -331,13 +332,13 @@ impl Takes {
             Identifier => "an identifier (40)",
             AttributeName => "an attribute's name (40 or 42)",
             Value => "a value (51, 52, 30 or 31)",
-            Expression => "an expression (70 to 76, 79, 30 or 31)",
+            Expression => "an expression (70 to 76, 79 to 7b, 30 or 31)",
             ArrayItems => "items of an array (an expression, 77 or 78)",
             Template => "templates (80)",
             StaticString => "a string (81)",
             ItemsOut { .. } => "items (82 first, 83 once, 10 to 13)",
             PiecesOut => "pieces (20, an expression)",
-            ExpressionOut => "an expression (70 to 76, 79, 90 to 94)",
+            ExpressionOut => "an expression (70 to 76, 79 to 7b, 90 to 94)",
             ArrayItemsOut => "items of an array (an expression, 77 or 78)",
             CalledName => "the name of what is called (81, 40 or 41)",
             Props => "props (73 or 95)",
@@ -356,6 +357,7 @@ fn leaf(tag: u8, holder: u8, body: &[u8], at: usize) -> Result<(), Found> {
         0x13 | 0x73 | 0x78 | 0x83 => Ok(()),
         0x40 => name(body, holder == 0x41, at),
         0x71 | 0x75 => number(tag, body, at),
+        0x7a | 0x7b => decimal(tag, body, at),
         0x72 if matches!(body, [0] | [1]) => Ok(()),
         0x72 => fault(at, Refusal::Misplaced, "72 (boolean) has not one byte 0 or 1"),
         0x04 if body.is_empty() => fault(at, Refusal::Misplaced, "04 (import source) is empty"),
@@ -379,6 +381,18 @@ fn number(tag: u8, body: &[u8], at: usize) -> Result<(), Found> {
             fault(at, Refusal::NumberTooLarge, format!("{value} is over the limit of {MAX_NUMBER}"))
         }
         _ => Ok(()),
+    }
+}
+
+fn decimal(tag: u8, body: &[u8], at: usize) -> Result<(), Found> {
+    match Decimal::from_bytes(body) {
+        None => fault(at, Refusal::Misplaced, format!("{} has {} bytes and must have 9", named(tag), body.len())),
+        // The places are its last byte.
+        Some(Err(error @ DecimalError::TooManyPlaces(_))) => {
+            fault(at + body.len() - 1, Refusal::NumberTooLarge, error.to_string())
+        }
+        Some(Err(error)) => fault(at, Refusal::NumberTooLarge, error.to_string()),
+        Some(Ok(_)) => Ok(()),
     }
 }
 

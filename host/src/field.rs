@@ -3,6 +3,8 @@
 
 pub use crate::path::{Path, Step};
 
+use crate::decimal::Decimal;
+
 /// A field of some bytes.
 ///
 /// ```
@@ -64,6 +66,11 @@ impl<'a> Field<'a> {
     /// The eight-byte number that the body of a 71 or 75 is.
     pub(crate) fn whole_number(&self) -> u64 {
         self.body.try_into().map_or(0, u64::from_be_bytes)
+    }
+
+    /// The decimal that the body of a 7a or 7b is; whoever reads has checked that it is one.
+    pub(crate) fn decimal(&self) -> Decimal {
+        Decimal::from_bytes(self.body).and_then(Result::ok).unwrap_or(Decimal::ZERO)
     }
 
     /// The body as text; whoever reads has checked that it is UTF-8.
@@ -189,6 +196,8 @@ pub fn tag_name(tag: u8) -> Option<&'static str> {
         0x77 => "array spread",
         0x78 => "hole",
         0x79 => "other expression",
+        0x7a => "decimal",
+        0x7b => "minus decimal",
         0x80 => "template",
         0x81 => "static string",
         0x82 => "import",

@@ -30,6 +30,7 @@
 
 mod call;
 mod check;
+mod decimal;
 pub mod field;
 pub mod javascript;
 pub mod limits;
@@ -42,6 +43,7 @@ mod refusal;
 
 pub use call::{Answer, Forms, Transformer, library_version, transform, transform_into};
 pub use check::{Fault, Input};
+pub use decimal::{Decimal, DecimalError};
 pub use options::Options;
 pub use page::write::WriteError;
 pub use refusal::Refusal;

@@ -78,6 +78,26 @@ pub const MAX_MEMBERS: usize = 8;
 /// ```
 pub const MAX_NUMBER: u64 = 9_007_199_254_740_991;
 
+/// The digits of a decimal, all taken together as one whole number: up to here they are those that JavaScript's nearest
+/// number is printed with.
+///
+/// ```
+/// use jsx_precompile::{Decimal, limits::MAX_DIGITS};
+///
+/// assert_eq!(MAX_DIGITS, 10_u64.pow(15) - 1);
+/// assert!(Decimal::new(MAX_DIGITS, 2).is_ok() && Decimal::new(MAX_DIGITS + 1, 2).is_err());
+/// ```
+pub const MAX_DIGITS: u64 = 999_999_999_999_999;
+
+/// The places of a decimal behind its point.
+///
+/// ```
+/// use jsx_precompile::{Decimal, limits::MAX_PLACES};
+///
+/// assert!(Decimal::new(1, MAX_PLACES).is_ok() && Decimal::new(1, MAX_PLACES + 1).is_err());
+/// ```
+pub const MAX_PLACES: u8 = 15;
+
 /// The least bytes of lent scratch.
 ///
 /// ```

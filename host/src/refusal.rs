@@ -27,7 +27,7 @@ pub enum Refusal {
     BadName = 5,
     /// Bad letters: a text is not UTF-8.
     NotUtf8 = 6,
-    /// Big number: over 9,007,199,254,740,991.
+    /// Big number: over 9,007,199,254,740,991; of a decimal, digits over 999,999,999,999,999 or over 15 places.
     NumberTooLarge = 7,
     /// Too deep: fields lie more than 48 deep.
     TooDeep = 8,
@@ -122,7 +122,9 @@ impl Refusal {
                 "an identifier is not 1 to 128 ASCII letters, digits, `_`, `$` and `-` that begin with no digit or `-`, or has a `-` in a member"
             }
             NotUtf8 => "a text is not UTF-8",
-            NumberTooLarge => "a number is over 9,007,199,254,740,991",
+            NumberTooLarge => {
+                "a number is over 9,007,199,254,740,991, or the digits of a decimal over 999,999,999,999,999 or its places over 15"
+            }
             TooDeep => "fields lie more than 48 deep within each other",
             TagLeft => "an element or fragment would be left untransformed",
             OutputTooLong => "a merged run of text, or a body of the outputs, is over 65,535 bytes",

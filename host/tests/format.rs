@@ -230,6 +230,8 @@ fn every_limit_has_its_row() {
         ("name", MAX_NAME, " bytes"),
         ("member", MAX_MEMBERS, " names"),
         ("whole number", MAX_NUMBER as usize, ""),
+        ("digits of a number with a fraction", MAX_DIGITS as usize, ""),
+        ("places of a number with a fraction", MAX_PLACES.into(), ""),
         ("body of a field, in and out", MAX_BODY, " bytes"),
         ("scratch, at least", MIN_SCRATCH, " bytes"),
     ];

@@ -11,7 +11,7 @@ use jsx_precompile::page::*;
 use jsx_precompile::{Options, transform};
 use modules::quoted;
 use oracle::generate::rng::Rng;
-use oracle::make::{field, row};
+use oracle::make::{decimal, field, minus_decimal, row};
 use std::path::Path;
 use std::process::Command;
 
@@ -447,6 +447,9 @@ fn pieces_of_a_page_out() {
         (field(0x74, b"/a/"), "/a/"),
         (field(0x74, b"5n"), "5n"),
         (number(0x75, 5), "-5"),
+        (decimal(50, 1), "5"),
+        (decimal(1250, 2), "12.5"),
+        (minus_decimal(0, 2), "-0"),
         (field(0x76, &[]), "[]"),
         (other("a"), "a"),
         (other("a, b"), "a, b"),

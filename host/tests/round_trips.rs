@@ -203,6 +203,8 @@ fn one_of_everything() {
         E::Boolean(true).into(),
         E::Literal("1n".into()).into(),
         E::Minus(0).into(),
+        E::decimal(1250, 2).expect("a decimal").into(),
+        E::parse_decimal("-0.05").expect("a decimal").into(),
     ];
     let tag = Element::new("a:b")
         .attribute("x", "é")
@@ -224,7 +226,8 @@ fn one_of_everything() {
         Item::statement([Fragment::new().into()]),
         Item::Empty,
     ]);
-    let literals = [null(), hole(), array_spread(code("a")), boolean(true), literal("1n"), minus(0)];
+    let numbers = [minus(0), decimal(1250, 2), minus_decimal(5, 2)];
+    let literals = [&[null(), hole(), array_spread(code("a")), boolean(true), literal("1n")], &numbers[..]].concat();
     let parts = [
         attribute_string("x", "é"),
         attribute_with("y:z", braces(number(7))),

@@ -2,7 +2,7 @@
 
 import { findParser } from "./babel.js";
 import { FieldWriter } from "./fields.js";
-import { MAX_DEPTH, MAX_MEMBERS, MAX_NAME, MAX_NUMBER, MAX_PAGE } from "./limits.js";
+import { MAX_DEPTH, MAX_DIGITS, MAX_MEMBERS, MAX_NAME, MAX_NUMBER, MAX_PAGE, MAX_PLACES } from "./limits.js";
 import { ordered, outermost } from "./order.js";
 
 /** Why a module's text has no page: the line and column, from 1, and the `number` of the refusal that it would be. */
@@ -195,7 +195,7 @@ class Walk {
         // Half of a surrogate pair has no UTF-8; its escape in the source has.
         return LONE_SURROGATE.test(node.value) ? this.other(node) : this.leaf(0x70, node, node.value);
       case "NumericLiteral":
-        return isWhole(node) ? this.number(0x71, node, node.value) : this.other(node);
+        return this.number(node, node.value, 0x71, 0x7a);
       case "BooleanLiteral":
         return this.leaf(0x72, node, [Number(node.value)]);
       case "NullLiteral":
@@ -204,8 +204,8 @@ class Walk {
       case "RegExpLiteral":
         return this.leaf(0x74, node, this.source.slice(node.start, node.end));
       case "UnaryExpression":
-        if (node.operator !== "-" || !isWhole(node.argument)) return this.other(node);
-        return this.number(0x75, node, node.argument.value);
+        if (node.operator !== "-" || node.argument.type !== "NumericLiteral") return this.other(node);
+        return this.number(node, node.argument.value, 0x75, 0x7b);
       case "ArrayExpression":
         return this.field(0x76, node, () => node.elements.forEach((element) => this.arrayItem(element, node)));
       default:
@@ -213,10 +213,12 @@ class Walk {
     }
   }
 
-  number(tag, node, value) {
-    const bytes = Buffer.alloc(8);
-    bytes.writeBigUInt64BE(BigInt(value));
-    this.leaf(tag, node, bytes);
+  // The value counts and not its spelling: `1e3` is 1000, `1.50` is 1.5.
+  number(node, value, wholeTag, decimalTag) {
+    const decimal = decimalOf(value);
+    if (Number.isInteger(value) && value <= MAX_NUMBER) this.leaf(wholeTag, node, eightBytes(BigInt(value)));
+    else if (decimal) this.leaf(decimalTag, node, [...eightBytes(decimal.digits), decimal.places]);
+    else this.other(node);
   }
 
   arrayItem(node, array) {
@@ -257,7 +259,17 @@ function itemTag(node) {
   }
 }
 
-// The value counts and not its spelling: `1e3` is 1000.
-function isWhole(node) {
-  return node.type === "NumericLiteral" && Number.isInteger(node.value) && node.value <= MAX_NUMBER;
+function eightBytes(number) {
+  const bytes = Buffer.alloc(8);
+  bytes.writeBigUInt64BE(number);
+  return bytes;
+}
+
+// A number with a fraction as digits and places, those with which JavaScript prints it: the page then has the text that a
+// call would give. Where that has an exponent (`1e-7`), or too many digits, there is none.
+function decimalOf(value) {
+  const [, whole, fraction] = /^(\d+)\.(\d+)$/.exec(String(value)) ?? [];
+  if (fraction === undefined || fraction.length > MAX_PLACES) return undefined;
+  const digits = BigInt(whole + fraction);
+  return digits > MAX_DIGITS ? undefined : { digits, places: fraction.length };
 }

@@ -67,7 +67,7 @@ class Maker {
 
   value(name) {
     if (BOOLEANS.includes(name)) return this.one(["", `={${this.flag()}}`, "={true}", "={false}", `="on"`, `={${this.flag()}}`]);
-    return this.one(["", `="x &amp; y"`, `={${this.text()}}`, `={${this.below(99)}}`, `={-7}`, `={${this.one(STRINGS)}}`, `={${this.flag()}}`, "={null}", "={() => 1}"]);
+    return this.one(["", `="x &amp; y"`, `={${this.text()}}`, `={${this.below(99)}}`, `={-7}`, `={${this.decimal()}}`, `={-${this.decimal()}}`, `={${this.one(STRINGS)}}`, `={${this.flag()}}`, "={null}", "={() => 1}"]);
   }
 
   // `called`: these are the children of a call, or of a fragment that may be in one, where strings are escaped twice.
@@ -81,8 +81,13 @@ class Maker {
     if (kind < 2) return this.one(TEXTS);
     if (kind < 4) return this.tag(depth);
     if (kind === 4) return `{${this.one(called ? PLAIN_STRINGS : STRINGS)}}`;
-    if (kind === 5) return this.one(["{}", "{/* none */}", "{true}", "{null}", "{7}", "{-7}", "{7n}", "{12.50}", "{0x10}"]);
+    if (kind === 5) return this.one(["{}", "{/* none */}", "{true}", "{null}", "{7}", "{-7}", "{7n}", `{${this.decimal()}}`, `{-${this.decimal()}}`, "{0x10}"]);
     return `{${this.expression(depth)}}`;
+  }
+
+  // A number with a fraction, of any size, as it may be written.
+  decimal() {
+    return this.one(["12.50", "0.05", ".5", "1.25e1", "1e-7", "0.1234567890123456", `${this.below(1000)}.${this.below(100)}`]);
   }
 
   expression(depth) {

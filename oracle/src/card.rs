@@ -1,6 +1,7 @@
 //! 01, The card: the printed text of a page without options, with 65,536 bytes lent for each out.
 
 use crate::answer::LEAST_SCRATCH;
+use crate::decimal::{Decimal, is_decimal};
 use crate::field::{self, Node};
 use crate::judge::judge;
 
@@ -92,10 +93,10 @@ fn expression(out: &mut Vec<u8>, node: &Node) {
             out.extend(names.join(&b'.'));
         }
         0x70 | 0x81 => string(out, &node.bytes),
-        0x71 => number(out, node),
+        0x71 | 0x7a => number(out, node),
         0x72 => out.extend(if node.bytes == [1] { &b"true"[..] } else { b"false" }),
         0x73 => out.extend(b"null"),
-        0x75 => {
+        0x75 | 0x7b => {
             out.push(b'-');
             number(out, node);
         }
@@ -143,6 +144,9 @@ fn expression(out: &mut Vec<u8>, node: &Node) {
 }
 
 fn number(out: &mut Vec<u8>, node: &Node) {
+    if is_decimal(node.tag) {
+        return out.extend(Decimal::read(&node.bytes).expect("page out has decimals of pages").written().bytes());
+    }
     let value = u64::from_be_bytes(node.bytes[..].try_into().expect("a number has eight bytes"));
     out.extend(value.to_string().bytes());
 }

@@ -2,6 +2,7 @@
 //! its header (torn, then misplaced), then its depth, then its body.
 
 use crate::answer::{MOST_DEPTH, MOST_NAME, MOST_NUMBER, Refusal};
+use crate::decimal::Decimal;
 use crate::stand_ins::swc_common::{DUMMY_SP, SyntaxContext};
 use crate::stand_ins::swc_ecma_ast::*;
 
@@ -274,7 +275,7 @@ fn string(text: &str) -> Str {
 }
 
 fn is_expression(tag: u8) -> bool {
-    matches!(tag, 0x70..=0x76 | 0x79 | 0x30 | 0x31)
+    matches!(tag, 0x70..=0x76 | 0x79..=0x7b | 0x30 | 0x31)
 }
 
 fn read_one_expression(mut row: Row) -> Read<Box<Expr>> {
@@ -297,15 +298,17 @@ fn read_expression(tag: u8, row: Row) -> Read<Expr> {
             Expr::Lit(Lit::Null(Null { span: DUMMY_SP }))
         }
         0x74 => Expr::Lit(Lit::Other(row.text()?.into())),
-        0x75 => Expr::Unary(UnaryExpr {
-            span: DUMMY_SP,
-            op: UnaryOp::Minus,
-            arg: Box::new(Expr::Lit(Lit::Num(read_number(&row)?))),
-        }),
+        0x75 => minus(read_number(&row)?),
         0x76 => Expr::Array(read_array(row)?),
         0x79 => Expr::Other(read_pieces(row)?),
+        0x7a => Expr::Lit(Lit::Num(Decimal::read(row.rest)?.literal())),
+        0x7b => minus(Decimal::read(row.rest)?.literal()),
         _ => read_tag(tag, row)?,
     })
+}
+
+fn minus(number: Number) -> Expr {
+    Expr::Unary(UnaryExpr { span: DUMMY_SP, op: UnaryOp::Minus, arg: Box::new(Expr::Lit(Lit::Num(number))) })
 }
 
 fn read_number(row: &Row) -> Read<Number> {

@@ -7,10 +7,12 @@
 //! more: a bytes of text and strings, d digits of numbers, and g bytes that escaping added, at most five for each of q
 //! escaped characters (5q >= g). The second time each of the q escapes grows by four bytes (its `&`), and only white
 //! space goes, which is none of the q escaped characters. So the static string has at least g + d + q + 4q >= 2g + d
-//! bytes. A number takes 14 bytes of the page and gives at most 16 digits: a + 14d/16 <= 32,768, and with
-//! g >= 65,536 - a - d the static string has at least 131,072 - 2a - d >= 65,536 bytes.
+//! bytes. A whole number takes 14 bytes of the page and gives at most 16 digits, a decimal takes 15 and gives at most 17
+//! with its point: a + 14d/16 <= 32,768, and with g >= 65,536 - a - d the static string has at least
+//! 131,072 - 2a - d >= 65,536 bytes.
 
 use crate::answer::Refusal;
+use crate::decimal::{DECIMAL, Decimal, MINUS_DECIMAL};
 use crate::field::{begin, finish};
 use crate::stand_ins::swc_ecma_ast::*;
 
@@ -128,7 +130,7 @@ impl Writer {
         match expr {
             Expr::Lit(lit) => self.literal(lit),
             Expr::Unary(unary) => match &*unary.arg {
-                Expr::Lit(Lit::Num(number)) => self.leaf(0x75, &number_bytes(number)),
+                Expr::Lit(Lit::Num(number)) => self.number(0x75, MINUS_DECIMAL, number),
                 _ => unreachable!("a minus stands over a number"),
             },
             Expr::Array(array) => self.field(0x76, |w| w.elements(array)),
@@ -147,10 +149,18 @@ impl Writer {
     fn literal(&mut self, lit: &Lit) {
         match lit {
             Lit::Str(string) => self.leaf(0x70, string.value.to_string_lossy().as_bytes()),
-            Lit::Num(number) => self.leaf(0x71, &number_bytes(number)),
+            Lit::Num(number) => self.number(0x71, DECIMAL, number),
             Lit::Bool(boolean) => self.leaf(0x72, &[boolean.value.into()]),
             Lit::Null(_) => self.leaf(0x73, &[]),
             Lit::Other(text) => self.leaf(0x74, text.as_bytes()),
+        }
+    }
+
+    /// A number as it came: a decimal with its digits and places, else a whole number.
+    fn number(&mut self, whole: u8, decimal: u8, number: &Number) {
+        match Decimal::of(number) {
+            Some(own) => self.leaf(decimal, &own.bytes()),
+            None => self.leaf(whole, &(number.value as u64).to_be_bytes()),
         }
     }
 
@@ -236,8 +246,4 @@ fn string_of(expr: &Expr) -> String {
         Expr::Lit(Lit::Str(string)) => string.value.to_string_lossy().into_owned(),
         _ => unreachable!("a string stands here"),
     }
-}
-
-fn number_bytes(number: &Number) -> [u8; 8] {
-    (number.value as u64).to_be_bytes()
 }

@@ -20,7 +20,8 @@ pub fn byte_strings(most: usize, each: &mut impl FnMut(&[u8])) {
 
 /// Calls `each` with every page of exactly `fields` fields (01 and all others counted) whose leaves are drawn from a
 /// few bodies: the names `i`, `br`, `F` and `a.b`, `a:b`; the attributes `a`, `key`, `open` and `a:b`; the texts `x`
-/// and white space; `<` as a string and as an attribute's string; one number, both booleans, one other literal.
+/// and white space; `<` as a string and as an attribute's string; one whole number and one decimal, both with a minus
+/// too; both booleans, one other literal.
 pub fn small_pages(fields: usize, each: &mut impl FnMut(&[u8])) {
     let Some(inside) = fields.checked_sub(1) else { return };
     let trees = Trees::up_to(inside);
@@ -127,8 +128,9 @@ impl Trees {
     }
 
     fn make_expressions(&self, n: usize) -> Vec<Vec<u8>> {
-        let one = [string("<"), number(7), boolean(false), boolean(true), null(), literal("1n"), minus(7)];
-        let mut out = leaves(n, &one);
+        let numbers = [number(7), minus(7), decimal(1250, 2), minus_decimal(5, 2)];
+        let others = [string("<"), boolean(false), boolean(true), null(), literal("1n")];
+        let mut out = leaves(n, &[&numbers[..], &others].concat());
         rows(&self.elements, n - 1, &mut vec![], &mut |row| out.push(array(row)));
         rows(&self.pieces, n - 1, &mut vec![], &mut |row| out.push(other(row)));
         out.extend(self.tags[n].clone());

@@ -9,6 +9,7 @@ pub mod answer;
 pub mod arms;
 pub mod card;
 pub mod compare;
+pub mod decimal;
 pub mod decode;
 pub mod demand3;
 pub mod encode;
@@ -19,6 +20,7 @@ pub mod judge;
 pub mod kept;
 pub mod make;
 pub mod marks;
+pub mod reached;
 pub mod show;
 pub mod shrink;
 #[cfg_attr(not(jsx_source), allow(unused))]
@@ -26,6 +28,7 @@ pub mod stand_ins;
 pub mod sweep;
 pub mod transform;
 pub mod vectors;
+pub mod writing;
 
 #[cfg(jsx_source)]
 #[allow(clippy::all, dead_code)]

@@ -1,5 +1,6 @@
 //! Pages and options by hand, for tests and marks. Each function gives the bytes of one field.
 
+use crate::decimal::Decimal;
 use crate::field::{begin, finish};
 
 pub fn field(tag: u8, body: &[u8]) -> Vec<u8> {
@@ -118,6 +119,15 @@ pub fn literal(text: &str) -> Vec<u8> {
 
 pub fn minus(value: u64) -> Vec<u8> {
     field(0x75, &value.to_be_bytes())
+}
+
+/// 02, A2: digits over a power of ten.
+pub fn decimal(digits: u64, places: u8) -> Vec<u8> {
+    field(0x7a, &Decimal { digits, places }.bytes())
+}
+
+pub fn minus_decimal(digits: u64, places: u8) -> Vec<u8> {
+    field(0x7b, &Decimal { digits, places }.bytes())
 }
 
 pub fn array(elements: &[Vec<u8>]) -> Vec<u8> {

@@ -1,5 +1,6 @@
 //! Any bytes as indented fields, one on a line, with what they are. What is no field is shown as bytes.
 
+use crate::decimal::Decimal;
 use crate::field::{Body, body_of};
 use std::fmt::Write;
 
@@ -50,6 +51,7 @@ fn line(out: &mut String, indent: usize, text: &str) {
 fn leaf(tag: u8, body: &[u8]) -> String {
     match (tag, body, std::str::from_utf8(body)) {
         (0x71 | 0x75, _, _) if body.len() == 8 => u64::from_be_bytes(body.try_into().expect("eight bytes")).to_string(),
+        (0x7a | 0x7b, _, _) => Decimal::read(body).map_or(hex(body), Decimal::with_all_places),
         (0x13 | 0x73 | 0x78 | 0x83, [], _) => String::new(),
         (0x71..=0x73 | 0x75 | 0x78, _, _) | (_, _, Err(_)) => hex(body),
         (_, _, Ok(text)) if text.len() > 200 => {
@@ -99,6 +101,8 @@ fn what(tag: u8) -> &'static str {
         0x77 => "array spread",
         0x78 => "hole",
         0x79 => "other",
+        0x7a => "decimal",
+        0x7b => "minus decimal",
         0x80 => "template",
         0x81 => "string out",
         0x82 => "import",

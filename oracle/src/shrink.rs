@@ -1,5 +1,5 @@
-//! Makes a case that shows something small: fields go, are replaced by what stands in them, leaves shrink, lent bytes
-//! become plain. A change is kept where the case still shows it; what is left can lose no single part.
+//! Makes a case that shows something small: fields go, are replaced by what stands in them, leaves shrink, numbers get
+//! zeros, lent bytes become plain. A change is kept where the case still shows it; what is left can lose no single part.
 
 use crate::answer::LEAST_SCRATCH;
 use crate::field::{self, Node, at_nth};
@@ -78,11 +78,26 @@ fn changed(row: &[Node], place: usize, mut change: impl FnMut(&mut Vec<Node>, us
 }
 
 fn shrink_leaf(row: &mut Vec<Node>, place: usize, shows: &dyn Fn(&[Node]) -> bool) {
-    let mut bytes = vec![];
-    at_nth(row, &mut { place }, &mut |row, i| bytes = row[i].bytes.clone());
+    let (mut tag, mut bytes) = (0, vec![]);
+    at_nth(row, &mut { place }, &mut |row, i| (tag, bytes) = (row[i].tag, row[i].bytes.clone()));
     let with = |bytes: &[u8]| changed(row, place, |row, i| row[i].bytes = bytes.to_vec());
-    let small = smaller_bytes(&bytes, &|bytes| shows(&with(&bytes)));
+    let mut small = smaller_bytes(&bytes, &|bytes| shows(&with(&bytes)));
+    // A number keeps its length, so that it is made small by zeros.
+    if matches!(tag, 0x71 | 0x75 | 0x7a | 0x7b) {
+        small = zeroed(small, &|bytes| shows(&with(bytes)));
+    }
     *row = with(&small);
+}
+
+/// A zero in place of each byte, where the case still shows it.
+fn zeroed(mut bytes: Vec<u8>, shows: &dyn Fn(&[u8]) -> bool) -> Vec<u8> {
+    for at in 0..bytes.len() {
+        let before = std::mem::take(&mut bytes[at]);
+        if before != 0 && !shows(&bytes) {
+            bytes[at] = before;
+        }
+    }
+    bytes
 }
 
 /// Long runs of bytes go first, then shorter ones.

@@ -1,4 +1,4 @@
-//! Many seeds in a row: demand 3 and A9 on every accepted page, and what the seeds reached.
+//! Many seeds in a row: demand 3, A9 and A2's writing on every accepted page, and what the seeds reached.
 
 use crate::answer::{LEAST_SCRATCH, NUMBERS, RESERVED, Refusal};
 use crate::arms;
@@ -10,9 +10,11 @@ use crate::generate::rng::Rng;
 use crate::generate::{self, Case};
 use crate::judge::{outcome, outcome_and_copy, outcome_with, settle};
 use crate::kept::{self, PLACES};
+use crate::reached::Decimals;
 use crate::show::show;
 use crate::shrink::shrink;
 use crate::transform::Copy;
+use crate::writing;
 use std::fmt::Write;
 use std::time::Instant;
 
@@ -39,7 +41,8 @@ pub struct Report {
     pub patched: u64,
     pub patched_accepted: u64,
     pub kept: kept::Counts,
-    /// Of demand 3 or of A9.
+    pub decimals: Decimals,
+    /// Of demand 3, of A9 or of A2's writing.
     pub violations: u64,
     pub arms: bool,
 }
@@ -58,6 +61,7 @@ impl Report {
             patched: 0,
             patched_accepted: 0,
             kept: kept::Counts::default(),
+            decimals: Decimals::new(),
             violations: 0,
             arms,
         }
@@ -87,7 +91,8 @@ impl Report {
             }
         }
         line(format!("expressions kept {}; lost: {}", self.kept.kept, lost(&self.kept)));
-        line(format!("violations of demand 3 and A9: {}", self.violations));
+        line(self.decimals.table().trim_end().to_string());
+        line(format!("violations of demand 3, A9 and A2: {}", self.violations));
         out
     }
 
@@ -100,7 +105,8 @@ impl Report {
 impl Report {
     /// Where the seeds reached less than a generator must: in a million seeds every answer 100 times, 40 % accepted, 2 %
     /// accepted by the patched copy, 1 % over 16 KB, 1 % deeper than 40, in each of A9's places 1,000 expressions lost,
-    /// every live arm 1,000 times and no dead one; as much less for fewer seeds.
+    /// in each place, of each kind and for each refusal 500 decimals, every live arm 1,000 times and no dead one; as much
+    /// less for fewer seeds.
     pub fn shortfalls(&self) -> Vec<String> {
         let due = |in_a_million: u64| self.seeds * in_a_million / 1_000_000;
         let mut out = vec![];
@@ -118,6 +124,9 @@ impl Report {
         need("deeper than 40".into(), self.deep, due(10_000));
         for place in PLACES {
             need(format!("lost as {place:?}"), self.kept.lost_in(place), due(1_000));
+        }
+        for (what, reached) in self.decimals.all() {
+            need(what, reached, due(500));
         }
         if self.arms {
             for (arm, (line, ..)) in arms::ARMS.iter().enumerate() {
@@ -187,6 +196,7 @@ fn one(seed: u64, settings: &Settings, report: &mut Report, lent: &mut Lent) {
     report.bytes += case.page.len() as u64;
     report.large += u64::from(case.page.len() > 16 * 1024);
     report.deep += u64::from(field::depth(&case.page) > 40);
+    report.decimals.meet(&case.page, &case.options, &outcome);
     if let Ok(output) = &outcome {
         report.templates += output.count as u64;
         count_tags(&case.page, &mut report.tags_in);
@@ -221,10 +231,13 @@ fn lent_right(number: u32, templates: usize, page: usize, lent: &Lent) -> bool {
 
 /// What is wrong with the outputs of an accepted page, or how many of its expressions were kept and lost.
 fn check(page: &[u8], options: &[u8], output: &Output, seed: u64) -> Result<kept::Counts, String> {
-    match demand3::violation(&output.templates, &output.page, output.count, &mut Rng::new(!seed)) {
-        Some(words) => Err(format!("demand 3: {words}")),
-        None => kept::compare(page, options, &output.page).map_err(|words| format!("A9: {words}")),
+    if let Some(words) = demand3::violation(&output.templates, &output.page, output.count, &mut Rng::new(!seed)) {
+        return Err(format!("demand 3: {words}"));
     }
+    if let Some(words) = writing::page_difference(page) {
+        return Err(format!("A2: {words}"));
+    }
+    kept::compare(page, options, &output.page).map_err(|words| format!("A9: {words}"))
 }
 
 fn print_violation(seed: u64, case: &Case, words: &str) {

@@ -1,6 +1,7 @@
 //! Stored answers of the judge: one call on a line (oracle/README.md describes the fields).
 
 use crate::answer::{Answer, NUMBERS};
+use crate::decimal::bodies;
 use crate::generate::{self, Case};
 use crate::judge::{outcome_and_copy, settle};
 use crate::marks;
@@ -111,7 +112,7 @@ const LONG_LINE: usize = 20_000;
 
 /// How many seeds of each answer are stored, and how long their lines may be. 2 and 11 need long inputs; 9 is reserved.
 const QUOTAS: [(usize, usize); NUMBERS] = [
-    (1450, 800),
+    (1050, 800),
     (60, 600),
     (3, 9000),
     (200, 700),
@@ -127,16 +128,17 @@ const QUOTAS: [(usize, usize); NUMBERS] = [
     (120, 700),
 ];
 
-/// The same for seeds that are accepted by the patched copy.
+/// The same for seeds that are accepted by the patched copy, and for accepted ones with decimals.
 const PATCHED_QUOTA: (usize, usize) = (100, 900);
+const DECIMAL_QUOTA: (usize, usize) = (250, 800);
 
 /// The marks, then seeds from 0 on until each answer has its share.
 pub fn sample() -> Vec<Vector> {
     let marks = marks::all().into_iter().map(|mark| Vector::of(&mark.name, &mark.case));
     let stored = |v: &Vector| v.line().len() <= LONG_LINE || LONG_MARKS.contains(&&v.name[..]);
     let mut sample: Vec<Vector> = marks.filter(stored).collect();
-    // The share of the patched copy stands behind those of the numbers.
-    let quotas: Vec<(usize, usize)> = QUOTAS.into_iter().chain([PATCHED_QUOTA]).collect();
+    // These two shares stand behind those of the numbers.
+    let quotas: Vec<(usize, usize)> = QUOTAS.into_iter().chain([PATCHED_QUOTA, DECIMAL_QUOTA]).collect();
     let mut left: Vec<usize> = quotas.iter().map(|(count, _)| *count).collect();
     for seed in 0.. {
         if left.iter().all(|n| *n == 0) {
@@ -145,6 +147,7 @@ pub fn sample() -> Vec<Vector> {
         let (vector, copy) = Vector::and_copy_of(&format!("seed-{seed}"), &generate::case(seed));
         let share = match vector.answer.number {
             0 if copy == Some(Copy::Patched) => NUMBERS,
+            0 if !bodies(&vector.page).is_empty() => NUMBERS + 1,
             number => number as usize,
         };
         if left[share] > 0 && vector.line().len() <= quotas[share].1 {

@@ -1,9 +1,11 @@
 //! The checks of demand 3 find what is wrong: outputs of accepted pages, damaged one way at a time.
 
+use oracle::answer::LEAST_SCRATCH;
+use oracle::decimal::{Decimal, bodies};
 use oracle::demand3::{violation, well_nested};
 use oracle::field::{Node, read, write};
 use oracle::generate::rng::Rng;
-use oracle::generate::{self, Case};
+use oracle::generate::{self, Case, Room};
 use oracle::judge::outcome_and_copy;
 use oracle::make::*;
 use oracle::shrink::shrink;
@@ -107,4 +109,15 @@ fn the_shrinker_finds_a_small_page() {
         let small = shrink(case, shows);
         assert!(small.page.len() <= smallest, "{what}: {}", oracle::show::show(&small.page));
     }
+}
+
+#[test]
+#[cfg_attr(not(jsx_source), ignore = "jsx_precompile.rs is not there")]
+fn the_shrinker_makes_numbers_plain() {
+    let over = [decimal(123_456, 200), element("i", &[])];
+    let page = page_of(element("p", &[text("t"), braces(array(&over)), braces(minus_decimal(7, 1))]));
+    let (scratch, room) = (LEAST_SCRATCH, Room::Exact);
+    let case = Case { page, options: vec![], scratch, templates_room: room, page_room: room };
+    let small = shrink(case, |case| outcome(&case.page, &[]) == Err(Refusal::NumberTooLarge));
+    assert_eq!(bodies(&small.page), [Decimal { digits: 0, places: 200 }.bytes()]);
 }

@@ -1,6 +1,8 @@
 //! The text rules of 01, written again from its words alone, against the Rust on random texts.
 
+use oracle::decimal::Decimal;
 use oracle::field::read;
+use oracle::generate::decimals;
 use oracle::generate::names::{AttributeNames, attribute_names, listed_in};
 use oracle::generate::rng::Rng;
 use oracle::generate::texts::{self, WHITE_SPACE};
@@ -119,20 +121,22 @@ fn short_texts_of_line_ends() {
     println!("{count} texts");
 }
 
-/// A child of a run: a text, a string, a number, a boolean, or empty braces.
+/// A child of a run: a text, a string, a number, a decimal, a boolean, or empty braces.
 enum Child {
     Text(String),
     Str(String),
     Num(u64),
+    Decimal(Decimal),
     Bool,
     Empty,
 }
 
 fn random_children(rng: &mut Rng, least: usize) -> Vec<Child> {
-    let one = |rng: &mut Rng| match rng.below(6) {
+    let one = |rng: &mut Rng| match rng.below(7) {
         0..=1 => Child::Text(random_text(rng)),
         2..=3 => Child::Str(random_text(rng)),
         4 => Child::Num(rng.draw() % (1 << 53)),
+        5 => Child::Decimal(decimals::decimal(rng)),
         _ if rng.chance(50) => Child::Bool,
         _ => Child::Empty,
     };
@@ -144,6 +148,7 @@ fn field_of(child: &Child) -> Vec<u8> {
         Child::Text(t) => text(t),
         Child::Str(s) => braces(string(s)),
         Child::Num(n) => braces(number(*n)),
+        Child::Decimal(d) => braces(decimal(d.digits, d.places)),
         Child::Bool => braces(boolean(true)),
         Child::Empty => empty_braces(),
     }
@@ -160,6 +165,7 @@ fn merged(children: &[Child], escape_texts: bool, trim_last: bool) -> String {
             }
             Child::Str(s) => out.push_str(&escaped(s)),
             Child::Num(n) => out.push_str(&n.to_string()),
+            Child::Decimal(d) => out.push_str(&d.written()),
             Child::Bool | Child::Empty => {}
         }
     }

@@ -2,9 +2,10 @@
 
 use oracle::answer::{NUMBERS, RESERVED};
 use oracle::judge::{outcome_and_copy, outcome_with};
+use oracle::reached::Decimals;
 use oracle::transform::Copy;
 use oracle::vectors::Vector;
-use oracle::{arms, judge, marks};
+use oracle::{arms, judge, marks, outcome};
 use std::collections::HashSet;
 
 const STORED: &str = include_str!("../../crates/replay/stdin");
@@ -66,4 +67,17 @@ fn the_patched_copy_has_its_share() {
     let accepted = stored().iter().filter(|v| v.answer.number == 0 && patched(v)).count();
     println!("{accepted} accepted by the patched copy");
     assert!(accepted >= 100, "{accepted}");
+}
+
+/// In every place where a decimal may stand, of every kind, and refused for each reason.
+#[test]
+#[cfg_attr(not(jsx_source), ignore = "jsx_precompile.rs is not there")]
+fn decimals_have_their_share() {
+    let mut decimals = Decimals::new();
+    for vector in stored() {
+        decimals.meet(&vector.page, &vector.options, &outcome(&vector.page, &vector.options));
+    }
+    print!("{}", decimals.table());
+    let missing: Vec<String> = decimals.all().into_iter().filter(|(_, n)| *n == 0).map(|(what, _)| what).collect();
+    assert!(missing.is_empty(), "{missing:?}");
 }

@@ -166,6 +166,8 @@ impl<'p, 'a> Print<'p, 'a> {
             Expression::Minus(number) => self.text(&format!("-{number}")),
             Expression::Array(items) => self.array(items),
             Expression::Other(pieces) => self.other(pieces, false),
+            Expression::Decimal(decimal) => self.text(&decimal.to_string()),
+            Expression::MinusDecimal(decimal) => self.text(&format!("-{decimal}")),
             Expression::Call(Call::Choice(choice)) => self.choice(choice),
             Expression::Call(call) => self.call(call),
         }

@@ -28,6 +28,7 @@ mod calls;
 pub use calls::{AttrCall, Call, CalledName, Choice, EscapeCall, JsxCall, Prop, TemplateCall};
 
 use crate::check::{Fault, Input, check};
+use crate::decimal::Decimal;
 use crate::field::{Field, Fields};
 use std::fmt;
 
@@ -478,6 +479,10 @@ pub enum Expression<'a> {
     Array(Series<'a, ArrayItem<'a>>),
     /// 79: any other expression.
     Other(Series<'a, Piece<'a>>),
+    /// 7a: digits and places as they came in.
+    Decimal(Decimal),
+    /// 7b: a minus before a decimal.
+    MinusDecimal(Decimal),
     /// 90 to 94.
     Call(Call<'a>),
 }
@@ -491,6 +496,8 @@ fn expression(field: Field) -> Expression {
         0x75 => Expression::Minus(field.whole_number()),
         0x76 => Expression::Array(Series { fields: field.inner(), read: array_item }),
         0x79 => Expression::Other(pieces(field)),
+        0x7a => Expression::Decimal(field.decimal()),
+        0x7b => Expression::MinusDecimal(field.decimal()),
         0x90 => Expression::Call(Call::Template(TemplateCall(field))),
         0x91 => Expression::Call(Call::Attr(AttrCall(field))),
         0x92 => Expression::Call(Call::Escape(EscapeCall(field))),

@@ -95,6 +95,8 @@ fn expression(inside: &Expression) -> String {
             format!("[{}{end}]", items.iter().map(array_item).collect::<Vec<_>>().join(", "))
         }
         Expression::Other(inside) => pieces(inside),
+        Expression::Decimal(decimal) => decimal.to_string(),
+        Expression::MinusDecimal(decimal) => format!("-{decimal}"),
         Expression::Element(inside) => element(inside),
         Expression::Fragment(inside) => fragment(inside),
     }

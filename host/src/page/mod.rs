@@ -25,6 +25,7 @@ mod read;
 pub(crate) mod write;
 
 use crate::check::Fault;
+use crate::decimal::{Decimal, DecimalError};
 use write::WriteError;
 
 /// A module: its items in order. Document 01's field 01.
@@ -435,12 +436,16 @@ pub enum Child {
 ///
 /// assert_eq!(Expression::from(Element::new("i")), Expression::Element(Element::new("i")));
 /// assert_eq!(Expression::from(Fragment::new()), Expression::Fragment(Fragment::new()));
+/// let price: jsx_precompile::Decimal = "12.5".parse()?;
+/// assert_eq!(Expression::from(price), Expression::Decimal(price));
+/// # Ok::<(), jsx_precompile::DecimalError>(())
 /// ```
 #[derive(Clone, Debug, PartialEq, Eq)]
 pub enum Expression {
     /// 70: the value of a string literal.
     String(String),
-    /// 71: a whole number up to [`MAX_NUMBER`](crate::limits::MAX_NUMBER); others go into [`Expression::Other`].
+    /// 71: a whole number up to [`MAX_NUMBER`](crate::limits::MAX_NUMBER). One with a fraction is an
+    /// [`Expression::Decimal`]; what neither holds goes into [`Expression::Other`].
     Number(u64),
     /// 72.
     Boolean(bool),
@@ -454,6 +459,10 @@ pub enum Expression {
     Array(Vec<ArrayItem>),
     /// 79: any other expression.
     Other(Vec<Piece>),
+    /// 7a: a number with places behind its point, such as a price.
+    Decimal(Decimal),
+    /// 7b: a minus before a decimal.
+    MinusDecimal(Decimal),
     /// 30.
     Element(Element),
     /// 31.
@@ -470,6 +479,46 @@ impl Expression {
     /// ```
     pub fn source(text: impl Into<String>) -> Expression {
         Expression::Other(vec![Piece::Source(text.into())])
+    }
+
+    /// An [`Expression::Decimal`] of these digits, with the point so many places before their end; an error where
+    /// [`Decimal::new`] gives one.
+    ///
+    /// ```
+    /// use jsx_precompile::page::{Element, Expression, Item, Page};
+    /// use jsx_precompile::{DecimalError, limits::MAX_DIGITS};
+    ///
+    /// // <b>{12.5}</b>
+    /// let price = Element::new("b").child(Expression::decimal(1250, 2)?);
+    /// assert_eq!(Page::new([Item::statement([price.into()])]).to_jsx(), "<b>{12.5}</b>\n");
+    /// assert!(matches!(Expression::decimal(MAX_DIGITS + 1, 2), Err(DecimalError::TooManyDigits(_))));
+    /// # Ok::<(), DecimalError>(())
+    /// ```
+    pub fn decimal(digits: u64, places: u8) -> Result<Expression, DecimalError> {
+        Decimal::new(digits, places).map(Expression::Decimal)
+    }
+
+    /// An [`Expression::Decimal`], or with a minus in front an [`Expression::MinusDecimal`], from its text, its places as
+    /// they are written; an error that says why where the text is no decimal, or cannot be held.
+    ///
+    /// ```
+    /// use jsx_precompile::page::Expression;
+    ///
+    /// assert_eq!(Expression::parse_decimal("12.5"), Expression::decimal(125, 1));
+    /// assert_eq!(Expression::parse_decimal("-0.05"), Ok(Expression::MinusDecimal("0.05".parse()?)));
+    /// let error = Expression::parse_decimal("-1e-3").unwrap_err();
+    /// assert_eq!(error.to_string(), "\"-1e-3\" is no decimal: only digits and one point may stand in it");
+    /// # Ok::<(), jsx_precompile::DecimalError>(())
+    /// ```
+    pub fn parse_decimal(text: &str) -> Result<Expression, DecimalError> {
+        let read = match text.strip_prefix('-') {
+            Some(behind) => behind.parse().map(Expression::MinusDecimal),
+            None => text.parse().map(Expression::Decimal),
+        };
+        read.map_err(|error| match error {
+            DecimalError::NoDecimal(_, reason) => DecimalError::NoDecimal(text.to_string(), reason),
+            error => error,
+        })
     }
 }
 
@@ -524,6 +573,7 @@ from! {
     Expression {
         Element => Expression::Element,
         Fragment => Expression::Fragment,
+        Decimal => Expression::Decimal,
     }
     ArrayItem {
         Expression => ArrayItem::Expression,

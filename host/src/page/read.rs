@@ -109,6 +109,8 @@ fn expression(field: Field) -> Expression {
         0x75 => Expression::Minus(field.whole_number()),
         0x76 => Expression::Array(field.inner().map(array_item).collect()),
         0x79 => Expression::Other(pieces(field)),
+        0x7a => Expression::Decimal(field.decimal()),
+        0x7b => Expression::MinusDecimal(field.decimal()),
         0x30 => Expression::Element(element(field)),
         0x31 => Expression::Fragment(fragment(field)),
         _ => Expression::Null,

@@ -200,6 +200,8 @@ impl Writer {
             Expression::Minus(number) => self.number(0x75, *number),
             Expression::Array(items) => self.field(0x76, |w| items.iter().try_for_each(|item| w.array_item(item))),
             Expression::Other(pieces) => self.field(0x79, |w| w.pieces(pieces)),
+            Expression::Decimal(decimal) => self.leaf(0x7a, &decimal.to_bytes()),
+            Expression::MinusDecimal(decimal) => self.leaf(0x7b, &decimal.to_bytes()),
             Expression::Element(element) => self.element(element),
             Expression::Fragment(fragment) => self.fragment(fragment),
         }

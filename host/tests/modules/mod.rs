@@ -1,7 +1,7 @@
 //! Pages whose source text is JavaScript, and their modules by another printer: one that puts everything in parentheses.
 
 use jsx_precompile::page::*;
-use jsx_precompile::{Forms, out};
+use jsx_precompile::{Decimal, Forms, out};
 use oracle::generate::rng::Rng;
 
 /// A page that makes a value `r`.
@@ -101,16 +101,18 @@ fn children(rng: &mut Rng, depth: usize) -> Vec<Child> {
 }
 
 fn expression(rng: &mut Rng, depth: usize) -> Expression {
-    match rng.below(if depth == 0 { 11 } else { 15 }) {
+    match rng.below(if depth == 0 { 13 } else { 17 }) {
         0 => Expression::String("a\"\\\u{2029}\0".to_string()),
         1 => Expression::Number(7),
         2 => Expression::Minus(rng.below(2) as u64),
         3 => Expression::Boolean(rng.chance(50)),
         4 => Expression::Null,
         5 => Expression::Literal(rng.pick(&["/a,b/g", "5n"]).to_string()),
-        6..11 => Expression::source(SOURCES[rng.below(SOURCES.len())]),
-        11 => Expression::Array((0..rng.below(4)).map(|_| array_item(rng, depth - 1)).collect()),
-        12 => match tag(rng, depth - 1) {
+        6 => Expression::decimal(rng.below(2000) as u64, rng.below(4) as u8).expect("within its limits"),
+        7 => Expression::parse_decimal(rng.pick(&["-0.0", "-0.05", "-12.50"])).expect("a decimal"),
+        8..13 => Expression::source(SOURCES[rng.below(SOURCES.len())]),
+        13 => Expression::Array((0..rng.below(4)).map(|_| array_item(rng, depth - 1)).collect()),
+        14 => match tag(rng, depth - 1) {
             Piece::Element(element) => element.into(),
             Piece::Fragment(fragment) => fragment.into(),
             Piece::Source(text) => Expression::source(text),
@@ -174,9 +176,16 @@ fn value(expression: out::Expression) -> String {
             format!("[{}]", items.map(item).collect::<String>())
         }
         out::Expression::Other(inside) => pieces(inside),
+        out::Expression::Decimal(decimal) => exponent(decimal),
+        out::Expression::MinusDecimal(decimal) => format!("-{}", exponent(decimal)),
         out::Expression::Call(inside) => call(inside),
     };
     format!("({inside}\n)")
+}
+
+/// A decimal by another way than the printer's.
+fn exponent(decimal: Decimal) -> String {
+    format!("{}e-{}", decimal.digits(), decimal.places())
 }
 
 fn call(call: out::Call) -> String {

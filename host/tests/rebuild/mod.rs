@@ -1,5 +1,6 @@
 //! The bytes of both outputs again, from nothing but what the typed readers give.
 
+use jsx_precompile::Decimal;
 use jsx_precompile::out::*;
 use oracle::make::{field, row};
 
@@ -48,8 +49,14 @@ fn expression(expression: Expression) -> Vec<u8> {
         Expression::Minus(number) => field(0x75, &number.to_be_bytes()),
         Expression::Array(items) => row(0x76, &items.map(array_item).collect::<Vec<_>>()),
         Expression::Other(inside) => pieces(0x79, inside),
+        Expression::Decimal(decimal) => field(0x7a, &decimal_body(decimal)),
+        Expression::MinusDecimal(decimal) => field(0x7b, &decimal_body(decimal)),
         Expression::Call(inside) => call(inside),
     }
+}
+
+fn decimal_body(decimal: Decimal) -> Vec<u8> {
+    [&decimal.digits().to_be_bytes()[..], &[decimal.places()]].concat()
 }
 
 fn array_item(item: ArrayItem) -> Vec<u8> {

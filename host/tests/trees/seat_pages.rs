@@ -16,6 +16,7 @@ pub fn all() -> Vec<Example> {
         Example::new("controls", controls()),
         Example::new("plan", plan()),
         Example::new("values", values()),
+        Example::new("prices", prices()),
         Example::new("module", module()),
         Example::new("no-tags", no_tags()),
         damaged(),
@@ -28,6 +29,10 @@ fn yes() -> Expression {
 
 fn no() -> Expression {
     Expression::Boolean(false)
+}
+
+fn decimal(text: &str) -> Expression {
+    Expression::parse_decimal(text).expect("a decimal")
 }
 
 fn other(pieces: impl IntoIterator<Item = Piece>) -> Expression {
@@ -169,7 +174,7 @@ fn controls() -> Page {
 fn plan() -> Page {
     let seat = Element::new("use")
         .attribute("xlink:href", "#seat")
-        .attribute("fillOpacity", code("0.5"))
+        .attribute("fillOpacity", decimal("0.5"))
         .attribute("onClick", code("() => take(id)"));
     const_a(
         Element::new("svg")
@@ -198,6 +203,8 @@ fn values() -> Page {
             .attribute("row", Expression::Array(row))
             .attribute("most", Expression::Number(MAX_NUMBER))
             .attribute("data-floor", Expression::Minus(0))
+            .attribute("price", decimal("12.5"))
+            .attribute("less", decimal("-0.05"))
             .attribute("xml:lang", "en")
             .attribute("code", Expression::Literal("/^[A-Z]\\d+$/".to_string()))
             .attribute("none", Expression::Null)
@@ -207,6 +214,28 @@ fn values() -> Page {
             .attribute("icon", Expression::from(Element::new("i")))
             .attribute("left", other(["n > 1 && ".into(), Element::new("b").child(code("n")).into()])),
     )
+}
+
+/// Prices as text, as attributes, and handed on to a component, one with a minus.
+fn prices() -> Page {
+    let row = |name: &str, price: Element| Element::new("tr").child(Element::new("th").text(name)).child(price);
+    let cell =
+        |text: &str| Element::new("td").attribute("data-price", decimal(text)).text("\u{a3}").child(decimal(text));
+    let pillar = Element::new("Price").attribute("of", decimal("12.5")).attribute("less", decimal("-1.25"));
+    let list = Element::new("table")
+        .attribute("class", "prices")
+        .text("\n    ")
+        .child(Element::new("caption").text("Prices, ").child(code("day")))
+        .text("\n    ")
+        .child(row("Stalls", cell("12.5")))
+        .text("\n    ")
+        .child(row("Balcony", cell("9.05")))
+        .text("\n    ")
+        .child(row("Standing", cell("0.75")))
+        .text("\n    ")
+        .child(row("Behind a pillar", Element::new("td").child(pillar)))
+        .text("\n  ");
+    Page::new([Item::export(["export function Prices({ day }) {\n  return ".into(), list.into(), ";\n}".into()])])
 }
 
 /// All kinds of items: the templates stand before the first that is no import.

@@ -1,11 +1,13 @@
 //! Damaged copies: a page or options changed in one or two places, as fields or as bytes.
 
+use super::decimals;
 use super::rng::Rng;
 use crate::field::{self, Node, at_nth};
 
-const TAGS: [u8; 38] = [
+const TAGS: [u8; 40] = [
     0x00, 0x01, 0x02, 0x03, 0x04, 0x10, 0x11, 0x12, 0x13, 0x20, 0x30, 0x31, 0x40, 0x41, 0x42, 0x50, 0x51, 0x52, 0x53,
-    0x60, 0x61, 0x70, 0x71, 0x72, 0x73, 0x74, 0x75, 0x76, 0x77, 0x78, 0x79, 0x80, 0x81, 0x90, 0x94, 0x95, 0x7a, 0xff,
+    0x60, 0x61, 0x70, 0x71, 0x72, 0x73, 0x74, 0x75, 0x76, 0x77, 0x78, 0x79, 0x7a, 0x7b, 0x7c, 0x80, 0x81, 0x90, 0x94,
+    0x95, 0xff,
 ];
 
 const BAD_TEXTS: [&[u8]; 12] = [
@@ -40,6 +42,26 @@ pub fn damaged(rng: &mut Rng, bytes: &[u8]) -> Vec<u8> {
         damage_bytes(rng, &mut out);
     }
     out
+}
+
+/// With another body in one of its numbers, where it has one; now and then that is a number still.
+pub fn with_number(rng: &mut Rng, bytes: &[u8]) -> Vec<u8> {
+    let Some(mut row) = field::read(bytes) else { return bytes.to_vec() };
+    let mut places = vec![];
+    let mut place = 0;
+    for node in &row {
+        node.each(&mut |node| {
+            if matches!(node.tag, 0x71 | 0x75 | 0x7a | 0x7b) {
+                places.push(place);
+            }
+            place += 1;
+        });
+    }
+    if !places.is_empty() {
+        let mut one = places[rng.below(places.len())];
+        at_nth(&mut row, &mut one, &mut |row, i| damage_leaf(rng, &mut row[i]));
+    }
+    field::write(&row)
 }
 
 fn damage_bytes(rng: &mut Rng, out: &mut Vec<u8>) {
@@ -93,6 +115,7 @@ fn damage_leaf(rng: &mut Rng, node: &mut Node) {
             let near = 1_u64 << 53;
             node.bytes = (near - 2 + rng.below(4) as u64).to_be_bytes().to_vec();
         }
+        0x7a | 0x7b => node.bytes = decimals::at_bounds(rng),
         0x72 => node.bytes = vec![rng.below(4) as u8],
         0x71 | 0x73 | 0x75 | 0x78 | 0x13 => node.bytes.push(0),
         0x20 | 0x51 | 0x60 | 0x70 | 0x74 | 0x04 => {

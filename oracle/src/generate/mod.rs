@@ -2,6 +2,7 @@
 //! small ones and those at each limit.
 
 pub mod damage;
+pub mod decimals;
 pub mod long;
 pub mod names;
 pub mod options;
@@ -86,7 +87,7 @@ fn inputs(rng: &mut Rng) -> (Vec<u8>, Vec<u8>) {
     }
 }
 
-/// A page of the given shape with options; three in ten of them damaged.
+/// A page of the given shape with options; three in ten of them damaged, some of these in a number.
 fn usual(rng: &mut Rng, mut shape: Shape) -> (Vec<u8>, Vec<u8>) {
     if rng.chance(48) {
         shape.few_names = Some((0..rng.within(1, 4)).map(|_| few(rng)).collect());
@@ -94,9 +95,10 @@ fn usual(rng: &mut Rng, mut shape: Shape) -> (Vec<u8>, Vec<u8>) {
     let listed = shape.few_names.clone();
     let mut page = page::page(rng, shape);
     let mut options = options::options(rng, listed.as_deref());
-    match rng.weighted(&[70, 25, 5]) {
+    match rng.weighted(&[70, 23, 2, 5]) {
         0 => {}
         1 => page = damage::damaged(rng, &page),
+        2 => page = damage::with_number(rng, &page),
         _ => options = damage::damaged(rng, &options),
     }
     (page, options)

@@ -1,5 +1,6 @@
 //! Random pages that meet the grammar of 01. Bytes are written at once, lengths afterwards.
 
+use super::decimals;
 use super::names;
 use super::rng::Rng;
 use super::texts;
@@ -238,8 +239,11 @@ impl Maker<'_> {
 
     /// An expression at `depth`, which the depth allows.
     fn expression(&mut self, depth: usize) {
-        let weights: &[usize] =
-            if self.can_hold(depth) { &[22, 10, 8, 4, 5, 6, 7, 22, 12, 4] } else { &[22, 10, 8, 4, 5, 6, 0, 0, 0, 0] };
+        let weights: &[usize] = if self.can_hold(depth) {
+            &[22, 10, 8, 4, 5, 6, 8, 5, 7, 22, 12, 4]
+        } else {
+            &[22, 10, 8, 4, 5, 6, 8, 5, 0, 0, 0, 0]
+        };
         match self.rng.weighted(weights) {
             0 => self.words(0x70),
             1 => self.number(0x71),
@@ -250,9 +254,11 @@ impl Maker<'_> {
             3 => self.leaf(0x73, b""),
             4 => self.words(0x74),
             5 => self.number(0x75),
-            6 => self.field(0x76, |m| m.elements(depth + 1)),
-            7 => self.field(0x79, |m| m.pieces(depth + 1)),
-            8 => self.field(0x30, |m| m.element(depth)),
+            6 => self.decimal(0x7a),
+            7 => self.decimal(0x7b),
+            8 => self.field(0x76, |m| m.elements(depth + 1)),
+            9 => self.field(0x79, |m| m.pieces(depth + 1)),
+            10 => self.field(0x30, |m| m.element(depth)),
             _ => self.field(0x31, |m| m.children(depth + 1)),
         }
     }
@@ -266,6 +272,11 @@ impl Maker<'_> {
             _ => self.rng.below(1000) as u64,
         };
         self.leaf(tag, &value.to_be_bytes());
+    }
+
+    fn decimal(&mut self, tag: u8) {
+        let body = decimals::decimal(self.rng).bytes();
+        self.leaf(tag, &body);
     }
 
     fn elements(&mut self, depth: usize) {

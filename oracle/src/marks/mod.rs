@@ -1,6 +1,8 @@
-//! Cases with a name and an answer that document 01 fixes by hand: the marks of its table, its limits, the worked card,
-//! and every reading of it that was settled (which field counts first, what a listed name catches, and so on).
+//! Cases with a name and an answer that the papers fix by hand: the marks of 01's table, its limits, the worked card,
+//! every reading of it that was settled (which field counts first, what a listed name catches, and so on), and 02's
+//! decimals.
 
+mod decimals;
 mod limits;
 mod readings;
 mod table;
@@ -19,7 +21,7 @@ pub struct Mark {
 }
 
 pub fn all() -> Vec<Mark> {
-    [table::marks(), limits::marks(), readings::marks()].concat()
+    [table::marks(), limits::marks(), readings::marks(), decimals::marks()].concat()
 }
 
 /// A page that is refused, or taken without its text being written down.

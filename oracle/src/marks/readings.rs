@@ -364,6 +364,8 @@ fn everything() -> Vec<Mark> {
         null(),
         literal("1n"),
         minus(2),
+        decimal(1250, 2),
+        minus_decimal(5, 2),
         array(&[array_spread(null()), hole(), element("i", &[])]),
         other(&[source("f("), fragment(&[text("t")]), source(")")]),
         element("b", &[]),

@@ -3,7 +3,7 @@
 use jsx_precompile::field::{Field, Fields};
 use jsx_precompile::out::{Import, PageOut, Templates};
 use jsx_precompile::page::Page;
-use jsx_precompile::{Fault, Input, Options};
+use jsx_precompile::{Decimal, Fault, Input, Options};
 
 /// What bytes are, by the first of them.
 pub fn told_by(bytes: &[u8]) -> Input {
@@ -83,9 +83,8 @@ fn line(field: &Field, whole: bool) -> String {
     let Some(name) = field.name() else { return format!("{tag:02x} no tag, {}", hex(body, whole)) };
     let inside = match (tag, body) {
         (0x13 | 0x73 | 0x78 | 0x83, []) => String::new(),
-        (0x71 | 0x75, _) if body.len() == 8 => {
-            body.iter().fold(0, |number: u64, byte| number << 8 | u64::from(*byte)).to_string()
-        }
+        (0x71 | 0x75, _) if body.len() == 8 => number(body).to_string(),
+        (0x7a | 0x7b, [digits @ .., places]) if digits.len() == 8 => decimal(digits, *places),
         (0x72, [0]) => "false".to_string(),
         (0x72, [1]) => "true".to_string(),
         (0x80 | 0x90, [high, low, ..]) => u16::from_be_bytes([*high, *low]).to_string(),
@@ -93,11 +92,22 @@ fn line(field: &Field, whole: bool) -> String {
             let names: Vec<_> = Import { source: "", sum: *sum }.helpers().map(|helper| helper.name()).collect();
             format!("{sum}: {}", names.join(", "))
         }
-        (0x13 | 0x71..=0x73 | 0x75 | 0x78 | 0x83, _) => hex(body, whole),
+        (0x13 | 0x71..=0x73 | 0x75 | 0x78 | 0x7a | 0x7b | 0x83, _) => hex(body, whole),
         (0x04 | 0x20 | 0x40 | 0x51 | 0x60 | 0x70 | 0x74 | 0x81, _) => text(body, whole),
         _ => String::new(),
     };
     format!("{tag:02x} {name} {inside}").trim_end().to_string()
+}
+
+fn number(eight: &[u8]) -> u64 {
+    eight.iter().fold(0, |number, byte| number << 8 | u64::from(*byte))
+}
+
+/// As it is written, where it is within its limits; and what is held, since zeros at the end are not written.
+fn decimal(digits: &[u8], places: u8) -> String {
+    let digits = number(digits);
+    let held = format!("digits {digits}, places {places}");
+    Decimal::new(digits, places).map_or(held.clone(), |decimal| format!("{decimal}: {held}"))
 }
 
 const CUT: usize = 100;
