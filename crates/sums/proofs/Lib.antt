@@ -1,0 +1,11 @@
+pub mod Tests
+pub mod Complete
+pub mod Sound
+pub mod Exact
+pub mod Steps
+pub mod Proper
+pub mod Samples
+pub mod Packs
+pub mod Sim
+pub mod Loop
+pub mod Turns
