@@ -232,7 +232,7 @@ fn product(ft: u64, fs: u64, w: Worked) -> Worked
 // two bytes of text each, with those that close, so that 16,384 words are enough. A text that asks for more ends before its brackets do.
 pub fn sum_in(text: &[u8], stack: &mut [u64; ROOM]) -> Worked
     requires { ⌜ (length (now text) ≤ 32768) × (length (now stack) ≡ 16384) ⌝ }
-    ensures { λ r. ⌜ r ≡ sum-of (now (text .entry)) ⌝ }
+    ensures { λ r. ⌜ (r ≡ sum-of (now (text .entry))) × (length (now (stack .exit)) ≡ 16384) ⌝ }
 {
     let mut mode: u8 = 0;
     let mut n: u64 = 0;

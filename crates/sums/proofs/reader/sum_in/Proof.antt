@@ -47,10 +47,10 @@ end-of-requires : tie.Need-end-of-requires Inv-loop μ-loop
 end-of-requires c κs = tt
 
 returns : tie.Need-returns Inv-loop μ-loop
-returns c = finishes (c .before .before .before .before .loop .inv .0 .runs) (c .end-of .ensures ∙ ap ended (c .before .state-by .ensures)) (c .before .before .before .if1 .taken) (c .before .before .if2 .taken)
+returns c = (finishes (c .before .before .before .before .loop .inv .0 .runs) (c .end-of .ensures ∙ ap ended (c .before .state-by .ensures)) (c .before .before .before .if1 .taken) (c .before .before .if2 .taken), c .before .before .before .before .loop .inv .1)
 
 returns-2 : tie.Need-returns-2 Inv-loop μ-loop
-returns-2 c = unfinished (c .before .before .loop .inv .0 .runs) (c .before .if1 .taken) (c .if2 .left)
+returns-2 c = (unfinished (c .before .before .loop .inv .0 .runs) (c .before .if1 .taken) (c .if2 .left), c .before .before .loop .inv .1)
 
 shared-slice-read-c : tie.Need-shared-slice-read-c Inv-loop μ-loop
 shared-slice-read-c c = inside (c .before .before .loop .inv .0 .runs) (c .before .if1 .left)
@@ -161,7 +161,7 @@ add-last : tie.Need-add-last Inv-loop μ-loop
 add-last c = omega (arith, c .before .before .before .before .before .before .before .before .before .before .before .before .before .before .before .loop .inv .0 .runs .high, c .before .words-of .ensures .1, c .words-of2 .ensures .1)
 
 returns-3 : tie.Need-returns-3 Inv-loop μ-loop
-returns-3 c = too-high (c .before .before .before .before .before .before .before .before .before .before .before .before .before .before .before .before .loop .inv .0 .runs) (inside (c .before .before .before .before .before .before .before .before .before .before .before .before .before .before .before .before .loop .inv .0 .runs) (c .before .before .before .before .before .before .before .before .before .before .before .before .before .before .before .if1 .left)) (opening (c .before .before .before .before .before .before .before .before .before .before .before .before .before .before .before .before .loop .inv .0) (inside (c .before .before .before .before .before .before .before .before .before .before .before .before .before .before .before .before .loop .inv .0 .runs) (c .before .before .before .before .before .before .before .before .before .before .before .before .before .before .before .if1 .left)) (c .before .before .before .before .before .before .before .before .before .before .before .before .if5 .left) (c .before .before .before .before .before .before .before .before .before .before .before .if6 .taken) (c .before .before .before .before .before .before .before .before .before .before .if7 .left) (sym (c .before .before .before .before .before .before .before .before .before .is-digit2 .ensures) ∙ c .before .before .before .before .before .before .before .before .if8 .left) (c .before .before .before .before .before .before .before .if9 .taken) (c .before .before .before .before .before .before .before-by .ensures) (c .before .before .before .before .before .factor-by .ensures)) refl (c .before .before .before .before .tag-before .ensures .0) (c .before .before .before .tag-factor .ensures .0) (c .before .before .words-of .ensures .0) (c .before .words-of2 .ensures .0) (c .if10 .taken) (c .before .before .before .before .before .before .before .before .before .before .before .before .before .before .before .before .before .before .pre .0)
+returns-3 c = (too-high (c .before .before .before .before .before .before .before .before .before .before .before .before .before .before .before .before .loop .inv .0 .runs) (inside (c .before .before .before .before .before .before .before .before .before .before .before .before .before .before .before .before .loop .inv .0 .runs) (c .before .before .before .before .before .before .before .before .before .before .before .before .before .before .before .if1 .left)) (opening (c .before .before .before .before .before .before .before .before .before .before .before .before .before .before .before .before .loop .inv .0) (inside (c .before .before .before .before .before .before .before .before .before .before .before .before .before .before .before .before .loop .inv .0 .runs) (c .before .before .before .before .before .before .before .before .before .before .before .before .before .before .before .if1 .left)) (c .before .before .before .before .before .before .before .before .before .before .before .before .if5 .left) (c .before .before .before .before .before .before .before .before .before .before .before .if6 .taken) (c .before .before .before .before .before .before .before .before .before .before .if7 .left) (sym (c .before .before .before .before .before .before .before .before .before .is-digit2 .ensures) ∙ c .before .before .before .before .before .before .before .before .if8 .left) (c .before .before .before .before .before .before .before .if9 .taken) (c .before .before .before .before .before .before .before-by .ensures) (c .before .before .before .before .before .factor-by .ensures)) refl (c .before .before .before .before .tag-before .ensures .0) (c .before .before .before .tag-factor .ensures .0) (c .before .before .words-of .ensures .0) (c .before .words-of2 .ensures .0) (c .if10 .taken) (c .before .before .before .before .before .before .before .before .before .before .before .before .before .before .before .before .before .before .pre .0), c .before .before .before .before .before .before .before .before .before .before .before .before .before .before .before .before .loop .inv .1)
 
 size-before-requires : tie.Need-size-before-requires Inv-loop μ-loop
 size-before-requires c κs = tt
@@ -206,7 +206,7 @@ loop-again-6 : tie.Need-loop-again-6 Inv-loop μ-loop
 loop-again-6 c = (put-open (c .before .before .before .before .before .before .before .before .before .before .before .before .before .if6 .taken) (pushes (c .before .before .before .before .before .before .before .before .before .before .before .before .before .before .before .before .before .before .loop .inv .0 .runs) (inside (c .before .before .before .before .before .before .before .before .before .before .before .before .before .before .before .before .before .before .loop .inv .0 .runs) (c .before .before .before .before .before .before .before .before .before .before .before .before .before .before .before .before .before .if1 .left)) (opening (c .before .before .before .before .before .before .before .before .before .before .before .before .before .before .before .before .before .before .loop .inv .0) (inside (c .before .before .before .before .before .before .before .before .before .before .before .before .before .before .before .before .before .before .loop .inv .0 .runs) (c .before .before .before .before .before .before .before .before .before .before .before .before .before .before .before .before .before .if1 .left)) (c .before .before .before .before .before .before .before .before .before .before .before .before .before .before .if5 .left) (c .before .before .before .before .before .before .before .before .before .before .before .before .before .if6 .taken) (c .before .before .before .before .before .before .before .before .before .before .before .before .if7 .left) (sym (c .before .before .before .before .before .before .before .before .before .before .before .is-digit2 .ensures) ∙ c .before .before .before .before .before .before .before .before .before .before .if8 .left) (c .before .before .before .before .before .before .before .before .before .if9 .taken) (c .before .before .before .before .before .before .before .before .before-by .ensures) (c .before .before .before .before .before .before .before .factor-by .ensures)) refl (c .before .before .before .before .before .before .tag-before .ensures .0) (c .before .before .before .before .before .tag-factor .ensures .0) (c .before .before .before .before .words-of .ensures .0) (c .before .before .before .words-of2 .ensures .0) _ _ (c .before .size-before .ensures) (c .size-factor .ensures) (c .before .before .before .before .before .before .before .before .before .before .before .before .before .before .before .before .before .before .loop .inv .1) (c .before .before .if10 .left)), simp length-set (c .before .before .before .before .before .before .before .before .before .before .before .before .before .before .before .before .before .before .loop .inv .1))
 
 returns-4 : tie.Need-returns-4 Inv-loop μ-loop
-returns-4 c = no-operand (c .before .before .before .before .before .before .before .before .before .loop .inv .0) (inside (c .before .before .before .before .before .before .before .before .before .loop .inv .0 .runs) (c .before .before .before .before .before .before .before .before .if1 .left)) (c .before .before .before .before .before .if5 .left) (c .before .before .before .before .if6 .taken) (c .before .before .before .if7 .left) (sym (c .before .before .is-digit2 .ensures) ∙ c .before .if8 .left) (c .if9 .left)
+returns-4 c = (no-operand (c .before .before .before .before .before .before .before .before .before .loop .inv .0) (inside (c .before .before .before .before .before .before .before .before .before .loop .inv .0 .runs) (c .before .before .before .before .before .before .before .before .if1 .left)) (c .before .before .before .before .before .if5 .left) (c .before .before .before .before .if6 .taken) (c .before .before .before .if7 .left) (sym (c .before .before .is-digit2 .ensures) ∙ c .before .if8 .left) (c .if9 .left), c .before .before .before .before .before .before .before .before .before .loop .inv .1)
 
 total-requires : tie.Need-total-requires Inv-loop μ-loop
 total-requires c κs = tt
@@ -266,7 +266,7 @@ loop-again-9 : tie.Need-loop-again-9 Inv-loop μ-loop
 loop-again-9 c = (times-on (c .before .before .before .before .before .before .before .before .before .before .before .loop .inv .0) (inside (c .before .before .before .before .before .before .before .before .before .before .before .loop .inv .0 .runs) (c .before .before .before .before .before .before .before .before .before .before .if1 .left)) (c .before .before .before .before .before .before .before .if5 .left) (c .before .before .before .before .before .before .before .before .if3 .left) (c .before .before .before .before .before .before .if6 .left) (c .before .before .before .before .before .if11 .left) (c .before .before .before .before .if12 .left) (c .before .before .before .if13 .taken) (c .before .before .work-of .ensures) (c .before .kind-of5 .ensures .0) (c .size-of5 .ensures), c .before .before .before .before .before .before .before .before .before .before .before .loop .inv .1)
 
 returns-5 : tie.Need-returns-5 Inv-loop μ-loop
-returns-5 c = closes-nothing (c .before .before .before .before .before .before .before .before .before .before .loop .inv .0 .runs) (inside (c .before .before .before .before .before .before .before .before .before .before .loop .inv .0 .runs) (c .before .before .before .before .before .before .before .before .before .if1 .left)) (closing (c .before .before .before .before .before .before .before .before .before .before .loop .inv .0) (inside (c .before .before .before .before .before .before .before .before .before .before .loop .inv .0 .runs) (c .before .before .before .before .before .before .before .before .before .if1 .left)) (c .before .before .before .before .before .before .if5 .left) (c .before .before .before .before .before .before .before .if3 .left) (c .before .before .before .before .before .if6 .left) (c .before .before .before .before .if11 .left) (c .before .before .before .if12 .left) (c .before .before .if13 .left) (c .before .if14 .taken)) refl (c .if15 .taken)
+returns-5 c = (closes-nothing (c .before .before .before .before .before .before .before .before .before .before .loop .inv .0 .runs) (inside (c .before .before .before .before .before .before .before .before .before .before .loop .inv .0 .runs) (c .before .before .before .before .before .before .before .before .before .if1 .left)) (closing (c .before .before .before .before .before .before .before .before .before .before .loop .inv .0) (inside (c .before .before .before .before .before .before .before .before .before .before .loop .inv .0 .runs) (c .before .before .before .before .before .before .before .before .before .if1 .left)) (c .before .before .before .before .before .before .if5 .left) (c .before .before .before .before .before .before .before .if3 .left) (c .before .before .before .before .before .if6 .left) (c .before .before .before .before .if11 .left) (c .before .before .before .if12 .left) (c .before .before .if13 .left) (c .before .if14 .taken)) refl (c .if15 .taken), c .before .before .before .before .before .before .before .before .before .before .loop .inv .1)
 
 total-requires-3 : tie.Need-total-requires-3 Inv-loop μ-loop
 total-requires-3 c κs = tt
@@ -326,7 +326,7 @@ loop-again-10 : tie.Need-loop-again-10 Inv-loop μ-loop
 loop-again-10 c = (put-behind (c .before .before .before .before .before .before .before .before .before .before .before .before .before .before .before .before .if3 .left) (c .before .before .before .before .before .before .before .before .before .before .before .before .before .before .if6 .left) (c .before .kind-of6 .ensures .0) (c .size-of6 .ensures) (closes (c .before .before .before .before .before .before .before .before .before .before .before .before .before .before .before .before .before .before .before .loop .inv .0 .runs) (c .before .before .before .before .before .before .before .before .before .if15 .left) refl (c .before .before .before .before .before .before .words-of3 .ensures .0) (c .before .before .before .before .before .words-of4 .ensures .0) (inside (c .before .before .before .before .before .before .before .before .before .before .before .before .before .before .before .before .before .before .before .loop .inv .0 .runs) (c .before .before .before .before .before .before .before .before .before .before .before .before .before .before .before .before .before .before .if1 .left)) (closing (c .before .before .before .before .before .before .before .before .before .before .before .before .before .before .before .before .before .before .before .loop .inv .0) (inside (c .before .before .before .before .before .before .before .before .before .before .before .before .before .before .before .before .before .before .before .loop .inv .0 .runs) (c .before .before .before .before .before .before .before .before .before .before .before .before .before .before .before .before .before .before .if1 .left)) (c .before .before .before .before .before .before .before .before .before .before .before .before .before .before .before .if5 .left) (c .before .before .before .before .before .before .before .before .before .before .before .before .before .before .before .before .if3 .left) (c .before .before .before .before .before .before .before .before .before .before .before .before .before .before .if6 .left) (c .before .before .before .before .before .before .before .before .before .before .before .before .before .if11 .left) (c .before .before .before .before .before .before .before .before .before .before .before .before .if12 .left) (c .before .before .before .before .before .before .before .before .before .before .before .if13 .left) (c .before .before .before .before .before .before .before .before .before .before .if14 .taken)) refl refl refl (c .before .before .product3 .ensures ∙ ap (times-by _) (c .before .before .before .before .before .before .before .before .total3 .ensures))), c .before .before .before .before .before .before .before .before .before .before .before .before .before .before .before .before .before .before .before .loop .inv .1)
 
 returns-6 : tie.Need-returns-6 Inv-loop μ-loop
-returns-6 c = no-operator (c .before .before .before .before .before .before .before .before .before .loop .inv .0) (inside (c .before .before .before .before .before .before .before .before .before .loop .inv .0 .runs) (c .before .before .before .before .before .before .before .before .if1 .left)) (c .before .before .before .before .before .if5 .left) (c .before .before .before .before .before .before .if3 .left) (c .before .before .before .before .if6 .left) (c .before .before .before .if11 .left) (c .before .before .if12 .left) (c .before .if13 .left) (c .if14 .left)
+returns-6 c = (no-operator (c .before .before .before .before .before .before .before .before .before .loop .inv .0) (inside (c .before .before .before .before .before .before .before .before .before .loop .inv .0 .runs) (c .before .before .before .before .before .before .before .before .if1 .left)) (c .before .before .before .before .before .if5 .left) (c .before .before .before .before .before .before .if3 .left) (c .before .before .before .before .if6 .left) (c .before .before .before .if11 .left) (c .before .before .if12 .left) (c .before .if13 .left) (c .if14 .left), c .before .before .before .before .before .before .before .before .before .loop .inv .1)
 
 pub sum-in-spec : {M : Type 1} → statement M
 sum-in-spec =

@@ -1,0 +1,5 @@
+pub mod Tests
+pub mod Pieces
+pub mod Fields
+pub mod Sizes
+pub mod Writes
