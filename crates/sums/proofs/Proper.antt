@@ -7,6 +7,8 @@ use native.Mathlib.Nat.{one-le-mul}
 use lib.Dec.{T, leb, eqb, leb→le, nleb→lt, eqb-refl}
 use Rattle.sums.specs.Choice.{choose}
 use Rattle.sums.specs.Tree.{Tree, number, plus, minus, times}
+use Rattle.field.specs.Bytes.{Bytes}
+use Rattle.sums.specs.Machine.{Outcome, read, no-reading, outcome, start, found, sum-of}
 use Rattle.sums.specs.Value.{most, upward, downward, difference, added, taken, multiplied, value}
 use Rattle.sums.specs.declared.value.Worked.{Worked}
 use Rattle.sums.specs.declared.value.Worked.the-variants.{Stays, Plus, Minus}
@@ -69,3 +71,12 @@ value-proper (number n) = up-proper n
 value-proper (plus x y) = added-proper (value x) (value y) (value-proper x) (value-proper y)
 value-proper (minus x y) = taken-proper (value x) (value y) (value-proper x) (value-proper y)
 value-proper (times x y) = multiplied-proper (value x) (value y) (value-proper x) (value-proper y)
+
+-- and so of any text
+pub sum-proper : (s : Bytes) → Proper (sum-of s)
+unfolding sum-of found Proper
+sum-proper s = on (outcome start s)
+  where
+    on : (o : Outcome) → Proper (found o)
+    on (read t) = value-proper t
+    on no-reading = tt

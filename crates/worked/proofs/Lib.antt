@@ -3,3 +3,5 @@ pub mod Pieces
 pub mod Fields
 pub mod Sizes
 pub mod Writes
+pub mod Tree
+pub mod Exact
