@@ -4,6 +4,7 @@ pub mod Sound
 pub mod Exact
 pub mod Steps
 pub mod Proper
+pub mod Integers
 pub mod Samples
 pub mod Packs
 pub mod Sim
