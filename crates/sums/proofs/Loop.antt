@@ -18,16 +18,11 @@ use Rattle.sums.specs.Machine.{sum-of}
 use Rattle.sums.proofs.Tests.{either}
 use Rattle.sums.specs.declared.value.Worked.{Worked}
 use Rattle.sums.specs.declared.value.Worked.the-variants as W
-use Rattle.sums.specs.declared.reader.Before.{Before}
-use Rattle.sums.specs.declared.reader.Before.the-variants as B
-use Rattle.sums.specs.declared.reader.Factor.{Factor}
-use Rattle.sums.specs.declared.reader.Factor.the-variants as F
-use Rattle.sums.specs.declared.reader.State.{State}
-use Rattle.sums.specs.declared.reader.State.the-variants.{Awaits, Digits, Behind}
+use Rattle.sums.specs.Small.{Before, NoSum, SumPlus, SumMinus, Factor, NoProduct, ProductTimes, State, Awaits, Digits, Behind}
 use Rattle.sums.specs.Small.{Act, On, Open, Close, Refused}
 use Rattle.sums.specs.Small.{finished, times-by, capped, grown, act-behind, act-awaits, act-digits, act, Frame, frame, Stack, Small, stands, stopped, moved, small-step, ended, small-end, result}
-use Rattle.sums.specs.Packed.{kind, size, worked-of, before-tag, before-size, before-of, factor-tag, factor-size, factor-of, words}
-use Rattle.sums.proofs.Packs.{before-low, factor-low, words-low, before-back, factor-back, before-none, factor-none}
+use Rattle.sums.specs.Packed.{before-tag, before-of, factor-tag, factor-of, words}
+use Rattle.sums.proofs.Packs.{before-low, factor-low, words-low, before-none, factor-none}
 use Rattle.sums.proofs.Sim.{result-is}
 
 -- ---- nothing comes of what is refused, and of too few bytes
@@ -39,7 +34,7 @@ none-stopped (c ∷ s) = none-stopped s
 short-moved : (s : Bytes) → ((x : State) (K : Stack) → length s < length K → W.Stays ≡ result (stands x K) s) → (a : Act) (K : Stack) → suc (length s) < length K → W.Stays ≡ result (moved a K) s
 unfolding moved
 short-moved s ih (On x) K h = ih x K (omega arith)
-short-moved s ih (Open b f) K h = ih (Awaits B.Nothing F.Nothing) (frame b f ∷ K) (omega arith)
+short-moved s ih (Open b f) K h = ih (Awaits NoSum NoProduct) (frame b f ∷ K) (omega arith)
 short-moved s ih (Close w) [] h = none-stopped s
 short-moved s ih (Close w) (frame b f ∷ K) h = ih (Behind b (times-by f w)) K (omega arith)
 short-moved s ih Refused K h = none-stopped s
@@ -65,10 +60,10 @@ Light n Refused = Unit {0}
 light-behind : (n : ℕ) (b : Before) (y : Worked) (c : ℕ) → 2 * words (before-tag b) + 1 ≤ n → Light n (act-behind b y c)
 unfolding act-behind Light weight
 light-behind n b y c h =
-    let p = words-low (before-tag (B.Plus (finished b y))) in
-    let m = words-low (before-tag (B.Minus (finished b y))) in
-    let q = words-low (factor-tag (F.Times y)) in
-    let z : words (factor-tag F.Nothing) ≡ 0 = unfold words factor-tag choose in refl in
+    let p = words-low (before-tag (SumPlus (finished b y))) in
+    let m = words-low (before-tag (SumMinus (finished b y))) in
+    let q = words-low (factor-tag (ProductTimes y)) in
+    let z : words (factor-tag NoProduct) ≡ 0 = unfold words factor-tag choose in refl in
     either (Light n) (eqb c 32) _ _ (λ _. omega arith)
     (λ _. either (Light n) (eqb c 43) _ _ (λ _. omega arith)
     (λ _. either (Light n) (eqb c 45) _ _ (λ _. omega arith)
@@ -117,7 +112,7 @@ pub record Going (s : Bytes) (fs : List ℕ) (top i : ℕ) (x : State) : Type 0 
   pub paid : 2 * top + weight x ≤ i + length frames
   pub total : result (stands x frames) (drop i s) ≡ sum-of s
 
-pub begins : (s : Bytes) (fs : List ℕ) → Going s fs 0 0 (Awaits B.Nothing F.Nothing)
+pub begins : (s : Bytes) (fs : List ℕ) → Going s fs 0 0 (Awaits NoSum NoProduct)
 unfolding weight words before-tag factor-tag choose
 begins s fs = record { within = omega arith; high = omega arith; frames = []; held = none refl; paid = omega arith; total = result-is s }
 
@@ -174,15 +169,15 @@ module _ {s : Bytes} {fs : List ℕ} {top i : ℕ} {x : State} (g : Going s fs t
       unfolding Light
       heavy = subst (Light (weight x)) h weighs
 
-      opened : result (stands (Awaits B.Nothing F.Nothing) (frame b f ∷ g .frames)) (drop (i + 1) s) ≡ sum-of s
+      opened : result (stands (Awaits NoSum NoProduct) (frame b f ∷ g .frames)) (drop (i + 1) s) ≡ sum-of s
       unfolding moved
       opened = ap (λ (z : Act). result (moved z (g .frames)) (drop (i + 1) s)) (sym h) ∙ turn
 
       pub too-deep : 16384 ≤ last-of top b f → length s ≤ 32768 → W.Stays ≡ sum-of s
-      too-deep d m = short (drop (i + 1) s) (Awaits B.Nothing F.Nothing) (frame b f ∷ g .frames) (omega (arith, heavy, g .paid, length-drop (i + 1) s)) ∙ opened
+      too-deep d m = short (drop (i + 1) s) (Awaits NoSum NoProduct) (frame b f ∷ g .frames) (omega (arith, heavy, g .paid, length-drop (i + 1) s)) ∙ opened
 
       pub opens : (gs : List ℕ) → ((j : ℕ) → j < top → getD gs j 0 ≡ getD fs j 0) → before-of (before-tag b) (getD gs top 0) ≡ b → factor-of (factor-tag f) (getD gs (at-of top b) 0) ≡ f
-          → getD gs (last-of top b f) 0 ≡ before-tag b * 4 + factor-tag f → last-of top b f < 16384 → Going s gs (last-of top b f + 1) (i + 1) (Awaits B.Nothing F.Nothing)
+          → getD gs (last-of top b f) 0 ≡ before-tag b * 4 + factor-tag f → last-of top b f < 16384 → Going s gs (last-of top b f + 1) (i + 1) (Awaits NoSum NoProduct)
       unfolding weight words before-tag factor-tag choose
       opens gs below p o r d =
           record {
@@ -223,33 +218,33 @@ module _ (fs : List ℕ) (t : ℕ) (b : Before) (f : Factor) (sb sf g : ℕ) (n 
   unfolding stored
   stored-tag = getD-set-same (set (set fs t sb) (at-of t b) sf) (last-of t b f) g 0 (simp length-set (omega arith))
 
-  stored-before : sb ≡ before-size b → before-of (before-tag b) (getD stored t 0) ≡ b
+  stored-before : before-of (before-tag b) sb ≡ b → before-of (before-tag b) (getD stored t 0) ≡ b
   unfolding stored
   stored-before e = on (words (before-tag b)) refl
     where
       on : (k : ℕ) → words (before-tag b) ≡ k → before-of (before-tag b) (getD stored t 0) ≡ b
       on zero z =
           let v : before-tag b ≡ 0 = words-of-none (before-tag b) z in
-          ap (λ (k : ℕ). before-of k (getD stored t 0)) v ∙ before-none (getD stored t 0) (before-size b) ∙ ap (λ (k : ℕ). before-of k (before-size b)) (sym v) ∙ before-back b
+          ap (λ (k : ℕ). before-of k (getD stored t 0)) v ∙ before-none (getD stored t 0) sb ∙ ap (λ (k : ℕ). before-of k sb) (sym v) ∙ e
       on (suc k) z =
           ap (before-of (before-tag b))
           (getD-set-other (set (set fs t sb) (at-of t b) sf) (last-of t b f) t g 0 (λ y. omega arith) ∙ getD-set-other (set fs t sb) (at-of t b) t sf 0 (λ y. omega arith)
-          ∙ getD-set-same fs t sb 0 (omega arith) ∙ e)
-          ∙ before-back b
+          ∙ getD-set-same fs t sb 0 (omega arith))
+          ∙ e
 
-  stored-factor : sf ≡ factor-size f → factor-of (factor-tag f) (getD stored (at-of t b) 0) ≡ f
+  stored-factor : factor-of (factor-tag f) sf ≡ f → factor-of (factor-tag f) (getD stored (at-of t b) 0) ≡ f
   unfolding stored
   stored-factor e = on (words (factor-tag f)) refl
     where
       on : (k : ℕ) → words (factor-tag f) ≡ k → factor-of (factor-tag f) (getD stored (at-of t b) 0) ≡ f
       on zero z =
           let v : factor-tag f ≡ 0 = words-of-none (factor-tag f) z in
-          ap (λ (k : ℕ). factor-of k (getD stored (at-of t b) 0)) v ∙ factor-none (getD stored (at-of t b) 0) (factor-size f) ∙ ap (λ (k : ℕ). factor-of k (factor-size f)) (sym v) ∙ factor-back f
+          ap (λ (k : ℕ). factor-of k (getD stored (at-of t b) 0)) v ∙ factor-none (getD stored (at-of t b) 0) sf ∙ ap (λ (k : ℕ). factor-of k sf) (sym v) ∙ e
       on (suc k) z =
           ap (factor-of (factor-tag f))
           (getD-set-other (set (set fs t sb) (at-of t b) sf) (last-of t b f) (at-of t b) g 0 (λ y. omega arith)
-          ∙ getD-set-same (set fs t sb) (at-of t b) sf 0 (simp length-set (omega arith)) ∙ e)
-          ∙ factor-back f
+          ∙ getD-set-same (set fs t sb) (at-of t b) sf 0 (simp length-set (omega arith)))
+          ∙ e
 
 -- the same, as the code has its numbers
 module _ {s : Bytes} {fs : List ℕ} {top i : ℕ} {x : State} (p : Going s fs top i x) (l : i < length s) {a : Act} (q : a ≡ act x (getD s i 0)) {b : Before} {f : Factor} (h : a ≡ Open b f) {bt ft w₁ w₂ : ℕ} (e₁ : bt ≡ before-tag b) (e₂ : ft ≡ factor-tag f) (u₁ : w₁ ≡ words bt) (u₂ : w₂ ≡ words ft) where
@@ -262,16 +257,16 @@ module _ {s : Bytes} {fs : List ℕ} {top i : ℕ} {x : State} (p : Going s fs t
   pub too-high : 16384 ≤ top + w₁ + w₂ → length s ≤ 32768 → W.Stays ≡ sum-of s
   too-high d m = too-deep p l q h (omega (arith, one-word, two-words)) m
 
-  pub pushes : (sb sf : ℕ) → sb ≡ before-size b → sf ≡ factor-size f → length fs ≡ 16384 → top + w₁ + w₂ < 16384
-      → Going s (set (set (set fs top sb) (top + w₁) sf) (top + w₁ + w₂) (bt * 4 + ft)) (top + w₁ + w₂ + 1) (i + 1) (Awaits B.Nothing F.Nothing)
+  pub pushes : (sb sf : ℕ) → before-of bt sb ≡ b → factor-of ft sf ≡ f → length fs ≡ 16384 → top + w₁ + w₂ < 16384
+      → Going s (set (set (set fs top sb) (top + w₁) sf) (top + w₁ + w₂) (bt * 4 + ft)) (top + w₁ + w₂ + 1) (i + 1) (Awaits NoSum NoProduct)
   unfolding stored
   pushes sb sf y z n d =
       let o : last-of top b f < 16384 = omega (arith, one-word, two-words) in
-      let c : Going s (stored fs top b f sb sf (bt * 4 + ft) n o) (last-of top b f + 1) (i + 1) (Awaits B.Nothing F.Nothing) =
-      opens p l q h (stored fs top b f sb sf (bt * 4 + ft) n o) (stored-below fs top b f sb sf (bt * 4 + ft) n o) (stored-before fs top b f sb sf (bt * 4 + ft) n o y)
-      (stored-factor fs top b f sb sf (bt * 4 + ft) n o z) (stored-tag fs top b f sb sf (bt * 4 + ft) n o ∙ omega (arith, e₁, e₂)) o in
-      subst (λ (v : ℕ). Going s (set (set (set fs top sb) (top + w₁) sf) (top + w₁ + v) (bt * 4 + ft)) (top + w₁ + v + 1) (i + 1) (Awaits B.Nothing F.Nothing)) (sym two-words)
-      (subst (λ (v : ℕ). Going s (set (set (set fs top sb) (top + v) sf) (top + v + words (factor-tag f)) (bt * 4 + ft)) (top + v + words (factor-tag f) + 1) (i + 1) (Awaits B.Nothing F.Nothing)) (sym one-word) c)
+      let c : Going s (stored fs top b f sb sf (bt * 4 + ft) n o) (last-of top b f + 1) (i + 1) (Awaits NoSum NoProduct) =
+      opens p l q h (stored fs top b f sb sf (bt * 4 + ft) n o) (stored-below fs top b f sb sf (bt * 4 + ft) n o) (stored-before fs top b f sb sf (bt * 4 + ft) n o (ap (λ (k : ℕ). before-of k sb) (sym e₁) ∙ y))
+      (stored-factor fs top b f sb sf (bt * 4 + ft) n o (ap (λ (k : ℕ). factor-of k sf) (sym e₂) ∙ z)) (stored-tag fs top b f sb sf (bt * 4 + ft) n o ∙ omega (arith, e₁, e₂)) o in
+      subst (λ (v : ℕ). Going s (set (set (set fs top sb) (top + w₁) sf) (top + w₁ + v) (bt * 4 + ft)) (top + w₁ + v + 1) (i + 1) (Awaits NoSum NoProduct)) (sym two-words)
+      (subst (λ (v : ℕ). Going s (set (set (set fs top sb) (top + v) sf) (top + v + words (factor-tag f)) (bt * 4 + ft)) (top + v + words (factor-tag f) + 1) (i + 1) (Awaits NoSum NoProduct)) (sym one-word) c)
 
 -- ---- a frame is taken back
 record Popped (fs : List ℕ) (n : ℕ) (K : Stack) : Type 0 where
@@ -305,6 +300,9 @@ module _ {s : Bytes} {fs : List ℕ} {top i : ℕ} {x : State} (g : Going s fs t
 
   high-is : tag / 4 ≡ before-tag (top-frame .b)
   high-is = let h = factor-low (top-frame .f) in let k = tag-is in omega arith
+
+  pub closes-tag : tag / 4 ≤ 2
+  closes-tag = omega (arith, high-is, before-low (top-frame .b))
 
   module _ {w₃ : ℕ} (u₃ : w₃ ≡ words (tag % 4)) where
     third : w₃ ≡ words (factor-tag (top-frame .f))

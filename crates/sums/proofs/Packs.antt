@@ -1,4 +1,4 @@
--- Tags and sizes: small facts, and that what was put in is taken out. Assumes nothing.
+-- Tags, digits, and what waits joined with a value. Assumes nothing.
 use Prim.Native.Nat.{ℕ, zero, suc, _+_, _-_, _*_, _/_, _%_, _≤_, _<_}
 use mathlib.Core.Path.{_≡_, refl, sym, _∙_, ap}
 use mathlib.Core.Bool.{Bool, true, false, _&&_}
@@ -6,17 +6,14 @@ use native.Mathlib.Omega.{arith}
 use lib.Dec.{leb, eqb}
 use borrow.Author.Tests.{le-leb, lt-leb, leb-true, leb-false}
 use Rattle.sums.specs.Choice.{choose, digit}
-use Rattle.sums.specs.Value.{most}
-use Rattle.sums.proofs.Steps.{yes, no}
+use Rattle.sums.specs.Value.{most, upward, added, taken, multiplied}
+use Rattle.sums.proofs.Tests.{takes, leaves}
 use Rattle.sums.specs.declared.value.Worked.{Worked}
 use Rattle.sums.specs.declared.value.Worked.the-variants as W
-use Rattle.sums.specs.declared.reader.Before.{Before}
-use Rattle.sums.specs.declared.reader.Before.the-variants as B
-use Rattle.sums.specs.declared.reader.Factor.{Factor}
-use Rattle.sums.specs.declared.reader.Factor.the-variants as F
-use borrow.Author.Tests.{eq-eqb}
-use Rattle.sums.specs.Small.{capped, grown, finished, times-by}
-use Rattle.sums.specs.Packed.{kind, size, worked-of, before-tag, before-size, before-of, factor-tag, factor-size, factor-of, words}
+use borrow.Author.Tests.{eq-eqb, ne-eqb}
+use Rattle.sums.specs.Small.{capped, grown, finished, times-by, ended}
+use Rattle.sums.specs.Packed.{value-of, before-tag, before-of, factor-tag, factor-of, words, state-of}
+use Rattle.sums.specs.Small.{Before, NoSum, SumPlus, SumMinus, Factor, NoProduct, ProductTimes, State, Awaits, Digits, Behind}
 
 pub digit-low : (c : ℕ) → digit c ≡ true → 48 ≤ c
 unfolding digit
@@ -28,28 +25,22 @@ digit-low c e = on (leb 48 c) refl e
 
 pub grown-past : (n c : ℕ) → most < n * 10 + (c - 48) → 9007199254740992 ≡ grown n c
 unfolding grown capped
-grown-past n c h = no _ _ _ (lt-leb (n * 10 + (c - 48)) most h)
+grown-past n c h = leaves _ _ _ (lt-leb (n * 10 + (c - 48)) most h)
 
 pub grown-fits : (n c : ℕ) {m : ℕ} → m ≡ n * 10 + (c - 48) → n * 10 + (c - 48) ≤ most → m ≡ grown n c
 unfolding grown capped
-grown-fits n c e h = e ∙ yes _ _ _ (le-leb (n * 10 + (c - 48)) most h)
+grown-fits n c e h = e ∙ takes _ _ _ (le-leb (n * 10 + (c - 48)) most h)
 
-pub kind-low : (w : Worked) → kind w ≤ 3
-unfolding kind
-kind-low W.Stays = omega arith
-kind-low (W.Plus n) = omega arith
-kind-low (W.Minus n) = omega arith
+pub before-low : (b : Before) → before-tag b ≤ 2
+unfolding before-tag
+before-low NoSum = omega arith
+before-low (SumPlus w) = omega arith
+before-low (SumMinus w) = omega arith
 
-pub before-low : (b : Before) → before-tag b ≤ 6
-unfolding before-tag kind
-before-low B.Nothing = omega arith
-before-low (B.Plus w) = omega (arith, kind-low w)
-before-low (B.Minus w) = omega (arith, kind-low w)
-
-pub factor-low : (f : Factor) → factor-tag f ≤ 3
-unfolding factor-tag kind
-factor-low F.Nothing = omega arith
-factor-low (F.Times w) = omega (arith, kind-low w)
+pub factor-low : (f : Factor) → factor-tag f ≤ 1
+unfolding factor-tag
+factor-low NoProduct = omega arith
+factor-low (ProductTimes w) = omega arith
 
 pub words-low : (t : ℕ) → words t ≤ 1
 unfolding words choose
@@ -59,31 +50,21 @@ words-low t = on (eqb t 0)
     on true = omega arith
     on false = omega arith
 
--- what was put in is taken out
-pub worked-back : (w : Worked) → worked-of (kind w) (size w) ≡ w
-unfolding worked-of kind size choose
-worked-back W.Stays = refl
-worked-back (W.Plus n) = refl
-worked-back (W.Minus n) = refl
+-- a tag that the code holds is the tag of what waits
+pub tag-before : (t v : ℕ) → t ≤ 2 → t ≡ before-tag (before-of t v)
+unfolding before-of before-tag choose
+tag-before zero v h = refl
+tag-before (suc zero) v h = refl
+tag-before (suc (suc zero)) v h = refl
+tag-before (suc (suc (suc t))) v h = absurd (omega arith)
 
-pub before-back : (b : Before) → before-of (before-tag b) (before-size b) ≡ b
-unfolding before-of before-tag before-size worked-of kind size choose
-before-back B.Nothing = refl
-before-back (B.Plus W.Stays) = refl
-before-back (B.Plus (W.Plus n)) = refl
-before-back (B.Plus (W.Minus n)) = refl
-before-back (B.Minus W.Stays) = refl
-before-back (B.Minus (W.Plus n)) = refl
-before-back (B.Minus (W.Minus n)) = refl
+pub tag-factor : (t v : ℕ) → t ≤ 1 → t ≡ factor-tag (factor-of t v)
+unfolding factor-of factor-tag choose
+tag-factor zero v h = refl
+tag-factor (suc zero) v h = refl
+tag-factor (suc (suc t)) v h = absurd (omega arith)
 
-pub factor-back : (f : Factor) → factor-of (factor-tag f) (factor-size f) ≡ f
-unfolding factor-of factor-tag factor-size worked-of kind size choose
-factor-back F.Nothing = refl
-factor-back (F.Times W.Stays) = refl
-factor-back (F.Times (W.Plus n)) = refl
-factor-back (F.Times (W.Minus n)) = refl
-
--- and of nothing no size is asked
+-- of nothing no value is asked
 pub before-none : (n m : ℕ) → before-of 0 n ≡ before-of 0 m
 unfolding before-of choose
 before-none n m = refl
@@ -92,29 +73,40 @@ pub factor-none : (n m : ℕ) → factor-of 0 n ≡ factor-of 0 m
 unfolding factor-of choose
 factor-none n m = refl
 
-pub plus-back : (w : Worked) → before-of (kind w) (size w) ≡ B.Plus w
-unfolding before-of worked-of kind size choose
-plus-back W.Stays = refl
-plus-back (W.Plus n) = refl
-plus-back (W.Minus n) = refl
+-- ---- what waits, joined with a value
 
-pub minus-back : (w : Worked) → before-of (kind w + 3) (size w) ≡ B.Minus w
-unfolding before-of worked-of kind size choose
-minus-back W.Stays = refl
-minus-back (W.Plus n) = refl
-minus-back (W.Minus n) = refl
-
-pub times-back : (w : Worked) → factor-of (kind w) (size w) ≡ F.Times w
-unfolding factor-of worked-of kind size choose
-times-back W.Stays = refl
-times-back (W.Plus n) = refl
-times-back (W.Minus n) = refl
-
--- nothing waits
 pub finished-none : (t n : ℕ) (y : Worked) → t ≡ 0 → y ≡ finished (before-of t n) y
 unfolding before-of finished
-finished-none t n y e = ap (λ (b : Before). finished b y) (yes _ _ _ (eq-eqb t 0 e))
+finished-none t n y e = ap (λ (b : Before). finished b y) (takes _ _ _ (eq-eqb t 0 e))
+
+pub finished-plus : (t n : ℕ) (y : Worked) → (t ≡ 0 → ⊥) → t ≡ 1 → added (value-of n) y ≡ finished (before-of t n) y
+unfolding before-of finished
+finished-plus t n y z e = ap (λ (b : Before). finished b y) (takes _ _ _ (eq-eqb t 1 e) ∙ leaves _ _ _ (ne-eqb t 0 z))
+
+pub finished-minus : (t n : ℕ) (y : Worked) → (t ≡ 0 → ⊥) → (t ≡ 1 → ⊥) → taken (value-of n) y ≡ finished (before-of t n) y
+unfolding before-of finished
+finished-minus t n y z e = ap (λ (b : Before). finished b y) (leaves _ _ _ (ne-eqb t 1 e) ∙ leaves _ _ _ (ne-eqb t 0 z))
 
 pub times-none : (t n : ℕ) (y : Worked) → t ≡ 0 → y ≡ times-by (factor-of t n) y
 unfolding factor-of times-by
-times-none t n y e = ap (λ (f : Factor). times-by f y) (yes _ _ _ (eq-eqb t 0 e))
+times-none t n y e = ap (λ (f : Factor). times-by f y) (takes _ _ _ (eq-eqb t 0 e))
+
+pub times-some : (t n : ℕ) (y : Worked) → (t ≡ 0 → ⊥) → multiplied (value-of n) y ≡ times-by (factor-of t n) y
+unfolding factor-of times-by
+times-some t n y z = ap (λ (f : Factor). times-by f y) (leaves _ _ _ (ne-eqb t 0 z))
+
+-- ---- where the text ends
+
+module _ (mode n bt bs ft fs : ℕ) where
+  pub ended-awaits : mode ≡ 0 → W.Stays ≡ ended (state-of mode n bt bs ft fs)
+  unfolding state-of ended
+  ended-awaits m = ap ended (takes _ _ _ (eq-eqb mode 0 m))
+
+  pub ended-digits : (mode ≡ 0 → ⊥) → mode ≡ 1 → (u v w : ℕ) {r : Worked} → value-of u ≡ upward n → value-of v ≡ times-by (factor-of ft fs) (value-of u) → value-of w ≡ finished (before-of bt bs) (value-of v) → r ≡ value-of w → r ≡ ended (state-of mode n bt bs ft fs)
+  unfolding state-of ended
+  ended-digits z m u v w p q s e =
+      e ∙ s ∙ ap (finished (before-of bt bs)) (q ∙ ap (times-by (factor-of ft fs)) p) ∙ ap ended (takes _ _ _ (eq-eqb mode 1 m) ∙ leaves _ _ _ (ne-eqb mode 0 z))
+
+  pub ended-behind : (mode ≡ 0 → ⊥) → (mode ≡ 1 → ⊥) → (w : ℕ) {r : Worked} → value-of w ≡ finished (before-of bt bs) (value-of n) → r ≡ value-of w → r ≡ ended (state-of mode n bt bs ft fs)
+  unfolding state-of ended
+  ended-behind z m w s e = e ∙ s ∙ ap ended (leaves _ _ _ (ne-eqb mode 1 m) ∙ leaves _ _ _ (ne-eqb mode 0 z))

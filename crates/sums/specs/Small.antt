@@ -7,12 +7,22 @@ use Rattle.field.specs.Bytes.{Bytes}
 use Rattle.sums.specs.Value.{most, upward, added, taken, multiplied}
 use Rattle.sums.specs.declared.value.Worked.{Worked}
 use Rattle.sums.specs.declared.value.Worked.the-variants as W
-use Rattle.sums.specs.declared.reader.Before.{Before}
-use Rattle.sums.specs.declared.reader.Before.the-variants as B
-use Rattle.sums.specs.declared.reader.Factor.{Factor}
-use Rattle.sums.specs.declared.reader.Factor.the-variants as F
-use Rattle.sums.specs.declared.reader.State.{State}
-use Rattle.sums.specs.declared.reader.State.the-variants.{Awaits, Digits, Behind}
+
+-- what waits for a product: nothing, or a sum and `+` or `-`
+pub data Before : Type 0 where
+  NoSum : Before
+  SumPlus : Worked → Before
+  SumMinus : Worked → Before
+
+-- what waits for an operand: nothing, or a product and `*`
+pub data Factor : Type 0 where
+  NoProduct : Factor
+  ProductTimes : Worked → Factor
+
+pub data State : Type 0 where
+  Awaits : Before → Factor → State  -- an operand
+  Digits : ℕ → Before → Factor → State
+  Behind : Before → Worked → State  -- the product so far, behind an operand
 
 -- what a byte does
 pub data Act : Type 0 where
@@ -22,13 +32,13 @@ pub data Act : Type 0 where
   Refused : Act
 
 unfoldable pub finished : Before → Worked → Worked
-finished B.Nothing y = y
-finished (B.Plus x) y = added x y
-finished (B.Minus x) y = taken x y
+finished NoSum y = y
+finished (SumPlus x) y = added x y
+finished (SumMinus x) y = taken x y
 
 unfoldable pub times-by : Factor → Worked → Worked
-times-by F.Nothing y = y
-times-by (F.Times x) y = multiplied x y
+times-by NoProduct y = y
+times-by (ProductTimes x) y = multiplied x y
 
 -- a size past the bound is as good as any other
 unfoldable pub capped : ℕ → ℕ
@@ -40,9 +50,9 @@ grown n c = capped (n * 10 + (c - 48))
 unfoldable pub act-behind : Before → Worked → ℕ → Act
 act-behind b y c =
     choose (eqb c 32) (On (Behind b y))
-    (choose (eqb c 43) (On (Awaits (B.Plus (finished b y)) F.Nothing))
-    (choose (eqb c 45) (On (Awaits (B.Minus (finished b y)) F.Nothing))
-    (choose (eqb c 42) (On (Awaits b (F.Times y)))
+    (choose (eqb c 43) (On (Awaits (SumPlus (finished b y)) NoProduct))
+    (choose (eqb c 45) (On (Awaits (SumMinus (finished b y)) NoProduct))
+    (choose (eqb c 42) (On (Awaits b (ProductTimes y)))
     (choose (eqb c 41) (Close (finished b y)) Refused))))
 
 unfoldable pub act-awaits : Before → Factor → ℕ → Act
@@ -72,7 +82,7 @@ pub data Small : Type 0 where
 
 unfoldable pub moved : Act → Stack → Small
 moved (On x) K = stands x K
-moved (Open b f) K = stands (Awaits B.Nothing F.Nothing) (frame b f ∷ K)
+moved (Open b f) K = stands (Awaits NoSum NoProduct) (frame b f ∷ K)
 moved (Close w) [] = stopped
 moved (Close w) (frame b f ∷ K) = stands (Behind b (times-by f w)) K
 moved Refused K = stopped

@@ -1,72 +1,75 @@
-// What a sum comes to: a sign and a size, and the three steps on them, each held to the bound. What is right says specs/Value.antt.
+// What a sum comes to, and the three steps on it. While a sum is read, a part of it is one number: the bound and as much more for a number
+// from zero up, as much less for one below zero, and anything past twice the bound for a part that stays. What is right says
+// specs/Value.antt.
 ghost use mathlib.Core.Path.{_≡_};
-ghost use Prim.Native.Nat.{_+_, _*_};
+ghost use Prim.Native.Nat.{_*_, _<_};
 ghost use lib.Dec.{leb};
-ghost use Rattle.sums.specs.Value.{most, upward, downward, difference, added, taken, multiplied};
-ghost use Rattle.sums.specs.declared.value.Worked.the-variants as P;
+ghost use Rattle.sums.specs.Value.{most, upward, added, taken, multiplied};
+ghost use Rattle.sums.specs.Packed.{value-of, mixed-product};
 
 // The largest size of a number or of a step.
 pub const MOST: u64 = 9007199254740991;
 
-// What a part of a sum comes to: nothing that may be written, a number from zero up, or one below zero by its size.
+pub const TWICE: u64 = 18014398509481982;
+
+pub const STAYS: u64 = 18014398509481983;
+
+// What a text comes to: nothing that may be written, a number from zero up, or one below zero by its size.
 pub enum Worked {
     Stays,
     Plus(u64),
     Minus(u64),
 }
 
-pub fn up(n: u64) -> Worked
-    ensures { λ r. ⌜ r ≡ upward n ⌝ }
+pub fn worked_of(v: u64) -> Worked
+    ensures { λ r. ⌜ r ≡ value-of v ⌝ }
+{
+    if TWICE < v {
+        return Worked::Stays;
+    }
+    if MOST <= v {
+        return Worked::Plus(v - MOST);
+    }
+    Worked::Minus(MOST - v)
+}
+
+pub fn up(n: u64) -> u64
+    ensures { λ r. ⌜ value-of r ≡ upward n ⌝ }
 {
     if n <= MOST {
-        return Worked::Plus(n);
+        return MOST + n;
     }
-    Worked::Stays
+    STAYS
 }
 
-fn down(n: u64) -> Worked
-    ensures { λ r. ⌜ r ≡ downward n ⌝ }
+pub fn add(a: u64, b: u64) -> u64
+    ensures { λ r. ⌜ value-of r ≡ added (value-of a) (value-of b) ⌝ }
 {
-    if n <= MOST {
-        return Worked::Minus(n);
+    if TWICE < a {
+        return STAYS;
     }
-    Worked::Stays
+    if TWICE < b {
+        return STAYS;
+    }
+    if a + b < MOST {
+        return STAYS;
+    }
+    a + b - MOST
 }
 
-fn less(a: u64, b: u64) -> Worked
-    ensures { λ r. ⌜ r ≡ difference a b ⌝ }
+pub fn subtract(a: u64, b: u64) -> u64
+    ensures { λ r. ⌜ value-of r ≡ taken (value-of a) (value-of b) ⌝ }
 {
-    if b <= a {
-        return up(a - b);
+    if TWICE < a {
+        return STAYS;
     }
-    down(b - a)
-}
-
-fn sum_fits(a: u64, b: u64) -> bool
-    ensures { λ r. ⌜ r ≡ leb (a + b) most ⌝ }
-{
-    if MOST < a {
-        return false;
+    if TWICE < b {
+        return STAYS;
     }
-    b <= MOST - a
-}
-
-fn up_sum(a: u64, b: u64) -> Worked
-    ensures { λ r. ⌜ r ≡ upward (a + b) ⌝ }
-{
-    if sum_fits(a, b) {
-        return Worked::Plus(a + b);
+    if a + MOST < b {
+        return STAYS;
     }
-    Worked::Stays
-}
-
-fn down_sum(a: u64, b: u64) -> Worked
-    ensures { λ r. ⌜ r ≡ downward (a + b) ⌝ }
-{
-    if sum_fits(a, b) {
-        return Worked::Minus(a + b);
-    }
-    Worked::Stays
+    a + MOST - b
 }
 
 fn product_fits(a: u64, b: u64) -> bool
@@ -78,94 +81,47 @@ fn product_fits(a: u64, b: u64) -> bool
     a <= MOST / b
 }
 
-fn up_product(a: u64, b: u64) -> Worked
-    ensures { λ r. ⌜ r ≡ upward (a * b) ⌝ }
+// The product of two sizes, from zero up.
+fn up_product(x: u64, y: u64) -> u64
+    ensures { λ r. ⌜ value-of r ≡ upward (x * y) ⌝ }
 {
-    if product_fits(a, b) {
-        return Worked::Plus(a * b);
+    if product_fits(x, y) {
+        return MOST + x * y;
     }
-    Worked::Stays
+    STAYS
 }
 
-fn down_product(a: u64, b: u64) -> Worked
-    ensures { λ r. ⌜ r ≡ downward (a * b) ⌝ }
+// The product of x, from zero up, and one below zero of size y.
+fn down_product(x: u64, y: u64) -> u64
+    requires { ⌜ 0 < y ⌝ }
+    ensures { λ r. ⌜ value-of r ≡ mixed-product x y ⌝ }
 {
-    if product_fits(a, b) {
-        return Worked::Minus(a * b);
+    if x == 0 {
+        return STAYS;
     }
-    Worked::Stays
+    if product_fits(x, y) {
+        return MOST - x * y;
+    }
+    STAYS
 }
 
-pub fn add(x: Worked, y: Worked) -> Worked
-    ensures { λ r. ⌜ r ≡ added x y ⌝ }
+pub fn multiply(a: u64, b: u64) -> u64
+    ensures { λ r. ⌜ value-of r ≡ multiplied (value-of a) (value-of b) ⌝ }
 {
-    match x {
-        Worked::Stays => Worked::Stays,
-        Worked::Plus(a) => match y {
-            Worked::Stays => Worked::Stays,
-            Worked::Plus(b) => up_sum(a, b),
-            Worked::Minus(b) => less(a, b),
-        },
-        Worked::Minus(a) => match y {
-            Worked::Stays => Worked::Stays,
-            Worked::Plus(b) => less(b, a),
-            Worked::Minus(b) => down_sum(a, b),
-        },
+    if TWICE < a {
+        return STAYS;
     }
-}
-
-pub fn take_away(x: Worked, y: Worked) -> Worked
-    ensures { λ r. ⌜ r ≡ taken x y ⌝ }
-{
-    match x {
-        Worked::Stays => Worked::Stays,
-        Worked::Plus(a) => match y {
-            Worked::Stays => Worked::Stays,
-            Worked::Plus(b) => less(a, b),
-            Worked::Minus(b) => up_sum(a, b),
-        },
-        Worked::Minus(a) => match y {
-            Worked::Stays => Worked::Stays,
-            Worked::Plus(b) => down_sum(a, b),
-            Worked::Minus(b) => less(b, a),
-        },
+    if TWICE < b {
+        return STAYS;
     }
-}
-
-// The product of a number from zero up and one below zero.
-fn mixed(a: u64, b: u64) -> Worked
-    ensures { λ r. ⌜ r ≡ multiplied (P.Plus a) (P.Minus b) ⌝ }
-{
-    if a == 0 {
-        return Worked::Stays;
+    if MOST <= a {
+        if MOST <= b {
+            return up_product(a - MOST, b - MOST);
+        }
+        return down_product(a - MOST, MOST - b);
     }
-    down_product(a, b)
-}
-
-// The product of a number below zero and one from zero up.
-fn mixed_first(a: u64, b: u64) -> Worked
-    ensures { λ r. ⌜ r ≡ multiplied (P.Minus a) (P.Plus b) ⌝ }
-{
-    if b == 0 {
-        return Worked::Stays;
+    if MOST <= b {
+        return down_product(b - MOST, MOST - a);
     }
-    down_product(a, b)
-}
-
-pub fn multiply(x: Worked, y: Worked) -> Worked
-    ensures { λ r. ⌜ r ≡ multiplied x y ⌝ }
-{
-    match x {
-        Worked::Stays => Worked::Stays,
-        Worked::Plus(a) => match y {
-            Worked::Stays => Worked::Stays,
-            Worked::Plus(b) => up_product(a, b),
-            Worked::Minus(b) => mixed(a, b),
-        },
-        Worked::Minus(a) => match y {
-            Worked::Stays => Worked::Stays,
-            Worked::Plus(b) => mixed_first(a, b),
-            Worked::Minus(b) => up_product(a, b),
-        },
-    }
+    up_product(MOST - a, MOST - b)
 }

@@ -1,7 +1,7 @@
 -- `sums::reader::grow` meets its contract. Assumes nothing.
 use Rattle.sums.proofs.Packs.{grown-past, grown-fits}
 use native.Mathlib.Omega.{arith}
-use Rattle.sums.proofs.Steps.{yes, no}
+use Rattle.sums.proofs.Tests.{takes, leaves}
 use borrow.Author.Tests.{le-leb, lt-leb, leb-true, not-false, eq-eqb, ne-eqb}
 use mathlib.Core.Path.{_≡_, refl, sym, _∙_, ap}
 use Rattle.sums.specs.Small.{grown, capped}

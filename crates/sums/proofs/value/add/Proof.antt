@@ -1,103 +1,36 @@
 -- `sums::value::add` meets its contract. Assumes nothing.
-use Rattle.sums.specs.Value.{added}
 use mathlib.Core.Path.{_≡_, refl, sym, _∙_, ap}
+use Prim.Native.Nat.{_*_}
+use native.Mathlib.Omega.{arith}
+use borrow.Author.Tests.{leb-true}
+use Rattle.sums.specs.Value.{most}
+use Rattle.sums.proofs.Steps.{add-first, add-second, add-passes, add-is, stayed}
 use borrow.Author.Needs.{needs}
 use Rattle.sums.proofs.value.add.Statement.{statement}
 use Rattle.sums.proofs.value.add.Tie as tie
 use Rattle.sums.proofs.value.add.Reads as reads
 use Rattle.sums.proofs.value.add.Lts as lts
-use Rattle.sums.proofs.value.down_sum.Reads as down-sum-reads
-use Rattle.sums.proofs.value.less.Reads as less-reads
-use Rattle.sums.proofs.value.up_sum.Reads as up-sum-reads
-
-enum-told : tie.Need-enum-told
-enum-told c = search needs
-
-enum-known-x : tie.Need-enum-known-x
-enum-known-x c = search needs
-
-enum-told-2 : tie.Need-enum-told-2
-enum-told-2 c = search needs
-
-enum-known-y : tie.Need-enum-known-y
-enum-known-y c = search needs
-
-up-sum-requires : tie.Need-up-sum-requires
-up-sum-requires c κs = search needs
-
-enum-known-y-2 : tie.Need-enum-known-y-2
-enum-known-y-2 c = search needs
-
-less-requires : tie.Need-less-requires
-less-requires c κs = search needs
-
-enum-known-x-2 : tie.Need-enum-known-x-2
-enum-known-x-2 c = search needs
-
-enum-told-3 : tie.Need-enum-told-3
-enum-told-3 c = search needs
-
-enum-known-y-3 : tie.Need-enum-known-y-3
-enum-known-y-3 c = search needs
-
-less-requires-2 : tie.Need-less-requires-2
-less-requires-2 c κs = search needs
-
-enum-known-y-4 : tie.Need-enum-known-y-4
-enum-known-y-4 c = search needs
-
-down-sum-requires : tie.Need-down-sum-requires
-down-sum-requires c κs = search needs
 
 returns : tie.Need-returns
-unfolding added
-returns c = cc
+returns c = stayed ∙ add-first _ _ (c .if1 .taken)
 
 returns-2 : tie.Need-returns-2
-unfolding added
-returns-2 c = cc
+returns-2 c = stayed ∙ add-second _ _ (c .if2 .taken)
+
+add-if3 : tie.Need-add-if3
+add-if3 c = search needs
 
 returns-3 : tie.Need-returns-3
-unfolding added
-returns-3 c = cc
+returns-3 c = stayed ∙ add-passes (c .before .before .if1 .left) (c .before .if2 .left) (c .if3 .taken)
+
+add-result : tie.Need-add-result
+add-result c = search needs
+
+sub-result : tie.Need-sub-result
+sub-result c = search needs
 
 returns-4 : tie.Need-returns-4
-unfolding added
-returns-4 c = cc
-
-returns-5 : tie.Need-returns-5
-unfolding added
-returns-5 c = cc
-
-returns-6 : tie.Need-returns-6
-unfolding added
-returns-6 c = cc
-
-returns-7 : tie.Need-returns-7
-unfolding added
-returns-7 c = cc
+returns-4 c = add-is (c .before .before .if1 .left) (c .before .if2 .left) (c .if3 .left)
 
 pub add-spec : {M : Type 1} → statement M
-add-spec =
-    tie.close
-    (tie.spec
-    enum-told
-    enum-known-x
-    enum-told-2
-    enum-known-y
-    up-sum-requires
-    enum-known-y-2
-    less-requires
-    enum-known-x-2
-    enum-told-3
-    enum-known-y-3
-    less-requires-2
-    enum-known-y-4
-    down-sum-requires
-    returns
-    returns-2
-    returns-3
-    returns-4
-    returns-5
-    returns-6
-    returns-7)
+add-spec = tie.close (tie.spec returns returns-2 add-if3 returns-3 add-result sub-result returns-4)

@@ -5,7 +5,7 @@ use Rattle.sums.specs.Value.{most}
 use mathlib.Core.Path.{_≡_, refl, sym, _∙_, ap}
 use native.Mathlib.Omega.{arith}
 use borrow.Author.Tests.{le-leb, lt-leb, leb-true, not-false, eq-eqb, ne-eqb}
-use Rattle.sums.proofs.Steps.{up-fits, up-passes, down-fits, down-passes, yes, no, same-test, product-test}
+use Rattle.sums.proofs.Steps.{product-test}
 use borrow.Author.Needs.{needs}
 use Rattle.sums.proofs.value.product_fits.Statement.{statement}
 use Rattle.sums.proofs.value.product_fits.Tie as tie
