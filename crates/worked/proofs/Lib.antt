@@ -5,3 +5,4 @@ pub mod Sizes
 pub mod Writes
 pub mod Tree
 pub mod Exact
+pub mod Samples

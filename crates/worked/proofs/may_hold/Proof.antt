@@ -1,3 +1,4 @@
+-- `worked::may_hold` meets its contract. Assumes nothing.
 use Rattle.worked.specs.Row.{holds}
 use mathlib.Core.Path.{refl}
 use Rattle.worked.proofs.may_hold.Statement.{statement}
