@@ -36,13 +36,13 @@ pub down-passes : (n : ℕ) → most < n → Stays ≡ downward n
 unfolding downward
 down-passes n h = leaves (leb n most) (Minus n) Stays (lt-leb n most h)
 
-difference-up : (a b n : ℕ) → a ≡ b + n → difference a b ≡ upward n
+pub difference-up : (a b n : ℕ) → a ≡ b + n → difference a b ≡ upward n
 unfolding difference
 difference-up a b n e =
     let k : a - b ≡ n = omega arith in
     sym (takes (leb b a) (upward (a - b)) (downward (b - a)) (le-leb b a (omega arith))) ∙ ap upward k
 
-difference-down : (a b n : ℕ) → b ≡ a + n → 0 < n → difference a b ≡ downward n
+pub difference-down : (a b n : ℕ) → b ≡ a + n → 0 < n → difference a b ≡ downward n
 unfolding difference
 difference-down a b n e h =
     let k : b - a ≡ n = omega arith in
@@ -94,19 +94,19 @@ up-is n = of-is (most + n) ∙ difference-up (most + n) most n refl
 stays-right : (f : Worked → Worked → Worked) → ((x : Worked) → f x Stays ≡ Stays) → (a b : ℕ) → twice < b → f (value-of a) (value-of b) ≡ Stays
 stays-right f h a b l = ap (f (value-of a)) (stays-of b l) ∙ h (value-of a)
 
-added-stays : (x : Worked) → added x Stays ≡ Stays
+pub added-stays : (x : Worked) → added x Stays ≡ Stays
 unfolding added
 added-stays Stays = refl
 added-stays (Plus a) = refl
 added-stays (Minus a) = refl
 
-taken-stays : (x : Worked) → taken x Stays ≡ Stays
+pub taken-stays : (x : Worked) → taken x Stays ≡ Stays
 unfolding taken
 taken-stays Stays = refl
 taken-stays (Plus a) = refl
 taken-stays (Minus a) = refl
 
-multiplied-stays : (x : Worked) → multiplied x Stays ≡ Stays
+pub multiplied-stays : (x : Worked) → multiplied x Stays ≡ Stays
 unfolding multiplied
 multiplied-stays Stays = refl
 multiplied-stays (Plus a) = refl

@@ -3,6 +3,7 @@ use Prim.Native.Nat.{ℕ}
 use mathlib.Core.Bool.{Bool, true, false, _&&_}
 use lib.Dec.{leb}
 
+-- as `pick` of field; it unfolds only where that is asked for, so that a goal still shows the test
 unfoldable pub choose : {A : Type 0} → Bool → A → A → A
 choose true a b = a
 choose false a b = b

@@ -3,8 +3,8 @@
 pub mod Choice
 pub mod Tree
 pub mod Grammar
-pub mod Integer
 pub mod Value
+pub mod Integer
 pub mod Machine
 pub mod Small
 pub mod Packed

@@ -1,5 +1,5 @@
--- What a sum comes to, over exact numbers; a number is a sign and a size, and `Minus` is below zero. It stays where a number or a step passes
--- the bound, or zero and a negative are multiplied. Assumes nothing.
+-- 02, A12: what a sum comes to. Numbers are exact, by sign and size, and `Minus` is below zero. If a number or a step passes
+-- 9,007,199,254,740,991 either way, or zero and a negative are multiplied, it stays. Assumes nothing: these are definitions.
 use Prim.Native.Nat.{ℕ, _+_, _-_, _*_}
 use lib.Dec.{leb, eqb}
 use Rattle.sums.specs.Choice.{choose}
@@ -7,6 +7,7 @@ use Rattle.sums.specs.Tree.{Tree, number, plus, minus, times}
 use Rattle.sums.specs.declared.value.Worked.{Worked}
 use Rattle.sums.specs.declared.value.Worked.the-variants.{Stays, Plus, Minus}
 
+-- the bound of a number and of each step
 abbrev pub most : ℕ
 most = 9007199254740991
 
@@ -39,6 +40,7 @@ taken (Minus a) Stays = Stays
 taken (Minus a) (Plus b) = downward (a + b)
 taken (Minus a) (Minus b) = difference b a
 
+-- zero times a negative would be a zero with a sign
 unfoldable pub multiplied : Worked → Worked → Worked
 multiplied Stays y = Stays
 multiplied (Plus a) Stays = Stays
