@@ -1,4 +1,5 @@
--- What is written reads as the worked page. Main statements: `read-worked`, `bytes-worked`, `buffer-worked`, `worked-bound`.
+-- What is written reads as the worked page. Main statements: `read-worked`, `bytes-worked`, `worked-bound`, and of the lent buffer
+-- `buffer-fits`, `buffer-bytes`, `buffer-worked`.
 -- Assumes nothing.
 use Prim.Native.Nat.{ℕ, zero, suc, _+_, _*_, _≤_, _<_}
 use mathlib.Core.Path.{_≡_, refl, sym, _∙_, ap, subst}
@@ -7,11 +8,11 @@ use mathlib.Core.List.{[], _∷_, _++_}
 use native.Mathlib.Omega.{arith}
 use lib.Dec.{T, eqb}
 use lib.ListN.{length, take, drop}
-use lib.Seq.{take-at}
+use lib.Seq.{take-at, length-take-le}
 use Rattle.field.specs.Bytes.{Bytes, AllBytes, pick}
 use Rattle.field.specs.Row.{Row, end, loose, field, bytes, Inside, only-bytes, fields-after, inside, read}
 use Rattle.field.specs.Put.{put, Wrote}
-use Rattle.field.proofs.PutLaws.{put-fits}
+use Rattle.field.proofs.PutLaws.{put-fits, wrote-length}
 use Rattle.field.proofs.NumberLaws.{all-big-endian}
 use Rattle.field.proofs.RowLaws.{FrontFits, Shaped, Sane, read-shaped, read-sane, sane-bytes, read-back}
 use Rattle.page.specs.Number.{whole, number-bytes}
@@ -91,12 +92,23 @@ read-worked s h =
 pub bytes-worked : (s : Bytes) → length s ≤ 32768 → page-in (read (worked-bytes s)) ≡ worked (page-in (read s))
 bytes-worked s h = ap page-in (read-worked s h) ∙ page-worked (read s)
 
--- the same of the lent buffer, as far as it was written
-pub buffer-worked : (page : Bytes) {o o′ : Bytes} {n : ℕ} → length page ≤ 32768 → 51492 ≤ length o → Wrote o 0 (worked-bytes page) o′ n → (take n o′ ≡ worked-bytes page) × (n ≤ 51492) × (page-in (read (take n o′)) ≡ worked (page-in (read page)))
-buffer-worked page {o} {o′} {n} h l u =
-    let w : Bytes = worked-bytes page in
-    let b : length w ≤ 51492 = worked-bound page h in
-    let k : n ≡ length w = omega (arith, u .end-is) in
-    let f : o′ ≡ take 0 o ++ (w ++ drop (0 + length w) o) = u .out-is ∙ put-fits o 0 w (omega arith) in
-    let e : take n o′ ≡ w = ap (take n) f ∙ take-at w (drop (0 + length w) o) n (sym k) in
-    (e, omega arith, ap (λ (x : Bytes). page-in (read x)) e ∙ bytes-worked page h)
+-- ---- the same of a lent buffer that is long enough, as far as it was written: o before, o′ and n after
+
+module _ (page : Bytes) {o o′ : Bytes} {n : ℕ} (h : length page ≤ 32768) (l : 51492 ≤ length o) (u : Wrote o 0 (worked-bytes page) o′ n) where
+  size : n ≡ length (worked-bytes page)
+  size = omega (arith, u .end-is)
+
+  pub buffer-fits : n ≤ length o′
+  buffer-fits = omega (arith, size, worked-bound page h, wrote-length u)
+
+  pub buffer-part : n ≡ length (take n o′)
+  buffer-part = sym (length-take-le n o′ buffer-fits)
+
+  pub buffer-bytes : take n o′ ≡ worked-bytes page
+  buffer-bytes =
+      let w : Bytes = worked-bytes page in
+      let f : o′ ≡ take 0 o ++ (w ++ drop (0 + length w) o) = u .out-is ∙ put-fits o 0 w (omega (arith, worked-bound page h)) in
+      ap (take n) f ∙ take-at w (drop (0 + length w) o) n (sym size)
+
+  pub buffer-worked : page-in (read (take n o′)) ≡ worked (page-in (read page))
+  buffer-worked = ap (λ (x : Bytes). page-in (read x)) buffer-bytes ∙ bytes-worked page h
