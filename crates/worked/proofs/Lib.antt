@@ -5,4 +5,5 @@ pub mod Sizes
 pub mod Writes
 pub mod Tree
 pub mod Exact
+pub mod Encoded
 pub mod Samples
