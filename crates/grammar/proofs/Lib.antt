@@ -5,3 +5,4 @@ pub mod Meaning
 pub mod Sound
 pub mod Exact
 pub mod Samples
+pub mod Letters

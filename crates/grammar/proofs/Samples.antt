@@ -7,7 +7,7 @@ use Prim.Native.String.{String}
 use Rattle.field.specs.Bytes.{Bytes, ascii, same}
 use Rattle.grammar.specs.Signs.{choose, each, letter, digit, name-byte, separator, space, name-goes-on, equals-sign, text-byte, string-byte, entity-byte, quote, quoted-byte, source-byte, source-start}
 use Rattle.grammar.specs.Known.{Known, whole, minus-whole, decimal, minus-decimal, quoted, boolean, null, other, trimmed-front, kept, trimmed-end, value-from, is-whole, before-point, after-point, is-empty-text, is-decimal, number-of, unsigned, has-minus, string-from, string-of, digit-or-point, of-a-number, not-read, rest-of, or-else, known-trimmed, known-of, entity-of}
-use Rattle.grammar.specs.Syntax.{Part, part, Name, short, no-hyphen, member-parts, attribute-name-fits, member-fits, tag-name-fits, same-name, Tag, tag, Attributes, no-attributes, attribute, Attribute, no-value, string-value, container-value, tag-value, spread-attribute, Children, no-children, child, Child, text-child, tag-child, empty-child, container-child, spread-child, Expr, tag-expr, known-expr, matched, join-attributes, join-children}
+use Rattle.grammar.specs.Syntax.{Part, part, Name, short, no-hyphen, member-parts, attribute-name-fits, member-fits, tag-name-fits, same-name, Tag, tag, Attributes, no-attributes, attribute, Attribute, no-value, string-value, container-value, tag-value, spread-attribute, Children, no-children, child, Child, text-child, tag-child, empty-child, container-child, spread-child, Expr, tag-expr, known-expr, every-tag, matched, join-attributes, join-children}
 use Rattle.grammar.specs.Reader.{closed, filled, filled-if, emptied, pointed, close-of, brace-ends, resumed, resumed-if, fits, named, step-tag, step-attribute-named, step-close-named, step-of-named, step-behind, step-source, step-children, step, at-end, outcome, Answer, taken, refused-14, refused-15, judged, answer}
 
 abbrev a : Name
@@ -47,7 +47,7 @@ pub samples-1 : Answers
     ∷ ("<a . b/>", taken (tag (part 0 (ascii "a") ∷ part 46 (ascii "b") ∷ []) no-attributes no-children (part 0 (ascii "a") ∷ part 46 (ascii "b") ∷ [])))
     ∷ ("<a:b></a :b>", taken (tag (part 0 (ascii "a") ∷ part 58 (ascii "b") ∷ []) no-attributes no-children (part 0 (ascii "a") ∷ part 58 (ascii "b") ∷ [])))
     ∷ [])
-unfolding choose same each letter digit name-byte separator space name-goes-on equals-sign text-byte string-byte entity-byte quote quoted-byte source-byte source-start trimmed-front kept trimmed-end value-from is-whole before-point after-point is-empty-text is-decimal number-of unsigned has-minus string-from string-of digit-or-point of-a-number not-read rest-of or-else known-trimmed known-of entity-of short no-hyphen member-parts attribute-name-fits member-fits tag-name-fits same-name matched join-attributes join-children closed filled filled-if emptied pointed close-of brace-ends resumed resumed-if fits named step-tag step-attribute-named step-close-named step-of-named step-behind step-source step-children step at-end outcome judged answer
+unfolding choose same each letter digit name-byte separator space name-goes-on equals-sign text-byte string-byte entity-byte quote quoted-byte source-byte source-start trimmed-front kept trimmed-end value-from is-whole before-point after-point is-empty-text is-decimal number-of unsigned has-minus string-from string-of digit-or-point of-a-number not-read rest-of or-else known-trimmed known-of entity-of short no-hyphen member-parts attribute-name-fits member-fits tag-name-fits same-name every-tag matched join-attributes join-children closed filled filled-if emptied pointed close-of brace-ends resumed resumed-if fits named step-tag step-attribute-named step-close-named step-of-named step-behind step-source step-children step at-end outcome judged answer
 samples-1 = (refl, (refl, (refl, (refl, (refl, (refl, (refl, (refl, (refl, (refl, (refl, (refl, tt))))))))))))
 
 pub samples-2 : Answers
@@ -64,7 +64,7 @@ pub samples-2 : Answers
     ∷ ("<a b={}/>", refused-14)
     ∷ ("<a {x}/>", refused-14)
     ∷ [])
-unfolding choose same each letter digit name-byte separator space name-goes-on equals-sign text-byte string-byte entity-byte quote quoted-byte source-byte source-start trimmed-front kept trimmed-end value-from is-whole before-point after-point is-empty-text is-decimal number-of unsigned has-minus string-from string-of digit-or-point of-a-number not-read rest-of or-else known-trimmed known-of entity-of short no-hyphen member-parts attribute-name-fits member-fits tag-name-fits same-name matched join-attributes join-children closed filled filled-if emptied pointed close-of brace-ends resumed resumed-if fits named step-tag step-attribute-named step-close-named step-of-named step-behind step-source step-children step at-end outcome judged answer
+unfolding choose same each letter digit name-byte separator space name-goes-on equals-sign text-byte string-byte entity-byte quote quoted-byte source-byte source-start trimmed-front kept trimmed-end value-from is-whole before-point after-point is-empty-text is-decimal number-of unsigned has-minus string-from string-of digit-or-point of-a-number not-read rest-of or-else known-trimmed known-of entity-of short no-hyphen member-parts attribute-name-fits member-fits tag-name-fits same-name every-tag matched join-attributes join-children closed filled filled-if emptied pointed close-of brace-ends resumed resumed-if fits named step-tag step-attribute-named step-close-named step-of-named step-behind step-source step-children step at-end outcome judged answer
 samples-2 = (refl, (refl, (refl, (refl, (refl, (refl, (refl, (refl, (refl, (refl, (refl, (refl, tt))))))))))))
 
 pub samples-3 : Answers
@@ -81,7 +81,7 @@ pub samples-3 : Answers
     ∷ ("<a>{0}</a>", with-child (whole 0))
     ∷ ("<a>{- 0}</a>", with-child (minus-whole 0))
     ∷ [])
-unfolding choose same each letter digit name-byte separator space name-goes-on equals-sign text-byte string-byte entity-byte quote quoted-byte source-byte source-start trimmed-front kept trimmed-end value-from is-whole before-point after-point is-empty-text is-decimal number-of unsigned has-minus string-from string-of digit-or-point of-a-number not-read rest-of or-else known-trimmed known-of entity-of short no-hyphen member-parts attribute-name-fits member-fits tag-name-fits same-name matched join-attributes join-children closed filled filled-if emptied pointed close-of brace-ends resumed resumed-if fits named step-tag step-attribute-named step-close-named step-of-named step-behind step-source step-children step at-end outcome judged answer
+unfolding choose same each letter digit name-byte separator space name-goes-on equals-sign text-byte string-byte entity-byte quote quoted-byte source-byte source-start trimmed-front kept trimmed-end value-from is-whole before-point after-point is-empty-text is-decimal number-of unsigned has-minus string-from string-of digit-or-point of-a-number not-read rest-of or-else known-trimmed known-of entity-of short no-hyphen member-parts attribute-name-fits member-fits tag-name-fits same-name every-tag matched join-attributes join-children closed filled filled-if emptied pointed close-of brace-ends resumed resumed-if fits named step-tag step-attribute-named step-close-named step-of-named step-behind step-source step-children step at-end outcome judged answer
 samples-3 = (refl, (refl, (refl, (refl, (refl, (refl, (refl, (refl, (refl, (refl, (refl, (refl, tt))))))))))))
 
 pub samples-4 : Answers
@@ -98,7 +98,7 @@ pub samples-4 : Answers
     ∷ ("<a>{\"x\" + 'y'}</a>", with-child (other (ascii "\"x\" + 'y'")))
     ∷ ("<a>{\"x/\" + y}</a>", refused-14)
     ∷ [])
-unfolding choose same each letter digit name-byte separator space name-goes-on equals-sign text-byte string-byte entity-byte quote quoted-byte source-byte source-start trimmed-front kept trimmed-end value-from is-whole before-point after-point is-empty-text is-decimal number-of unsigned has-minus string-from string-of digit-or-point of-a-number not-read rest-of or-else known-trimmed known-of entity-of short no-hyphen member-parts attribute-name-fits member-fits tag-name-fits same-name matched join-attributes join-children closed filled filled-if emptied pointed close-of brace-ends resumed resumed-if fits named step-tag step-attribute-named step-close-named step-of-named step-behind step-source step-children step at-end outcome judged answer
+unfolding choose same each letter digit name-byte separator space name-goes-on equals-sign text-byte string-byte entity-byte quote quoted-byte source-byte source-start trimmed-front kept trimmed-end value-from is-whole before-point after-point is-empty-text is-decimal number-of unsigned has-minus string-from string-of digit-or-point of-a-number not-read rest-of or-else known-trimmed known-of entity-of short no-hyphen member-parts attribute-name-fits member-fits tag-name-fits same-name every-tag matched join-attributes join-children closed filled filled-if emptied pointed close-of brace-ends resumed resumed-if fits named step-tag step-attribute-named step-close-named step-of-named step-behind step-source step-children step at-end outcome judged answer
 samples-4 = (refl, (refl, (refl, (refl, (refl, (refl, (refl, (refl, (refl, (refl, (refl, (refl, tt))))))))))))
 
 pub samples-5 : Answers
@@ -115,5 +115,5 @@ pub samples-5 : Answers
     ∷ ("<a>{x <b/>}</a>", refused-14)
     ∷ ("<a>x<b/>{<b/>}</a>", with-children (child (text-child (ascii "x")) (child (tag-child leaf) (child (container-child (tag-expr leaf)) no-children))))
     ∷ [])
-unfolding choose same each letter digit name-byte separator space name-goes-on equals-sign text-byte string-byte entity-byte quote quoted-byte source-byte source-start trimmed-front kept trimmed-end value-from is-whole before-point after-point is-empty-text is-decimal number-of unsigned has-minus string-from string-of digit-or-point of-a-number not-read rest-of or-else known-trimmed known-of entity-of short no-hyphen member-parts attribute-name-fits member-fits tag-name-fits same-name matched join-attributes join-children closed filled filled-if emptied pointed close-of brace-ends resumed resumed-if fits named step-tag step-attribute-named step-close-named step-of-named step-behind step-source step-children step at-end outcome judged answer
+unfolding choose same each letter digit name-byte separator space name-goes-on equals-sign text-byte string-byte entity-byte quote quoted-byte source-byte source-start trimmed-front kept trimmed-end value-from is-whole before-point after-point is-empty-text is-decimal number-of unsigned has-minus string-from string-of digit-or-point of-a-number not-read rest-of or-else known-trimmed known-of entity-of short no-hyphen member-parts attribute-name-fits member-fits tag-name-fits same-name every-tag matched join-attributes join-children closed filled filled-if emptied pointed close-of brace-ends resumed resumed-if fits named step-tag step-attribute-named step-close-named step-of-named step-behind step-source step-children step at-end outcome judged answer
 samples-5 = (refl, (refl, (refl, (refl, (refl, (refl, (refl, (refl, (refl, (refl, (refl, (refl, tt))))))))))))

@@ -85,36 +85,40 @@ mutual
     tag-expr : Tag → Expr
     known-expr : Known → Expr
 
--- 02, A3: 15 compares closing names (a fragment's is empty). Each is the opening one
+-- every name with its closing one, and all that stands in braces and is no tag, pass the tests
 unfoldable mutual
-  pub matched : Tag → Bool
-  matched (tag n ps ks m) = same-name n m && (matched-attributes ps && matched-children ks)
+  pub every-tag : Tag → (Name → Name → Bool) → (Known → Bool) → Bool
+  every-tag (tag n ps ks m) f g = f n m && (every-attributes ps f g && every-children ks f g)
 
-  pub matched-attributes : Attributes → Bool
-  matched-attributes no-attributes = true
-  matched-attributes (attribute a ps) = matched-attribute a && matched-attributes ps
+  pub every-attributes : Attributes → (Name → Name → Bool) → (Known → Bool) → Bool
+  every-attributes no-attributes f g = true
+  every-attributes (attribute a ps) f g = every-attribute a f g && every-attributes ps f g
 
-  pub matched-attribute : Attribute → Bool
-  matched-attribute (no-value n) = true
-  matched-attribute (string-value n w) = true
-  matched-attribute (container-value n b) = matched-expr b
-  matched-attribute (tag-value n t) = matched t
-  matched-attribute (spread-attribute b) = matched-expr b
+  pub every-attribute : Attribute → (Name → Name → Bool) → (Known → Bool) → Bool
+  every-attribute (no-value n) f g = true
+  every-attribute (string-value n w) f g = true
+  every-attribute (container-value n b) f g = every-expr b f g
+  every-attribute (tag-value n t) f g = every-tag t f g
+  every-attribute (spread-attribute b) f g = every-expr b f g
 
-  pub matched-children : Children → Bool
-  matched-children no-children = true
-  matched-children (child k ks) = matched-child k && matched-children ks
+  pub every-children : Children → (Name → Name → Bool) → (Known → Bool) → Bool
+  every-children no-children f g = true
+  every-children (child k ks) f g = every-child k f g && every-children ks f g
 
-  pub matched-child : Child → Bool
-  matched-child (text-child w) = true
-  matched-child (tag-child t) = matched t
-  matched-child empty-child = true
-  matched-child (container-child b) = matched-expr b
-  matched-child (spread-child b) = matched-expr b
+  pub every-child : Child → (Name → Name → Bool) → (Known → Bool) → Bool
+  every-child (text-child w) f g = true
+  every-child (tag-child t) f g = every-tag t f g
+  every-child empty-child f g = true
+  every-child (container-child b) f g = every-expr b f g
+  every-child (spread-child b) f g = every-expr b f g
 
-  pub matched-expr : Expr → Bool
-  matched-expr (tag-expr t) = matched t
-  matched-expr (known-expr k) = true
+  pub every-expr : Expr → (Name → Name → Bool) → (Known → Bool) → Bool
+  every-expr (tag-expr t) f g = every-tag t f g
+  every-expr (known-expr k) f g = g k
+
+-- 02, A3: 15 compares closing names (a fragment's is empty). Each is the opening one
+unfoldable pub matched : Tag → Bool
+matched t = every-tag t same-name (λ k. true)
 
 unfoldable pub join-attributes : Attributes → Attributes → Attributes
 join-attributes no-attributes bs = bs
