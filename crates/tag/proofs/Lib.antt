@@ -1,0 +1,4 @@
+-- The laws of `tag`: what is accepted, and that it stands in a page.
+pub mod NamesOk
+pub mod TagLimits
+pub mod TagExact
