@@ -15,6 +15,14 @@ ORDER = [
     ("page", ["Number", "Tree", "Refusal", "Check", "Encode"]),
     ("spec", ["Pass", "Output", "Merge", "Attributes", "Children", "Visit", "Transform", "Answer"]),
 ]
+# the same for the answer to tag text
+TAG_ORDER = [
+    ("field", ["Bytes", "Number", "Row", "Put"]),
+    ("utf8", ["Utf8"]),
+    ("page", ["Number", "Encode"]),
+    ("grammar", ["Signs", "Known", "Syntax", "Reader"]),
+    ("tag", ["PageTag", "TagAnswer"]),
+]
 # names of types, which nothing has to unfold
 TYPES = {"AllBytes"}
 
@@ -41,11 +49,11 @@ def defined(text):
     return [n for n in out if n not in TYPES]
 
 
-def gather(own):
-    """use lines and names; `own` is the crate whose proofs use them. A name stands for one definition in a list of names to unfold, so two
+def gather(own, order=ORDER):
+    """use lines and names; `own` is the crate whose proofs use them, `order` the modules that it computes with. A name stands for one definition in a list of names to unfold, so two
     modules that define the same one are an error."""
     uses, names, owner, twice = [], [], {}, []
-    for crate, wanted in ORDER:
+    for crate, wanted in order:
         for module, text in modules(crate, wanted):
             new = defined(text)
             path = "Rattle.%s.specs.%s" % (crate, module) if crate == own else "Rattle.%s.specs.%s" % (crate, module)
