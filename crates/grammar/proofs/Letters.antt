@@ -163,11 +163,11 @@ no-entity d e = let z : _≡_ {A = ℕ} 0 1 = cc in absurd (omega arith)
 entity-ascii : (e : Bytes) (d : ℕ) → entity-of e ≡ K.some d → Entity e d
 unfolding entity-of
 entity-ascii e d =
-    chosen (λ z. z ≡ K.some d) (same e (ascii "amp")) _ _ (λ t q. entity-one e (ascii "amp") 38 d (unfold utf8 utf8-behind forms begun in refl) (omega arith) t q)
-    (λ _. chosen (λ z. z ≡ K.some d) (same e (ascii "lt")) _ _ (λ t q. entity-one e (ascii "lt") 60 d (unfold utf8 utf8-behind forms begun in refl) (omega arith) t q)
-    (λ _. chosen (λ z. z ≡ K.some d) (same e (ascii "gt")) _ _ (λ t q. entity-one e (ascii "gt") 62 d (unfold utf8 utf8-behind forms begun in refl) (omega arith) t q)
-    (λ _. chosen (λ z. z ≡ K.some d) (same e (ascii "quot")) _ _ (λ t q. entity-one e (ascii "quot") 34 d (unfold utf8 utf8-behind forms begun in refl) (omega arith) t q)
-    (λ _. chosen (λ z. z ≡ K.some d) (same e (ascii "#39")) _ _ (λ t q. entity-one e (ascii "#39") 39 d (unfold utf8 utf8-behind forms begun in refl) (omega arith) t q)
+    chosen (λ z. z ≡ K.some d) (same e (ascii "amp")) _ _ (λ t q. entity-one e (ascii "amp") _ d (unfold utf8 utf8-behind forms begun in refl) (omega arith) t q)
+    (λ _. chosen (λ z. z ≡ K.some d) (same e (ascii "lt")) _ _ (λ t q. entity-one e (ascii "lt") _ d (unfold utf8 utf8-behind forms begun in refl) (omega arith) t q)
+    (λ _. chosen (λ z. z ≡ K.some d) (same e (ascii "gt")) _ _ (λ t q. entity-one e (ascii "gt") _ d (unfold utf8 utf8-behind forms begun in refl) (omega arith) t q)
+    (λ _. chosen (λ z. z ≡ K.some d) (same e (ascii "quot")) _ _ (λ t q. entity-one e (ascii "quot") _ d (unfold utf8 utf8-behind forms begun in refl) (omega arith) t q)
+    (λ _. chosen (λ z. z ≡ K.some d) (same e (ascii "#39")) _ _ (λ t q. entity-one e (ascii "#39") _ d (unfold utf8 utf8-behind forms begun in refl) (omega arith) t q)
     (λ _ q. no-entity d q)))))
 
 run-is : {p : ℕ → Bool} {s w r : Bytes} → Run p s w r → s ≡ w ++ r

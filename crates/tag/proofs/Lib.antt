@@ -2,3 +2,4 @@
 pub mod NamesOk
 pub mod TagLimits
 pub mod TagExact
+pub mod TagSamples
