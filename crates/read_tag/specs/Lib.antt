@@ -1,0 +1,2 @@
+-- What the parts of the reader promise to each other.
+pub mod Runs
