@@ -1,2 +1,3 @@
 -- The laws of `read_tag`.
 pub mod RunLaws
+pub mod ProgressLaws

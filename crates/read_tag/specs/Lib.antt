@@ -1,2 +1,3 @@
 -- What the parts of the reader promise to each other.
 pub mod Runs
+pub mod Progress
