@@ -16,7 +16,7 @@ use Rattle.page.specs.Encode.{texts-row, name-row, attr-name-row, tag-row, attr
 use Rattle.grammar.specs.Syntax as S
 use Rattle.grammar.specs.Syntax.{Name, no-attributes, join-attributes, join-children}
 use Rattle.tag.specs.PageTag.{page-name, page-attr-name, page-tag, page-tag-by, page-attributes, page-attribute, page-children, page-child, page-expr}
-use Rattle.read_tag.specs.Progress.{tag-code, name-bytes, attr-name-bytes, attribute-bytes, attributes-bytes, child-bytes, children-bytes, expr-bytes, tag-bytes, begun}
+use Rattle.read_tag.specs.Progress.{tag-code, name-bytes, attr-name-bytes, attribute-bytes, attributes-bytes, child-bytes, children-bytes, expr-bytes, tag-bytes, begun, attribute-begun}
 
 -- ---- rows one behind the other
 
@@ -160,3 +160,111 @@ tag-closed o w n ps ks m h =
     ap (λ (k : ℕ). put (put o 0 (w ++ (head (tag-code n) 0 ++ b))) (length w) (head (tag-code n) k)) l ∙
     head-last o w b (tag-code n) ∙
     ap (λ (z : Bytes). put o 0 (w ++ z)) (tag-field n ps ks m h)
+
+-- any field that ends, its head standing behind w
+pub field-closed : (o w b : Bytes) (t : ℕ) → put (put o 0 ((w ++ head t 0) ++ b)) (length w) (head t (length ((w ++ head t 0) ++ b) - (length w + 3))) ≡ put o 0 (w ++ field-bytes t b)
+field-closed o w b t =
+    let e : (w ++ head t 0) ++ b ≡ w ++ (head t 0 ++ b) = append-assoc w (head t 0) b in
+    let l : length (w ++ (head t 0 ++ b)) - (length w + 3) ≡ length b = omega (arith, length-append w (head t 0 ++ b), length-append (head t 0) b, length-head t 0) in
+    ap (λ (z : Bytes). put (put o 0 z) (length w) (head t (length z - (length w + 3)))) e ∙
+    ap (λ (k : ℕ). put (put o 0 (w ++ (head t 0 ++ b))) (length w) (head t k)) l ∙
+    head-last o w b t
+
+pub begun-more : (w : Bytes) (n : Name) (ps : S.Attributes) (a : S.Attribute) → begun w n (S.add-attribute ps a) ≡ begun w n ps ++ attribute-bytes a
+unfolding begun
+begun-more w n ps a =
+    ap (λ (z : Bytes). w ++ (head (tag-code n) 0 ++ (name-bytes n ++ z))) (attributes-more ps a) ∙ simp append-assoc
+
+-- ---- each attribute and child as a field
+
+attr-name-behind : (n : A.AttrName) (x : Row) → bytes (attr-name-row n x) ≡ bytes (attr-name-row n end) ++ bytes x
+unfolding attr-name-row
+attr-name-behind (A.ident w) x = one-field 0x40 w end x
+attr-name-behind (A.namespaced w v) x = one-field 0x42 [] (texts-row 0x40 (w ∷ v ∷ [])) x
+
+field-alone : (t : ℕ) (i : Row) → bytes (field t [] i end) ≡ field-bytes t (bytes i)
+unfolding bytes
+field-alone t i = append-nil (field-bytes t (bytes i))
+
+leaf-alone : (t : ℕ) (w : Bytes) → bytes (field t w end end) ≡ field-bytes t w
+unfolding bytes
+leaf-alone t w = append-nil (field-bytes t (w ++ [])) ∙ ap (field-bytes t) (append-nil w)
+
+-- 50: its name, and the row of its value
+attribute-alone : (n : Name) (x : Row) → bytes (field 0x50 [] (attr-name-row (page-attr-name n) x) end) ≡ field-bytes 0x50 (attr-name-bytes n ++ bytes x)
+unfolding attr-name-bytes
+attribute-alone n x = field-alone 0x50 (attr-name-row (page-attr-name n) x) ∙ ap (field-bytes 0x50) (attr-name-behind (page-attr-name n) x)
+
+pub no-value-bytes : (n : Name) → attribute-bytes (S.no-value n) ≡ field-bytes 0x50 (attr-name-bytes n)
+unfolding attribute-bytes page-tag tag-row attr-name-bytes
+no-value-bytes n = field-alone 0x50 (attr-name-row (page-attr-name n) end)
+
+pub string-value-bytes : (n : Name) (w : Bytes) → attribute-bytes (S.string-value n w) ≡ field-bytes 0x50 (attr-name-bytes n ++ field-bytes 0x51 w)
+unfolding attribute-bytes page-tag tag-row
+string-value-bytes n w = attribute-alone n (field 0x51 w end end) ∙ ap (λ (z : Bytes). field-bytes 0x50 (attr-name-bytes n ++ z)) (leaf-alone 0x51 w)
+
+pub container-value-bytes : (n : Name) (b : S.Expr) → attribute-bytes (S.container-value n b) ≡ field-bytes 0x50 (attr-name-bytes n ++ field-bytes 0x52 (expr-bytes b))
+unfolding attribute-bytes expr-bytes page-tag tag-row
+container-value-bytes n b =
+    attribute-alone n (field 0x52 [] (expr-row (page-expr b) end) end) ∙ ap (λ (z : Bytes). field-bytes 0x50 (attr-name-bytes n ++ z)) (field-alone 0x52 (expr-row (page-expr b) end))
+
+pub tag-value-bytes : (n : Name) (t : S.Tag) → attribute-bytes (S.tag-value n t) ≡ field-bytes 0x50 (attr-name-bytes n ++ tag-bytes t)
+unfolding attribute-bytes tag-bytes page-tag tag-row
+tag-value-bytes n t = attribute-alone n (tag-row (page-tag t) end)
+
+pub spread-attribute-bytes : (b : S.Expr) → attribute-bytes (S.spread-attribute b) ≡ field-bytes 0x53 (expr-bytes b)
+unfolding attribute-bytes expr-bytes page-tag tag-row
+spread-attribute-bytes b = field-alone 0x53 (expr-row (page-expr b) end)
+
+pub text-child-bytes : (w : Bytes) → child-bytes (S.text-child w) ≡ field-bytes 0x60 w
+unfolding child-bytes page-tag tag-row
+text-child-bytes w = leaf-alone 0x60 w
+
+pub tag-child-bytes : (t : S.Tag) → child-bytes (S.tag-child t) ≡ tag-bytes t
+unfolding child-bytes tag-bytes page-tag tag-row
+tag-child-bytes t = refl
+
+pub empty-child-bytes : child-bytes S.empty-child ≡ field-bytes 0x52 []
+unfolding child-bytes page-tag tag-row
+empty-child-bytes = leaf-alone 0x52 []
+
+pub container-child-bytes : (b : S.Expr) → child-bytes (S.container-child b) ≡ field-bytes 0x52 (expr-bytes b)
+unfolding child-bytes expr-bytes page-tag tag-row
+container-child-bytes b = field-alone 0x52 (expr-row (page-expr b) end)
+
+pub spread-child-bytes : (b : S.Expr) → child-bytes (S.spread-child b) ≡ field-bytes 0x61 (expr-bytes b)
+unfolding child-bytes expr-bytes page-tag tag-row
+spread-child-bytes b = field-alone 0x61 (expr-row (page-expr b) end)
+
+pub tag-expr-bytes : (t : S.Tag) → expr-bytes (S.tag-expr t) ≡ tag-bytes t
+unfolding expr-bytes tag-bytes page-tag tag-row
+tag-expr-bytes t = refl
+
+-- ---- what stands around a tag that has ended
+
+-- 50 around a tag
+pub value-closed : (o w : Bytes) (a n : Name) (ps : S.Attributes) (t : S.Tag) → put (put o 0 ((begun w n ps ++ attribute-begun a) ++ tag-bytes t)) (length (begun w n ps)) (head 0x50 (length ((begun w n ps ++ attribute-begun a) ++ tag-bytes t) - (length (begun w n ps) + 3))) ≡ put o 0 (begun w n (S.add-attribute ps (S.tag-value a t)))
+unfolding attribute-begun
+value-closed o w a n ps t =
+    let u : Bytes = begun w n ps in
+    let e : (u ++ (head 0x50 0 ++ attr-name-bytes a)) ++ tag-bytes t ≡ (u ++ head 0x50 0) ++ (attr-name-bytes a ++ tag-bytes t) = simp append-assoc in
+    ap (λ (z : Bytes). put (put o 0 z) (length u) (head 0x50 (length z - (length u + 3)))) e ∙
+    field-closed o u (attr-name-bytes a ++ tag-bytes t) 0x50 ∙
+    ap (λ (z : Bytes). put o 0 (u ++ z)) (sym (tag-value-bytes a t)) ∙
+    ap (put o 0) (sym (begun-more w n ps (S.tag-value a t)))
+
+-- braces around a tag: of a child, a spread child, a spread
+pub child-closed : (o w : Bytes) (n : Name) (ps : S.Attributes) (ks : S.Children) (t : S.Tag) → put (put o 0 (((begun w n ps ++ children-bytes ks) ++ head 0x52 0) ++ tag-bytes t)) (length (begun w n ps ++ children-bytes ks)) (head 0x52 (length (((begun w n ps ++ children-bytes ks) ++ head 0x52 0) ++ tag-bytes t) - (length (begun w n ps ++ children-bytes ks) + 3))) ≡ put o 0 (begun w n ps ++ children-bytes (S.add-child ks (S.container-child (S.tag-expr t))))
+child-closed o w n ps ks t =
+    field-closed o (begun w n ps ++ children-bytes ks) (tag-bytes t) 0x52 ∙
+    ap (put o 0) (append-assoc (begun w n ps) (children-bytes ks) (field-bytes 0x52 (tag-bytes t)) ∙ ap (λ (z : Bytes). begun w n ps ++ z) (ap (λ (z : Bytes). children-bytes ks ++ z) (ap (field-bytes 0x52) (sym (tag-expr-bytes t)) ∙ sym (container-child-bytes (S.tag-expr t))) ∙ sym (children-more ks (S.container-child (S.tag-expr t)))))
+
+pub spread-child-closed : (o w : Bytes) (n : Name) (ps : S.Attributes) (ks : S.Children) (t : S.Tag) → put (put o 0 (((begun w n ps ++ children-bytes ks) ++ head 0x61 0) ++ tag-bytes t)) (length (begun w n ps ++ children-bytes ks)) (head 0x61 (length (((begun w n ps ++ children-bytes ks) ++ head 0x61 0) ++ tag-bytes t) - (length (begun w n ps ++ children-bytes ks) + 3))) ≡ put o 0 (begun w n ps ++ children-bytes (S.add-child ks (S.spread-child (S.tag-expr t))))
+spread-child-closed o w n ps ks t =
+    field-closed o (begun w n ps ++ children-bytes ks) (tag-bytes t) 0x61 ∙
+    ap (put o 0) (append-assoc (begun w n ps) (children-bytes ks) (field-bytes 0x61 (tag-bytes t)) ∙ ap (λ (z : Bytes). begun w n ps ++ z) (ap (λ (z : Bytes). children-bytes ks ++ z) (ap (field-bytes 0x61) (sym (tag-expr-bytes t)) ∙ sym (spread-child-bytes (S.tag-expr t))) ∙ sym (children-more ks (S.spread-child (S.tag-expr t)))))
+
+pub spread-closed : (o w : Bytes) (n : Name) (ps : S.Attributes) (t : S.Tag) → put (put o 0 ((begun w n ps ++ head 0x53 0) ++ tag-bytes t)) (length (begun w n ps)) (head 0x53 (length ((begun w n ps ++ head 0x53 0) ++ tag-bytes t) - (length (begun w n ps) + 3))) ≡ put o 0 (begun w n (S.add-attribute ps (S.spread-attribute (S.tag-expr t))))
+spread-closed o w n ps t =
+    field-closed o (begun w n ps) (tag-bytes t) 0x53 ∙
+    ap (put o 0) (ap (λ (z : Bytes). begun w n ps ++ z) (ap (field-bytes 0x53) (sym (tag-expr-bytes t)) ∙ sym (spread-attribute-bytes (S.tag-expr t))) ∙ sym (begun-more w n ps (S.spread-attribute (S.tag-expr t))))
