@@ -1,3 +1,4 @@
 -- The laws of `read_tag`.
 pub mod RunLaws
 pub mod ProgressLaws
+pub mod FlagLaws

@@ -268,3 +268,16 @@ pub spread-closed : (o w : Bytes) (n : Name) (ps : S.Attributes) (t : S.Tag) →
 spread-closed o w n ps t =
     field-closed o (begun w n ps) (tag-bytes t) 0x53 ∙
     ap (put o 0) (ap (λ (z : Bytes). begun w n ps ++ z) (ap (field-bytes 0x53) (sym (tag-expr-bytes t)) ∙ sym (spread-attribute-bytes (S.tag-expr t))) ∙ sym (begun-more w n ps (S.spread-attribute (S.tag-expr t))))
+
+-- braces that are a value: their own head, and then the attribute's
+pub container-value-closed : (o w : Bytes) (a n : Name) (ps : S.Attributes) (t : S.Tag) → put (put o 0 ((begun w n ps ++ attribute-begun a) ++ field-bytes 0x52 (tag-bytes t))) (length (begun w n ps)) (head 0x50 (length ((begun w n ps ++ attribute-begun a) ++ field-bytes 0x52 (tag-bytes t)) - (length (begun w n ps) + 3))) ≡ put o 0 (begun w n (S.add-attribute ps (S.container-value a (S.tag-expr t))))
+unfolding attribute-begun
+container-value-closed o w a n ps t =
+    let u : Bytes = begun w n ps in
+    let x : Bytes = field-bytes 0x52 (tag-bytes t) in
+    let e : (u ++ (head 0x50 0 ++ attr-name-bytes a)) ++ x ≡ (u ++ head 0x50 0) ++ (attr-name-bytes a ++ x) = simp append-assoc in
+    ap (λ (z : Bytes). put (put o 0 z) (length u) (head 0x50 (length z - (length u + 3)))) e ∙
+    field-closed o u (attr-name-bytes a ++ x) 0x50 ∙
+    ap (λ (z : Bytes). put o 0 (u ++ field-bytes 0x50 (attr-name-bytes a ++ field-bytes 0x52 z))) (sym (tag-expr-bytes t)) ∙
+    ap (λ (z : Bytes). put o 0 (u ++ z)) (sym (container-value-bytes a (S.tag-expr t))) ∙
+    ap (put o 0) (sym (begun-more w n ps (S.container-value a (S.tag-expr t))))

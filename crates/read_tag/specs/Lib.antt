@@ -1,3 +1,4 @@
 -- What the parts of the reader promise to each other.
 pub mod Runs
 pub mod Progress
+pub mod Flags
