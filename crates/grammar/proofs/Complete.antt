@@ -1,4 +1,5 @@
--- Whatever the grammar has is read, and read as the grammar has it. Assumes nothing.
+-- Whatever the grammar has is read, and read as the grammar has it: each production leads the reader from one state to another, whatever
+-- stands around it. Main statements: `tag-read`, `attribute-one`, `child-one`, `expr-read`, `complete`. Assumes nothing.
 use Prim.Native.Nat.{ℕ, zero, suc}
 use mathlib.Core.Path.{_≡_, refl, sym, _∙_, ap, subst}
 use mathlib.Core.Bool.{Bool, true, false, _&&_, _||_, not}
@@ -15,11 +16,11 @@ use Rattle.grammar.proofs.Tests.{at-eq, chose, passed, or-cases, not-or
 
 -- ---- one byte, white space, a run, a run with entities
 
-go : (x y : State) (c : ℕ) (s : Bytes) → step x c ≡ y → outcome x (c ∷ s) ≡ outcome y s
+pub go : (x y : State) (c : ℕ) (s : Bytes) → step x c ≡ y → outcome x (c ∷ s) ≡ outcome y s
 unfolding outcome
 go x y c s e = ap (λ (z : State). outcome z s) e
 
-skip : (x : State) → ((c : ℕ) → T (space c) → step x c ≡ x) → {s r : Bytes} → Spaces s r → outcome x s ≡ outcome x r
+pub skip : (x : State) → ((c : ℕ) → T (space c) → step x c ≡ x) → {s r : Bytes} → Spaces s r → outcome x s ≡ outcome x r
 skip x k no-space = refl
 skip x k (space-on {c} {s} u p) = go x x c s (k c u) ∙ skip x k p
 
@@ -30,15 +31,15 @@ module _ (p : ℕ → Bool) (x y : Bytes → State) (off : (w : Bytes) (c : ℕ)
   left [] w e = stop w
   left (c ∷ s) w e = ap (λ (z : State). outcome z s) (off w c e)
 
-  through : ((w : Bytes) (c : ℕ) → T (p c) → step (x w) c ≡ x (snoc w c)) → {s w r : Bytes} → Run p s w r → (v : Bytes) → outcome (x v) s ≡ outcome (y (v ++ w)) r
+  pub through : ((w : Bytes) (c : ℕ) → T (p c) → step (x w) c ≡ x (snoc w c)) → {s w r : Bytes} → Run p s w r → (v : Bytes) → outcome (x v) s ≡ outcome (y (v ++ w)) r
   through on (run-ends {s} e) v = left s v e ∙ ap (λ (z : Bytes). outcome (y z) s) (sym (append-nil v))
   through on (run-on {c} {s} {w} {r} u q) v = go (x v) (x (snoc v c)) c s (on v c u) ∙ through on q (snoc v c) ∙ ap (λ (z : Bytes). outcome (y z) r) (append-assoc v (c ∷ []) w)
 
-entity-read : (x : Of) {s e r : Bytes} → Run entity-byte s e r → outcome (in-entity [] x) s ≡ outcome (in-entity e x) r
+pub entity-read : (x : Of) {s e r : Bytes} → Run entity-byte s e r → outcome (in-entity [] x) s ≡ outcome (in-entity e x) r
 unfolding step entity-byte
 entity-read x q = through entity-byte (λ v. in-entity v x) (λ v. in-entity v x) (λ v c t. refl) (λ v. refl) (λ v c t. passed (eqb c 59) _ _ t) q []
 
-entity-ends : (x : Of) (e s : Bytes) → outcome (in-entity e x) (59 ∷ s) ≡ outcome (resumed-if x (entity-of e)) s
+pub entity-ends : (x : Of) (e s : Bytes) → outcome (in-entity e x) (59 ∷ s) ≡ outcome (resumed-if x (entity-of e)) s
 unfolding outcome step choose
 entity-ends x e s = refl
 
@@ -56,53 +57,58 @@ module _ (p : ℕ → Bool) (x y : Bytes → State) (z : Bytes → Of) (off : (w
       decode k (snoc v d) ∙
       ap (λ (z : Bytes). outcome (y z) r) (append-assoc v (d ∷ []) w)
 
+pub refused-never : (s : Bytes) → outcome refused s ≡ no-reading
+unfolding outcome at-end step
+refused-never [] = refl
+refused-never (c ∷ s) = refused-never s
+
 -- ---- white space at each place
-skip-opened : (K : Stack) {s r : Bytes} → Spaces s r → outcome (opened K) s ≡ outcome (opened K) r
+pub skip-opened : (K : Stack) {s r : Bytes} → Spaces s r → outcome (opened K) s ≡ outcome (opened K) r
 unfolding step
 skip-opened K = skip (opened K) (λ c u. chose (space c) _ _ u)
 
-skip-behind : (m : Name) (x : For) {s r : Bytes} → Spaces s r → outcome (behind-ident m x) s ≡ outcome (behind-ident m x) r
+pub skip-behind : (m : Name) (x : For) {s r : Bytes} → Spaces s r → outcome (behind-ident m x) s ≡ outcome (behind-ident m x) r
 unfolding step step-behind
 skip-behind m x = skip (behind-ident m x) (λ c u. chose (space c) _ _ u)
 
-skip-sep : (m : Name) (d : ℕ) (x : For) {s r : Bytes} → Spaces s r → outcome (behind-sep m d x) s ≡ outcome (behind-sep m d x) r
+pub skip-sep : (m : Name) (d : ℕ) (x : For) {s r : Bytes} → Spaces s r → outcome (behind-sep m d x) s ≡ outcome (behind-sep m d x) r
 unfolding step
 skip-sep m d x = skip (behind-sep m d x) (λ c u. chose (space c) _ _ u)
 
-skip-tag : (n : Name) (ps : Attributes) (K : Stack) {s r : Bytes} → Spaces s r → outcome (in-tag n ps K) s ≡ outcome (in-tag n ps K) r
+pub skip-tag : (n : Name) (ps : Attributes) (K : Stack) {s r : Bytes} → Spaces s r → outcome (in-tag n ps K) s ≡ outcome (in-tag n ps K) r
 unfolding step step-tag
 skip-tag n ps K = skip (in-tag n ps K) (λ c u. chose (space c) _ _ u)
 
-skip-slashed : (n : Name) (ps : Attributes) (K : Stack) {s r : Bytes} → Spaces s r → outcome (slashed n ps K) s ≡ outcome (slashed n ps K) r
+pub skip-slashed : (n : Name) (ps : Attributes) (K : Stack) {s r : Bytes} → Spaces s r → outcome (slashed n ps K) s ≡ outcome (slashed n ps K) r
 unfolding step
 skip-slashed n ps K = skip (slashed n ps K) (λ c u. chose (space c) _ _ u)
 
-skip-equals : (a n : Name) (ps : Attributes) (K : Stack) {s r : Bytes} → Spaces s r → outcome (equals a n ps K) s ≡ outcome (equals a n ps K) r
+pub skip-equals : (a n : Name) (ps : Attributes) (K : Stack) {s r : Bytes} → Spaces s r → outcome (equals a n ps K) s ≡ outcome (equals a n ps K) r
 unfolding step
 skip-equals a n ps K = skip (equals a n ps K) (λ c u. chose (space c) _ _ u)
 
-skip-spread : (n : Name) (ps : Attributes) (K : Stack) {s r : Bytes} → Spaces s r → outcome (spread-opened n ps K) s ≡ outcome (spread-opened n ps K) r
+pub skip-spread : (n : Name) (ps : Attributes) (K : Stack) {s r : Bytes} → Spaces s r → outcome (spread-opened n ps K) s ≡ outcome (spread-opened n ps K) r
 unfolding step
 skip-spread n ps K = skip (spread-opened n ps K) (λ c u. chose (space c) _ _ u)
 
-skip-braces : (h : Braces) (K : Stack) {s r : Bytes} → Spaces s r → outcome (braces-opened h K) s ≡ outcome (braces-opened h K) r
+pub skip-braces : (h : Braces) (K : Stack) {s r : Bytes} → Spaces s r → outcome (braces-opened h K) s ≡ outcome (braces-opened h K) r
 unfolding step
 skip-braces h K = skip (braces-opened h K) (λ c u. chose (space c) _ _ u)
 
-skip-behind-tag : (t : Tag) (h : Braces) (K : Stack) {s r : Bytes} → Spaces s r → outcome (behind-tag t h K) s ≡ outcome (behind-tag t h K) r
+pub skip-behind-tag : (t : Tag) (h : Braces) (K : Stack) {s r : Bytes} → Spaces s r → outcome (behind-tag t h K) s ≡ outcome (behind-tag t h K) r
 unfolding step
 skip-behind-tag t h K = skip (behind-tag t h K) (λ c u. chose (space c) _ _ u)
 
-skip-closing : (n : Name) (ps : Attributes) (ks : Children) (K : Stack) {s r : Bytes} → Spaces s r → outcome (closing n ps ks K) s ≡ outcome (closing n ps ks K) r
+pub skip-closing : (n : Name) (ps : Attributes) (ks : Children) (K : Stack) {s r : Bytes} → Spaces s r → outcome (closing n ps ks K) s ≡ outcome (closing n ps ks K) r
 unfolding step
 skip-closing n ps ks K = skip (closing n ps ks K) (λ c u. chose (space c) _ _ u)
 
-skip-close-named : (m n : Name) (ps : Attributes) (ks : Children) (K : Stack) {s r : Bytes} → Spaces s r → outcome (close-named m n ps ks K) s ≡ outcome (close-named m n ps ks K) r
+pub skip-close-named : (m n : Name) (ps : Attributes) (ks : Children) (K : Stack) {s r : Bytes} → Spaces s r → outcome (close-named m n ps ks K) s ≡ outcome (close-named m n ps ks K) r
 unfolding step step-close-named
 skip-close-named m n ps ks K = skip (close-named m n ps ks K) (λ c u. chose (space c) _ _ u)
 
 -- ---- names
-ident-read : (m : Name) (d : ℕ) (x : For) (y : State) → ((c : ℕ) → T (letter c) → step y c ≡ in-ident m d (c ∷ []) x) → {s w r : Bytes} → IsIdent s w r → outcome y s ≡ outcome (behind-ident (m ++ (part d w ∷ [])) x) r
+pub ident-read : (m : Name) (d : ℕ) (x : For) (y : State) → ((c : ℕ) → T (letter c) → step y c ≡ in-ident m d (c ∷ []) x) → {s w r : Bytes} → IsIdent s w r → outcome y s ≡ outcome (behind-ident (m ++ (part d w ∷ [])) x) r
 unfolding step
 ident-read m d x y o (ident {c} {s} u q) =
     go y (in-ident m d (c ∷ []) x) c s (o c u) ∙
@@ -120,7 +126,7 @@ end-named (for-tag K) m = refl
 end-named (for-attribute n ps K) m = refl
 end-named (for-closing n ps ks K) m = refl
 
-name-leaves : (s : Bytes) (m : Name) (x : For) → T (fits x m) → Ends name-goes-on s → outcome (behind-ident m x) s ≡ outcome (named x m) s
+pub name-leaves : (s : Bytes) (m : Name) (x : For) → T (fits x m) → Ends name-goes-on s → outcome (behind-ident m x) s ≡ outcome (named x m) s
 unfolding Ends outcome step step-behind name-goes-on at-end
 name-leaves [] m x f e = end-named x m
 name-leaves (c ∷ s) m x f e =
@@ -135,7 +141,7 @@ part-begins : (m : Name) (d : ℕ) (x : For) (c : ℕ) → T (letter c) → step
 unfolding step
 part-begins m d x c u = passed (space c) _ _ (letter-no-space c u) ∙ chose (letter c) _ _ u
 
-parts-read : {s r : Bytes} {ps : Name} → IsParts s ps r → (m : Name) (x : For) → T (fits x (m ++ ps)) → outcome (behind-ident m x) s ≡ outcome (named x (m ++ ps)) r
+pub parts-read : {s r : Bytes} {ps : Name} → IsParts s ps r → (m : Name) (x : For) → T (fits x (m ++ ps)) → outcome (behind-ident m x) s ≡ outcome (named x (m ++ ps)) r
 parts-read (no-parts {r = r} p e) m x f =
     skip-behind m x p ∙ name-leaves r m x (subst (λ (z : Name). T (fits x z)) (append-nil m) f) e ∙ ap (λ (z : Name). outcome (named x z) r) (sym (append-nil m))
 parts-read (one-part {s₁ = s₁} {w = w} {r = r} {d} {ps} p u q i k) m x f =
@@ -146,18 +152,18 @@ parts-read (one-part {s₁ = s₁} {w = w} {r = r} {d} {ps} p u q i k) m x f =
     parts-read k (m ++ (part d w ∷ [])) x (subst (λ (z : Name). T (fits x z)) (sym (append-assoc m (part d w ∷ []) ps)) f) ∙
     ap (λ (z : Name). outcome (named x z) r) (append-assoc m (part d w ∷ []) ps)
 
-name-read : (x : For) (y : State) → ((c : ℕ) → T (letter c) → step y c ≡ in-ident [] 0 (c ∷ []) x) → {s r : Bytes} {n : Name} → IsName s n r → T (fits x n) → outcome y s ≡ outcome (named x n) r
+pub name-read : (x : For) (y : State) → ((c : ℕ) → T (letter c) → step y c ≡ in-ident [] 0 (c ∷ []) x) → {s r : Bytes} {n : Name} → IsName s n r → T (fits x n) → outcome y s ≡ outcome (named x n) r
 name-read x y o (is-name {w = w} i k) f = ident-read [] 0 x y o i ∙ parts-read k (part 0 w ∷ []) x f
 
-tag-named : (K : Stack) {s r : Bytes} {n : Name} → IsName s n r → T (tag-name-fits n) → outcome (opened K) s ≡ outcome (in-tag n no-attributes K) r
+pub tag-named : (K : Stack) {s r : Bytes} {n : Name} → IsName s n r → T (tag-name-fits n) → outcome (opened K) s ≡ outcome (in-tag n no-attributes K) r
 unfolding step fits named
 tag-named K = name-read (for-tag K) (opened K) (λ c u. passed (space c) _ _ (letter-no-space c u) ∙ chose (letter c) _ _ u)
 
-attribute-read : (n : Name) (ps : Attributes) (K : Stack) {s r : Bytes} {a : Name} → IsName s a r → T (attribute-name-fits a) → outcome (in-tag n ps K) s ≡ outcome (attribute-named a n ps K) r
+pub attribute-read : (n : Name) (ps : Attributes) (K : Stack) {s r : Bytes} {a : Name} → IsName s a r → T (attribute-name-fits a) → outcome (in-tag n ps K) s ≡ outcome (attribute-named a n ps K) r
 unfolding step step-tag fits named
 attribute-read n ps K = name-read (for-attribute n ps K) (in-tag n ps K) (λ c u. passed (space c) _ _ (letter-no-space c u) ∙ chose (letter c) _ _ u)
 
-close-read : (n : Name) (ps : Attributes) (ks : Children) (K : Stack) {s r : Bytes} {m : Name} → IsName s m r → T (tag-name-fits m) → outcome (closing n ps ks K) s ≡ outcome (close-named m n ps ks K) r
+pub close-read : (n : Name) (ps : Attributes) (ks : Children) (K : Stack) {s r : Bytes} {m : Name} → IsName s m r → T (tag-name-fits m) → outcome (closing n ps ks K) s ≡ outcome (close-named m n ps ks K) r
 unfolding step fits named
 close-read n ps ks K = name-read (for-closing n ps ks K) (closing n ps ks K) (λ c u. passed (space c) _ _ (letter-no-space c u) ∙ chose (letter c) _ _ u)
 
@@ -219,28 +225,28 @@ module _ (n : Name) (ps : Attributes) (K : Stack) (s : Bytes) where
   unfolding outcome step choose space emptied
   braces-empty ks = refl
 
-fragment-opens : (K : Stack) (s : Bytes) → outcome (opened K) (62 ∷ s) ≡ outcome (in-children [] no-attributes no-children K) s
+pub fragment-opens : (K : Stack) (s : Bytes) → outcome (opened K) (62 ∷ s) ≡ outcome (in-children [] no-attributes no-children K) s
 unfolding outcome step choose space letter
 fragment-opens K s = refl
 
-tag-braces-ends : (t : Tag) (h : Braces) (K : Stack) (s : Bytes) → outcome (behind-tag t h K) (125 ∷ s) ≡ outcome (filled (tag-expr t) h K) s
+pub tag-braces-ends : (t : Tag) (h : Braces) (K : Stack) (s : Bytes) → outcome (behind-tag t h K) (125 ∷ s) ≡ outcome (filled (tag-expr t) h K) s
 unfolding outcome step choose space
 tag-braces-ends t h K s = refl
 
-source-ends-at : (w : Bytes) (h : Braces) (K : Stack) (s : Bytes) → outcome (in-source zero w h K) (125 ∷ s) ≡ outcome (filled-if (known-of w) h K) s
+pub source-ends-at : (w : Bytes) (h : Braces) (K : Stack) (s : Bytes) → outcome (in-source zero w h K) (125 ∷ s) ≡ outcome (filled-if (known-of w) h K) s
 unfolding outcome step step-source choose source-byte quote brace-ends
 source-ends-at w h K s = refl
 
-brace-opens : (d : ℕ) (w : Bytes) (h : Braces) (K : Stack) (s : Bytes) → outcome (in-source d w h K) (123 ∷ s) ≡ outcome (in-source (suc d) (snoc w 123) h K) s
+pub brace-opens : (d : ℕ) (w : Bytes) (h : Braces) (K : Stack) (s : Bytes) → outcome (in-source d w h K) (123 ∷ s) ≡ outcome (in-source (suc d) (snoc w 123) h K) s
 unfolding outcome step step-source choose source-byte quote
 brace-opens d w h K s = refl
 
-brace-closes : (d : ℕ) (w : Bytes) (h : Braces) (K : Stack) (s : Bytes) → outcome (in-source (suc d) w h K) (125 ∷ s) ≡ outcome (in-source d (snoc w 125) h K) s
+pub brace-closes : (d : ℕ) (w : Bytes) (h : Braces) (K : Stack) (s : Bytes) → outcome (in-source (suc d) w h K) (125 ∷ s) ≡ outcome (in-source d (snoc w 125) h K) s
 unfolding outcome step step-source choose source-byte quote brace-ends
 brace-closes d w h K s = refl
 
 -- ---- source text
-sourced : {s w r : Bytes} → IsSource s w r → (d : ℕ) (v : Bytes) (h : Braces) (K : Stack) → outcome (in-source d v h K) s ≡ outcome (in-source d (v ++ w) h K) r
+pub sourced : {s w r : Bytes} → IsSource s w r → (d : ℕ) (v : Bytes) (h : Braces) (K : Stack) → outcome (in-source d v h K) s ≡ outcome (in-source d (v ++ w) h K) r
 unfolding step step-source
 sourced (source-ends {s}) d v h K = ap (λ (z : Bytes). outcome (in-source d z h K) s) (sym (append-nil v))
 sourced (source-on {c} {s} {w} {r} u p) d v h K =
@@ -260,14 +266,14 @@ sourced (braces {s} {w} {s′} {v = x} {r} p k) d v h K =
     sourced k d (snoc (snoc v 123 ++ w) 125) h K ∙
     ap (λ (z : Bytes). outcome (in-source d z h K) r) (simp append-assoc)
 
-closing-read : {s r : Bytes} {m : Name} → Closing s m r → (n : Name) (ps : Attributes) (ks : Children) (K : Stack) → outcome (in-children n ps ks K) s ≡ outcome (closed (tag n ps ks m) K) r
+pub closing-read : {s r : Bytes} {m : Name} → Closing s m r → (n : Name) (ps : Attributes) (ks : Children) (K : Stack) → outcome (in-children n ps ks K) s ≡ outcome (closed (tag n ps ks m) K) r
 closing-read (closing-name {s} {s₁} {r = r} {m} p q nm f e) n ps ks K =
     close-begins n ps K s ks ∙ skip-opened (within n ps ks ∷ K) p ∙ close-goes n ps K s₁ ks ∙ skip-closing n ps ks K q ∙ close-read n ps ks K nm f ∙ skip-close-named m n ps ks K e ∙ close-ends n ps K r ks m
 closing-read (closing-fragment {s} {s₁} {r} p q) n ps ks K =
     close-begins n ps K s ks ∙ skip-opened (within n ps ks ∷ K) p ∙ close-goes n ps K s₁ ks ∙ skip-closing n ps ks K q ∙ close-ends-empty n ps K r ks
 
 -- ---- an attribute without a value: what follows is read as in the tag
-no-value-leaves : (s : Bytes) (a n : Name) (ps : Attributes) (K : Stack) → Ends equals-sign s → outcome (attribute-named a n ps K) s ≡ outcome (in-tag n (add-attribute ps (no-value a)) K) s
+pub no-value-leaves : (s : Bytes) (a n : Name) (ps : Attributes) (K : Stack) → Ends equals-sign s → outcome (attribute-named a n ps K) s ≡ outcome (in-tag n (add-attribute ps (no-value a)) K) s
 unfolding Ends outcome at-end step step-attribute-named equals-sign
 no-value-leaves [] a n ps K e = refl
 no-value-leaves (c ∷ s) a n ps K e = ap (λ (z : State). outcome z s) (passed (eqb c 61) _ _ e)
@@ -277,7 +283,7 @@ NotEmpty : Bytes → Type 0
 NotEmpty [] = ⊥
 NotEmpty (c ∷ w) = Unit {0}
 
-Begins : Bytes → Type 0
+unfoldable pub Begins : Bytes → Type 0
 Begins [] = Unit {0}
 Begins (c ∷ s) = T (not (eqb c 60)) × T (not (eqb c 125))
 
@@ -293,7 +299,7 @@ source-begins (source-on {c} u p) e = source-byte-begins c u
 source-begins (quotes {q} u p k) e = quote-is (λ (d : ℕ). T (not (eqb d 60)) × T (not (eqb d 125))) q u (tt, tt) (tt, tt)
 source-begins (braces p k) e = (tt, tt)
 
-braces-source : (c : ℕ) (s : Bytes) (h : Braces) (K : Stack) → T (source-start c) → Begins (c ∷ s) → outcome (braces-opened h K) (c ∷ s) ≡ outcome (in-source zero [] h K) (c ∷ s)
+pub braces-source : (c : ℕ) (s : Bytes) (h : Braces) (K : Stack) → T (source-start c) → Begins (c ∷ s) → outcome (braces-opened h K) (c ∷ s) ≡ outcome (in-source zero [] h K) (c ∷ s)
 unfolding outcome step Begins
 braces-source c s h K u b =
     let f = starts c u in
@@ -310,22 +316,22 @@ children-as-text (decoded-ends e) u n ps ks K = absurd u
 children-as-text (decoded-on {c} {s} t a q) u n ps ks K = ap (λ (z : State). outcome z s) (passed (eqb c 38) _ _ a ∙ chose (text-byte c) _ _ t ∙ sym (passed (eqb c 38) _ _ a ∙ chose (text-byte c) _ _ t))
 children-as-text (entity q i k) u n ps ks K = refl
 
-text-read : (n : Name) (ps : Attributes) (ks : Children) (K : Stack) (c : ℕ) {s w r : Bytes} → Decoded text-byte s (c ∷ w) r → outcome (in-children n ps ks K) s ≡ outcome (in-children n ps (add-child ks (text-child (c ∷ w))) K) r
+pub text-read : (n : Name) (ps : Attributes) (ks : Children) (K : Stack) (c : ℕ) {s w r : Bytes} → Decoded text-byte s (c ∷ w) r → outcome (in-children n ps ks K) s ≡ outcome (in-children n ps (add-child ks (text-child (c ∷ w))) K) r
 unfolding step NotEmpty
 text-read n ps ks K c q =
     children-as-text q tt n ps ks K ∙
     decode text-byte (λ v. in-text v n ps ks K) (λ v. in-children n ps (add-child ks (text-child v)) K) (λ v. of-text v n ps ks K) (λ v d t. passed (eqb d 38) _ _ (no-text-no-amp d t) ∙ passed (text-byte d) _ _ t) (λ v. unfold at-end in refl) (λ v d t a. passed (eqb d 38) _ _ a ∙ chose (text-byte d) _ _ t) (λ v. unfold choose in refl) (λ v d. unfold resumed in refl) q []
 
-string-read : (q : ℕ) (a n : Name) (ps : Attributes) (K : Stack) {s w r : Bytes} → Decoded (string-byte q) s w r → outcome (in-string q [] a n ps K) s ≡ outcome (in-string q w a n ps K) r
+pub string-read : (q : ℕ) (a n : Name) (ps : Attributes) (K : Stack) {s w r : Bytes} → Decoded (string-byte q) s w r → outcome (in-string q [] a n ps K) s ≡ outcome (in-string q w a n ps K) r
 unfolding step
 string-read q a n ps K k =
     decode (string-byte q) (λ v. in-string q v a n ps K) (λ v. in-string q v a n ps K) (λ v. of-string q v a n ps K) (λ v d t. refl) (λ v. refl) (λ v d t u. passed (eqb d 38) _ _ u ∙ chose (string-byte q d) _ _ t) (λ v. unfold choose in refl) (λ v d. unfold resumed in refl) k []
 
-string-opens : (q : ℕ) (a n : Name) (ps : Attributes) (K : Stack) → T (quote q) → step (equals a n ps K) q ≡ in-string q [] a n ps K
+pub string-opens : (q : ℕ) (a n : Name) (ps : Attributes) (K : Stack) → T (quote q) → step (equals a n ps K) q ≡ in-string q [] a n ps K
 unfolding step
 string-opens q a n ps K u = passed (space q) _ _ (quote-no-space q u) ∙ chose (quote q) _ _ u
 
-string-ends : (q : ℕ) (w : Bytes) (a n : Name) (ps : Attributes) (K : Stack) → T (quote q) → step (in-string q w a n ps K) q ≡ in-tag n (add-attribute ps (string-value a w)) K
+pub string-ends : (q : ℕ) (w : Bytes) (a n : Name) (ps : Attributes) (K : Stack) → T (quote q) → step (in-string q w a n ps K) q ≡ in-tag n (add-attribute ps (string-value a w)) K
 unfolding step
 string-ends q w a n ps K u = passed (eqb q 38) _ _ (quote-no-amp q u) ∙ passed (string-byte q q) _ _ (end-string q)
 
@@ -345,7 +351,7 @@ braces-tag h K = refl
 mutual
   unfolding closed filled filled-if join-attributes join-children NotEmpty
 
-  tag-read : {s r : Bytes} {t : Tag} → IsTag s t r → (x : State) (K : Stack) → step x 60 ≡ opened K → outcome x s ≡ outcome (closed t K) r
+  pub tag-read : {s r : Bytes} {t : Tag} → IsTag s t r → (x : State) (K : Stack) → step x 60 ≡ opened K → outcome x s ≡ outcome (closed t K) r
   tag-read (is-alone {s} {s₄ = s₄} {r} {n} {ps} p nm f q a e) x K o =
       go x (opened K) 60 s o ∙ skip-opened K p ∙ tag-named K nm f ∙ skip-tag n no-attributes K q ∙ attributes-read a n no-attributes K ∙ at-slash n ps K s₄ ∙ skip-slashed n ps K e ∙ slash-greater n ps K r
   tag-read (is-around {s} {s₄ = s₄} {n = n} {ps = ps} {ks} p nm f q a k c) x K o =
@@ -353,12 +359,12 @@ mutual
   tag-read (is-fragment {s} {s₁} {ks = ks} p k c) x K o =
       go x (opened K) 60 s o ∙ skip-opened K p ∙ fragment-opens K s₁ ∙ children-read k [] no-attributes no-children K ∙ closing-read c [] no-attributes ks K
 
-  attributes-read : {s r : Bytes} {qs : Attributes} → IsAttributes s qs r → (n : Name) (ps : Attributes) (K : Stack) → outcome (in-tag n ps K) s ≡ outcome (in-tag n (join-attributes ps qs) K) r
+  pub attributes-read : {s r : Bytes} {qs : Attributes} → IsAttributes s qs r → (n : Name) (ps : Attributes) (K : Stack) → outcome (in-tag n ps K) s ≡ outcome (in-tag n (join-attributes ps qs) K) r
   attributes-read (are-no-attributes {s}) n ps K = ap (λ (z : Attributes). outcome (in-tag n z K) s) (sym (join-attributes-none ps))
   attributes-read (are-attributes {r = r} {a} {ps = qs} p q) n ps K =
       attribute-one p n ps K ∙ attributes-read q n (add-attribute ps a) K ∙ ap (λ (z : Attributes). outcome (in-tag n z K) r) (join-attributes-one ps a qs)
 
-  attribute-one : {s r : Bytes} {a : Attribute} → IsAttribute s a r → (n : Name) (ps : Attributes) (K : Stack) → outcome (in-tag n ps K) s ≡ outcome (in-tag n (add-attribute ps a) K) r
+  pub attribute-one : {s r : Bytes} {a : Attribute} → IsAttribute s a r → (n : Name) (ps : Attributes) (K : Stack) → outcome (in-tag n ps K) s ≡ outcome (in-tag n (add-attribute ps a) K) r
   attribute-one (is-no-value {s₁ = s₁} {a = a} nm f e p) n ps K = attribute-read n ps K nm f ∙ no-value-leaves s₁ a n ps K e ∙ skip-tag n (add-attribute ps (no-value a)) K p
   attribute-one (is-string-value {s₁ = s₁} {s₂} {w} {s₃} {q = q} {a} nm f p u k e) n ps K =
       attribute-read n ps K nm f ∙ at-equals n ps K s₁ a ∙ skip-equals a n ps K p ∙ go (equals a n ps K) (in-string q [] a n ps K) q s₂ (string-opens q a n ps K u) ∙ string-read q a n ps K k ∙ go (in-string q w a n ps K) (in-tag n (add-attribute ps (string-value a w)) K) q s₃ (string-ends q w a n ps K u) ∙ skip-tag n (add-attribute ps (string-value a w)) K e
@@ -369,19 +375,19 @@ mutual
   attribute-one (is-spread-attribute {s} {s₁} {b = b} p i e) n ps K =
       at-brace n ps K s ∙ skip-spread n ps K p ∙ spread-points n ps K s₁ ∙ expr-read i (spread-braces n ps) K ∙ skip-tag n (add-attribute ps (spread-attribute b)) K e
 
-  children-read : {s r : Bytes} {qs : Children} → IsChildren s qs r → (n : Name) (ps : Attributes) (ks : Children) (K : Stack) → outcome (in-children n ps ks K) s ≡ outcome (in-children n ps (join-children ks qs) K) r
+  pub children-read : {s r : Bytes} {qs : Children} → IsChildren s qs r → (n : Name) (ps : Attributes) (ks : Children) (K : Stack) → outcome (in-children n ps ks K) s ≡ outcome (in-children n ps (join-children ks qs) K) r
   children-read (are-no-children {s}) n ps ks K = ap (λ (z : Children). outcome (in-children n ps z K) s) (sym (join-children-none ks))
   children-read (are-children {r = r} {k} {ks = qs} p q) n ps ks K =
       child-one p n ps ks K ∙ children-read q n ps (add-child ks k) K ∙ ap (λ (z : Children). outcome (in-children n ps z K) r) (join-children-one ks k qs)
 
-  child-one : {s r : Bytes} {k : Child} → IsChild s k r → (n : Name) (ps : Attributes) (ks : Children) (K : Stack) → outcome (in-children n ps ks K) s ≡ outcome (in-children n ps (add-child ks k) K) r
+  pub child-one : {s r : Bytes} {k : Child} → IsChild s k r → (n : Name) (ps : Attributes) (ks : Children) (K : Stack) → outcome (in-children n ps ks K) s ≡ outcome (in-children n ps (add-child ks k) K) r
   child-one (is-text-child {c = c} q) n ps ks K = text-read n ps ks K c q
   child-one (is-tag-child t) n ps ks K = tag-read t (in-children n ps ks K) (within n ps ks ∷ K) (children-tag n ps ks K)
   child-one (is-empty-child {s} {r} p) n ps ks K = children-brace n ps K s ks ∙ skip-braces (child-braces n ps ks) K p ∙ braces-empty n ps K r ks
   child-one (is-container-child {s} b) n ps ks K = children-brace n ps K s ks ∙ expr-read b (child-braces n ps ks) K
   child-one (is-spread-child {s} {s₁} p b) n ps ks K = children-brace n ps K s ks ∙ skip-braces (child-braces n ps ks) K p ∙ child-points n ps K s₁ ks ∙ expr-read b (spread-child-braces n ps ks) K
 
-  expr-read : {s r : Bytes} {b : Expr} → IsExpr s b r → (h : Braces) (K : Stack) → outcome (braces-opened h K) s ≡ outcome (filled b h K) r
+  pub expr-read : {s r : Bytes} {b : Expr} → IsExpr s b r → (h : Braces) (K : Stack) → outcome (braces-opened h K) s ≡ outcome (filled b h K) r
   expr-read (is-tag-expr {r = r} {t} p q e) h K =
       skip-braces h K p ∙ tag-read q (braces-opened h K) (in-braces h ∷ K) (braces-tag h K) ∙ skip-behind-tag t h K e ∙ tag-braces-ends t h K r
   expr-read (is-known-expr {s₁ = s₁} {w} {r} {c} p u k i) h K =

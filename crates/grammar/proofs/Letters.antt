@@ -170,7 +170,7 @@ entity-ascii e d =
     (λ _. chosen (λ z. z ≡ K.some d) (same e (ascii "#39")) _ _ (λ t q. entity-one e (ascii "#39") _ d (unfold utf8 utf8-behind forms begun in refl) (omega arith) t q)
     (λ _ q. no-entity d q)))))
 
-run-is : {p : ℕ → Bool} {s w r : Bytes} → Run p s w r → s ≡ w ++ r
+pub run-is : {p : ℕ → Bool} {s w r : Bytes} → Run p s w r → s ≡ w ++ r
 run-is (run-ends e) = refl
 run-is (run-on {c} u q) = ap (λ (z : Bytes). c ∷ z) (run-is q)
 

@@ -2,3 +2,4 @@
 pub mod RunLaws
 pub mod ProgressLaws
 pub mod FlagLaws
+pub mod SourceLaws

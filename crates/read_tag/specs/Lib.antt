@@ -2,3 +2,4 @@
 pub mod Runs
 pub mod Progress
 pub mod Flags
+pub mod Sources

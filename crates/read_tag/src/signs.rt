@@ -4,7 +4,7 @@ ghost use mathlib.Core.Bool.{not, _&&_};
 ghost use Prim.Native.Nat.{_≤_};
 ghost use lib.Dec.{eqb};
 ghost use lib.ListN.{length};
-ghost use Rattle.grammar.specs.Signs.{letter, name-byte, space, quoted-byte};
+ghost use Rattle.grammar.specs.Signs.{letter, name-byte, space, quote, quoted-byte, source-byte};
 ghost use Rattle.read_tag.specs.Runs.{Ran, plain-text, plain-string};
 
 // The small letters come first in both tests: most names have no others.
@@ -61,6 +61,25 @@ pub fn is_quoted(q: u8, c: u8) -> bool
     ensures { λ r. ⌜ r ≡ quoted-byte q c ⌝ }
 {
     !((c == q) | (c == 10) | (c == 13) | (c == b'\\'))
+}
+
+pub fn is_quote(c: u8) -> bool
+    ensures { λ r. ⌜ r ≡ quote c ⌝ }
+{
+    (c == b'"') | (c == b'\'')
+}
+
+// In source text, out of quotes.
+pub fn is_source(c: u8) -> bool
+    ensures { λ r. ⌜ r ≡ source-byte c ⌝ }
+{
+    !((c == b'<')
+        | (c == b'{')
+        | (c == b'}')
+        | (c == b'`')
+        | (c == b'\\')
+        | (c == b'/')
+        | ((c == b'"') | (c == b'\'')))
 }
 
 // Behind the white space at i.
