@@ -3,3 +3,4 @@ pub mod RunLaws
 pub mod ProgressLaws
 pub mod FlagLaws
 pub mod SourceLaws
+pub mod EntityLaws

@@ -3,3 +3,4 @@ pub mod Runs
 pub mod Progress
 pub mod Flags
 pub mod Sources
+pub mod Entities
