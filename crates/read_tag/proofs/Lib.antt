@@ -4,3 +4,4 @@ pub mod ProgressLaws
 pub mod FlagLaws
 pub mod SourceLaws
 pub mod EntityLaws
+pub mod TrimLaws
