@@ -5,3 +5,4 @@ pub mod FlagLaws
 pub mod SourceLaws
 pub mod EntityLaws
 pub mod TrimLaws
+pub mod ShapeLaws

@@ -4,3 +4,4 @@ pub mod Progress
 pub mod Flags
 pub mod Sources
 pub mod Entities
+pub mod Shapes
