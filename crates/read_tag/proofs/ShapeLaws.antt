@@ -139,3 +139,52 @@ shape-is (part a w) (part e v ∷ []) h =
     by-sign e (h .0) (λ (d : ℕ). shape-tag 2 (all-short (part a w ∷ part d v ∷ [])) (all-plain (part a w ∷ part d v ∷ [])) (all-points (part d v ∷ [])) ≡ choose (tag-name-fits (part a w ∷ part d v ∷ [])) (name-tag (part a w ∷ part d v ∷ [])) 0) (two-points a w v) (two-colon a w v)
 shape-is (part a w) (part e v ∷ q ∷ qs) h =
     by-sign e (h .0) (λ (d : ℕ). shape-tag (suc (suc (suc (length qs)))) (all-short (part a w ∷ part d v ∷ q ∷ qs)) (all-plain (part a w ∷ part d v ∷ q ∷ qs)) (all-points (part d v ∷ q ∷ qs)) ≡ choose (tag-name-fits (part a w ∷ part d v ∷ q ∷ qs)) (name-tag (part a w ∷ part d v ∷ q ∷ qs)) 0) (more-points a w v q qs) (more-colons a w v q qs)
+
+-- ---- the tests of the code, one after the other
+by-bits : Bool → Bool → Bool → Bool → Bool → ℕ
+by-bits s a p m b = choose s (choose a 0x40 (choose p (choose m 0x41 0) (choose b 0x42 0))) 0
+
+module _ (n : ℕ) (s h p : Bool) where
+  all-bits : (x a q m b : Bool) → s ≡ x → eqb n 1 ≡ a → p ≡ q → (h && leb n 8) ≡ m → eqb n 2 ≡ b → by-bits x a q m b ≡ shape-tag n s h p
+  unfolding by-bits shape-tag
+  all-bits x a q m b i j k l o =
+      sym
+      (ap (λ (z : Bool). choose z (choose (eqb n 1) 0x40 (choose p (choose (h && leb n 8) 0x41 0) (choose (eqb n 2) 0x42 0))) 0) i ∙
+      ap (λ (z : Bool). choose x (choose z 0x40 (choose p (choose (h && leb n 8) 0x41 0) (choose (eqb n 2) 0x42 0))) 0) j ∙
+      ap (λ (z : Bool). choose x (choose a 0x40 (choose z (choose (h && leb n 8) 0x41 0) (choose (eqb n 2) 0x42 0))) 0) k ∙
+      ap (λ (z : Bool). choose x (choose a 0x40 (choose q (choose z 0x41 0) (choose (eqb n 2) 0x42 0))) 0) l ∙
+      ap (λ (z : Bool). choose x (choose a 0x40 (choose q (choose m 0x41 0) (choose z 0x42 0))) 0) o)
+
+  held : (b : Bool) → not b ≡ false → b ≡ true
+  held true e = refl
+  held false e = sym e
+
+  lost : (b : Bool) → not b ≡ true → b ≡ false
+  lost true e = sym e
+  lost false e = refl
+
+  pub shape-long : not s ≡ true → _≡_ {A = ℕ} 0 (shape-tag n s h p)
+  unfolding by-bits choose
+  shape-long e = all-bits false (eqb n 1) p (h && leb n 8) (eqb n 2) (lost s e) refl refl refl refl
+
+  module _ (e : not s ≡ false) where
+    pub shape-one : n ≡ 1 → _≡_ {A = ℕ} 0x40 (shape-tag n s h p)
+    unfolding by-bits choose
+    shape-one f = all-bits true true p (h && leb n 8) (eqb n 2) (held s e) (eq-eqb n 1 f) refl refl refl
+
+    module _ (f : n ≡ 1 → ⊥) where
+      pub shape-member : p ≡ true → (h && leb n 8) ≡ true → _≡_ {A = ℕ} 0x41 (shape-tag n s h p)
+      unfolding by-bits choose
+      shape-member i j = all-bits true false true true (eqb n 2) (held s e) (ne-eqb n 1 f) i j refl
+
+      pub shape-no-member : p ≡ true → (h && leb n 8) ≡ false → _≡_ {A = ℕ} 0 (shape-tag n s h p)
+      unfolding by-bits choose
+      shape-no-member i j = all-bits true false true false (eqb n 2) (held s e) (ne-eqb n 1 f) i j refl
+
+      pub shape-two : p ≡ false → n ≡ 2 → _≡_ {A = ℕ} 0x42 (shape-tag n s h p)
+      unfolding by-bits choose
+      shape-two i j = all-bits true false false (h && leb n 8) true (held s e) (ne-eqb n 1 f) i refl (eq-eqb n 2 j)
+
+      pub shape-none : p ≡ false → (n ≡ 2 → ⊥) → _≡_ {A = ℕ} 0 (shape-tag n s h p)
+      unfolding by-bits choose
+      shape-none i j = all-bits true false false (h && leb n 8) false (held s e) (ne-eqb n 1 f) i refl (ne-eqb n 2 j)

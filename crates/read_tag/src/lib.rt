@@ -2,5 +2,6 @@
 // grammar's own words or to its reader, and the laws of what is written and flagged on the way; the pass over them is not here yet.
 pub mod entity;
 pub mod known;
+pub mod name;
 pub mod signs;
 pub mod source;
