@@ -12,7 +12,7 @@ use Rattle.field.specs.Bytes.{Bytes, AllBytes}
 use Rattle.field.specs.Row.{Row, bytes, long-body, read}
 use Rattle.field.proofs.RowLaws.{Shaped, Sane, read-back, bytes-read, read-sane, not-long, sane-bytes}
 use Rattle.page.specs.Page.{Page, Options}
-use Rattle.page.specs.Tree.{page-in, options-in}
+use Rattle.page.specs.Tree.{page-in, options-in, works-sums}
 use Rattle.page.specs.Check.{check-page, check-options}
 use Rattle.page.specs.Encode.{page-row, encode, options-row, encode-options}
 use Rattle.page.specs.Limits.{ModuleItemsOk, WithinLimits, OptionsOk}
@@ -90,18 +90,18 @@ encode-injective p q h k i l e =
 
 -- ---- options
 
-pub options-exactly : (b : Bytes) → AllBytes b → check-options (read b) ≡ Fine ↔ ((g : Given) × (b ≡ bytes (given-row g)) × GivenOk g × Fits (given-row g) × (options-in (read b) ≡ options-of g))
+pub options-exactly : (b : Bytes) → AllBytes b → check-options (read b) ≡ Fine ↔ ((g : Given) × (b ≡ bytes (given-row g)) × GivenOk g × Fits (given-row g) × (options-in (read b) ≡ options-of g) × (works-sums (read b) ≡ g .sums))
 options-exactly b a = (
   λ e.
       let s = options-sound (read b) (read-sane b a) e in
-      (s .0, sym (bytes-read b a) ∙ ap bytes (sym (s .1)), s .2, subst Fits (sym (s .1)) (fits (read b) (not-long b a)), s .3),
+      (s .0, sym (bytes-read b a) ∙ ap bytes (sym (s .1)), s .2, subst Fits (sym (s .1)) (fits (read b) (not-long b a)), s .3, s .4),
   λ q.
       let g = q .0 in
       let is : read b ≡ given-row g = ap read (q .1) ∙ read-back (given-row g) (given-shaped g (q .2)) (q .3) in
       ap check-options is ∙ given-complete g (q .2) .0,
 )
 
-pub options-read : (o : Options) → OptionsOk o → (check-options (read (encode-options o)) ≡ Fine) × (options-in (read (encode-options o)) ≡ o) × AllBytes (encode-options o)
+pub options-read : (o : Options) → OptionsOk o → (check-options (read (encode-options o)) ≡ Fine) × (options-in (read (encode-options o)) ≡ o) × (works-sums (read (encode-options o)) ≡ false) × AllBytes (encode-options o)
 unfolding encode-options OptionsOk
 options-read o h =
     let g = given-of o in
@@ -110,4 +110,4 @@ options-read o h =
     let l : length (bytes (options-row o)) ≤ 4096 = leb→le (length (encode-options o)) 4096 (h .4) in
     let is : read (encode-options o) ≡ options-row o = read-back (options-row o) (subst Shaped r (given-shaped g k)) (short-row (options-row o) (omega arith)) in
     let c = options-complete o h in
-    (ap check-options is ∙ c .0, ap options-in is ∙ c .1, sane-bytes (options-row o) (subst Sane r (given-sane g k)))
+    (ap check-options is ∙ c .0, ap options-in is ∙ c .1, ap works-sums is ∙ c .2, sane-bytes (options-row o) (subst Sane r (given-sane g k)))

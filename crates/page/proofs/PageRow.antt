@@ -21,7 +21,7 @@ use Rattle.page.specs.Limits.{MembersOk, ElementNameOk, AttrNameOk, TagO
 use Rattle.page.proofs.NumberLaws.{number-all}
 use Rattle.page.proofs.Verdicts.{and-both}
 use Rattle.page.proofs.Letters.{utf8-bytes, name-bytes}
-use Rattle.page.proofs.Options.{Given, given-list, given-source, given-row, ListOk, SourceOk, GivenOk}
+use Rattle.page.proofs.Options.{Given, given-list, given-sums, given-source, given-row, ListOk, SourceOk, GivenOk}
 
 -- no loose bytes, fronts as the tags want them, and nothing but bytes
 unfoldable pub Tight : Row → Type 0
@@ -148,16 +148,21 @@ unfolding given-list ListOk Tight AllBytes
 list-tight t none r f l h k = k
 list-tight t (some xs) r f l h k = (f (texts-row 0x20 xs), tt, l, texts-tight xs h, k)
 
-source-tight : (c : Option Bytes) → SourceOk c → Tight (given-source c)
+sums-tight : (w : Bool) → Tight (given-sums w)
+unfolding given-sums Tight inside FrontFits AllBytes
+sums-tight false = tt
+sums-tight true = (tt, tt, tt, tt, tt)
+
+source-tight : (c : Option Bytes) (w : Bool) → SourceOk c → Tight (given-source c (given-sums w))
 unfolding given-source SourceOk Tight inside FrontFits
-source-tight none h = tt
-source-tight (some b) h = (tt, utf8-bytes b (h .0), tt, tt, tt)
+source-tight none w h = sums-tight w
+source-tight (some b) w h = (tt, utf8-bytes b (h .0), tt, tt, sums-tight w)
 
 given-tight : (g : Given) → GivenOk g → Tight (given-row g)
 unfolding given-row GivenOk inside FrontFits
 given-tight g h =
-    let r : Row = given-list 0x03 (g .attributes) (given-source (g .source)) in
-    list-tight 0x02 (g .elements) r (λ i. tt) tt (h .0) (list-tight 0x03 (g .attributes) (given-source (g .source)) (λ i. tt) tt (h .1) (source-tight (g .source) (h .2)))
+    let r : Row = given-source (g .source) (given-sums (g .sums)) in
+    list-tight 0x02 (g .elements) (given-list 0x03 (g .attributes) r) (λ i. tt) tt (h .0) (list-tight 0x03 (g .attributes) r (λ i. tt) tt (h .1) (source-tight (g .source) (g .sums) (h .2)))
 
 pub given-shaped : (g : Given) → GivenOk g → Shaped (given-row g)
 given-shaped g h = tight-shaped (given-row g) (given-tight g h)

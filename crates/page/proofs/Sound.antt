@@ -65,7 +65,7 @@ pub text-ok : (f : Bytes) → check-text f ≡ Fine → Utf8Ok f
 unfolding check-text
 text-ok f e = unless-fine (utf8 f) R.NotUtf8 e
 
-empty-is : (f : Bytes) → check-empty f ≡ Fine → [] ≡ f
+pub empty-is : (f : Bytes) → check-empty f ≡ Fine → [] ≡ f
 unfolding check-empty
 empty-is [] e = refl
 empty-is (c ∷ f) e = absurd (let z = eqb→eq (suc (length f)) 0 (unless-fine (eqb (suc (length f)) 0) R.Misplaced e) in omega arith)

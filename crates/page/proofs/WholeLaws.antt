@@ -11,7 +11,7 @@ use Rattle.field.specs.Row.{Row, end, loose, field, read, Ended, inside}
 use Rattle.field.specs.Front.{tag-of, body-of, behind-of}
 use Rattle.page.specs.Refusal.{after}
 use Rattle.page.specs.Tree.{choose}
-use Rattle.page.specs.Check.{check-header, check-text, check-empty, check-source, check-pieces, check-module-items, check-nothing-after, check-page, check-texts, check-options-from}
+use Rattle.page.specs.Check.{check-header, check-text, check-empty, check-source, check-pieces, check-module-items, check-nothing-after, check-page, check-texts, check-option-by, check-options-from}
 use Rattle.page.specs.CheckField.{check-module-item, check-option}
 use Rattle.page.specs.declared.Refusal.the-variants as R
 use Rattle.page.specs.declared.Verdict.{Verdict}
@@ -89,21 +89,18 @@ module _ {t : ℕ} (w : Bytes) where
 
 -- ---- options
 
-abbrev option-row : ℕ → Bytes → Row → Verdict
-option-row t f i = choose (eqb t 0x04) (λ _. check-source f) λ _. check-texts i
-
 module _ (least t : ℕ) where
-  option-body : 2 ≤ least → (w : Bytes) → (leb least t && leb t 0x04) ≡ true → option-row t (front (inside t) w) (inner (inside t) w) ≡ option-row t w (read w)
+  option-body : 2 ≤ least → (w : Bytes) → (leb least t && leb t 0x05) ≡ true → check-option-by t (front (inside t) w) (inner (inside t) w) ≡ check-option-by t w (read w)
   unfolding inside choose
   option-body g w h =
-      let P : ℕ → Type 0 = λ (t : ℕ). option-row t (front (inside t) w) (inner (inside t) w) ≡ option-row t w (read w) in
-      between P t least 0x04 h λ l u. tested t 0x02 (at P t 0x02 refl) λ n. tested t 0x03 (at P t 0x03 refl) λ m. at P t 0x04 refl (omega arith)
+      let P : ℕ → Type 0 = λ (t : ℕ). check-option-by t (front (inside t) w) (inner (inside t) w) ≡ check-option-by t w (read w) in
+      between P t least 0x05 h λ l u. tested t 0x02 (at P t 0x02 refl) λ n. tested t 0x03 (at P t 0x03 refl) λ m. tested t 0x04 (at P t 0x04 refl) λ o. at P t 0x05 refl (omega arith)
 
   pub options-step : 2 ≤ least → (s : Bytes) → t ≡ tag-of s → (t ≡ 256 → ⊥) → {b : Bytes} → b ≡ body-of s → {r : Bytes} → r ≡ behind-of s →
       Then (check-options-from least (read s)) (check-option least t b) (check-options-from (t + 1) (read r))
   unfolding check-options-from check-option
   options-step g s e h {b} q {r} u =
-      record { then-is = ap (check-options-from least) (front-row s t e h q u) ∙ one-field (leb least t && leb t 0x04) 1 _ _ _ (option-body g b) ∙ rw (add-one t) }
+      record { then-is = ap (check-options-from least) (front-row s t e h q u) ∙ one-field (leb least t && leb t 0x05) 1 _ _ _ (option-body g b) ∙ rw (add-one t) }
 
   module _ (w : Bytes) where
     pub option-below : t < least → Refused R.Misplaced ≡ check-option least t w
@@ -111,25 +108,29 @@ module _ (least t : ℕ) where
     option-below l = rw (lt-leb least t l)
 
     module _ (l : least ≤ t) where
-      pub option-above : 0x04 < t → Refused R.Misplaced ≡ check-option least t w
+      pub option-above : 0x05 < t → Refused R.Misplaced ≡ check-option least t w
       unfolding check-option check-header after
-      option-above m = rw (le-leb least t l, lt-leb t 0x04 m)
+      option-above m = rw (le-leb least t l, lt-leb t 0x05 m)
 
-      module _ (m : t ≤ 0x04) where
+      module _ (m : t ≤ 0x05) where
         pub option-source : t ≡ 0x04 → check-source w ≡ check-option least t w
         unfolding check-option check-header after choose
-        option-source k = rw (le-leb least t l, le-leb t 0x04 m, eq-eqb t 0x04 k)
+        option-source k = rw (le-leb least t l, le-leb t 0x05 m, eq-eqb t 0x04 k)
 
-        pub option-texts : (t ≡ 0x04 → ⊥) → check-texts (read w) ≡ check-option least t w
+        pub option-sums : (t ≡ 0x04 → ⊥) → t ≡ 0x05 → check-empty w ≡ check-option least t w
         unfolding check-option check-header after choose
-        option-texts n = rw (le-leb least t l, le-leb t 0x04 m, ne-eqb t 0x04 n)
+        option-sums n k = rw (le-leb least t l, le-leb t 0x05 m, ne-eqb t 0x04 n, eq-eqb t 0x05 k)
+
+        pub option-texts : (t ≡ 0x04 → ⊥) → (t ≡ 0x05 → ⊥) → check-texts (read w) ≡ check-option least t w
+        unfolding check-option check-header after choose
+        option-texts n o = rw (le-leb least t l, le-leb t 0x05 m, ne-eqb t 0x04 n, ne-eqb t 0x05 o)
 
     -- a tag that was fine is one of those that may come
-    pub option-in : {v : Verdict} → v ≡ check-option least t w → v ≡ Fine → (least ≤ t) × (t ≤ 0x04)
+    pub option-in : {v : Verdict} → v ≡ check-option least t w → v ≡ Fine → (least ≤ t) × (t ≤ 0x05)
     unfolding check-option check-header after
-    option-in {v} e f = on (leb least t) refl (leb t 0x04) refl (sym e ∙ f)
+    option-in {v} e f = on (leb least t) refl (leb t 0x05) refl (sym e ∙ f)
       where
-        on : (a : Bool) → leb least t ≡ a → (b : Bool) → leb t 0x04 ≡ b → after (check-header (a && b) 1) (λ _. option-row t w (read w)) ≡ Fine → (least ≤ t) × (t ≤ 0x04)
-        on true p true q z = (leb-true least t p, leb-true t 0x04 q)
+        on : (a : Bool) → leb least t ≡ a → (b : Bool) → leb t 0x05 ≡ b → after (check-header (a && b) 1) (λ _. check-option-by t w (read w)) ≡ Fine → (least ≤ t) × (t ≤ 0x05)
+        on true p true q z = (leb-true least t p, leb-true t 0x05 q)
         on true p false q z = absurd (let k : _≡_ {A = ℕ} 0 1 = cc in omega arith)
         on false p b q z = absurd (let k : _≡_ {A = ℕ} 0 1 = cc in omega arith)

@@ -255,13 +255,17 @@ check-texts (field t f i r) = after (check-header (eqb t 0x20) 2) λ _. after (c
 unfoldable pub check-source : Bytes → Verdict
 check-source b = after (unless (leb 1 (length b)) R.Misplaced) λ _. check-text b
 
+-- an option's body by its tag: 04 is the source, 05 (02, A12) is empty, 02 and 03 are lists
+abbrev pub check-option-by : ℕ → Bytes → Row → Verdict
+check-option-by t f i = choose (eqb t 0x04) (λ _. check-source f) λ _. choose (eqb t 0x05) (λ _. check-empty f) λ _. check-texts i
+
 -- each at most once and in order: `from` is the least tag that may still come
 unfoldable pub check-options-from : ℕ → Row → Verdict
 check-options-from from end = Fine
 check-options-from from (loose b) = Refused R.Truncated
 check-options-from from (field t f i r) =
-    after (check-header (leb from t && leb t 0x04) 1) λ _.
-    after (choose (eqb t 0x04) (λ _. check-source f) λ _. check-texts i) λ _.
+    after (check-header (leb from t && leb t 0x05) 1) λ _.
+    after (check-option-by t f i) λ _.
     check-options-from (suc t) r
 
 unfoldable pub check-options : Row → Verdict

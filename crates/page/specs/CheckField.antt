@@ -7,7 +7,7 @@ use Rattle.field.specs.Bytes.{Bytes}
 use Rattle.field.specs.Row.{Row, end, loose, field, read}
 use Rattle.page.specs.Refusal.{after, unless}
 use Rattle.page.specs.Tree.{choose}
-use Rattle.page.specs.Check.{check-header, check-end, check-empty, check-members, at-least, check-ident, check-name-by, check-source, check-texts, is-name-tag, is-tag, is-expr, check-expr-by, check-element, check-attributes, check-children, check-items, check-pieces}
+use Rattle.page.specs.Check.{check-header, check-end, check-empty, check-members, at-least, check-ident, check-name-by, check-option-by, is-name-tag, is-tag, is-expr, check-expr-by, check-element, check-attributes, check-children, check-items, check-pieces}
 use Rattle.page.specs.declared.Refusal.the-variants as R
 use Rattle.page.specs.declared.Verdict.{Verdict}
 use Rattle.page.specs.declared.Verdict.the-variants.{Fine, Refused}
@@ -61,5 +61,4 @@ check-module-item t w =
 
 unfoldable pub check-option : ℕ → ℕ → Bytes → Verdict
 check-option from t w =
-    after (check-header (leb from t && leb t 0x04) 1) λ _.
-    choose (eqb t 0x04) (λ _. check-source w) λ _. check-texts (read w)
+    after (check-header (leb from t && leb t 0x05) 1) λ _. check-option-by t w (read w)

@@ -196,5 +196,11 @@ source-in end = ascii "react"
 source-in (loose b) = ascii "react"
 source-in (field t f i r) = choose (eqb t 0x04) (λ _. f) λ _. source-in r
 
+-- 02, A12: sums are worked out where a 05 stands
+unfoldable pub works-sums : Row → Bool
+works-sums end = false
+works-sums (loose b) = false
+works-sums (field t f i r) = eqb t 0x05 || works-sums r
+
 unfoldable pub options-in : Row → Options
 options-in r = record { skip-serialize = listed-in 0x02 r; skip-prop-serialize = listed-in 0x03 r; import-source = source-in r }

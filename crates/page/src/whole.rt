@@ -111,11 +111,14 @@ fn check_option(from: usize, tag: usize, b: &[u8]) -> Verdict
     if tag < from {
         return Verdict::Refused(Refusal::Misplaced);
     }
-    if 0x04 < tag {
+    if 0x05 < tag {
         return Verdict::Refused(Refusal::Misplaced);
     }
     if tag == 0x04 {
         return check_source(b);
+    }
+    if tag == 0x05 {
+        return check_empty(b);
     }
     check_texts(b)
 }
