@@ -4,6 +4,7 @@ pub mod Fields
 pub mod Sizes
 pub mod Writes
 pub mod Tree
+pub mod Limits
 pub mod Exact
 pub mod Encoded
 pub mod Samples

@@ -213,7 +213,7 @@ module _ (f b : Bytes) (i r q : Row) (a : Alike r q) where
 
 -- ---- every row
 
-pieces-proper : (ps : Pieces) → Proper (pieces-sum ps)
+pub pieces-proper : (ps : Pieces) → Proper (pieces-sum ps)
 unfolding pieces-sum Proper
 pieces-proper no-pieces = tt
 pieces-proper (source-piece s no-pieces) = sum-proper s
