@@ -13,6 +13,8 @@ ORDER = [
     ("text", ["Escape", "Lines", "Trim", "Text", "Decimal"]),
     ("names", ["Names"]),
     ("page", ["Number", "Tree", "Refusal", "Check", "Encode"]),
+    ("sums", ["Choice", "Value", "Machine"]),
+    ("worked", ["Worked"]),
     ("spec", ["Pass", "Output", "Merge", "Attributes", "Children", "Visit", "Transform", "Answer"]),
 ]
 # the same for the answer to tag text
@@ -25,6 +27,8 @@ TAG_ORDER = [
 ]
 # names of types, which nothing has to unfold
 TYPES = {"AllBytes"}
+# crates whose names other crates have too: theirs are written behind the name of their file
+QUALIFIED = {"sums"}
 
 
 def root():
@@ -56,6 +60,10 @@ def gather(own, order=ORDER):
     for crate, wanted in order:
         for module, text in modules(crate, wanted):
             new = defined(text)
+            if crate in QUALIFIED and new:
+                uses.append("use Rattle.%s.specs.%s as %s" % (crate, module, module))
+                names += ["%s.%s" % (module, n) for n in new]
+                continue
             path = "Rattle.%s.specs.%s" % (crate, module) if crate == own else "Rattle.%s.specs.%s" % (crate, module)
             twice += ["%s: %s and %s" % (n, owner[n], path) for n in new if n in owner]
             owner.update((n, path) for n in new)

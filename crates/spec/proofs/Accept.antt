@@ -12,7 +12,7 @@ use lib.ListN.{length}
 use Rattle.field.specs.Bytes.{Bytes, AllBytes}
 use Rattle.field.specs.Row.{Row, read, bytes}
 use Rattle.page.specs.Page.{Options, Page}
-use Rattle.page.specs.Tree.{page-in, options-in}
+use Rattle.page.specs.Tree.{page-in, works-sums, options-in}
 use Rattle.page.specs.Check.{check-options}
 use Rattle.page.specs.Encode.{encode, encode-options}
 use Rattle.page.specs.Limits.{WithinLimits, OptionsOk}
@@ -25,7 +25,7 @@ use Rattle.page.proofs.Options.{Given, given-row, GivenOk}
 use Rattle.page.proofs.Exact.{page-read, options-read, within-exactly, options-exactly}
 use Rattle.spec.specs.Pass.{Done}
 use Rattle.spec.specs.Transform.{stands, page-out-row, transform}
-use Rattle.spec.specs.Answer.{Written, Outcome, refused, accepted, check-outputs, decided, transformed, outcome}
+use Rattle.spec.specs.Answer.{Written, Outcome, refused, accepted, check-outputs, decided, transformed, worked-if, page-given, outcome}
 use Rattle.spec.specs.Acceptance.{has-fragment}
 use Rattle.spec.specs.Late.{written, templates-need, page-need, over-long, Late, tag-left, too-long, templates-small, page-small, taken}
 use Rattle.spec.proofs.Ledger.{or-false}
@@ -36,6 +36,7 @@ use Rattle.spec.proofs.GoodInvariant.{never}
 use Rattle.spec.proofs.PageGood.{page-good}
 use Rattle.spec.proofs.TagLeft.{left-stands}
 use Rattle.spec.proofs.Answers.{Inputs, fine-inputs, accepted-says}
+use Rattle.spec.proofs.Given.{given-ok, given-fragment}
 
 -- ---- what is transformed gets one of the late answers
 
@@ -111,70 +112,75 @@ module _ {tr pr : ℕ} {o : Options} {d : Done Row} where
 
 -- ---- a page within the limits, with any options that are taken, the empty ones among them
 
+-- what of p is transformed (02, A12)
+abbrev pub given : (options : Bytes) → Page → Page
+given options p = worked-if (works-sums (read options)) p
+
 module _ (p : Page) (h : WithinLimits p) (options : Bytes) (short : length options ≤ 4096) (fine : check-options (read options) ≡ Fine) (scratch : ℕ) (enough : 65536 ≤ scratch) (tr pr : ℕ) where
   abbrev listed : Options
   listed = options-in (read options)
 
-  pub answer-late : Late tr pr (options-in (read options)) (transform (options-in (read options)) p) (outcome (encode p) options scratch tr pr)
-  unfolding outcome decided WithinLimits
+  pub answer-late : Late tr pr (options-in (read options)) (transform (options-in (read options)) (given options p)) (outcome (encode p) options scratch tr pr)
+  unfolding outcome page-given decided WithinLimits
   answer-late =
       let q = page-read p h in
       let i : Inputs (encode p) options scratch = record { scratch-enough = enough; page-short = leb→le (length (encode p)) 32768 (h .1); options-short = short; options-fine = fine; page-fine = q .0 } in
-      let e : outcome (encode p) options scratch tr pr ≡ transformed tr pr listed (transform listed (page-in (read (encode p)))) = ap (λ (v : Verdict). decided v λ _. transformed tr pr listed (transform listed (page-in (read (encode p))))) (fine-inputs (encode p) options scratch i) in
-      subst (λ (x : Outcome). Late tr pr listed (transform listed p) x) (sym (e ∙ ap (λ (y : Page). transformed tr pr listed (transform listed y)) (q .1))) (transformed-late tr pr listed (transform listed p))
+      let e : outcome (encode p) options scratch tr pr ≡ transformed tr pr listed (transform listed (given options (page-in (read (encode p))))) = ap (λ (v : Verdict). decided v λ _. transformed tr pr listed (transform listed (given options (page-in (read (encode p)))))) (fine-inputs (encode p) options scratch i) in
+      subst (λ (x : Outcome). Late tr pr listed (transform listed (given options p)) x) (sym (e ∙ ap (λ (y : Page). transformed tr pr listed (transform listed (given options y))) (q .1))) (transformed-late tr pr listed (transform listed (given options p)))
 
   -- none of 1 to 8, and never 9
   pub never-early : (n : Refusal) → outcome (encode p) options scratch tr pr ≡ refused n → 10 ≤ refusal-number n
   never-early n e = late-over-9 answer-late n e
 
-  no-tag : has-fragment p ≡ false → T (transform (options-in (read options)) p .flags .left) → ⊥
+  no-tag : has-fragment p ≡ false → T (transform (options-in (read options)) (given options p) .flags .left) → ⊥
   unfolding WithinLimits
-  no-tag e = page-good ⊥ listed p (h .0) (λ t. subst T e t) .kept .fragments
+  no-tag e = page-good ⊥ listed (given options p) (given-ok (works-sums (read options)) p (h .0)) (λ t. subst T (given-fragment (works-sums (read options)) p ∙ e) t) .kept .fragments
 
   -- without a 31 never 10
   pub never-tag-left : has-fragment p ≡ false → outcome (encode p) options scratch tr pr ≡ refused R.TagLeft → ⊥
   never-tag-left n e = no-tag n (late-tag-left answer-late e)
 
   -- 10 is given exactly where a 30 or a 31 would stand in page out
-  pub tag-left-due : T (stands 0x30 (page-out-row (options-in (read options)) (transform (options-in (read options)) p)) || stands 0x31 (page-out-row (options-in (read options)) (transform (options-in (read options)) p))) →
+  pub tag-left-due : T (stands 0x30 (page-out-row (options-in (read options)) (transform (options-in (read options)) (given options p))) || stands 0x31 (page-out-row (options-in (read options)) (transform (options-in (read options)) (given options p)))) →
       outcome (encode p) options scratch tr pr ≡ refused R.TagLeft
   unfolding WithinLimits
-  tag-left-due s = late-left answer-late (on (transform listed p .flags .left) (good .no-element) (good .no-fragment))
+  tag-left-due s = late-left answer-late (on (transform listed (given options p) .flags .left) (good .no-element) (good .no-fragment))
     where
-      good : Visited (Unit {0}) (page-weight p) (transform (options-in (read options)) p)
-      good = page-good (Unit {0}) listed p (h .0) (λ t. tt)
+      good : Visited (Unit {0}) (page-weight (given options p)) (transform (options-in (read options)) (given options p))
+      good = page-good (Unit {0}) listed (given options p) (given-ok (works-sums (read options)) p (h .0)) (λ t. tt)
 
-      on : (b : Bool) → (T (not b) → stands 0x30 (transform (options-in (read options)) p .value) ≡ false) → (T (not b) → stands 0x31 (transform (options-in (read options)) p .value) ≡ false) → T b
+      on : (b : Bool) → (T (not b) → stands 0x30 (transform (options-in (read options)) (given options p) .value) ≡ false) → (T (not b) → stands 0x31 (transform (options-in (read options)) (given options p) .value) ≡ false) → T b
       on true x y = tt
       on false x y =
-          let e = page-stands 0x30 refl refl refl listed (transform listed p) ∙ x tt in
-          let f = page-stands 0x31 refl refl refl listed (transform listed p) ∙ y tt in
-          subst T (or-false (stands 0x30 (page-out-row listed (transform listed p))) (stands 0x31 (page-out-row listed (transform listed p))) e f) s
+          let e = page-stands 0x30 refl refl refl listed (transform listed (given options p)) ∙ x tt in
+          let f = page-stands 0x31 refl refl refl listed (transform listed (given options p)) ∙ y tt in
+          subst T (or-false (stands 0x30 (page-out-row listed (transform listed (given options p)))) (stands 0x31 (page-out-row listed (transform listed (given options p)))) e f) s
 
-  pub tag-left-stands : outcome (encode p) options scratch tr pr ≡ refused R.TagLeft → T (stands 0x30 (page-out-row (options-in (read options)) (transform (options-in (read options)) p)))
-  tag-left-stands e = left-stands listed p (late-tag-left answer-late e)
+  pub tag-left-stands : outcome (encode p) options scratch tr pr ≡ refused R.TagLeft → T (stands 0x30 (page-out-row (options-in (read options)) (transform (options-in (read options)) (given options p))))
+  tag-left-stands e = left-stands listed (given options p) (late-tag-left answer-late e)
 
   -- no tag left, nothing over 65,535, the outs long enough: accepted
-  pub acceptance : has-fragment p ≡ false → T (not (over-long (options-in (read options)) (transform (options-in (read options)) p))) → templates-need (transform (options-in (read options)) p) ≤ tr → page-need (options-in (read options)) (transform (options-in (read options)) p) ≤ pr →
-      outcome (encode p) options scratch tr pr ≡ accepted (written (options-in (read options)) (transform (options-in (read options)) p))
+  pub acceptance : has-fragment p ≡ false → T (not (over-long (options-in (read options)) (transform (options-in (read options)) (given options p)))) → templates-need (transform (options-in (read options)) (given options p)) ≤ tr → page-need (options-in (read options)) (transform (options-in (read options)) (given options p)) ≤ pr →
+      outcome (encode p) options scratch tr pr ≡ accepted (written (options-in (read options)) (transform (options-in (read options)) (given options p)))
   acceptance b g t q = late-taken answer-late (no-tag b) g t q
 
 -- options of the tree, in their own bytes, are such options and are read back
-pub options-taken : (o : Options) → OptionsOk o → (length (encode-options o) ≤ 4096) × (check-options (read (encode-options o)) ≡ Fine) × (options-in (read (encode-options o)) ≡ o)
+pub options-taken : (o : Options) → OptionsOk o → (length (encode-options o) ≤ 4096) × (check-options (read (encode-options o)) ≡ Fine) × (options-in (read (encode-options o)) ≡ o) × (works-sums (read (encode-options o)) ≡ false)
 unfolding OptionsOk
-options-taken o k = let q = options-read o k in (leb→le (length (encode-options o)) 4096 (k .4), q .0, q .1)
+options-taken o k = let q = options-read o k in (leb→le (length (encode-options o)) 4096 (k .4), q .0, q .1, q .2)
 
 -- ---- and nothing else is accepted
 
 -- a page's own bytes, and what is written is that page's
 pub accepted-is-page : (page options : Bytes) (scratch tr pr : ℕ) (w : Written) → AllBytes page → outcome page options scratch tr pr ≡ accepted w →
-    (p : Page) × (page ≡ encode p) × WithinLimits p × (written (options-in (read options)) (transform (options-in (read options)) p) ≡ w)
+    (p : Page) × (page ≡ encode p) × WithinLimits p × (written (options-in (read options)) (transform (options-in (read options)) (given options p)) ≡ w)
+unfolding page-given
 accepted-is-page page options scratch tr pr w a e =
     let s = accepted-says page options scratch tr pr w e in
     let q = within-exactly page (page-in (read page)) a (s .inputs .page-short) .0 (s .inputs .page-fine, refl) in
     (page-in (read page), q .0, q .1, s .written-is)
 
--- options as they may be given: each of 02, 03 and 04 or not
+-- options as they may be given: each of 02, 03, 04 and 05 or not
 pub accepted-are-options : (page options : Bytes) (scratch tr pr : ℕ) (w : Written) → AllBytes options → outcome page options scratch tr pr ≡ accepted w →
     (g : Given) × (options ≡ bytes (given-row g)) × GivenOk g × (length options ≤ 4096)
 accepted-are-options page options scratch tr pr w a e =

@@ -9,7 +9,7 @@ use lib.ListN.{length}
 use Rattle.field.specs.Bytes.{Bytes}
 use Rattle.field.specs.Row.{Row, read, bytes, long-body}
 use Rattle.page.specs.Page.{Options}
-use Rattle.page.specs.Tree.{page-in, options-in}
+use Rattle.page.specs.Tree.{options-in}
 use Rattle.page.specs.Check.{check-page, check-options}
 use Rattle.page.specs.declared.Refusal.the-variants as R
 use Rattle.page.specs.declared.Verdict.{Verdict}
@@ -19,7 +19,7 @@ use Rattle.spec.specs.declared.Flags.{Flags}
 use Rattle.spec.specs.Pass.{Done}
 use Rattle.spec.specs.Transform.{transform, templates-row, page-out-row}
 use Rattle.spec.specs.Late.{written}
-use Rattle.spec.specs.Answer.{Written, Outcome, accepted, check-outputs, decided, transformed, check-inputs, outcome}
+use Rattle.spec.specs.Answer.{Written, Outcome, accepted, check-outputs, decided, transformed, check-inputs, page-given, outcome}
 
 -- ---- Booleans
 
@@ -108,15 +108,15 @@ pub record Accepted (page options : Bytes) (scratch templates-room page-room : �
   pub inputs : Inputs page options scratch
   pub outputs :
       let o = options-in (read options) in
-      let d = transform o (page-in (read page)) in
+      let d = transform o (page-given page options) in
       Outputs templates-room page-room (d .flags) (templates-row (d .templates)) (page-out-row o d)
-  pub written-is : written (options-in (read options)) (transform (options-in (read options)) (page-in (read page))) ≡ w
+  pub written-is : written (options-in (read options)) (transform (options-in (read options)) (page-given page options)) ≡ w
 
 pub accepted-says : (page options : Bytes) (scratch tr pr : ℕ) (w : Written) → outcome page options scratch tr pr ≡ accepted w → Accepted page options scratch tr pr w
 unfolding outcome transformed
 accepted-says page options scratch tr pr w e =
     let o : Options = options-in (read options) in
-    let d : Done Row = transform o (page-in (read page)) in
+    let d : Done Row = transform o (page-given page options) in
     let a = accepted-decided (check-inputs page options scratch) (λ _. transformed tr pr o d) w e in
     let b = accepted-decided (check-outputs tr pr (d .flags) (templates-row (d .templates)) (page-out-row o d)) (λ _. accepted (written o d)) w (a .1) in
     record {

@@ -9,13 +9,13 @@ use lib.Dec.{T, eqb, eqb→eq}
 use Rattle.field.specs.Bytes.{Bytes, AllBytes, ascii, pick, same}
 use Rattle.field.specs.Row.{Row, end, loose, field, read}
 use Rattle.page.specs.Page.{Options, Page}
-use Rattle.page.specs.Tree.{texts-in, choose, page-in, options-in}
+use Rattle.page.specs.Tree.{texts-in, choose, options-in}
 use Rattle.spec.specs.declared.Flags.{Flags}
 use Rattle.spec.specs.Pass.{Done, Pass, pure, map, bind, both, raise, join, Raw, Mid, none, node, raw, _+++_, _⧺_}
 use Rattle.spec.specs.Output.{gen-template}
 use Rattle.spec.specs.Visit.{visit-exprs, visit-inside, visit-after, leave}
 use Rattle.spec.specs.Transform.{transform, bit, helper-sum, with-templates, page-out-row}
-use Rattle.spec.specs.Answer.{Written, accepted, outcome}
+use Rattle.spec.specs.Answer.{Written, accepted, page-given, outcome}
 use Rattle.spec.specs.Kept.{at-field, in-row, in-page, same-pieces, KeptBytes}
 use Rattle.spec.proofs.PageOut.{templates-related, import-row, import-related}
 use Rattle.spec.proofs.Answers.{accepted-says}
@@ -212,7 +212,7 @@ pub kept-bytes : (page options : Bytes) (scratch templates-room page-room : ℕ)
 unfolding KeptBytes
 kept-bytes page options scratch tr pr w all e =
     let o = options-in (read options) in
-    let p = page-in (read page) in
+    let p = page-given page options in
     let says = accepted-says page options scratch tr pr w e in
     let out = sym (page-read page options scratch tr pr w all e) in
     let both-ways : (l : Bytes → ℕ) (x : List Bytes → ℕ) → in-row l x (read (w .page-out)) ≡ in-page l x o p = λ l x. subst (λ (r : Row). in-row l x r ≡ in-page l x o p) out (kept l x o p (says .outputs .none-left)) in

@@ -1,5 +1,5 @@
--- The table of marks, demand 3, acceptance, how long the outputs are at most, that as many templates are called as recorded, and that the
--- page's own expressions are kept.
+-- The table of marks, demand 3, acceptance, how long the outputs are at most, that as many templates are called as recorded, that the
+-- page's own expressions are kept, and what 05 changes.
 pub mod Marks
 pub mod Good
 pub mod Weight
@@ -23,8 +23,10 @@ pub mod PageOut
 pub mod Within
 pub mod RowDemand
 pub mod Answers
+pub mod Given
 pub mod Lent
 pub mod Export
+pub mod Sums
 pub mod TagLeft
 pub mod LongRun
 pub mod Accept

@@ -7,14 +7,15 @@ use lib.ListN.{length, replicate}
 use Rattle.field.specs.Bytes.{Bytes, pick}
 use Rattle.field.specs.Row.{Row, read, bytes, long-body}
 use Rattle.field.specs.Put.{put}
-use Rattle.page.specs.Page.{Options}
-use Rattle.page.specs.Tree.{page-in, options-in, choose}
+use Rattle.page.specs.Page.{Options, Page}
+use Rattle.page.specs.Tree.{page-in, works-sums, options-in}
 use Rattle.page.specs.Check.{check-page, check-options}
 use Rattle.page.specs.Refusal.{refusal-number, unless, after}
 use Rattle.page.specs.declared.Refusal.{Refusal}
 use Rattle.page.specs.declared.Refusal.the-variants as R
 use Rattle.page.specs.declared.Verdict.{Verdict}
 use Rattle.page.specs.declared.Verdict.the-variants.{Fine, Refused}
+use Rattle.worked.specs.Worked.{worked}
 use Rattle.spec.specs.declared.Flags.{Flags}
 use Rattle.spec.specs.Pass.{Done, Template}
 use Rattle.spec.specs.Transform.{transform, templates-row, page-out-row}
@@ -53,10 +54,18 @@ check-inputs page options scratch =
     after (unless (leb (length page) 32768 && leb (length options) 4096) R.InputTooLong) λ _.
     after (check-options (read options)) λ _. check-page (read page)
 
+-- 02, A12: with 05 the page is given with its sums worked out. 2 to 8 are for the page as it came, 10 to 13 for the page that is given
+unfoldable pub worked-if : Bool → Page → Page
+worked-if true p = worked p
+worked-if false p = p
+
+unfoldable pub page-given : (page options : Bytes) → Page
+page-given page options = worked-if (works-sums (read options)) (page-in (read page))
+
 unfoldable pub outcome : (page options : Bytes) (scratch templates-room page-room : ℕ) → Outcome
 outcome page options scratch tr pr =
     decided (check-inputs page options scratch)
-    λ _. transformed tr pr (options-in (read options)) (transform (options-in (read options)) (page-in (read page)))
+    λ _. transformed tr pr (options-in (read options)) (transform (options-in (read options)) (page-given page options))
 
 -- ---- 01's number and values for each case
 

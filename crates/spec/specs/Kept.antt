@@ -11,10 +11,11 @@ use Rattle.field.specs.Row.{Row, end, loose, field, read}
 use Rattle.names.specs.Names.{AttrName, get-attr-name, is-void-element}
 use Rattle.page.specs.Page as P
 use Rattle.page.specs.Page.{Name, identifier, member, namespaced, Options, Page}
-use Rattle.page.specs.Tree.{texts-in, page-in, options-in}
+use Rattle.page.specs.Tree.{texts-in, options-in}
 use Rattle.spec.specs.Attributes as A
 use Rattle.spec.specs.Attributes.{Value, Attribute, is-serializable, is-component}
 use Rattle.spec.specs.Transform as F
+use Rattle.spec.specs.Answer.{page-given}
 
 -- ---- the places
 
@@ -146,6 +147,6 @@ pub record KeptIn (o : Options) (p : Page) (out : Row) : Type 0 where
   pub literals : (b : Bytes) → in-row (λ c. F.bit (same b c) 1) (λ cs. 0) out ≡ in-page (λ c. F.bit (same b c) 1) (λ cs. 0) o p
   pub others : (bs : List Bytes) → in-row (λ c. 0) (λ cs. F.bit (same-pieces bs cs) 1) out ≡ in-page (λ c. 0) (λ cs. F.bit (same-pieces bs cs) 1) o p
 
--- and of the bytes: the page, its options, and page out up to its written end
+-- and of the bytes: the page, its options, and page out up to its written end. 02, A12: counted in the page that is given
 unfoldable pub KeptBytes : (page options out : Bytes) → Type 0
-KeptBytes page options out = KeptIn (options-in (read options)) (page-in (read page)) (read out)
+KeptBytes page options out = KeptIn (options-in (read options)) (page-given page options) (read out)

@@ -113,6 +113,26 @@ marks =
     mark (fld 0x01 (fld 0x12 (fld 0x30 ((fld 0x40 (ascii "a")) ++ (fld 0x50 ((fld 0x40 (ascii "b")) ++ (fld 0x52 (fld 0x7a (0 ∷ 0 ∷ 0 ∷ 0 ∷ 0 ∷ 0 ∷ 0 ∷ 1 ∷ []))))))))) [] 65536 65536 65536 4 0 [] [] ∷
     -- a 71 of nine bytes
     mark (fld 0x01 (fld 0x12 (fld 0x30 ((fld 0x40 (ascii "a")) ++ (fld 0x50 ((fld 0x40 (ascii "b")) ++ (fld 0x52 (fld 0x71 (0 ∷ 0 ∷ 0 ∷ 0 ∷ 0 ∷ 0 ∷ 0 ∷ 1 ∷ 0 ∷ []))))))))) [] 65536 65536 65536 4 0 [] [] ∷
+    -- <p>{2 * 12 + 3}</p>, 05
+    mark (fld 0x01 (fld 0x12 (fld 0x30 ((fld 0x40 (ascii "p")) ++ (fld 0x52 (fld 0x79 (fld 0x20 (ascii "2 * 12 + 3")))))))) (fld 0x05 []) 65536 65536 65536 0 1 (fld 0x80 ((0 ∷ 1 ∷ []) ++ (fld 0x81 (ascii "<p>27</p>")))) ((fld 0x82 ((fld 0x81 (ascii "react/jsx-runtime")) ++ (2 ∷ []))) ++ ((fld 0x83 []) ++ (fld 0x12 (fld 0x90 (0 ∷ 1 ∷ []))))) ∷
+    -- <p>{2 * 12 + 3}</p>, no 05
+    mark (fld 0x01 (fld 0x12 (fld 0x30 ((fld 0x40 (ascii "p")) ++ (fld 0x52 (fld 0x79 (fld 0x20 (ascii "2 * 12 + 3")))))))) [] 65536 65536 65536 0 1 (fld 0x80 ((0 ∷ 1 ∷ []) ++ ((fld 0x81 (ascii "<p>")) ++ (fld 0x81 (ascii "</p>"))))) ((fld 0x82 ((fld 0x81 (ascii "react/jsx-runtime")) ++ (10 ∷ []))) ++ ((fld 0x83 []) ++ (fld 0x12 (fld 0x90 ((0 ∷ 1 ∷ []) ++ (fld 0x92 (fld 0x79 (fld 0x20 (ascii "2 * 12 + 3"))))))))) ∷
+    -- <p>{0 - 1}</p>, 05
+    mark (fld 0x01 (fld 0x12 (fld 0x30 ((fld 0x40 (ascii "p")) ++ (fld 0x52 (fld 0x79 (fld 0x20 (ascii "0 - 1")))))))) (fld 0x05 []) 65536 65536 65536 0 1 (fld 0x80 ((0 ∷ 1 ∷ []) ++ ((fld 0x81 (ascii "<p>")) ++ (fld 0x81 (ascii "</p>"))))) ((fld 0x82 ((fld 0x81 (ascii "react/jsx-runtime")) ++ (10 ∷ []))) ++ ((fld 0x83 []) ++ (fld 0x12 (fld 0x90 ((0 ∷ 1 ∷ []) ++ (fld 0x92 (fld 0x75 (0 ∷ 0 ∷ 0 ∷ 0 ∷ 0 ∷ 0 ∷ 0 ∷ 1 ∷ [])))))))) ∷
+    -- <p>{007}</p>, 05
+    mark (fld 0x01 (fld 0x12 (fld 0x30 ((fld 0x40 (ascii "p")) ++ (fld 0x52 (fld 0x79 (fld 0x20 (ascii "007")))))))) (fld 0x05 []) 65536 65536 65536 0 1 (fld 0x80 ((0 ∷ 1 ∷ []) ++ ((fld 0x81 (ascii "<p>")) ++ (fld 0x81 (ascii "</p>"))))) ((fld 0x82 ((fld 0x81 (ascii "react/jsx-runtime")) ++ (10 ∷ []))) ++ ((fld 0x83 []) ++ (fld 0x12 (fld 0x90 ((0 ∷ 1 ∷ []) ++ (fld 0x92 (fld 0x79 (fld 0x20 (ascii "007"))))))))) ∷
+    -- <p>{1 and +1, two pieces}</p>, 05
+    mark (fld 0x01 (fld 0x12 (fld 0x30 ((fld 0x40 (ascii "p")) ++ (fld 0x52 (fld 0x79 ((fld 0x20 (ascii "1")) ++ (fld 0x20 (ascii "+1"))))))))) (fld 0x05 []) 65536 65536 65536 0 1 (fld 0x80 ((0 ∷ 1 ∷ []) ++ ((fld 0x81 (ascii "<p>")) ++ (fld 0x81 (ascii "</p>"))))) ((fld 0x82 ((fld 0x81 (ascii "react/jsx-runtime")) ++ (10 ∷ []))) ++ ((fld 0x83 []) ++ (fld 0x12 (fld 0x90 ((0 ∷ 1 ∷ []) ++ (fld 0x92 (fld 0x79 ((fld 0x20 (ascii "1")) ++ (fld 0x20 (ascii "+1")))))))))) ∷
+    -- 05 behind 04
+    mark (fld 0x01 (fld 0x12 (fld 0x30 (fld 0x40 (ascii "br"))))) ((fld 0x04 (ascii "x")) ++ (fld 0x05 [])) 65536 65536 65536 0 1 (fld 0x80 ((0 ∷ 1 ∷ []) ++ (fld 0x81 (ascii "<br>")))) ((fld 0x82 ((fld 0x81 (ascii "x/jsx-runtime")) ++ (2 ∷ []))) ++ ((fld 0x83 []) ++ (fld 0x12 (fld 0x90 (0 ∷ 1 ∷ []))))) ∷
+    -- 05 with a body
+    mark (fld 0x01 (fld 0x12 (fld 0x30 (fld 0x40 (ascii "br"))))) (fld 0x05 (1 ∷ [])) 65536 65536 65536 4 0 [] [] ∷
+    -- 05 before 04
+    mark (fld 0x01 (fld 0x12 (fld 0x30 (fld 0x40 (ascii "br"))))) ((fld 0x05 []) ++ (fld 0x04 (ascii "x"))) 65536 65536 65536 4 0 [] [] ∷
+    -- 05 twice
+    mark (fld 0x01 (fld 0x12 (fld 0x30 (fld 0x40 (ascii "br"))))) ((fld 0x05 []) ++ (fld 0x05 [])) 65536 65536 65536 4 0 [] [] ∷
+    -- 06
+    mark (fld 0x01 (fld 0x12 (fld 0x30 (fld 0x40 (ascii "br"))))) (fld 0x06 []) 65536 65536 65536 4 0 [] [] ∷
     -- scratch of 65,535 bytes
     mark (fld 0x01 (fld 0x12 (fld 0x30 (fld 0x40 (ascii "br"))))) [] 65535 65536 65536 1 0 [] [] ∷
     -- an empty page
