@@ -9,7 +9,7 @@ use lib.ListN.{length, replicate}
 use Rattle.field.specs.Bytes.{Bytes}
 use Rattle.field.specs.Row.{Row, read, bytes}
 use Rattle.page.specs.Page.{Options}
-use Rattle.page.specs.Tree.{page-in, options-in, source-in}
+use Rattle.page.specs.Tree.{options-in, source-in}
 use Rattle.page.specs.Refusal.{after, unless}
 use Rattle.page.specs.declared.Refusal.{Refusal}
 use Rattle.page.specs.declared.Refusal.the-variants as R
@@ -17,7 +17,7 @@ use Rattle.page.specs.declared.Verdict.{Verdict}
 use Rattle.page.specs.declared.Verdict.the-variants.{Fine, Refused}
 use Rattle.spec.specs.Pass.{Done}
 use Rattle.spec.specs.Transform.{transform, templates-row, page-out-row}
-use Rattle.spec.specs.Answer.{Written, Outcome, refused, accepted, check-outputs, decided, transformed, check-inputs, outcome, number, templates-bytes, page-bytes, templates, zeros, templates-left, page-left, scratch-left}
+use Rattle.spec.specs.Answer.{Written, Outcome, refused, accepted, check-outputs, decided, transformed, check-inputs, page-given, outcome, number, templates-bytes, page-bytes, templates, zeros, templates-left, page-left, scratch-left}
 use Rattle.spec.proofs.Answers.{inputs-fine}
 use Rattle.walk.specs.declared.state.Walk.{Walk}
 use Rattle.walk.specs.See.{World, at}
@@ -40,7 +40,7 @@ pub refused-inputs : (page options : Bytes) (n tr pr : ℕ) {v : Verdict} → v 
 unfolding outcome decided
 refused-inputs page options n tr pr {v} e {r} h w =
     let k : check-inputs page options n ≡ Refused r = sym e ∙ h in
-    let d = transform (options-in (read options)) (page-in (read page)) in
+    let d = transform (options-in (read options)) (page-given page options) in
     answers-is (ap (λ (u : Verdict). decided u λ _. transformed tr pr (options-in (read options)) d) k) w
 
 -- ---- the outputs are refused by 9 to 13, which clear scratch
@@ -78,12 +78,12 @@ zeros-same b b′ e = ap (λ (n : ℕ). replicate n 0) e
 -- ---- the walk has written both outputs: w is the state behind it, v the verdict of that state
 
 module _ (page options scratch t g : Bytes) (fine : check-inputs page options (length scratch) ≡ Fine) {t′ g′ : Bytes} {w : Walk}
-    (is : at t′ g′ w ≡ written-page (options-in (read options)) (transform (options-in (read options)) (page-in (read page))) t g) where
+    (is : at t′ g′ w ≡ written-page (options-in (read options)) (transform (options-in (read options)) (page-given page options)) t g) where
   abbrev opts-of : Options
   opts-of = options-in (read options)
 
   abbrev result : Done Row
-  result = transform opts-of (page-in (read page))
+  result = transform opts-of (page-given page options)
 
   abbrev whole : Written
   whole = record { templates-out = bytes (templates-row (result .templates)); page-out = bytes (page-out-row opts-of result); templates = length (result .templates) }

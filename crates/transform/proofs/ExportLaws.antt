@@ -1,5 +1,5 @@
 -- What the code of the export learns at each return and at each turn of a loop: the checks, the options, and the items of a page.
--- Main statements: `inputs-*`, `outputs-*`, `cleared-*`, `listed-*`, `source-*`, `items-*`, `statement-*`, `from-*`, `html-*`, `piece-*`. Assumes nothing.
+-- Main statements: `inputs-*`, `outputs-*`, `cleared-*`, `listed-*`, `source-*`, `sums-*`, `items-*`, `statement-*`, `from-*`, `html-*`, `piece-*`. Assumes nothing.
 use mathlib.Core.Path.{_≡_, refl, sym, ap, _∙_}
 use mathlib.Core.Bool.{Bool, true, false, _||_}
 use Prim.Native.Nat.{ℕ, _≤_, _<_}
@@ -14,7 +14,7 @@ use Rattle.field.specs.Front.{tag-of, body-of, behind-of}
 use Rattle.field.proofs.RowLaws.{read-nil}
 use Rattle.field.proofs.FrontLaws.{read-nest, leaf-at, nest-at}
 use Rattle.page.specs.Page as P
-use Rattle.page.specs.Tree.{choose, texts-in, element-in, attributes-in, children-in, pieces-in, module-item-by, module-items-in, listed-in, source-in}
+use Rattle.page.specs.Tree.{choose, texts-in, element-in, attributes-in, children-in, pieces-in, module-item-by, module-items-in, listed-in, source-in, works-sums}
 use Rattle.page.specs.Check.{check-page, check-options}
 use Rattle.page.specs.Refusal.{after}
 use Rattle.page.specs.declared.Refusal.{Refusal}
@@ -116,6 +116,10 @@ module _ (s : Bytes) where
   unfolding source-in
   source-none i = sym (ended (λ (r : Row). source-in r ≡ ascii "react") refl (λ b. refl) (read s) i)
 
+  pub sums-none : Ended (read s) → false ≡ works-sums (read s)
+  unfolding works-sums
+  sums-none i = sym (ended (λ (r : Row). works-sums r ≡ false) refl (λ b. refl) (read s) i)
+
 module _ (s : Bytes) (t : ℕ) (e : t ≡ tag-of s) where
   pub listed-here : (u : ℕ) → (t ≡ 256 → ⊥) → t ≡ u → inside u ≡ fields-after 0 → {b : Bytes} → b ≡ body-of s → texts-in 0x20 (read b) ≡ listed-in u (read s)
   unfolding listed-in choose
@@ -138,6 +142,16 @@ module _ (s : Bytes) (t : ℕ) (e : t ≡ tag-of s) where
   source-past h n {r} v =
       ap (λ (x : Bytes). source-in (read x)) v
       ∙ sym (any-field (λ (x : Row). source-in x ≡ source-in (read (behind-of s))) s t e h λ f i. rw (ne-eqb t 0x04 n))
+
+  pub sums-here : t ≡ 0x05 → true ≡ works-sums (read s)
+  unfolding works-sums inside
+  sums-here k = sym (ap works-sums (leaf-at s t e 0x05 k tt refl))
+
+  pub sums-past : (t ≡ 256 → ⊥) → (t ≡ 0x05 → ⊥) → {r : Bytes} → r ≡ behind-of s → works-sums (read r) ≡ works-sums (read s)
+  unfolding works-sums
+  sums-past h n {r} v =
+      ap (λ (x : Bytes). works-sums (read x)) v
+      ∙ sym (any-field (λ (x : Row). works-sums x ≡ works-sums (read (behind-of s))) s t e h λ f i. rw (ne-eqb t 0x05 n))
 
 -- ---- items of a page, by the tag in front
 

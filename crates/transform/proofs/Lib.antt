@@ -7,5 +7,6 @@ pub mod WrittenLaws
 pub mod ExportLaws
 pub mod ItemLaws
 pub mod PageLaws
+pub mod GivenLaws
 pub mod AnswerLaws
 pub mod ListLaws

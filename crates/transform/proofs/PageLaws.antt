@@ -17,11 +17,6 @@ use Rattle.field.proofs.FrontLaws.{body-less, nest-at}
 use Rattle.page.specs.Page.{Page, ModuleItem}
 use Rattle.page.specs.Encode.{pieces-row, module-items-row, page-row, encode}
 use Rattle.page.specs.Tree.{choose, pieces-in, module-item-by, module-items-in, page-in, listed-in, source-in, options-in}
-use Rattle.page.specs.Check.{check-header, check-page}
-use Rattle.page.specs.Refusal.{after}
-use Rattle.page.specs.declared.Refusal.the-variants as R
-use Rattle.page.specs.declared.Verdict.the-variants.{Fine}
-use Rattle.page.proofs.Verdicts.{refused}
 use Rattle.spec.specs.Pass.{Done, Template}
 use Rattle.spec.specs.Transform.{with-templates, transform}
 use Rattle.spec.proofs.PageOut.{templates-related}
@@ -35,7 +30,7 @@ use Rattle.walk.specs.declared.state.Walk.{Walk}
 use Rattle.walk.specs.See.{World, at, see, Low}
 use Rattle.walk.proofs.SeeLaws.{see-grows, low-is}
 use Rattle.visits.proofs.FieldLaws.{turn-low, turn-on}
-use Rattle.transform.specs.Run.{module-mid, has-statement, items-from, items-mid, has-html, started, sum-of, import-bytes, Headed, written-page}
+use Rattle.transform.specs.Run.{module-mid, has-statement, items-from, items-mid, has-html, started, sum-of, import-bytes, Headed, written-page, fronted}
 use Rattle.transform.proofs.RunLaws.{has-html-takes, walked, world, items-walked, module-walked}
 use Rattle.transform.proofs.CutLaws.{statement-from, parts, first-part, first-page}
 use Rattle.transform.proofs.WrittenLaws.{written-import, written-moved}
@@ -47,14 +42,14 @@ unfolding choose
 chosen P true f g x y = x
 chosen P false f g x y = y
 
--- ---- the body of an accepted page
+-- ---- the body of a page that has a 01 in front
 
 pub record PageBody (s b : Bytes) : Type 0 where
   pub body-short : length b < length s
   pub body-items : module-items-in (read b) ≡ page-in (read s)
 
-pub page-body : (s : Bytes) → check-page (read s) ≡ Fine → {b : Bytes} → b ≡ body-of s → PageBody s b
-unfolding check-page check-header after page-in choose inside
+pub page-body : (s : Bytes) → fronted (read s) ≡ true → {b : Bytes} → b ≡ body-of s → PageBody s b
+unfolding page-in choose inside
 page-body s fine {b} q =
     let t = tag-of s in
     tested t 0x01
@@ -63,9 +58,10 @@ page-body s fine {b} q =
       body-items = ap (λ (x : Bytes). module-items-in (read x)) q ∙ sym (ap page-in (nest-at s t refl 0x01 k tt refl));
     })
     λ n.
-    absurd
-    (any-front (λ (r : Row). check-page r ≡ Fine → ⊥) s t refl (λ h. refused R.Truncated h) (λ x h. refused R.Truncated h)
-    (λ f i h. let e : eqb t 0x01 ≡ false = ne-eqb t 0x01 n in refused R.Misplaced (rw e at h)) fine)
+    absurd (any-front (λ (r : Row). fronted r ≡ true → ⊥) s t refl no-tag (λ x h. no-tag h) (λ f i h. no-tag (sym (ne-eqb t 0x01 n) ∙ h)) fine)
+  where
+    no-tag : false ≡ true → ⊥
+    no-tag h = let z : _≡_ {A = ℕ} 0 1 = cc in omega arith
 
 -- ---- the source is no longer than the options, or the default
 

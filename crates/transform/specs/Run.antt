@@ -1,12 +1,12 @@
 -- The export: the items with the place of the templates among them, the import, and the whole answer. Assumes nothing: these are definitions.
-use Prim.Native.Nat.{ℕ, _+_}
+use Prim.Native.Nat.{ℕ, _+_, _≤_}
 use mathlib.Core.Bool.{Bool, true, false, _||_, not}
 use mathlib.Core.List.{[], _∷_, _++_}
 use mathlib.Core.Path.{_≡_}
 use lib.Dec.{eqb, leb, ltb}
 use lib.ListN.{length}
 use Rattle.field.specs.Bytes.{Bytes, ascii, pick}
-use Rattle.field.specs.Row.{Row, end, loose, field, bytes, long-body}
+use Rattle.field.specs.Row.{Row, end, loose, field, bytes, read, long-body}
 use Rattle.field.specs.Put.{put, head}
 use Rattle.page.specs.Page as P
 use Rattle.page.specs.Page.{Options, Page}
@@ -132,6 +132,19 @@ written-page o d t p =
             left = d .flags .left;
           };
     })
+
+-- a 01 stands in front
+abbrev pub fronted : Row → Bool
+fronted end = false
+fronted (loose b) = false
+fronted (field t f i r) = eqb t 0x01
+
+-- what the walks ask of a page, as it came or with its sums worked out, of its options and of scratch
+pub record Ready (page options : Bytes) (scratch : ℕ) : Type 0 where
+  pub scratch-enough : 65536 ≤ scratch
+  pub page-short : length page ≤ 65536
+  pub page-fronted : fronted (read page) ≡ true
+  pub options-short : length options ≤ 4096
 
 -- 10 to 13 by the state
 abbrev pub verdict-of : Walk → (templates-room page-room : ℕ) → Verdict

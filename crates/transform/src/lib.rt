@@ -7,11 +7,12 @@ ghost use Rattle.page.specs.declared.Verdict.the-variants.{Fine};
 ghost use Rattle.spec.specs.Answer.{outcome, refused, check-inputs, zeros, scratch-left};
 ghost use Rattle.transform.specs.Run.{Answers, verdict-of};
 
+mod given;
 mod module;
 mod moves;
 mod options;
 
-use module::write_page;
+use given::write_given;
 use page::Refusal;
 use page::Verdict;
 use page::whole::check_options;
@@ -130,7 +131,7 @@ fn transform_checked<'a>(
     requires { ⌜ check-inputs (now input) (now options) (length (now scratch)) ≡ Fine ⌝ }
     ensures { λ a. ⌜ Answers (outcome (now (input .entry)) (now (options .entry)) (length (now (scratch .entry))) (length (now (templates .entry))) (length (now (page .entry)))) (now (scratch .entry)) (now (templates .entry)) (now (page .entry)) a (now (scratch .exit)) (now (templates .exit)) (now (page .exit)) ⌝ }
 {
-    let w = write_page(input, options, scratch, templates, page);
+    let w = write_given(input, options, scratch, templates, page);
     match check_outputs(w, templates.len(), page.len()) {
         Verdict::Refused(r) => refuse(r, scratch, templates, page),
         Verdict::Fine => {

@@ -7,15 +7,13 @@ ghost use lib.ListN.{length};
 ghost use Rattle.field.specs.Bytes.{Bytes, among, pick};
 ghost use Rattle.field.specs.Row.{read};
 ghost use Rattle.page.specs.Tree.{texts-in, listed-in, pieces-in, module-items-in, page-in, options-in, source-in};
-ghost use Rattle.page.specs.declared.Verdict.the-variants.{Fine};
-ghost use Rattle.spec.specs.Answer.{check-inputs};
 ghost use Rattle.spec.specs.Transform.{transform};
 ghost use Rattle.field.specs.Put.{put, Wrote};
 ghost use Rattle.decisions.specs.At.{opts};
 ghost use Rattle.decisions.specs.Index.{names-of};
 ghost use Rattle.walk.specs.See.{at, see, Low};
 ghost use Rattle.visits.specs.Visiting.{Room};
-ghost use Rattle.transform.specs.Run.{item-mid, place-mid, module-mid, items-mid, has-statement, items-before, items-from, has-html, piece-html, started, import-bytes, sum-of, Headed, written-page};
+ghost use Rattle.transform.specs.Run.{item-mid, place-mid, module-mid, items-mid, has-statement, items-before, items-from, has-html, piece-html, started, import-bytes, sum-of, Headed, written-page, Ready};
 use crate::moves::move_up;
 use crate::options::index_room;
 use crate::options::names_in;
@@ -388,7 +386,7 @@ pub fn write_page<'a>(
     templates: &mut [u8],
     page: &mut [u8],
 ) -> Walk
-    requires { ⌜ check-inputs (now input) (now options) (length (now scratch)) ≡ Fine ⌝ }
+    requires { ⌜ Ready (now input) (now options) (length (now scratch)) ⌝ }
     ensures { λ r. ⌜ at (now (templates .exit)) (now (page .exit)) r ≡ written-page (options-in (read (now (options .entry)))) (transform (options-in (read (now (options .entry)))) (page-in (read (now (input .entry))))) (now (templates .entry)) (now (page .entry)) ⌝ }
 {
     let skip = names_in(options, 2);
@@ -409,7 +407,7 @@ fn write_indexed<'a>(
     templates: &mut [u8],
     page: &mut [u8],
 ) -> Walk
-    requires { ⌜ check-inputs (now input) (now options) (length (now scratch)) ≡ Fine ⌝ }
+    requires { ⌜ Ready (now input) (now options) (length (now scratch)) ⌝ }
     requires { ⌜ (length (now skip) ≤ 4096) × (length (now props) ≤ 4096) ⌝ }
     requires { ⌜ (texts-in 0x20 (read (now skip)) ≡ listed-in 2 (read (now options))) × (texts-in 0x20 (read (now props)) ≡ listed-in 3 (read (now options))) ⌝ }
     ensures { λ r. ⌜ at (now (templates .exit)) (now (page .exit)) r ≡ written-page (options-in (read (now (options .entry)))) (transform (options-in (read (now (options .entry)))) (page-in (read (now (input .entry))))) (now (templates .entry)) (now (page .entry)) ⌝ }
@@ -439,7 +437,7 @@ fn write_listed<'a>(
     templates: &mut [u8],
     page: &mut [u8],
 ) -> Walk
-    requires { ⌜ check-inputs (now input) (now options) (length (now scratch)) ≡ Fine ⌝ }
+    requires { ⌜ Ready (now input) (now options) (length (now scratch)) ⌝ }
     requires { ⌜ ((n : Bytes) → among n (names-of (now skip)) ≡ among n (listed-in 2 (read (now options)))) × ((n : Bytes) → among n (names-of (now props)) ≡ among n (listed-in 3 (read (now options)))) ⌝ }
     ensures { λ r. ⌜ at (now (templates .exit)) (now (page .exit)) r ≡ written-page (options-in (read (now (options .entry)))) (transform (options-in (read (now (options .entry)))) (page-in (read (now (input .entry))))) (now (templates .entry)) (now (page .entry)) ⌝ }
 {

@@ -1,10 +1,10 @@
-// Options: the names of 02 and 03, the import's source.
+// Options: the names of 02 and 03, the import's source, whether sums are worked out.
 ghost use mathlib.Core.Path.{_≡_};
 ghost use Prim.Native.Nat.{ℕ, _+_, _≤_, _<_, _^_};
 ghost use lib.ListN.{length, getD};
 ghost use Rattle.field.specs.Row.{read, fields-after, inside};
 ghost use Rattle.field.specs.Put.{Wrote};
-ghost use Rattle.page.specs.Tree.{texts-in, listed-in, source-in};
+ghost use Rattle.page.specs.Tree.{texts-in, listed-in, source-in, works-sums};
 use field::reader::behind;
 use field::reader::body;
 use field::reader::tag_at;
@@ -61,6 +61,27 @@ pub fn put_source(out: &mut [u8], at: usize, options: &[u8]) -> usize
             }
             256 => {
                 return put_bytes(out, at, b"react");
+            }
+            _ => {
+                let r = behind(t);
+                t = r;
+            }
+        }
+    }
+}
+
+// Whether a 05 stands.
+pub fn works_sums(options: &[u8]) -> bool
+    ensures { λ r. ⌜ r ≡ works-sums (read (now (options .entry))) ⌝ }
+{
+    let mut t = options;
+    loop {
+        match tag_at(t) {
+            0x05 => {
+                return true;
+            }
+            256 => {
+                return false;
             }
             _ => {
                 let r = behind(t);

@@ -4,8 +4,8 @@ use borrow.Author.Needs.{needs}
 use Rattle.transform.proofs.transform_checked.Statement.{statement}
 use Rattle.transform.proofs.transform_checked.Tie as tie
 
-write-page-requires : tie.Need-write-page-requires
-write-page-requires c κs = search needs
+write-given-requires : tie.Need-write-given-requires
+write-given-requires c κs = search needs
 
 check-outputs-requires : tie.Need-check-outputs-requires
 check-outputs-requires c κs = search needs
@@ -25,7 +25,7 @@ clear-requires c κs = search needs
 sub-t27 : tie.Need-sub-t27
 sub-t27 c =
     let a = c .before .before .before .before .before .before .before .before .before .before .before .before .before .before .before .before .before .before .before .before .before .before .before in
-    let w = c .before .before .before .before .before .before .before .before .before .before .before .before .before .before .write-page in
+    let w = c .before .before .before .before .before .before .before .before .before .before .before .before .before .before .write-given in
     later-one _ _ (a .args .scratch .now) _ _ (a .pre) (w .ensures)
 
 same-length : tie.Need-same-length
@@ -40,7 +40,7 @@ same-length-3 c = search needs
 returns : tie.Need-returns
 returns c =
     let a = c .before .before .before .before .before .before .before .before .before .before .before .before .before .before .before .before .before .before .before .before .before .before .before .before .before .before .before .before .before in
-    let w = c .before .before .before .before .before .before .before .before .before .before .before .before .before .before .before .before .before .before .before .before .write-page in
+    let w = c .before .before .before .before .before .before .before .before .before .before .before .before .before .before .before .before .before .before .before .before .write-given in
     refused-outputs _ _ _ _ _ (a .pre) (w .ensures) (w .kept .1 .1 .1 .0) (w .kept .1 .1 .1 .1 .0) (c .before .before .before .before .before .before .before .before .before .before .before .before .before .check-outputs .ensures) (c .before .before .before .before .before .before .before .before .before .before .before .r .given .1) (w .kept .1 .1 .0) (c .before .before .before .before .before .before .refuse .ensures)
 
 same-length-4 : tie.Need-same-length-4
@@ -55,14 +55,14 @@ same-length-6 c = search needs
 returns-2 : tie.Need-returns-2
 returns-2 c =
     let a = c .before .before .before .before .before .before .before .before .before .before .before .before .before .before .before .before .before .before .before .before .before .before .before in
-    let w = c .before .before .before .before .before .before .before .before .before .before .before .before .before .before .write-page in
+    let w = c .before .before .before .before .before .before .before .before .before .before .before .before .before .before .write-given in
     accepted-outputs _ _ _ _ _ (a .pre) (w .ensures) (w .kept .1 .1 .1 .0) (w .kept .1 .1 .1 .1 .0) (c .before .before .before .before .before .before .before .check-outputs .ensures) (c .before .before .before .before .before .enum-told .given .1) (w .last .1 .1 .0) (w .kept .1 .1 .0) (c .before .before .before .clear .ensures)
 
 pub transform-checked-spec : {M : Type 1} → statement M
 transform-checked-spec =
     tie.close
     (tie.spec
-    write-page-requires
+    write-given-requires
     check-outputs-requires
     enum-known-r
     refuse-requires

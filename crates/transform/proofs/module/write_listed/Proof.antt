@@ -1,9 +1,7 @@
 -- `write_listed` meets its contract: an element shows both heads, and the items are written behind room for the import; or the items are
 -- written in two parts, and what is due is put in. Assumes nothing.
-use lib.ListN.{length}
 use mathlib.Core.Path.{_∙_}
 use native.Mathlib.Omega.{arith}
-use Rattle.spec.proofs.Answers.{inputs-fine}
 use Rattle.transform.proofs.PageLaws.{page-body, source-short, items-room, before-room, from-room, heads-room, import-short, html-takes, page-shown, page-moved}
 use borrow.Author.Needs.{needs}
 use Rattle.transform.proofs.module.write_listed.Statement.{statement}
@@ -18,15 +16,15 @@ has-html-requires c κs = search needs
 import-len-requires : tie.Need-import-len-requires
 import-len-requires c κs =
     let a = c .before .before .before .before .before .before .before .before .before .before .args in
-    omega (arith, source-short (a .options .now) (inputs-fine _ _ (length (a .scratch .now)) (c .before .before .before .before .before .before .before .before .before .before .pre .0) .options-short))
+    omega (arith, source-short (a .options .now) (c .before .before .before .before .before .before .before .before .before .before .pre .0 .options-short))
 
 start-requires : tie.Need-start-requires
 start-requires c κs = search needs
 
 visit-items-requires : tie.Need-visit-items-requires
 visit-items-requires c κs =
-    let i = inputs-fine _ _ _ (c .before .before .before .before .before .before .before .before .before .before .before .before .before .before .before .pre .0) in
-    let b = page-body _ (i .page-fine) (c .before .before .before .before .before .before .before .body .ensures) in
+    let i = c .before .before .before .before .before .before .before .before .before .before .before .before .before .before .before .pre .0 in
+    let b = page-body _ (i .page-fronted) (c .before .before .before .before .before .before .before .body .ensures) in
     record {
       desk = i .scratch-enough;
       short = omega (arith, b .body-short, i .page-short);
@@ -39,7 +37,7 @@ helper-sum-requires c κs = search needs
 put-import-requires : tie.Need-put-import-requires
 put-import-requires c κs =
     let a = c .before .before .before .before .before .before .before .before .before .before .before .before .before .before .before .before .before .before .before .before .before .before .before .before .args in
-    omega (arith, source-short (a .options .now) (inputs-fine _ _ (length (a .scratch .now)) (c .before .before .before .before .before .before .before .before .before .before .before .before .before .before .before .before .before .before .before .before .before .before .before .before .pre .0) .options-short))
+    omega (arith, source-short (a .options .now) (c .before .before .before .before .before .before .before .before .before .before .before .before .before .before .before .before .before .before .before .before .before .before .before .before .pre .0 .options-short))
 
 same-length : tie.Need-same-length
 same-length c = search needs
@@ -53,8 +51,8 @@ same-length-3 c = search needs
 returns : tie.Need-returns
 returns c =
     let p = c .before .before .before .before .before .before .before .before .before .before .before .before .before .before .before .before .before .before .before .before .before .before .before .before .before .before .before .pre in
-    let i = inputs-fine _ _ _ (p .0) in
-    let b = page-body _ (i .page-fine) (c .before .before .before .before .before .before .before .before .before .before .before .before .before .before .before .before .before .before .before .body .ensures) in
+    let i = p .0 in
+    let b = page-body _ (i .page-fronted) (c .before .before .before .before .before .before .before .before .before .before .before .before .before .before .before .before .before .before .before .body .ensures) in
     page-shown _ _ _ (p .1 .0) (p .1 .1) _ (b .body-items) _ _ (html-takes _ _ _ (c .before .before .before .before .before .before .before .before .before .before .before .before .before .before .before .before .before .before .has-html .ensures) (c .before .before .before .before .before .before .before .before .before .before .before .before .before .before .before .before .before .if1 .taken)) (c .before .before .before .before .before .before .before .before .before .before .before .before .before .before .before .before .import-len .ensures) (c .before .before .before .before .before .before .before .before .before .before .before .before .before .before .before .start .ensures) (c .before .before .before .before .before .before .before .before .before .before .before .visit-items .ensures) (c .before .before .before .helper-sum .ensures) (c .before .before .put-import .ensures)
 
 start-requires-2 : tie.Need-start-requires-2
@@ -62,8 +60,8 @@ start-requires-2 c κs = search needs
 
 visit-before-requires : tie.Need-visit-before-requires
 visit-before-requires c κs =
-    let i = inputs-fine _ _ _ (c .before .before .before .before .before .before .before .before .before .before .before .before .before .before .pre .0) in
-    let b = page-body _ (i .page-fine) (c .before .before .before .before .before .before .body .ensures) in
+    let i = c .before .before .before .before .before .before .before .before .before .before .before .before .before .before .pre .0 in
+    let b = page-body _ (i .page-fronted) (c .before .before .before .before .before .before .body .ensures) in
     record {
       desk = i .scratch-enough;
       short = omega (arith, b .body-short, i .page-short);
@@ -75,8 +73,8 @@ statements-in-requires c κs = search needs
 
 visit-module-requires : tie.Need-visit-module-requires
 visit-module-requires c κs =
-    let i = inputs-fine _ _ _ (c .before .before .before .before .before .before .before .before .before .before .before .before .before .before .before .before .before .before .before .before .before .before .before .before .before .pre .0) in
-    let b = page-body _ (i .page-fine) (c .before .before .before .before .before .before .before .before .before .before .before .before .before .before .before .before .before .body .ensures) in
+    let i = c .before .before .before .before .before .before .before .before .before .before .before .before .before .before .before .before .before .before .before .before .before .before .before .before .before .pre .0 in
+    let b = page-body _ (i .page-fronted) (c .before .before .before .before .before .before .before .before .before .before .before .before .before .before .before .before .before .body .ensures) in
     let v = c .before .before .before .before .before .before .before .before .before .before .visit-before in
     let s = c .before .before .before .statements-in .ensures in
     record {
@@ -91,8 +89,8 @@ place-at-requires c κs = search needs
 put-heads-requires : tie.Need-put-heads-requires
 put-heads-requires c κs =
     let a = c .before .before .before .before .before .before .before .before .before .before .before .before .before .before .before .before .before .before .before .before .before .before .before .before .before .before .before .before .before .before .before .before .before .before .args in
-    let i = inputs-fine _ _ (length (a .scratch .now)) (c .before .before .before .before .before .before .before .before .before .before .before .before .before .before .before .before .before .before .before .before .before .before .before .before .before .before .before .before .before .before .before .before .before .before .pre .0) in
-    let b = page-body _ (i .page-fine) (c .before .before .before .before .before .before .before .before .before .before .before .before .before .before .before .before .before .before .before .before .before .before .before .before .before .before .body .ensures) in
+    let i = c .before .before .before .before .before .before .before .before .before .before .before .before .before .before .before .before .before .before .before .before .before .before .before .before .before .before .before .before .before .before .before .before .before .before .pre .0 in
+    let b = page-body _ (i .page-fronted) (c .before .before .before .before .before .before .before .before .before .before .before .before .before .before .before .before .before .before .before .before .before .before .before .before .before .before .body .ensures) in
     let h = heads-room _ _ _ (omega (arith, b .body-short, i .page-short)) _ _ (c .before .before .before .before .before .before .before .before .before .before .before .before .before .before .before .before .before .before .before .before .start2 .ensures) (c .before .before .before .before .before .before .before .before .before .before .before .before .before .before .before .before .before .before .before .visit-before .ensures) _ (c .before .before .before .before .before .before .before .before .before .before .before .before .statements-in .ensures .0) (c .before .before .before .before .before .before .before .before .visit-module .ensures) (c .place-at .ensures) in
     (h .0, (h .1, omega (arith, source-short (a .options .now) (i .options-short))))
 
@@ -108,8 +106,8 @@ same-length-6 c = search needs
 returns-2 : tie.Need-returns-2
 returns-2 c =
     let p = c .before .before .before .before .before .before .before .before .before .before .before .before .before .before .before .before .before .before .before .before .before .before .before .before .before .before .before .before .before .before .before .before .before .before .before .before .before .pre in
-    let i = inputs-fine _ _ _ (p .0) in
-    let b = page-body _ (i .page-fine) (c .before .before .before .before .before .before .before .before .before .before .before .before .before .before .before .before .before .before .before .before .before .before .before .before .before .before .before .before .before .body .ensures) in
+    let i = p .0 in
+    let b = page-body _ (i .page-fronted) (c .before .before .before .before .before .before .before .before .before .before .before .before .before .before .before .before .before .before .before .before .before .before .before .before .before .before .before .before .before .body .ensures) in
     page-moved _ _ _ (p .1 .0) (p .1 .1) _ (b .body-items) _ _ (omega (arith, b .body-short, i .page-short)) (c .before .before .before .before .before .before .before .before .before .before .before .before .before .before .before .before .before .before .before .before .before .before .before .start2 .ensures) (c .before .before .before .before .before .before .before .before .before .before .before .before .before .before .before .before .before .before .before .before .before .before .visit-before .ensures) _ (c .before .before .before .before .before .before .before .before .before .before .before .before .before .before .before .statements-in .ensures .0) (c .before .before .before .before .before .before .before .before .before .before .before .visit-module .ensures) (c .before .before .before .place-at .ensures) (c .before .before .put-heads .ensures)
 
 pub write-listed-spec : {M : Type 1} → statement M

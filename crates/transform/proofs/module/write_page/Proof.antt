@@ -1,10 +1,8 @@
 -- `write_page` meets its contract: what 02 and 03 list stands in the fields found. Assumes nothing.
 use mathlib.Core.Path.{refl}
 use native.Mathlib.Omega.{arith}
-use lib.ListN.{length}
 use borrow.Author.Tests.{leb-true}
 use Rattle.field.specs.Row.{inside}
-use Rattle.spec.proofs.Answers.{inputs-fine}
 use Rattle.transform.proofs.ListLaws.{by-series}
 use borrow.Author.Needs.{needs}
 use Rattle.transform.proofs.module.write_page.Statement.{statement}
@@ -41,8 +39,7 @@ write-indexed-requires c κs =
     let skip = c .before .before .before .before .before .names-in in
     let props = c .before .before .before .before .names-in2 in
     let a = c .before .before .before .before .before .before .before .before .before .before .before in
-    let i = inputs-fine _ _ (length (a .args .scratch .now)) (a .pre) in
-    (a .pre, ((omega (arith, skip .ensures .1, i .options-short), omega (arith, props .ensures .1, i .options-short)), (skip .ensures .0 refl, props .ensures .0 refl)))
+    (a .pre, ((omega (arith, skip .ensures .1, a .pre .options-short), omega (arith, props .ensures .1, a .pre .options-short)), (skip .ensures .0 refl, props .ensures .0 refl)))
 
 same-length-4 : tie.Need-same-length-4
 same-length-4 c = search needs
