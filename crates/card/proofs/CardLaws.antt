@@ -15,10 +15,14 @@ use Rattle.field.specs.Put.{put, Wrote}
 use Rattle.field.proofs.NumberLaws.{all-from, all-take}
 use Rattle.field.proofs.PutLaws.{length-put, put-fits, wrote-then, wrote-is}
 use Rattle.text.specs.Decimal.{decimal}
-use Rattle.page.specs.Tree.{page-in, options-in}
+use Rattle.page.specs.Tree.{page-in, works-sums, options-in}
+use Rattle.page.specs.Check.{check-page}
 use Rattle.page.specs.Encode.{encode}
+use Rattle.page.specs.declared.Verdict.the-variants.{Fine}
 use Rattle.page.proofs.Exact.{read-exactly}
-use Rattle.spec.specs.Answer.{Written, Outcome, refused, accepted, outcome, number, templates-bytes, page-bytes, templates-left, page-left}
+use Rattle.worked.proofs.Encoded.{accepted-worked}
+use Rattle.worked.proofs.Exact.{worked-bound}
+use Rattle.spec.specs.Answer.{Written, Outcome, refused, accepted, worked-if, page-given, outcome, number, templates-bytes, page-bytes, templates-left, page-left}
 use Rattle.spec.proofs.Answers.{accepted-says, accepted-fits}
 use Rattle.spec.proofs.Growth.{page-growth}
 use Rattle.spec.proofs.Export.{zero-written}
@@ -38,7 +42,15 @@ front-length n s h = sym (length-take-le n s h)
 front-put : (o w : Bytes) → length w ≤ length o → take (length w) (put o 0 w) ≡ w
 front-put o w h = ap (take (length w)) (put-fits o 0 w (omega arith)) ∙ take-at w (drop (0 + length w) o) (length w) refl
 
--- ---- both outputs of an accepted page are less than 32 MiB long: at most 512 bytes for each byte of the page, and the import
+-- ---- both outputs of an accepted page are less than 32 MiB long: at most 512 bytes for each byte of the page that is given, and the import
+
+given-short : (page options : Bytes) → AllBytes page → check-page (read page) ≡ Fine → length page ≤ 32768 → length (encode (page-given page options)) ≤ 51492
+unfolding page-given worked-if
+given-short page options all fine short = on (works-sums (read options))
+  where
+    on : (b : Bool) → length (encode (worked-if b (page-in (read page)))) ≤ 51492
+    on true = subst (λ (x : Bytes). length x ≤ 51492) (accepted-worked page all fine) (worked-bound page short)
+    on false = omega (arith, ap length (read-exactly page (page-in (read page)) all .0 (fine, refl) .0))
 
 accepted-short : (page options : Bytes) (scratch tr pr : ℕ) (w : Written) → AllBytes page → outcome page options scratch tr pr ≡ accepted w →
     length (w .templates-out) + length (w .page-out) ≤ 2 ^ 25
@@ -46,9 +58,8 @@ unfolding options-in
 accepted-short page options scratch tr pr w all e =
     let a = accepted-says page options scratch tr pr w e in
     let i = a .inputs in
-    let exact : page ≡ encode (page-in (read page)) = read-exactly page (page-in (read page)) all .0 (i .page-fine, refl) .0 in
     subst (λ (v : Written). length (v .templates-out) + length (v .page-out) ≤ 2 ^ 25) (a .written-is)
-    (omega (arith, page-growth (options-in (read options)) (page-in (read page)), ap length exact, i .page-short, source-short options (i .options-short)))
+    (omega (arith, page-growth (options-in (read options)) (page-given page options), given-short page options all (i .page-fine) (i .page-short), source-short options (i .options-short)))
 
 -- ---- a refusal: its number on a line
 
