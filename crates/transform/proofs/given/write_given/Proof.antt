@@ -1,6 +1,7 @@
 -- `write_given` meets its contract: the page as it came, or the worked one where a 05 stands. Assumes nothing.
-use mathlib.Core.Path.{sym, _∙_}
-use Rattle.transform.proofs.GivenLaws.{ready-page, given-page}
+use mathlib.Core.Bool.{true, false}
+use mathlib.Core.Path.{refl}
+use Rattle.transform.proofs.GivenLaws.{ready-page, written-plain, written-given}
 use borrow.Author.Needs.{needs}
 use Rattle.transform.proofs.given.write_given.Statement.{statement}
 use Rattle.transform.proofs.given.write_given.Tie as tie
@@ -9,7 +10,7 @@ works-sums-requires : tie.Need-works-sums-requires
 works-sums-requires c κs = search needs
 
 write-worked-requires : tie.Need-write-worked-requires
-write-worked-requires c κs = (c .before .before .before .before .before .before .before .before .before .before .pre, sym (c .before .before .before .before .works-sums .ensures) ∙ c .before .before .before .if1 .taken)
+write-worked-requires c κs = let r = ready-page _ _ _ (c .before .before .before .before .before .before .before .before .before .before .pre) in (r .0, λ z. r .1)
 
 same-length : tie.Need-same-length
 same-length c = search needs
@@ -21,10 +22,10 @@ same-length-3 : tie.Need-same-length-3
 same-length-3 c = search needs
 
 returns : tie.Need-returns
-returns c = search needs
+returns c = written-given _ _ (c .before .before .before .before .before .before .before .before .before .before .before .works-sums .ensures) true (c .before .before .before .before .before .before .before .before .before .before .if1 .taken) _ _ (c .before .before .before .before .before .before .write-worked .ensures)
 
 write-page-requires : tie.Need-write-page-requires
-write-page-requires c κs = ready-page _ _ _ (c .before .before .before .before .before .before .before .before .before .before .pre)
+write-page-requires c κs = ready-page _ _ _ (c .before .before .before .before .before .before .before .before .before .before .pre) .0
 
 same-length-4 : tie.Need-same-length-4
 same-length-4 c = search needs
@@ -36,7 +37,7 @@ same-length-6 : tie.Need-same-length-6
 same-length-6 c = search needs
 
 returns-2 : tie.Need-returns-2
-returns-2 c = given-page _ _ (c .before .before .before .before .before .before .before .before .before .before .before .works-sums .ensures) (c .before .before .before .before .before .before .before .before .before .before .if1 .left) _ _ (c .before .before .before .before .before .before .write-page .ensures)
+returns-2 c = written-given _ _ (c .before .before .before .before .before .before .before .before .before .before .before .works-sums .ensures) false (c .before .before .before .before .before .before .before .before .before .before .if1 .left) _ _ (written-plain _ _ refl _ _ (c .before .before .before .before .before .before .write-page .ensures))
 
 pub write-given-spec : {M : Type 1} → statement M
 write-given-spec =
