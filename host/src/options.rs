@@ -99,6 +99,17 @@ impl Options {
     /// let options = jsx_precompile::Options::new().sums(true);
     /// assert_eq!(options.to_bytes(), Ok(vec![0x05, 0, 0]));
     /// ```
+    ///
+    /// ```
+    /// use jsx_precompile::{Options, page::{Element, Expression, Item, Page}, transform};
+    ///
+    /// // <td>{2 * 12 + 3} seats</td>
+    /// let tag = Element::new("td").child(Expression::source("2 * 12 + 3")).text(" seats");
+    /// let page = Page::new([Item::statement([tag.into()])]).to_bytes()?;
+    /// let forms = transform(&page, &Options::new().sums(true))?;
+    /// assert!(forms.templates().next().unwrap().strings().eq(["<td>27 seats</td>"]));
+    /// # Ok::<(), Box<dyn std::error::Error>>(())
+    /// ```
     pub fn sums(mut self, worked_out: bool) -> Options {
         self.sums = worked_out;
         self
