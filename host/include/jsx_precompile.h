@@ -47,9 +47,11 @@ typedef struct jsx_precompile_answer {
     size_t templates;       /* how many there are */
 } jsx_precompile_answer;
 
-/* Takes the page apart into templates and calls of them. The page and the options are read, the other three are
-   written; none is kept, and calls in several threads do not meet. No pointer may be null, not even with a length of
-   0, and the five parts may not overlap. Half a megabyte of stack is enough.
+/* Takes the page apart into templates and calls of them. The options are fields 02 to 05 (docs/FORMAT.md), or no bytes:
+   elements and attributes that are not serialized, the import source, and 05 00 00 where sums in braces are to be worked
+   out. The page and the options are read, the other three are written; none is kept, and calls in several threads do not
+   meet. No pointer may be null, not even with a length of 0, and the five parts may not overlap. Half a megabyte of stack
+   is enough.
 
    Accepted: the outputs stand at the front of templates_out and page_out, the bytes behind them are as before.
    Refused: both are all zero. The scratch is all zero after every call but SCRATCH_TOO_SMALL, which leaves it.

@@ -60,7 +60,7 @@ impl std::error::Error for Fault {}
 pub enum Input {
     /// A page, field 01.
     Page,
-    /// The options, fields 02 to 04.
+    /// The options, fields 02 to 05.
     Options,
     /// The templates that were recorded.
     Templates,
@@ -288,7 +288,7 @@ impl Takes {
         use Takes::*;
         match self {
             Page => tag == 0x01,
-            Options(last) => (0x02..=0x04).contains(&tag) && tag > last,
+            Options(last) => (0x02..=0x05).contains(&tag) && tag > last,
             Names => tag == 0x20,
             Items => matches!(tag, 0x10..=0x13),
             Pieces => matches!(tag, 0x20 | 0x30 | 0x31),
@@ -319,9 +319,10 @@ impl Takes {
         use Takes::*;
         match self {
             Page => "a page (01)",
-            Options(0..=0x01) => "options (02, 03, 04, each at most once, in this order)",
-            Options(0x02) => "options behind 02 (03, 04)",
-            Options(0x03) => "options behind 03 (04)",
+            Options(0..=0x01) => "options (02, 03, 04, 05, each at most once, in this order)",
+            Options(0x02) => "options behind 02 (03, 04, 05)",
+            Options(0x03) => "options behind 03 (04, 05)",
+            Options(0x04) => "options behind 04 (05)",
             Options(_) => "no more options",
             Names => "names (20)",
             Items => "items (10 to 13)",
@@ -351,10 +352,10 @@ impl Takes {
 /// The body of a field that holds no fields.
 fn leaf(tag: u8, holder: u8, body: &[u8], at: usize) -> Result<(), Found> {
     match tag {
-        0x13 | 0x73 | 0x78 | 0x83 if !body.is_empty() => {
+        0x05 | 0x13 | 0x73 | 0x78 | 0x83 if !body.is_empty() => {
             fault(at, Refusal::Misplaced, format!("{} has {} bytes and may have none", named(tag), body.len()))
         }
-        0x13 | 0x73 | 0x78 | 0x83 => Ok(()),
+        0x05 | 0x13 | 0x73 | 0x78 | 0x83 => Ok(()),
         0x40 => name(body, holder == 0x41, at),
         0x71 | 0x75 => number(tag, body, at),
         0x7a | 0x7b => decimal(tag, body, at),

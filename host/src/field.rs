@@ -170,6 +170,7 @@ pub fn tag_name(tag: u8) -> Option<&'static str> {
         0x02 => "elements not serialized",
         0x03 => "attributes not serialized",
         0x04 => "import source",
+        0x05 => "sums worked out",
         0x10 => "export",
         0x11 => "declaration",
         0x12 => "statement",

@@ -5,7 +5,7 @@ use crate::field::{Field, Fields};
 use crate::limits::MAX_OPTIONS;
 use crate::page::write::{WriteError, Writer};
 
-/// The options of a call: what is not serialized, and where the helpers are imported from.
+/// The options of a call: what is not serialized, where the helpers are imported from, and whether sums are worked out.
 ///
 /// ```
 /// use jsx_precompile::{Options, page::{Element, Item, Page}, transform};
@@ -22,10 +22,11 @@ pub struct Options {
     skip_serialize: Vec<String>,
     skip_prop_serialize: Vec<String>,
     import_source: Option<String>,
+    sums: bool,
 }
 
 impl Options {
-    /// Everything is serialized, and the helpers come from `react`.
+    /// Everything is serialized, the helpers come from `react`, and sums stay as they are written.
     ///
     /// ```
     /// assert_eq!(jsx_precompile::Options::new().to_bytes(), Ok(vec![]));
@@ -90,6 +91,30 @@ impl Options {
         self
     }
 
+    /// Whether sums in braces are worked out: whole numbers with `+`, `-` and `*` between them, spaces and round brackets,
+    /// as the whole source of an expression. `{2 * 12 + 3}` is then the number 27, wherever it stands, and is written into
+    /// the template. What passes 9,007,199,254,740,991 either way stays source, and so does zero times a negative number.
+    ///
+    /// ```
+    /// let options = jsx_precompile::Options::new().sums(true);
+    /// assert_eq!(options.to_bytes(), Ok(vec![0x05, 0, 0]));
+    /// ```
+    ///
+    /// ```
+    /// use jsx_precompile::{Options, page::{Element, Expression, Item, Page}, transform};
+    ///
+    /// // <td>{2 * 12 + 3} seats</td>
+    /// let tag = Element::new("td").child(Expression::source("2 * 12 + 3")).text(" seats");
+    /// let page = Page::new([Item::statement([tag.into()])]).to_bytes()?;
+    /// let forms = transform(&page, &Options::new().sums(true))?;
+    /// assert!(forms.templates().next().unwrap().strings().eq(["<td>27 seats</td>"]));
+    /// # Ok::<(), Box<dyn std::error::Error>>(())
+    /// ```
+    pub fn sums(mut self, worked_out: bool) -> Options {
+        self.sums = worked_out;
+        self
+    }
+
     /// The options' fields; an error where there are none.
     ///
     /// ```
@@ -124,7 +149,8 @@ impl Options {
             match field.tag {
                 0x02 => options.skip_serialize = names(field),
                 0x03 => options.skip_prop_serialize = names(field),
-                _ => options.import_source = Some(field.text().to_string()),
+                0x04 => options.import_source = Some(field.text().to_string()),
+                _ => options.sums = true,
             }
         }
         Ok(options)
@@ -140,6 +166,9 @@ impl Options {
         }
         if let Some(source) = &self.import_source {
             writer.leaf(0x04, source.as_bytes())?;
+        }
+        if self.sums {
+            writer.leaf(0x05, b"")?;
         }
         Ok(writer.out)
     }

@@ -48,6 +48,10 @@ fn build_with_options() {
         (0, module.clone(), String::new())
     );
     assert_eq!(run(&[&["build", "examples/hall.page"], &words[..]].concat(), b""), (0, module, String::new()));
+    let page = example("blocks.page");
+    let module = transform(&page, &Options::new().sums(true)).expect("it is taken").javascript();
+    assert_ne!(module, transform(&page, &Options::new()).expect("it is taken").javascript());
+    assert_eq!(run(&["build", "--sums", "examples/blocks.page"], b""), (0, module, String::new()));
     // options that are refused are said to be the options
     let (status, out, said) = run(&["build", "--import-source", "", "examples/hall.page"], b"");
     assert_eq!((status, &*out), (1, ""));

@@ -7,8 +7,11 @@ mod program;
 mod trees;
 
 use common::{no_judge, say};
+use jsx_precompile::javascript::Printer;
+use jsx_precompile::out::{PageOut, Templates};
 use jsx_precompile::page::Page;
-use oracle::marks;
+use jsx_precompile::{Options, transform};
+use oracle::{marks, outcome};
 use program::{Card, parting};
 use std::collections::BTreeSet;
 use std::fs;
@@ -17,6 +20,9 @@ use std::sync::Once;
 use trees::Example;
 
 const VARIABLE: &str = "EXAMPLES_WRITE";
+
+/// What `jsx-precompile build --sums` prints of the example with sums; the card takes no options.
+const SUMS: (&str, &str) = ("blocks", "examples/blocks.sums.js");
 
 /// A file of the repository, by its name seen from the root.
 fn at(name: &str) -> PathBuf {
@@ -56,7 +62,20 @@ fn write(examples: &[Example]) {
             fs::write(at(&name), bytes).unwrap_or_else(|error| panic!("{name}: {error}"));
         }
     }
+    fs::write(at(SUMS.1), sums_by_the_judge(examples)).unwrap_or_else(|error| panic!("{}: {error}", SUMS.1));
     say(&format!("examples: {} written", examples.len()));
+}
+
+fn with_sums(examples: &[Example]) -> &Example {
+    examples.iter().find(|example| example.name == SUMS.0).expect("the example is there")
+}
+
+/// The judge's outputs, printed as the program prints the library's.
+fn sums_by_the_judge(examples: &[Example]) -> String {
+    let options = Options::new().sums(true).to_bytes().expect("options");
+    let output = outcome(&with_sums(examples).page, &options).expect("the judge takes it");
+    let templates = Templates::read(&output.templates).expect("templates");
+    Printer::new(templates, PageOut::read(&output.page).expect("a page out")).module()
 }
 
 /// A stored text is what another text says it is.
@@ -110,6 +129,18 @@ fn cards_of_the_program() {
     say(&format!("examples: {} cards as the program prints them", examples.len()));
 }
 
+#[test]
+fn sums_worked_out() {
+    let examples = examples();
+    let forms = transform(&with_sums(&examples).page, &Options::new().sums(true)).expect("it is taken");
+    holds(SUMS.1, "the library", forms.javascript().as_bytes());
+    let shown = String::from_utf8(common::jsx_precompile(&["build", "--sums", "examples/blocks.page"], b"").stdout);
+    holds(SUMS.1, "the program", shown.expect("text").as_bytes());
+    if !no_judge() {
+        holds(SUMS.1, "the judge", sums_by_the_judge(&examples).as_bytes());
+    }
+}
+
 /// The texts that document 01 fixes, as the marks have them: there the tag is all of the statement.
 #[test]
 fn cards_of_the_paper() {
@@ -155,7 +186,7 @@ fn files_of_the_program() {
 fn folder_and_readmes() {
     let examples = examples();
     let files = examples.iter().flat_map(|example| ["card", "jsx", "page"].map(|end| file(example, end)));
-    let expected: BTreeSet<String> = files.chain(["examples/README.md".to_string()]).collect();
+    let expected: BTreeSet<String> = files.chain(["examples/README.md", SUMS.1].map(str::to_string)).collect();
     let folder = fs::read_dir(at("examples")).unwrap_or_else(|error| panic!("examples: {error}"));
     for file in folder {
         let name = format!("examples/{}", file.expect("it is there").file_name().display());

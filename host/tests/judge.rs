@@ -221,7 +221,7 @@ fn all_small_pages() {
     let lists = [
         vec![],
         elements_listed(&["i"]),
-        attributes_listed(&["a"]),
+        [attributes_listed(&["a"]), sums()].concat(),
         [elements_listed(&["br"]), attributes_listed(&["key", "a"])].concat(),
     ];
     let mut calls = 0;

@@ -1,6 +1,6 @@
 //! A call within a small stack: pages of the greatest depth, each way in which tags hold each other.
 
-use jsx_precompile::limits::{MAX_DEPTH, MIN_SCRATCH};
+use jsx_precompile::limits::{MAX_DEPTH, MAX_PAGE, MIN_SCRATCH};
 use jsx_precompile::transform_into;
 use oracle::make::*;
 
@@ -30,15 +30,23 @@ fn half_a_megabyte_is_enough() {
         deepest(3, |x| element("b", &[braces(array(&[x]))])),
         deepest(4, |x| element("F", &[attribute_with("a", braces(other(&[x])))])),
         deepest(4, |x| element("F", &[fragment(&[i(), element("b", &[fragment(&[x, i()])])])])),
+        deepest(4, |x| element("F", &[attribute_with("a", braces(other(&[x]))), braces(code("1 + 2"))])),
     ];
+    // Sums too are worked out without a call for each bracket.
+    let count = (MAX_PAGE - 19) / 2;
+    let brackets = ["(".repeat(count), "1".to_string(), ")".repeat(count)].concat();
+    let brackets = page_of(fragment(&[braces(code(&brackets))]));
     let calls = move || {
         let (mut scratch, mut templates, mut out) = (vec![0; MIN_SCRATCH], vec![0; 400_000], vec![0; 400_000]);
         for page in &pages {
             assert!(oracle::field::depth(page) + 4 > MAX_DEPTH, "{}", oracle::show::show(page));
-            let answer = transform_into(page, &[], &mut scratch, &mut templates, &mut out);
-            assert!(matches!(answer.number, 0 | 10), "{answer:?}");
+            for options in [vec![], sums()] {
+                let answer = transform_into(page, &options, &mut scratch, &mut templates, &mut out);
+                assert!(matches!(answer.number, 0 | 10), "{answer:?}");
+            }
         }
-        pages.len()
+        assert_eq!(transform_into(&brackets, &sums(), &mut scratch, &mut templates, &mut out).number, 0);
+        pages.len() + 1
     };
     let thread = std::thread::Builder::new().stack_size(STACK).spawn(calls).expect("a thread");
     println!("stack: {} pages within {STACK} bytes", thread.join().expect("it ends"));

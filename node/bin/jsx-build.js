@@ -12,6 +12,7 @@ Writes the module as JavaScript to standard output: static HTML as templates, al
   --import-source NAME    import the helpers from NAME/jsx-runtime (react)
   --skip-element NAME     leave elements of this name to the runtime; may be repeated
   --skip-attribute NAME   leave attributes of this name to the runtime; may be repeated
+  --sums                  work out sums of whole numbers in braces: {2 * 12 + 3} is 27
   --page                  write the page's bytes instead (docs/FORMAT.md)
   --program PATH          the program jsx-precompile (else JSX_PRECOMPILE_BIN, else this repository's build)
   --help
@@ -23,6 +24,7 @@ const OPTIONS = {
   "import-source": { type: "string" },
   "skip-element": { type: "string", multiple: true },
   "skip-attribute": { type: "string", multiple: true },
+  sums: { type: "boolean" },
   page: { type: "boolean" },
   program: { type: "string" },
   help: { type: "boolean" },
@@ -54,6 +56,7 @@ function result(text, values, file) {
     importSource: values["import-source"],
     skipElements: values["skip-element"],
     skipAttributes: values["skip-attribute"],
+    sums: values.sums,
     program: values.program,
     onNote: (note) => process.stderr.write(`${file}:${note}\n`),
   });

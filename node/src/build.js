@@ -31,8 +31,8 @@ export function findProgram() {
 }
 
 /**
- * A module with JSX as a module of JavaScript. Options: `importSource`, `skipElements`, `skipAttributes` (docs/FORMAT.md),
- * `program` (its path), `parserPlugins` (more of Babel's), `onNote` (called with each note on the module).
+ * A module with JSX as a module of JavaScript. Options: `importSource`, `skipElements`, `skipAttributes`, `sums`
+ * (docs/FORMAT.md), `program` (its path), `parserPlugins` (more of Babel's), `onNote` (called with each note on the module).
  */
 export function build(text, options = {}) {
   const { program = findProgram(), parserPlugins, onNote = () => {} } = options;
@@ -41,10 +41,11 @@ export function build(text, options = {}) {
   return prologue + run(program, ["build", ...flags(options), "-"], page, places);
 }
 
-function flags({ importSource, skipElements = [], skipAttributes = [] }) {
+function flags({ importSource, skipElements = [], skipAttributes = [], sums = false }) {
   const source = importSource === undefined ? [] : ["--import-source", importSource];
   const elements = skipElements.flatMap((name) => ["--skip-element", name]);
-  return [...source, ...elements, ...skipAttributes.flatMap((name) => ["--skip-attribute", name])];
+  const attributes = skipAttributes.flatMap((name) => ["--skip-attribute", name]);
+  return [...source, ...elements, ...attributes, ...(sums ? ["--sums"] : [])];
 }
 
 function run(program, parameters, input, places) {

@@ -38,7 +38,7 @@ function bytes(example, key) {
   return (example.get(key) ?? []).join("").replace(/[ -]/g, "");
 }
 
-// The options field by field: 02 and 03 hold a 20 for each name, 04 is text.
+// The options field by field: 02 and 03 hold a 20 for each name, 04 is text, 05 is there or not.
 function options(example) {
   const read = (all) => {
     const found = [];
@@ -49,7 +49,7 @@ function options(example) {
   };
   const all = new Map(read(Buffer.from(bytes(example, "options"), "hex")));
   const names = (tag) => read(all.get(tag) ?? Buffer.alloc(0)).map(([, name]) => name.toString());
-  return { skipElements: names(0x02), skipAttributes: names(0x03), importSource: all.get(0x04)?.toString() };
+  return { skipElements: names(0x02), skipAttributes: names(0x03), importSource: all.get(0x04)?.toString(), sums: all.has(0x05) };
 }
 
 function javascript(example) {

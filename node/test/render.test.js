@@ -77,4 +77,6 @@ test("options reach the program", withProgram, () => {
   assert.match(printed, /from "own\/jsx-runtime"/);
   assert.match(printed, /_jsx\("b", null\)/);
   assert.match(printed, /_jsxAttr\("class", "a"\)/);
+  assert.match(build("<td>{2 * 12 + 3} seats</td>", { sums: true }), /<td>27 seats<\/td>/);
+  assert.match(build("<td>{2 * 12 + 3} seats</td>"), /_jsxEscape\(2 \* 12 \+ 3\)/);
 });

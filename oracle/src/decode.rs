@@ -12,6 +12,8 @@ pub struct Options {
     pub skip_serialize: Option<Vec<String>>,
     pub skip_prop_serialize: Option<Vec<String>>,
     pub import_source: Option<String>,
+    /// 02, A12: whether sums are worked out, which is done before the transform.
+    pub sums: bool,
 }
 
 type Read<T> = Result<T, Refusal>;
@@ -73,15 +75,19 @@ pub fn read_options(bytes: &[u8]) -> Read<Options> {
     let mut row = Row { rest: bytes, depth: 1 };
     let mut options = Options::default();
     let mut last = 0x01;
-    while let Some((tag, body)) = row.next(|t| last < t && t <= 0x04)? {
+    while let Some((tag, body)) = row.next(|t| last < t && t <= 0x05)? {
         match tag {
             0x02 => options.skip_serialize = Some(read_strings(body)?),
             0x03 => options.skip_prop_serialize = Some(read_strings(body)?),
-            _ => {
+            0x04 => {
                 if body.rest.is_empty() {
                     return Err(Refusal::Misplaced);
                 }
                 options.import_source = Some(body.text()?.to_string());
+            }
+            _ => {
+                body.empty()?;
+                options.sums = true;
             }
         }
         last = tag;

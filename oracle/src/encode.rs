@@ -8,8 +8,8 @@
 //! escaped characters (5q >= g). The second time each of the q escapes grows by four bytes (its `&`), and only white
 //! space goes, which is none of the q escaped characters. So the static string has at least g + d + q + 4q >= 2g + d
 //! bytes. A whole number takes 14 bytes of the page and gives at most 16 digits, a decimal takes 15 and gives at most 17
-//! with its point: a + 14d/16 <= 32,768, and with g >= 65,536 - a - d the static string has at least
-//! 131,072 - 2a - d >= 65,536 bytes.
+//! with its point; a sum that is worked out (02, A12) has no more digits than its source has bytes, and takes 9 more. So
+//! a + 14d/16 <= 32,768, and with g >= 65,536 - a - d the static string has at least 131,072 - 2a - d >= 65,536 bytes.
 
 use crate::answer::Refusal;
 use crate::decimal::{DECIMAL, Decimal, MINUS_DECIMAL};

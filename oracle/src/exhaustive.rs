@@ -21,7 +21,7 @@ pub fn byte_strings(most: usize, each: &mut impl FnMut(&[u8])) {
 /// Calls `each` with every page of exactly `fields` fields (01 and all others counted) whose leaves are drawn from a
 /// few bodies: the names `i`, `br`, `F` and `a.b`, `a:b`; the attributes `a`, `key`, `open` and `a:b`; the texts `x`
 /// and white space; `<` as a string and as an attribute's string; one whole number and one decimal, both with a minus
-/// too; both booleans, one other literal.
+/// too; both booleans, one other literal; the source `s`, and as an expression also `1-2`.
 pub fn small_pages(fields: usize, each: &mut impl FnMut(&[u8])) {
     let Some(inside) = fields.checked_sub(1) else { return };
     let trees = Trees::up_to(inside);
@@ -133,6 +133,9 @@ impl Trees {
         let mut out = leaves(n, &[&numbers[..], &others].concat());
         rows(&self.elements, n - 1, &mut vec![], &mut |row| out.push(array(row)));
         rows(&self.pieces, n - 1, &mut vec![], &mut |row| out.push(other(row)));
+        if n == 2 {
+            out.push(code("1-2"));
+        }
         out.extend(self.tags[n].clone());
         out
     }

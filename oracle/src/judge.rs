@@ -1,9 +1,10 @@
 //! 01, Limits and the answer: the whole call with all refusals in their order and its effect on every lent byte.
 
 use crate::answer::{Answer, LEAST_SCRATCH, MOST_OPTIONS, MOST_PAGE, Refusal};
-use crate::decode::{Options, decode};
+use crate::decode::{Options, decode, read_page};
 use crate::encode::{Output, encode};
 use crate::stand_ins::swc_ecma_ast::Module;
+use crate::sums;
 use crate::transform::{Copy, transform, transform_with};
 
 /// What page and options give before any lent byte is looked at: 2 to 11, or both outputs.
@@ -31,6 +32,10 @@ fn outcome_by(page: &[u8], options: &[u8], run: impl FnOnce(&Options, &mut Modul
         return Err(Refusal::InputTooLong);
     }
     let (options, mut module) = decode(page, options)?;
+    if options.sums {
+        // 2 to 8 were given for the page as it came; what follows is for the worked one (02, A12).
+        module = read_page(&sums::worked(page)).expect("a page stays one when its sums are worked out");
+    }
     run(&options, &mut module);
     encode(&module)
 }

@@ -1,11 +1,12 @@
 //! 02, A9, as a check on bytes: every 74 and 79 of an accepted page stands in page out exactly as often as in the page
-//! outside four places.
+//! outside four places. Where sums are worked out (A12) the page is the worked one.
 //!
 //! What is serialized, what is listed and what reads as `key` is decided on the page's own fields, in a few lines made
 //! anew from 000; only for names are 000's own `is_void_element` and `normalize_dom_attr_name` asked.
 
 use crate::field::{self, Node};
 use crate::private::{is_void_element, normalize_dom_attr_name};
+use crate::sums;
 use std::collections::BTreeMap;
 
 /// Where expressions are lost. What lies within such a place is lost with it, and counted for the outermost one.
@@ -45,7 +46,7 @@ impl Counts {
 
 /// The counts of an accepted page; where A9 does not hold, an expression that stands more or less often in page out.
 pub fn compare(page: &[u8], options: &[u8], page_out: &[u8]) -> Result<Counts, String> {
-    let page = field::read(page).ok_or("the page is no row of fields")?;
+    let page = field::read(&sums::given(page, options)).ok_or("the page is no row of fields")?;
     let options = field::read(options).ok_or("the options are no row of fields")?;
     let page_out = field::read(page_out).ok_or("page out is no row of fields")?;
     let mut walk = Walk::new(&options);
@@ -64,6 +65,14 @@ pub fn compare(page: &[u8], options: &[u8], page_out: &[u8]) -> Result<Counts, S
             Err(format!("{}: {due} times in the page, {found} times in page out", words(expression)))
         }
     }
+}
+
+/// The counts of an accepted page as it stands, its sums not worked out.
+pub fn counts(page: &[u8], options: &[u8]) -> Counts {
+    let (page, options) = (field::read(page).unwrap_or_default(), field::read(options).unwrap_or_default());
+    let mut walk = Walk::new(&options);
+    walk.row(&page, None);
+    walk.counts
 }
 
 /// The first expression that is not equally often in both, and how often in each.

@@ -25,6 +25,7 @@ pub mod show;
 pub mod shrink;
 #[cfg_attr(not(jsx_source), allow(unused))]
 pub mod stand_ins;
+pub mod sums;
 pub mod sweep;
 pub mod transform;
 pub mod vectors;

@@ -162,3 +162,8 @@ pub fn attributes_listed(names: &[&str]) -> Vec<u8> {
 pub fn import_source(text: &str) -> Vec<u8> {
     field(0x04, text.as_bytes())
 }
+
+/// 02, A12: sums are worked out.
+pub fn sums() -> Vec<u8> {
+    field(0x05, b"")
+}

@@ -52,8 +52,8 @@ fn leaf(tag: u8, body: &[u8]) -> String {
     match (tag, body, std::str::from_utf8(body)) {
         (0x71 | 0x75, _, _) if body.len() == 8 => u64::from_be_bytes(body.try_into().expect("eight bytes")).to_string(),
         (0x7a | 0x7b, _, _) => Decimal::read(body).map_or(hex(body), Decimal::with_all_places),
-        (0x13 | 0x73 | 0x78 | 0x83, [], _) => String::new(),
-        (0x71..=0x73 | 0x75 | 0x78, _, _) | (_, _, Err(_)) => hex(body),
+        (0x05 | 0x13 | 0x73 | 0x78 | 0x83, [], _) => String::new(),
+        (0x05 | 0x71..=0x73 | 0x75 | 0x78, _, _) | (_, _, Err(_)) => hex(body),
         (_, _, Ok(text)) if text.len() > 200 => {
             let head: String = text.chars().take(60).collect();
             format!("{head:?}... ({} bytes)", text.len())
@@ -75,6 +75,7 @@ fn what(tag: u8) -> &'static str {
         0x02 => "elements not serialized",
         0x03 => "attributes not serialized",
         0x04 => "import source",
+        0x05 => "sums worked out",
         0x10 => "export",
         0x11 => "declaration",
         0x12 => "statement",

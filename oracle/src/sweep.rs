@@ -10,7 +10,7 @@ use crate::generate::rng::Rng;
 use crate::generate::{self, Case};
 use crate::judge::{outcome, outcome_and_copy, outcome_with, settle};
 use crate::kept::{self, PLACES};
-use crate::reached::Decimals;
+use crate::reached::{Decimals, Sums};
 use crate::show::show;
 use crate::shrink::shrink;
 use crate::transform::Copy;
@@ -42,6 +42,7 @@ pub struct Report {
     pub patched_accepted: u64,
     pub kept: kept::Counts,
     pub decimals: Decimals,
+    pub sums: Sums,
     /// Of demand 3, of A9 or of A2's writing.
     pub violations: u64,
     pub arms: bool,
@@ -62,6 +63,7 @@ impl Report {
             patched_accepted: 0,
             kept: kept::Counts::default(),
             decimals: Decimals::new(),
+            sums: Sums::new(),
             violations: 0,
             arms,
         }
@@ -92,6 +94,7 @@ impl Report {
         }
         line(format!("expressions kept {}; lost: {}", self.kept.kept, lost(&self.kept)));
         line(self.decimals.table().trim_end().to_string());
+        line(self.sums.table().trim_end().to_string());
         line(format!("violations of demand 3, A9 and A2: {}", self.violations));
         out
     }
@@ -105,8 +108,8 @@ impl Report {
 impl Report {
     /// Where the seeds reached less than a generator must: in a million seeds every answer 100 times, 40 % accepted, 2 %
     /// accepted by the patched copy, 1 % over 16 KB, 1 % deeper than 40, in each of A9's places 1,000 expressions lost,
-    /// in each place, of each kind and for each refusal 500 decimals, every live arm 1,000 times and no dead one; as much
-    /// less for fewer seeds.
+    /// in each place, of each kind and for each refusal 500 decimals, in each place and of each kind 300 sums, every live
+    /// arm 1,000 times and no dead one; as much less for fewer seeds.
     pub fn shortfalls(&self) -> Vec<String> {
         let due = |in_a_million: u64| self.seeds * in_a_million / 1_000_000;
         let mut out = vec![];
@@ -127,6 +130,9 @@ impl Report {
         }
         for (what, reached) in self.decimals.all() {
             need(what, reached, due(500));
+        }
+        for (what, reached) in self.sums.all() {
+            need(what, reached, due(300));
         }
         if self.arms {
             for (arm, (line, ..)) in arms::ARMS.iter().enumerate() {
@@ -197,6 +203,7 @@ fn one(seed: u64, settings: &Settings, report: &mut Report, lent: &mut Lent) {
     report.large += u64::from(case.page.len() > 16 * 1024);
     report.deep += u64::from(field::depth(&case.page) > 40);
     report.decimals.meet(&case.page, &case.options, &outcome);
+    report.sums.meet(&case.page, &case.options, &outcome);
     if let Ok(output) = &outcome {
         report.templates += output.count as u64;
         count_tags(&case.page, &mut report.tags_in);
@@ -264,7 +271,7 @@ fn count_tags(bytes: &[u8], counts: &mut [u64; 256]) {
     }
 }
 
-/// What all small pages of a number of fields gave, each under no options and under three lists that meet their names.
+/// What all small pages of a number of fields gave, each under no options and under three that meet their names and sums.
 #[derive(Clone, Copy, Debug, Default, PartialEq, Eq)]
 pub struct Small {
     pub calls: u64,
@@ -276,11 +283,11 @@ pub struct Small {
 }
 
 pub fn small(fields: usize) -> Small {
-    use crate::make::{attributes_listed, elements_listed};
+    use crate::make::{attributes_listed, elements_listed, sums};
     let options = [
         vec![],
         elements_listed(&["i"]),
-        attributes_listed(&["a", "key"]),
+        [attributes_listed(&["a", "key"]), sums()].concat(),
         [elements_listed(&["br"]), attributes_listed(&["open", "a:b"])].concat(),
     ];
     let mut report = Small::default();

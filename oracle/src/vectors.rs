@@ -2,10 +2,13 @@
 
 use crate::answer::{Answer, NUMBERS};
 use crate::decimal::bodies;
+use crate::field;
 use crate::generate::{self, Case};
-use crate::judge::{outcome_and_copy, settle};
+use crate::judge::{outcome, outcome_and_copy, settle};
 use crate::marks;
+use crate::reached::{Decimals, LONGER, Sums};
 use crate::show::hex;
+use crate::sums::{Stays, asked, source_of, work};
 use crate::transform::Copy;
 
 /// One call, its answer, and the bytes written up to their ends.
@@ -112,11 +115,11 @@ const LONG_LINE: usize = 20_000;
 
 /// How many seeds of each answer are stored, and how long their lines may be. 2 and 11 need long inputs; 9 is reserved.
 const QUOTAS: [(usize, usize); NUMBERS] = [
-    (1050, 800),
+    (550, 800),
     (60, 600),
     (3, 9000),
-    (200, 700),
-    (300, 700),
+    (150, 700),
+    (220, 700),
     (100, 700),
     (100, 700),
     (40, 700),
@@ -128,17 +131,31 @@ const QUOTAS: [(usize, usize); NUMBERS] = [
     (120, 700),
 ];
 
-/// The same for seeds that are accepted by the patched copy, and for accepted ones with decimals.
+/// The same for seeds that are accepted by the patched copy, for accepted ones with sums to work out or that stay, and for
+/// accepted ones with decimals.
 const PATCHED_QUOTA: (usize, usize) = (100, 900);
-const DECIMAL_QUOTA: (usize, usize) = (250, 800);
+const SUMS_QUOTA: (usize, usize) = (200, 800);
+const DECIMAL_QUOTA: (usize, usize) = (200, 800);
+
+/// How long the line may be of a seed that is stored for what only it reaches.
+const MISSING_LINE: usize = 2_000;
+
+/// Whether a 79 of the page is a sum, one that stays too.
+fn has_sums(page: &[u8]) -> bool {
+    let mut found = false;
+    for node in &field::read(page).unwrap_or_default() {
+        node.each(&mut |node| found |= source_of(node).is_some_and(|text| work(text) != Err(Stays::NoSum)));
+    }
+    found
+}
 
 /// The marks, then seeds from 0 on until each answer has its share.
 pub fn sample() -> Vec<Vector> {
     let marks = marks::all().into_iter().map(|mark| Vector::of(&mark.name, &mark.case));
     let stored = |v: &Vector| v.line().len() <= LONG_LINE || LONG_MARKS.contains(&&v.name[..]);
     let mut sample: Vec<Vector> = marks.filter(stored).collect();
-    // These two shares stand behind those of the numbers.
-    let quotas: Vec<(usize, usize)> = QUOTAS.into_iter().chain([PATCHED_QUOTA, DECIMAL_QUOTA]).collect();
+    // These three shares stand behind those of the numbers.
+    let quotas: Vec<(usize, usize)> = QUOTAS.into_iter().chain([PATCHED_QUOTA, SUMS_QUOTA, DECIMAL_QUOTA]).collect();
     let mut left: Vec<usize> = quotas.iter().map(|(count, _)| *count).collect();
     for seed in 0.. {
         if left.iter().all(|n| *n == 0) {
@@ -147,7 +164,8 @@ pub fn sample() -> Vec<Vector> {
         let (vector, copy) = Vector::and_copy_of(&format!("seed-{seed}"), &generate::case(seed));
         let share = match vector.answer.number {
             0 if copy == Some(Copy::Patched) => NUMBERS,
-            0 if !bodies(&vector.page).is_empty() => NUMBERS + 1,
+            0 if asked(&vector.options) && has_sums(&vector.page) => NUMBERS + 1,
+            0 if !bodies(&vector.page).is_empty() => NUMBERS + 2,
             number => number as usize,
         };
         if left[share] > 0 && vector.line().len() <= quotas[share].1 {
@@ -155,5 +173,56 @@ pub fn sample() -> Vec<Vector> {
             sample.push(vector);
         }
     }
+    add_missing(&mut sample);
     sample
+}
+
+/// Short seeds for what the sample does not reach yet.
+fn add_missing(sample: &mut Vec<Vector>) {
+    let mut reached = Reached::default();
+    sample.iter().for_each(|vector| reached.meet(vector));
+    for seed in 0.. {
+        let missing = reached.missing().len();
+        if missing == 0 {
+            break;
+        }
+        let vector = Vector::of(&format!("seed-{seed}"), &generate::case(seed));
+        if vector.line().len() > MISSING_LINE {
+            continue;
+        }
+        let mut with = reached.clone();
+        with.meet(&vector);
+        if with.missing().len() < missing {
+            reached = with;
+            sample.push(vector);
+        }
+    }
+}
+
+/// What stored answers must reach of the requests of 02.
+#[derive(Clone)]
+pub struct Reached {
+    pub decimals: Decimals,
+    pub sums: Sums,
+}
+
+impl Default for Reached {
+    fn default() -> Self {
+        Reached { decimals: Decimals::new(), sums: Sums::new() }
+    }
+}
+
+impl Reached {
+    pub fn meet(&mut self, vector: &Vector) {
+        let outcome = outcome(&vector.page, &vector.options);
+        self.decimals.meet(&vector.page, &vector.options, &outcome);
+        self.sums.meet(&vector.page, &vector.options, &outcome);
+    }
+
+    /// What no answer reached; a page that grows over its limit is too long to be stored.
+    pub fn missing(&self) -> Vec<String> {
+        let all = [self.decimals.all(), self.sums.all()].concat();
+        let missing = all.into_iter().filter(|(what, n)| *n == 0 && what != LONGER);
+        missing.map(|(what, _)| what).collect()
+    }
 }

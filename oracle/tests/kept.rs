@@ -174,3 +174,17 @@ fn keys_are_lost_to_later_ones() {
         ),
     ]);
 }
+
+/// 02, A12: kept and lost expressions are counted on the worked page, in which a sum is none.
+#[test]
+#[cfg_attr(not(jsx_source), ignore = "jsx_precompile.rs is not there")]
+fn sums_are_no_expressions_once_they_are_worked_out() {
+    let kept = element("p", &[braces(code("1 + 2")), x(), braces(code("-1"))]);
+    let lost = element("p", &[spread_child(code("1 + 2")), spread_child(code("0 * (1 - 2)"))]);
+    hold(&[
+        ("without the option", kept.clone(), vec![], 3, NONE),
+        ("worked out", kept, sums(), 2, NONE),
+        ("lost without the option", lost.clone(), vec![], 0, [0, 2, 0, 0]),
+        ("lost and worked out", lost, sums(), 0, SPREAD),
+    ]);
+}

@@ -24,7 +24,7 @@ fn byte_strings_as_page() {
 fn byte_strings_as_options() {
     byte_strings(3, &mut |options| {
         let expected = match options {
-            [] | [2 | 3, 0, 0] => None,
+            [] | [2 | 3 | 5, 0, 0] => None,
             [_, 0, 0] => Some(Refusal::Misplaced),
             _ => Some(Refusal::Truncated),
         };

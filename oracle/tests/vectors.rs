@@ -2,10 +2,9 @@
 
 use oracle::answer::{NUMBERS, RESERVED};
 use oracle::judge::{outcome_and_copy, outcome_with};
-use oracle::reached::Decimals;
 use oracle::transform::Copy;
-use oracle::vectors::Vector;
-use oracle::{arms, judge, marks, outcome};
+use oracle::vectors::{Reached, Vector};
+use oracle::{arms, judge, marks};
 use std::collections::HashSet;
 
 const STORED: &str = include_str!("../../crates/replay/stdin");
@@ -69,15 +68,12 @@ fn the_patched_copy_has_its_share() {
     assert!(accepted >= 100, "{accepted}");
 }
 
-/// In every place where a decimal may stand, of every kind, and refused for each reason.
+/// Decimals and sums in every place where they may stand, of every kind; decimals refused for each reason.
 #[test]
 #[cfg_attr(not(jsx_source), ignore = "jsx_precompile.rs is not there")]
-fn decimals_have_their_share() {
-    let mut decimals = Decimals::new();
-    for vector in stored() {
-        decimals.meet(&vector.page, &vector.options, &outcome(&vector.page, &vector.options));
-    }
-    print!("{}", decimals.table());
-    let missing: Vec<String> = decimals.all().into_iter().filter(|(_, n)| *n == 0).map(|(what, _)| what).collect();
-    assert!(missing.is_empty(), "{missing:?}");
+fn decimals_and_sums_have_their_share() {
+    let mut reached = Reached::default();
+    stored().iter().for_each(|vector| reached.meet(vector));
+    print!("{}{}", reached.decimals.table(), reached.sums.table());
+    assert_eq!(reached.missing(), Vec::<String>::new());
 }

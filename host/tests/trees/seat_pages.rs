@@ -17,6 +17,7 @@ pub fn all() -> Vec<Example> {
         Example::new("plan", plan()),
         Example::new("values", values()),
         Example::new("prices", prices()),
+        Example::new("blocks", blocks()),
         Example::new("module", module()),
         Example::new("no-tags", no_tags()),
         damaged(),
@@ -236,6 +237,30 @@ fn prices() -> Page {
         .child(row("Behind a pillar", Element::new("td").child(pillar)))
         .text("\n  ");
     Page::new([Item::export(["export function Prices({ day }) {\n  return ".into(), list.into(), ";\n}".into()])])
+}
+
+/// Seats in a block as sums, as text, as attributes and handed on to a component; one text that is no sum.
+fn blocks() -> Page {
+    let (stalls, balcony) = ("2 * 12 + 3", "(14 + 16) * 8 - 4");
+    let row = |name: &str, sum: &str| {
+        let seats = Element::new("td").child(code(sum)).text(" seats");
+        Element::new("tr").attribute("data-seats", code(sum)).child(Element::new("th").text(name)).child(seats)
+    };
+    let left = Element::new("Left")
+        .attribute("of", code(&format!("{stalls} + {balcony}")))
+        .attribute("change", code("3 - 12"));
+    let list = Element::new("table")
+        .attribute("class", "blocks")
+        .text("\n    ")
+        .child(row("Stalls", stalls))
+        .text("\n    ")
+        .child(row("Balcony", balcony))
+        .text("\n    ")
+        .child(row("Gallery", "2 * gallery"))
+        .text("\n    ")
+        .child(Element::new("tr").child(Element::new("td").child(left)))
+        .text("\n  ");
+    Page::new([Item::export(["export function Blocks({ gallery }) {\n  return ".into(), list.into(), ";\n}".into()])])
 }
 
 /// All kinds of items: the templates stand before the first that is no import.

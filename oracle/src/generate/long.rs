@@ -4,13 +4,43 @@ use super::rng::Rng;
 use super::texts;
 use crate::make::*;
 
-pub fn page(rng: &mut Rng) -> Vec<u8> {
-    match rng.below(4) {
-        0 => near_static_string(rng),
-        1 => near_item(rng),
-        2 => twice_escaped(rng),
-        _ => many(rng),
+/// A page and its options.
+pub fn inputs(rng: &mut Rng) -> (Vec<u8>, Vec<u8>) {
+    match rng.below(6) {
+        0 => (near_static_string(rng), vec![]),
+        1 => (near_item(rng), vec![]),
+        2 => (twice_escaped(rng), vec![]),
+        3 => (many(rng), vec![]),
+        4 => (many_sums(rng), sums()),
+        _ => (many_brackets(rng), if rng.chance(80) { sums() } else { vec![] }),
     }
+}
+
+/// Short sums in a row: worked out they take more bytes than they had, up to eleven for seven.
+fn many_sums(rng: &mut Rng) -> Vec<u8> {
+    let short = ["0", "7", "1-2", "(3)", "4 * 5", "01", "x"];
+    let row = |rng: &mut Rng, of_one: fn(Vec<u8>) -> Vec<u8>, most: usize| -> Vec<Vec<u8>> {
+        let mut bytes = rng.within(28_000, most);
+        let mut row = vec![];
+        while let Some(left) = bytes.checked_sub(18) {
+            let one = of_one(code(if rng.chance(90) { short[rng.below(2)] } else { rng.pick(&short) }));
+            bytes = left + 18 - one.len();
+            row.push(one);
+        }
+        row
+    };
+    match rng.below(3) {
+        0 => page_of(element("Foo", &[attribute_with("a", braces(array(&row(rng, |sum| sum, 32_700))))])),
+        1 => page_of(element("p", &row(rng, braces, 32_700))),
+        _ => page_of(element("Foo", &row(rng, braces, 32_700))),
+    }
+}
+
+/// One sum with so many brackets that they fill a page; now and then one too few or too many.
+fn many_brackets(rng: &mut Rng) -> Vec<u8> {
+    let (open, inside) = (rng.within(100, 16_370), rng.pick(&["1", "1 - 2", "9007199254740991+1", ""]));
+    let closed = if rng.chance(80) { open } else { open - 1 + 2 * rng.below(2) };
+    page_of(fragment(&[braces(code(&["(".repeat(open), inside.to_string(), ")".repeat(closed)].concat()))]))
 }
 
 /// `<p>` with text whose static string is within three of the longest, 65,530 (number and header stand in the 80 too).

@@ -8,6 +8,7 @@ pub mod names;
 pub mod options;
 pub mod page;
 pub mod rng;
+pub mod sums;
 pub mod texts;
 
 use crate::answer::{LEAST_SCRATCH, MOST_DEPTH, MOST_OPTIONS, MOST_PAGE};
@@ -67,7 +68,7 @@ fn inputs(rng: &mut Rng) -> (Vec<u8>, Vec<u8>) {
     // In ten thousandths: at a limit, long outputs, deep, large, tiny, and the usual.
     match rng.weighted(&[30, 20, 200, 140, 200, 9410]) {
         0 => at_limits(rng),
-        1 => (long::page(rng), vec![]),
+        1 => long::inputs(rng),
         2 => {
             let depth = if rng.chance(85) { rng.within(39, MOST_DEPTH) } else { MOST_DEPTH + 1 };
             let shape = Shape { bytes: 1400, depth, chain: true, few_names: None };

@@ -5,6 +5,7 @@ use super::rng::Rng;
 use super::texts;
 use crate::answer::MOST_OPTIONS;
 use crate::field::{begin, finish};
+use crate::make::sums;
 
 /// Options; the listed names are drawn from `few` where it is given, so that the page's names are met.
 pub fn options(rng: &mut Rng, few: Option<&[String]>) -> Vec<u8> {
@@ -18,6 +19,9 @@ pub fn options(rng: &mut Rng, few: Option<&[String]>) -> Vec<u8> {
     }
     if rng.chance(25) {
         source(rng, &mut out);
+    }
+    if rng.chance(40) {
+        out.extend(sums());
     }
     out
 }
@@ -46,15 +50,16 @@ fn source(rng: &mut Rng, out: &mut Vec<u8>) {
     finish(out, at);
 }
 
-/// Options of exactly `length` bytes, where they have room for one more string.
+/// Options of exactly `length` bytes, where they have room for an import source and a 05.
 pub fn padded(rng: &mut Rng, length: usize) -> Vec<u8> {
     let mut out = vec![];
     list(rng, &mut out, 0x02, None);
-    if out.len() + 4 > length || length > MOST_OPTIONS + 2 {
+    if out.len() + 7 > length || length > MOST_OPTIONS + 2 {
         return out;
     }
+    let more = if rng.chance(50) { sums() } else { vec![] };
     let at = begin(&mut out, 0x04);
-    out.resize(length, b's');
+    out.resize(length - more.len(), b's');
     finish(&mut out, at);
-    out
+    [out, more].concat()
 }

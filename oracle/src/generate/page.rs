@@ -3,6 +3,7 @@
 use super::decimals;
 use super::names;
 use super::rng::Rng;
+use super::sums;
 use super::texts;
 use crate::answer::{MOST_NUMBER, MOST_PAGE};
 use crate::field::{begin, finish};
@@ -97,6 +98,10 @@ impl Maker<'_> {
             let tags = self.can_hold(depth);
             match self.rng.weighted(if tags { &[30, 52, 18] } else { &[1, 0, 0] }) {
                 0 if i == 0 && self.rng.chance(20) => self.leaf(0x20, b"export default "),
+                0 if self.rng.chance(4) => {
+                    let text = sums::text(self.rng);
+                    self.leaf(0x20, text.as_bytes());
+                }
                 0 => self.words(0x20),
                 1 => self.field(0x30, |m| m.element(depth)),
                 _ => self.field(0x31, |m| m.children(depth + 1)),
@@ -240,9 +245,9 @@ impl Maker<'_> {
     /// An expression at `depth`, which the depth allows.
     fn expression(&mut self, depth: usize) {
         let weights: &[usize] = if self.can_hold(depth) {
-            &[22, 10, 8, 4, 5, 6, 8, 5, 7, 22, 12, 4]
+            &[22, 10, 8, 4, 5, 6, 8, 5, 7, 22, 12, 4, 14]
         } else {
-            &[22, 10, 8, 4, 5, 6, 8, 5, 0, 0, 0, 0]
+            &[22, 10, 8, 4, 5, 6, 8, 5, 0, 0, 0, 0, 0]
         };
         match self.rng.weighted(weights) {
             0 => self.words(0x70),
@@ -259,8 +264,22 @@ impl Maker<'_> {
             8 => self.field(0x76, |m| m.elements(depth + 1)),
             9 => self.field(0x79, |m| m.pieces(depth + 1)),
             10 => self.field(0x30, |m| m.element(depth)),
-            _ => self.field(0x31, |m| m.children(depth + 1)),
+            11 => self.field(0x31, |m| m.children(depth + 1)),
+            _ => self.sum(),
         }
+    }
+
+    /// A 79 of a text that is a sum or nearly one: one piece, now and then two.
+    fn sum(&mut self) {
+        let text = sums::text(self.rng);
+        let cut = if self.rng.chance(8) { self.rng.below(text.len() + 1) } else { 0 };
+        let cut = if text.is_char_boundary(cut) { cut } else { 0 };
+        self.field(0x79, |m| {
+            if cut > 0 {
+                m.leaf(0x20, &text.as_bytes()[..cut]);
+            }
+            m.leaf(0x20, &text.as_bytes()[cut..]);
+        });
     }
 
     fn number(&mut self, tag: u8) {

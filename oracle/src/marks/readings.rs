@@ -49,7 +49,7 @@ fn order() -> Vec<Mark> {
         mark("r1-options-first", vec![], vec![0x02, 0, 0, 0x02, 0, 0], 4),
         mark("r1-options-order", page(&[]), [attributes_listed(&[]), elements_listed(&[])].concat(), 4),
         mark("r1-options-torn", page(&[]), vec![0x04, 0], 3),
-        mark("r1-options-unknown", page(&[]), field(0x05, b""), 4),
+        mark("r1-options-unknown", page(&[]), field(0x06, b""), 4),
     ]
 }
 
@@ -248,7 +248,7 @@ fn listed() -> Vec<Mark> {
         mark(
             "all-options",
             page_of(element("a", &[])),
-            [elements_listed(&["a"]), attributes_listed(&["b"]), import_source("\u{65e5}\"")].concat(),
+            [elements_listed(&["a"]), attributes_listed(&["b"]), import_source("\u{65e5}\""), sums()].concat(),
             0,
         ),
     ]

@@ -5,6 +5,7 @@ macro_rules! transform_options {
         "  --skip-element NAME     do not serialize elements of this name: they become calls of jsx
   --skip-attribute NAME   do not serialize attributes of this name: they become calls of jsxAttr
   --import-source NAME    import the helpers from NAME/jsx-runtime; react where none is named
+  --sums                  work out sums of whole numbers in braces: {2 * 12 + 3} is 27
 
 The first two may be given again. --name=value is the same as --name value.
 "

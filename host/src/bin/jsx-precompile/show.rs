@@ -8,7 +8,7 @@ use jsx_precompile::{Decimal, Fault, Input, Options};
 /// What bytes are, by the first of them.
 pub fn told_by(bytes: &[u8]) -> Input {
     match bytes.first() {
-        Some(0x02..=0x04) => Input::Options,
+        Some(0x02..=0x05) => Input::Options,
         Some(0x80) => Input::Templates,
         Some(0x10..=0x13 | 0x82 | 0x83) => Input::PageOut,
         _ => Input::Page,
@@ -82,7 +82,7 @@ fn line(field: &Field, whole: bool) -> String {
     let Field { tag, body, .. } = *field;
     let Some(name) = field.name() else { return format!("{tag:02x} no tag, {}", hex(body, whole)) };
     let inside = match (tag, body) {
-        (0x13 | 0x73 | 0x78 | 0x83, []) => String::new(),
+        (0x05 | 0x13 | 0x73 | 0x78 | 0x83, []) => String::new(),
         (0x71 | 0x75, _) if body.len() == 8 => number(body).to_string(),
         (0x7a | 0x7b, [digits @ .., places]) if digits.len() == 8 => decimal(digits, *places),
         (0x72, [0]) => "false".to_string(),
@@ -92,7 +92,7 @@ fn line(field: &Field, whole: bool) -> String {
             let names: Vec<_> = Import { source: "", sum: *sum }.helpers().map(|helper| helper.name()).collect();
             format!("{sum}: {}", names.join(", "))
         }
-        (0x13 | 0x71..=0x73 | 0x75 | 0x78 | 0x7a | 0x7b | 0x83, _) => hex(body, whole),
+        (0x05 | 0x13 | 0x71..=0x73 | 0x75 | 0x78 | 0x7a | 0x7b | 0x83, _) => hex(body, whole),
         (0x04 | 0x20 | 0x40 | 0x51 | 0x60 | 0x70 | 0x74 | 0x81, _) => text(body, whole),
         _ => String::new(),
     };

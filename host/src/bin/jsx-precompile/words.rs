@@ -84,6 +84,7 @@ impl Words {
                 "--skip-element" if transforms => read.options = read.options.skip_serialize([value()?]),
                 "--skip-attribute" if transforms => read.options = read.options.skip_prop_serialize([value()?]),
                 "--import-source" if transforms => read.options = read.options.import_source(value()?),
+                "--sums" if transforms => read.options = read.options.sums(true),
                 "--templates" if command == "build" => read.templates = Some(value()?),
                 "--page" if command == "build" => read.page = Some(value()?),
                 "--as" if command == "show" => read.input = Some(kind(&value()?)?),

@@ -1,5 +1,4 @@
-//! What the seeds reached of A2: in which places decimals stand, with which places and zeros, and what was refused for
-//! one of them.
+//! A2: in which places decimals stand, with which places and zeros, and what was refused for one of them.
 
 use crate::answer::Refusal;
 use crate::decimal::{BYTES, DECIMAL, Decimal, MINUS_DECIMAL, MOST_DIGITS, MOST_PLACES, is_decimal};
