@@ -26,6 +26,7 @@ pub mod shrink;
 #[cfg_attr(not(jsx_source), allow(unused))]
 pub mod stand_ins;
 pub mod sweep;
+pub mod tag;
 pub mod transform;
 pub mod vectors;
 pub mod writing;
