@@ -2,9 +2,14 @@
 //! production, and texts to hold another reader to it. Nothing here needs the ported Rust.
 
 pub mod braces;
+pub mod compare;
+pub mod exhaustive;
+pub mod generate;
 pub mod marks;
 pub mod read;
 pub mod signs;
+pub mod slow;
+pub mod sweep;
 pub mod vectors;
 pub mod write;
 
