@@ -1,7 +1,8 @@
 //! The named tag texts: each has the answer that A3 fixes.
 
 use oracle::show::show;
-use oracle::tag::{marks, outcome};
+use oracle::tag::vectors::{TagVector, sample};
+use oracle::tag::{NUMBERS, judge, marks, outcome};
 
 #[test]
 fn every_mark_has_its_answer() {
@@ -28,4 +29,21 @@ fn names_of_marks_are_words_and_differ() {
     let count = names.len();
     names.dedup();
     assert_eq!(names.len(), count);
+}
+
+/// Stored answers are read as they were written, and have every number.
+#[test]
+fn stored_answers() {
+    let sample = sample();
+    for vector in &sample {
+        let line = vector.line();
+        let read = TagVector::parse(line.trim_end()).expect("six words");
+        assert_eq!(read.line(), line);
+        assert_eq!(read.difference(judge), None);
+    }
+    for number in NUMBERS {
+        assert!(sample.iter().any(|vector| vector.answer.number == number), "{number}");
+    }
+    let bytes: usize = sample.iter().map(|vector| vector.line().len()).sum();
+    println!("{} answers in {bytes} bytes", sample.len());
 }

@@ -1,9 +1,11 @@
 //! `tags COUNT [FIRST]`: COUNT seeds of tag text from FIRST on, and what they reached.
 //! `tags short`: all short texts, read by the judge and by the slow reader that tries every production.
 //! `tags show SEED`: the text of a seed, and the judge's answer.
+//! `tags vectors`: answers of the judge, one call on a line.
 
 use oracle::show::show;
 use oracle::tag::sweep::{short_all, sweep};
+use oracle::tag::vectors::sample;
 use oracle::tag::{generate, outcome};
 use std::process::ExitCode;
 
@@ -18,6 +20,7 @@ fn main() -> ExitCode {
                 return ExitCode::FAILURE;
             }
         },
+        (Some("vectors"), []) => sample().iter().for_each(|vector| print!("{}", vector.line())),
         (Some("show"), [seed]) => {
             let case = generate::case(*seed);
             println!("{}", String::from_utf8_lossy(&case.text));
@@ -36,7 +39,7 @@ fn main() -> ExitCode {
             }
         }
         _ => {
-            eprintln!("tags COUNT [FIRST], tags short, or tags show SEED");
+            eprintln!("tags COUNT [FIRST], tags short, tags show SEED, or tags vectors");
             return ExitCode::from(2);
         }
     }
