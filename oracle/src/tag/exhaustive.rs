@@ -43,7 +43,7 @@ const INSIDE: &[&[u8]] = &[
     "\u{e9}".as_bytes(),
 ];
 const NUMBERS: &[&[u8]] = &[b"0", b"1", b".", b"-", b" ", b"a", b"_"];
-const QUOTED: &[&[u8]] = &[b"\"", b"'", b"{", b"}", b"\n", b"a", b"\\"];
+const QUOTED: &[&[u8]] = &[b"\"", b"'", b"{", b"}", b"\n", b"\r", b"a", b"\\"];
 const ENTITIES: &[&[u8]] = &[b"&", b";", b"lt", b"gt", b"amp", b"quot", b"#39", b"#", b"a", b"\"", b"'"];
 const LETTERS: &[&[u8]] = &[b"&", b"l", b"t", b"g", b";", b"a"];
 const BYTES: &[&[u8]] =
@@ -72,6 +72,12 @@ pub const FAMILIES: &[Family] = &[
     family("entities in text", ("<>", "</>"), ENTITIES, (6, 4)),
     family("entities in a string", ("<a b=\"", "\"/>"), ENTITIES, (6, 4)),
     family("letters of entities", ("<>", "</>"), LETTERS, (7, 6)),
+    family(
+        "white space",
+        ("<a", "/>"),
+        &[b" ", b"\t", b"\n", b"\r", b"\x0b", b"\x0c", b"b", b"=", b"\"\"", b":"],
+        (5, 4),
+    ),
     family("names", ("<", "/>"), &[b"a", b"-", b".", b":", b"1", b"_", b" "], (7, 6)),
     family("closing names", ("<a.b>", ">"), &[b"<", b"/", b"a", b"b", b".", b":", b" "], (7, 6)),
     family("closing a namespace", ("<a:b></", ">"), &[b"a", b"b", b".", b":", b" ", b"-"], (7, 6)),
