@@ -113,3 +113,18 @@ impl From<Tag> for Piece {
         tag.to_piece()
     }
 }
+
+/// As [`Tag::read`].
+///
+/// ```
+/// let tag: jsx_precompile::Tag = "<br/>".parse()?;
+/// assert_eq!(tag, jsx_precompile::Tag::read("<br/>")?);
+/// # Ok::<(), jsx_precompile::TagError>(())
+/// ```
+impl std::str::FromStr for Tag {
+    type Err = TagError;
+
+    fn from_str(text: &str) -> Result<Tag, TagError> {
+        Tag::read(text)
+    }
+}
