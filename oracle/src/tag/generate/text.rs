@@ -387,21 +387,28 @@ impl<'a> Text<'a> {
         most - 1 + self.rng.below(numbers) as u64
     }
 
+    /// What 64 bits would take for a small number.
+    fn wrapping(&mut self) -> u128 {
+        (self.rng.within(1, 3) as u128) << 64 | self.rng.below(200) as u128
+    }
+
     fn whole(&mut self) -> String {
-        let value = match self.rng.weighted(&[60, 30, 10]) {
-            0 => self.rng.below(20) as u64,
-            1 => self.rng.draw() >> self.rng.within(12, 60),
-            _ => self.around(MOST_NUMBER),
+        let value = match self.rng.weighted(&[58, 30, 10, 2]) {
+            0 => self.rng.below(20) as u128,
+            1 => u128::from(self.rng.draw() >> self.rng.within(12, 60)),
+            2 => u128::from(self.around(MOST_NUMBER)),
+            _ => self.wrapping(),
         };
         let far = if self.rng.chance(1) { "0".repeat(self.rng.within(1, 30)) } else { String::new() };
         format!("{}{value}{far}", self.minus())
     }
 
     fn decimal(&mut self) -> String {
-        let digits = match self.rng.weighted(&[60, 30, 10]) {
-            0 => self.rng.below(2000) as u64,
-            1 => self.rng.draw() % (MOST_DIGITS + 1),
-            _ => self.around(MOST_DIGITS),
+        let digits = match self.rng.weighted(&[58, 30, 10, 2]) {
+            0 => self.rng.below(2000) as u128,
+            1 => u128::from(self.rng.draw() % (MOST_DIGITS + 1)),
+            2 => u128::from(self.around(MOST_DIGITS)),
+            _ => self.wrapping(),
         };
         let places = match self.rng.weighted(&[80, 15, 5]) {
             0 => self.rng.within(1, 3),
