@@ -75,7 +75,13 @@ pub fn body(rng: &mut Rng) -> Vec<u8> {
     let length = if near { MOST_BODY - 1 + rng.below(4) } else { rng.within(60_000, 90_000) };
     let count = (length - name - 4) / given;
     let left = length - name - given * count - 3;
-    let (end, text) = (after.strip_prefix('>'), "t".repeat(left));
+    let mut text = "t".repeat(left);
+    // Beside it now and then what is refused before a long body, or after it.
+    if !near && rng.chance(40) {
+        let (levels, inner) = (rng.within(MOST_DEPTH - 4, MOST_DEPTH), rng.pick(&["", "{x}", "{9007199254740992}"]));
+        text += &format!("{}{inner}{}", "<>".repeat(levels), "</>".repeat(levels));
+    }
+    let end = after.strip_prefix('>');
     let mut out = format!("{before}{}", one.repeat(count));
     out += &end.map_or_else(|| format!("{text}{after}"), |end| format!(">{text}{end}"));
     out.into_bytes()
