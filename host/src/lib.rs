@@ -40,6 +40,7 @@ pub mod out;
 pub mod page;
 mod path;
 mod refusal;
+mod tag;
 
 pub use call::{Answer, Forms, Transformer, library_version, transform, transform_into};
 pub use check::{Fault, Input};
@@ -47,6 +48,7 @@ pub use decimal::{Decimal, DecimalError};
 pub use options::Options;
 pub use page::write::WriteError;
 pub use refusal::Refusal;
+pub use tag::{Place, Tag, TagError, TagRefusal};
 
 /// The version of this crate, which is also that of the proved library that it belongs to: see [`library_version`].
 ///

@@ -24,6 +24,16 @@ pub const MAX_PAGE: usize = 32_768;
 /// ```
 pub const MAX_OPTIONS: usize = 4_096;
 
+/// The bytes of a tag's text, for [`Tag::read`](crate::Tag::read).
+///
+/// ```
+/// use jsx_precompile::{Tag, limits::MAX_TAG_TEXT};
+///
+/// let text = |bytes: usize| format!("<>{}</>", "t".repeat(bytes - 5));
+/// assert!(Tag::read(&text(MAX_TAG_TEXT)).is_ok() && Tag::read(&text(MAX_TAG_TEXT + 1)).is_err());
+/// ```
+pub const MAX_TAG_TEXT: usize = 32_768;
+
 /// How deep the fields of a page lie within each other; the page itself is 1.
 ///
 /// ```

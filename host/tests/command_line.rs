@@ -98,6 +98,39 @@ jsx-precompile: examples/k7-left.page: page, byte 22, 01 > 12[0] > 31 > 31: 10 (
 }
 
 #[test]
+fn tag() {
+    let field = "3000054000026272";
+    for text in ["<br/>", "<br/>\n", "<br/>\r\n", "< br / >\n"] {
+        assert_eq!(run(&["tag", "--as", "hex", "-"], text.as_bytes()), (0, format!("{field}\n"), String::new()));
+    }
+    // digits are text here, and one line end is left out
+    for (text, said) in [
+        (&b"3c62722f3e"[..], "line 1, column 1: 14: expected `<`, with which a tag begins, found `3`"),
+        (b"<br/>\n\n", "line 1, column 6: 14: `\\n` stands behind the tag"),
+        (b"<br/>\r", "line 1, column 6: 14: `\\r` stands behind the tag"),
+        (b"<p>\xff</p>", "line 1, column 4: 6: byte ff is not UTF-8"),
+    ] {
+        let expected = format!("jsx-precompile: standard input: {said}\n");
+        assert_eq!(run(&["tag", "-"], text), (1, String::new(), expected));
+    }
+    // its page is one that is built
+    let (status, page, _) = run(&["tag", "--as", "page", "examples/worked.tag"], b"");
+    let (built, module, said) = run(&["build", "-"], page.as_bytes());
+    assert_eq!((status, built, &*said), (0, 0, ""));
+    assert!(
+        module.ends_with(
+            "const $$_tpl_1 = [\"<p class=\\\"t\\\">Hi \", \"</p>\"];\n_jsxTemplate($$_tpl_1, _jsxEscape(n))\n"
+        ),
+        "{module}"
+    );
+    let deep = format!("{}{}", "<a>".repeat(60), "</a>".repeat(60));
+    let (status, _, said) = run(&["tag", "--as", "page", "-"], deep.as_bytes());
+    assert!(status == 1 && said.contains(": 8: "), "{said}");
+    let (status, _, said) = run(&["tag", "no such file"], b"");
+    assert!(status == 2 && said.starts_with("jsx-precompile: no such file: "), "{said}");
+}
+
+#[test]
 fn bad_calls() {
     for (words, expected) in [
         (&[][..], "no command; see `jsx-precompile --help`"),
@@ -112,6 +145,10 @@ fn bad_calls() {
             &["show", "--as", "card", "a"],
             "--as is page, options, templates or out, not card; see `jsx-precompile show --help`",
         ),
+        (&["tag"], "no file (- is standard input); see `jsx-precompile tag --help`"),
+        (&["tag", "--hex", "a"], "tag has no option --hex; see `jsx-precompile tag --help`"),
+        (&["tag", "--import-source", "a", "b"], "tag has no option --import-source; see `jsx-precompile tag --help`"),
+        (&["tag", "--as", "card", "a"], "--as is tree, hex or page, not card; see `jsx-precompile tag --help`"),
         (
             &["build", "a", "--import-source"],
             "--import-source needs a word behind it; see `jsx-precompile build --help`",
@@ -144,7 +181,7 @@ fn help() {
     let (status, all, said) = run(&["--help"], b"");
     assert_eq!((status, &*said), (0, ""));
     assert_eq!(run(&["help"], b"").1, all);
-    for command in ["build", "check", "show", "preview"] {
+    for command in ["build", "check", "show", "preview", "tag"] {
         assert!(all.contains(&format!("\n  {command} ")), "{command}");
         let (status, text, said) = run(&[command, "--help"], b"");
         assert_eq!((status, &*said), (0, ""));

@@ -1,12 +1,13 @@
 //! The pages of examples/: each .page is what the tree here is written as, each .jsx the source of that tree, each
 //! .card what the judge prints of the page and what the program `card` prints. With EXAMPLES_WRITE=1 the files are
-//! written, the cards by the judge; without it they are only compared.
+//! written, the cards by the judge; without it they are only compared. Of each .tag the .field is what the program
+//! `jsx-precompile tag` says, and what the judge reads.
 
 mod common;
 mod program;
 mod trees;
 
-use common::{no_judge, say};
+use common::{jsx_precompile, no_judge, say};
 use jsx_precompile::javascript::Printer;
 use jsx_precompile::out::{PageOut, Templates};
 use jsx_precompile::page::Page;
@@ -23,6 +24,10 @@ const VARIABLE: &str = "EXAMPLES_WRITE";
 
 /// What `jsx-precompile build --sums` prints of the example with sums; the card takes no options.
 const SUMS: (&str, &str) = ("blocks", "examples/blocks.sums.js");
+
+/// The tag texts, and the number that each is answered with.
+const TAGS: [(&str, u32); 7] =
+    [("worked", 0), ("programme", 0), ("spaces", 0), ("crossed", 15), ("open", 14), ("list", 14), ("unit", 14)];
 
 /// A file of the repository, by its name seen from the root.
 fn at(name: &str) -> PathBuf {
@@ -63,7 +68,55 @@ fn write(examples: &[Example]) {
         }
     }
     fs::write(at(SUMS.1), sums_by_the_judge(examples)).unwrap_or_else(|error| panic!("{}: {error}", SUMS.1));
-    say(&format!("examples: {} written", examples.len()));
+    for (tag, _) in TAGS {
+        let name = format!("examples/{tag}.field");
+        fs::write(at(&name), tag_said(tag)).unwrap_or_else(|error| panic!("{name}: {error}"));
+    }
+    say(&format!("examples: {} written, and the fields of {} tags", examples.len(), TAGS.len()));
+}
+
+/// What the program says of a tag text, wherever it says it.
+fn tag_said(tag: &str) -> Vec<u8> {
+    let output = jsx_precompile(&["tag", &format!("examples/{tag}.tag")], b"");
+    [output.stdout, output.stderr].concat()
+}
+
+#[test]
+fn tags_and_fields() {
+    examples();
+    for (tag, number) in TAGS {
+        holds(&format!("examples/{tag}.field"), "the program", &tag_said(tag));
+        let text = stored(&format!("examples/{tag}.tag"));
+        let text = text.strip_suffix(b"\n").expect("a line end");
+        let said = String::from_utf8(tag_said(tag)).expect("text");
+        match oracle::tag::outcome(text) {
+            Ok(field) => {
+                assert_eq!(number, 0, "examples/{tag}.tag");
+                assert!(said.ends_with(&format!(
+                    "tag: {} bytes, {} fields, {} deep\n",
+                    field.len(),
+                    fields(&field),
+                    depth(&field)
+                )));
+            }
+            Err(refusal) => {
+                assert_eq!(number, refusal as u32, "examples/{tag}.tag");
+                assert!(said.contains(&format!(": {number}: ")), "{said}");
+            }
+        }
+    }
+    let readme = String::from_utf8(stored("host/README.md")).expect("text");
+    let open = String::from_utf8(stored("examples/open.field")).expect("text");
+    assert!(readme.contains(&format!("\n{open}")), "host/README.md shows another refusal of examples/open.tag");
+    say(&format!("examples: {} tag texts, their fields and refusals as stored", TAGS.len()));
+}
+
+fn fields(field: &[u8]) -> usize {
+    oracle::field::read(field).expect("fields").iter().map(oracle::field::Node::fields).sum()
+}
+
+fn depth(field: &[u8]) -> usize {
+    oracle::field::depth(field)
 }
 
 fn with_sums(examples: &[Example]) -> &Example {
@@ -186,7 +239,9 @@ fn files_of_the_program() {
 fn folder_and_readmes() {
     let examples = examples();
     let files = examples.iter().flat_map(|example| ["card", "jsx", "page"].map(|end| file(example, end)));
-    let expected: BTreeSet<String> = files.chain(["examples/README.md", SUMS.1].map(str::to_string)).collect();
+    let of_tags = TAGS.iter().flat_map(|(tag, _)| ["tag", "field"].map(|end| format!("examples/{tag}.{end}")));
+    let expected: BTreeSet<String> =
+        files.chain(of_tags).chain(["examples/README.md", SUMS.1].map(str::to_string)).collect();
     let folder = fs::read_dir(at("examples")).unwrap_or_else(|error| panic!("examples: {error}"));
     for file in folder {
         let name = format!("examples/{}", file.expect("it is there").file_name().display());
@@ -197,6 +252,9 @@ fn folder_and_readmes() {
     for example in &examples {
         let name = example.name;
         assert!(list.contains(&format!("\n| `{name}` |")), "examples/README.md has no line for {name}");
+    }
+    for (tag, _) in TAGS {
+        assert!(list.contains(&format!("\n| `{tag}.tag` |")), "examples/README.md has no line for {tag}.tag");
     }
     let readme = String::from_utf8(stored("README.md")).expect("text");
     for name in ["examples/worked.jsx", "examples/worked.card"] {

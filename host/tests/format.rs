@@ -225,6 +225,7 @@ fn every_refusal_has_its_rows() {
 fn every_limit_has_its_row() {
     let limits = [
         ("page", MAX_PAGE, " bytes"),
+        ("tag text", MAX_TAG_TEXT, " bytes"),
         ("options", MAX_OPTIONS, " bytes"),
         ("depth", MAX_DEPTH, " fields"),
         ("name", MAX_NAME, " bytes"),

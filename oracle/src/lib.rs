@@ -27,6 +27,7 @@ pub mod shrink;
 pub mod stand_ins;
 pub mod sums;
 pub mod sweep;
+pub mod tag;
 pub mod transform;
 pub mod vectors;
 pub mod writing;

@@ -101,7 +101,7 @@ fn zeroed(mut bytes: Vec<u8>, shows: &dyn Fn(&[u8]) -> bool) -> Vec<u8> {
 }
 
 /// Long runs of bytes go first, then shorter ones.
-fn smaller_bytes(bytes: &[u8], shows: &dyn Fn(Vec<u8>) -> bool) -> Vec<u8> {
+pub fn smaller_bytes(bytes: &[u8], shows: &dyn Fn(Vec<u8>) -> bool) -> Vec<u8> {
     let mut bytes = bytes.to_vec();
     let mut length = bytes.len();
     while length > 0 {

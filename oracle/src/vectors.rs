@@ -100,7 +100,7 @@ impl Vector {
     }
 }
 
-fn unhex(word: &str) -> Option<Vec<u8>> {
+pub fn unhex(word: &str) -> Option<Vec<u8>> {
     if word == "-" {
         return Some(vec![]);
     }

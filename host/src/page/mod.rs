@@ -21,7 +21,7 @@
 
 mod drop;
 mod jsx;
-mod read;
+pub(crate) mod read;
 pub(crate) mod write;
 
 use crate::check::Fault;

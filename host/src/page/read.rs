@@ -20,12 +20,15 @@ fn item(field: Field) -> Item {
 }
 
 fn pieces(field: Field) -> Vec<Piece> {
-    let piece = |field: Field| match field.tag {
+    field.inner().map(piece).collect()
+}
+
+pub(crate) fn piece(field: Field) -> Piece {
+    match field.tag {
         0x20 => Piece::Source(text(field)),
         0x30 => Piece::Element(element(field)),
         _ => Piece::Fragment(fragment(field)),
-    };
-    field.inner().map(piece).collect()
+    }
 }
 
 fn text(field: Field) -> String {

@@ -10,7 +10,7 @@ const TAGS: [u8; 42] = [
     0x90, 0x94, 0x95, 0xff,
 ];
 
-const BAD_TEXTS: [&[u8]; 12] = [
+pub const BAD_TEXTS: [&[u8]; 12] = [
     b"\xff",
     b"\x80",
     b"\xc0\x80",

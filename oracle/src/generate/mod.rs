@@ -36,7 +36,7 @@ pub enum Room {
 }
 
 impl Room {
-    fn bytes(self, written: usize) -> usize {
+    pub fn bytes(self, written: usize) -> usize {
         match self {
             Room::More(by) => written + by,
             Room::Exact => written,
@@ -146,7 +146,7 @@ fn scratch(rng: &mut Rng) -> usize {
     }
 }
 
-fn room(rng: &mut Rng) -> Room {
+pub fn room(rng: &mut Rng) -> Room {
     match rng.weighted(&[700, 220, 30, 20, 30]) {
         0 => Room::More(rng.below(20)),
         1 => Room::Exact,

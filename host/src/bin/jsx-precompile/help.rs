@@ -23,8 +23,10 @@ Commands:
   check      say whether pages are taken, and where not, the place and the reason
   show       print the fields of a page, of options or of an output as a tree
   preview    print an HTML page that shows source, templates and calls
+  tag        read the text of one tag and print its field, or the place and the reason
 
-FILE is a page, as bytes or in hex digits; - is standard input. docs/FORMAT.md of the repository says what a page is.
+FILE is a page, as bytes or in hex digits, and for tag a text; - is standard input. docs/FORMAT.md of the repository
+says what a page and tag text are.
 `jsx-precompile COMMAND --help` tells more of a command, --version prints the version.
 
 Results go to standard output, messages to standard error. The exit status is
@@ -107,3 +109,27 @@ Example:
   $ jsx-precompile preview examples/hall.page > hall.html
 "
 );
+
+pub const TAG: &str = "jsx-precompile tag [OPTION]... FILE
+
+Reads one element or fragment as JSX has it, with nothing around it, and prints the field that stands for it in a page;
+where the text is not read, the line, the column, the number and the reason, and the status is 1. The line end at the
+end of the file is no part of the text.
+
+Options:
+  --as KIND    tree (without it), hex, or page: a page with the tag as its one statement, in hex digits, for
+               `jsx-precompile build -`
+
+Example:
+  $ jsx-precompile tag examples/worked.tag
+       0  30 element
+       3    40 identifier \"p\"
+       7    50 attribute
+      10      40 identifier \"class\"
+      18      51 attribute string \"t\"
+      22    60 text \"Hi \"
+      28    52 container
+      31      79 other expression
+      34        20 source \"n\"
+  tag: 38 bytes, 9 fields, 4 deep
+";

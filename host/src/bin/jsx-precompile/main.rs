@@ -5,9 +5,10 @@ mod help;
 mod input;
 mod preview;
 mod show;
+mod tag;
 mod words;
 
-use input::{Failure, named, read};
+use input::{Bytes, Failure, named, read};
 use jsx_precompile::{Fault, Forms, Options, transform};
 use std::io::{ErrorKind, Write};
 use std::process::ExitCode;
@@ -51,6 +52,14 @@ fn run(command: &Command) -> u8 {
             let forms = transform(&bytes, options).map_err(|fault| refused(file, &fault))?;
             print(&preview::html(named(file), &bytes, &forms))
         }),
+        Command::Tag { file, form } => {
+            let text = read(file, Some(Bytes::Raw));
+            let printed = text.and_then(|text| {
+                tag::printed(&text, *form)
+                    .map_err(|said| Failure { said: format!("{}: {said}", named(file)), status: REFUSED })
+            });
+            printed.and_then(|text| print(&text))
+        }
     };
     status(done)
 }

@@ -27,11 +27,9 @@ fn check(input: Input, bytes: &[u8]) -> Result<(), Fault> {
 /// The tree, and why the bytes are not what they are read as; the place is marked in the tree.
 pub fn show(bytes: &[u8], input: Input, whole: bool) -> (String, Option<Fault>) {
     let mut lines = tree(bytes, whole);
-    let fields = lines.iter().filter(|line| line.is_field).count();
-    let depth = lines.iter().map(|line| line.depth).max().unwrap_or(0);
     let fault = check(input, bytes).err();
     let last = match &fault {
-        None => format!("{input}: {} bytes, {fields} fields, {depth} deep\n", bytes.len()),
+        None => counted(&input.to_string(), bytes, &lines),
         Some(fault) => {
             // Behind the last field that begins at or before the place.
             let place = lines.iter().rposition(|line| line.at <= fault.at).map_or(0, |line| line + 1);
@@ -41,11 +39,27 @@ pub fn show(bytes: &[u8], input: Input, whole: bool) -> (String, Option<Fault>) 
             String::new()
         }
     };
-    let tree = lines.iter().map(|line| {
+    (printed(&lines) + &last, fault)
+}
+
+/// The tree of a field that is none of these.
+pub fn field(name: &str, bytes: &[u8]) -> String {
+    let lines = tree(bytes, true);
+    printed(&lines) + &counted(name, bytes, &lines)
+}
+
+fn printed(lines: &[Line]) -> String {
+    let one = |line: &Line| {
         let indent = 2 * line.depth;
         format!("{:6}{:indent$}{}\n", line.at, "", line.text)
-    });
-    (tree.chain([last]).collect(), fault)
+    };
+    lines.iter().map(one).collect()
+}
+
+fn counted(name: &str, bytes: &[u8], lines: &[Line]) -> String {
+    let fields = lines.iter().filter(|line| line.is_field).count();
+    let depth = lines.iter().map(|line| line.depth).max().unwrap_or(0);
+    format!("{name}: {} bytes, {fields} fields, {depth} deep\n", bytes.len())
 }
 
 struct Line {

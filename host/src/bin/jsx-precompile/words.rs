@@ -13,6 +13,18 @@ pub enum Command {
     Check { files: Vec<String>, options: Options },
     Show { file: String, input: Option<Input>, bytes: Option<Bytes>, whole: bool },
     Preview { file: String, options: Options },
+    Tag { file: String, form: Form },
+}
+
+/// How a tag that was read is printed.
+#[derive(Clone, Copy, PartialEq, Eq)]
+pub enum Form {
+    /// Its field as a tree.
+    Tree,
+    /// Its field in hex digits.
+    Hex,
+    /// A page of one statement, the tag, in hex digits.
+    Page,
 }
 
 /// Why nothing can be done, and the command that was named.
@@ -21,8 +33,13 @@ pub struct BadCall {
     pub command: Option<&'static str>,
 }
 
-const COMMANDS: [(&str, &str); 4] =
-    [("build", help::BUILD), ("check", help::CHECK), ("show", help::SHOW), ("preview", help::PREVIEW)];
+const COMMANDS: [(&str, &str); 5] = [
+    ("build", help::BUILD),
+    ("check", help::CHECK),
+    ("show", help::SHOW),
+    ("preview", help::PREVIEW),
+    ("tag", help::TAG),
+];
 
 impl Command {
     pub fn from_words(words: &[String]) -> Result<Command, BadCall> {
@@ -62,6 +79,7 @@ struct Words {
     input: Option<Input>,
     bytes: Option<Bytes>,
     whole: bool,
+    form: Option<Form>,
 }
 
 impl Words {
@@ -77,7 +95,7 @@ impl Words {
                 }
                 _ => word,
             };
-            let transforms = command != "show";
+            let transforms = !matches!(command, "show" | "tag");
             let mut value =
                 || rest.pop_front().map(str::to_string).ok_or_else(|| format!("{word} needs a word behind it"));
             match word {
@@ -88,6 +106,7 @@ impl Words {
                 "--templates" if command == "build" => read.templates = Some(value()?),
                 "--page" if command == "build" => read.page = Some(value()?),
                 "--as" if command == "show" => read.input = Some(kind(&value()?)?),
+                "--as" if command == "tag" => read.form = Some(form(&value()?)?),
                 "--hex" if command == "show" => read.bytes = Some(Bytes::Hex),
                 "--raw" if command == "show" => read.bytes = Some(Bytes::Raw),
                 "--whole" if command == "show" => read.whole = true,
@@ -100,7 +119,7 @@ impl Words {
     }
 
     fn command(self, command: &str) -> Result<Command, String> {
-        let Words { mut files, options, templates, page, input, bytes, whole } = self;
+        let Words { mut files, options, templates, page, input, bytes, whole, form } = self;
         if command == "check" {
             return if files.is_empty() { Err("no file".to_string()) } else { Ok(Command::Check { files, options }) };
         }
@@ -112,6 +131,7 @@ impl Words {
         Ok(match (command, templates, page) {
             ("show", ..) => Command::Show { file, input, bytes, whole },
             ("preview", ..) => Command::Preview { file, options },
+            ("tag", ..) => Command::Tag { file, form: form.unwrap_or(Form::Tree) },
             (_, Some(templates), Some(page)) => Command::Build { file, options, outputs: Some((templates, page)) },
             (_, None, None) => Command::Build { file, options, outputs: None },
             _ => return Err("--templates and --page belong together".to_string()),
@@ -126,5 +146,14 @@ fn kind(word: &str) -> Result<Input, String> {
         "templates" => Input::Templates,
         "out" => Input::PageOut,
         _ => return Err(format!("--as is page, options, templates or out, not {word}")),
+    })
+}
+
+fn form(word: &str) -> Result<Form, String> {
+    Ok(match word {
+        "tree" => Form::Tree,
+        "hex" => Form::Hex,
+        "page" => Form::Page,
+        _ => return Err(format!("--as is tree, hex or page, not {word}")),
     })
 }

@@ -1,0 +1,3 @@
+<p>
+  <b>Hall <i>left</b></i>
+</p>

@@ -1,0 +1,4 @@
+<ul>
+  <li>Hall left
+  <li>Hall right</li>
+</ul>

@@ -1,0 +1,1 @@
+<p class="t">Hi {n}</p>
