@@ -31,7 +31,7 @@ unfolding tag-row bytes
 tag-behind (P.element n as′ cs) x = ap (λ (z : Bytes). z ++ bytes x) (sym (append-nil (field-bytes 0x30 (bytes (name-row n (attributes-row as′ (children-row cs)))))))
 tag-behind (P.fragment cs) x = ap (λ (z : Bytes). z ++ bytes x) (sym (append-nil (field-bytes 0x31 (bytes (children-row cs)))))
 
-one-field : (t : ℕ) (f : Bytes) (i r : Row) → bytes (field t f i r) ≡ bytes (field t f i end) ++ bytes r
+pub one-field : (t : ℕ) (f : Bytes) (i r : Row) → bytes (field t f i r) ≡ bytes (field t f i end) ++ bytes r
 unfolding bytes
 one-field t f i r = ap (λ (z : Bytes). z ++ bytes r) (sym (append-nil (field-bytes t (f ++ bytes i))))
 
@@ -133,7 +133,7 @@ unfoldable pub Plain : Name → S.Attributes → Type 0
 Plain [] ps = ps ≡ S.no-attributes
 Plain (p ∷ n) ps = Unit {0}
 
-body-of : (w : Bytes) (n : Name) (ps : S.Attributes) (ks : S.Children) → begun w n ps ++ children-bytes ks ≡ w ++ (head (tag-code n) 0 ++ (name-bytes n ++ (attributes-bytes ps ++ children-bytes ks)))
+pub body-of : (w : Bytes) (n : Name) (ps : S.Attributes) (ks : S.Children) → begun w n ps ++ children-bytes ks ≡ w ++ (head (tag-code n) 0 ++ (name-bytes n ++ (attributes-bytes ps ++ children-bytes ks)))
 unfolding begun
 body-of w n ps ks = simp append-assoc
 
@@ -141,7 +141,7 @@ bare : (ks : S.Children) → attributes-bytes S.no-attributes ++ children-bytes 
 unfolding attributes-bytes page-tag tag-row bytes
 bare ks = refl
 
-tag-field : (n : Name) (ps : S.Attributes) (ks : S.Children) (m : Name) → Plain n ps → field-bytes (tag-code n) (name-bytes n ++ (attributes-bytes ps ++ children-bytes ks)) ≡ tag-bytes (S.tag n ps ks m)
+pub tag-field : (n : Name) (ps : S.Attributes) (ks : S.Children) (m : Name) → Plain n ps → field-bytes (tag-code n) (name-bytes n ++ (attributes-bytes ps ++ children-bytes ks)) ≡ tag-bytes (S.tag n ps ks m)
 unfolding Plain tag-code name-bytes
 tag-field [] ps ks m e =
     ap (λ (z : S.Attributes). field-bytes 0x31 (attributes-bytes z ++ children-bytes ks)) e ∙
@@ -177,21 +177,21 @@ begun-more w n ps a =
 
 -- ---- each attribute and child as a field
 
-attr-name-behind : (n : A.AttrName) (x : Row) → bytes (attr-name-row n x) ≡ bytes (attr-name-row n end) ++ bytes x
+pub attr-name-behind : (n : A.AttrName) (x : Row) → bytes (attr-name-row n x) ≡ bytes (attr-name-row n end) ++ bytes x
 unfolding attr-name-row
 attr-name-behind (A.ident w) x = one-field 0x40 w end x
 attr-name-behind (A.namespaced w v) x = one-field 0x42 [] (texts-row 0x40 (w ∷ v ∷ [])) x
 
-field-alone : (t : ℕ) (i : Row) → bytes (field t [] i end) ≡ field-bytes t (bytes i)
+pub field-alone : (t : ℕ) (i : Row) → bytes (field t [] i end) ≡ field-bytes t (bytes i)
 unfolding bytes
 field-alone t i = append-nil (field-bytes t (bytes i))
 
-leaf-alone : (t : ℕ) (w : Bytes) → bytes (field t w end end) ≡ field-bytes t w
+pub leaf-alone : (t : ℕ) (w : Bytes) → bytes (field t w end end) ≡ field-bytes t w
 unfolding bytes
 leaf-alone t w = append-nil (field-bytes t (w ++ [])) ∙ ap (field-bytes t) (append-nil w)
 
 -- 50: its name, and the row of its value
-attribute-alone : (n : Name) (x : Row) → bytes (field 0x50 [] (attr-name-row (page-attr-name n) x) end) ≡ field-bytes 0x50 (attr-name-bytes n ++ bytes x)
+pub attribute-alone : (n : Name) (x : Row) → bytes (field 0x50 [] (attr-name-row (page-attr-name n) x) end) ≡ field-bytes 0x50 (attr-name-bytes n ++ bytes x)
 unfolding attr-name-bytes
 attribute-alone n x = field-alone 0x50 (attr-name-row (page-attr-name n) x) ∙ ap (field-bytes 0x50) (attr-name-behind (page-attr-name n) x)
 

@@ -1,0 +1,3 @@
+-- The laws of the pass.
+pub mod WorldLaws
+pub mod Machine

@@ -1,0 +1,3 @@
+-- What the parts of the pass promise to each other.
+pub mod Worlds
+pub mod States

@@ -1,0 +1,3 @@
+// The pass over tag text (document 02, A3): one loop with a stack of its own reads the text and writes its field, a production of the grammar a
+// turn.
+pub mod state;
