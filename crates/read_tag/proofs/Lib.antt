@@ -7,3 +7,5 @@ pub mod EntityLaws
 pub mod TrimLaws
 pub mod ShapeLaws
 pub mod NameLaws
+pub mod NameWalkLaws
+pub mod NameFieldLaws

@@ -1,26 +1,26 @@
 -- The parts of a name one by one, as the grammar and its reader have them, and what is counted of them. Main statements: `part-last`,
 -- `part-ends`, `part-parted`, `naming-first`, `naming-next`, `name-found`, `name-misfit`, `name-cut`, `name-broken`.
 -- Assumes nothing.
-use Prim.Native.Nat.{ℕ, zero, suc, _+_, _-_, _≤_, _<_}
+use Prim.Native.Nat.{ℕ, suc, _+_, _-_, _≤_, _<_}
 use mathlib.Core.Path.{_≡_, refl, sym, _∙_, ap, ap₂, subst}
 use mathlib.Core.Bool.{Bool, true, false, _&&_, _||_, not, false≢true}
-use mathlib.Core.List.{List, [], _∷_, _++_, append-nil, append-assoc}
+use mathlib.Core.List.{[], _∷_, _++_, append-assoc}
 use native.Mathlib.Omega.{arith}
 use native.Mathlib.Numerals.{add-one}
 use borrow.Author.Tests.{ne-eqb}
-use lib.Dec.{T, leb, eqb, eqb→eq, not-T}
+use lib.Dec.{T, leb, eqb}
 use lib.ListN.{length, take, drop, getD, length-append, length-drop, drop-of-length-le}
 use lib.Seq.{drop-cons, length-take-le}
 use Rattle.field.specs.Bytes.{Bytes}
 use Rattle.grammar.specs.Signs.{choose, each, letter, name-byte, separator, space, name-goes-on}
 use Rattle.grammar.specs.Syntax.{Part, part, Name, short, no-hyphen, attribute-name-fits, tag-name-fits}
 use Rattle.grammar.specs.Grammar.{Ends, Run, run-ends, run-on, Spaces, no-space, space-on, IsIdent, ident, IsParts, no-parts, one-part, IsName, is-name}
-use Rattle.grammar.specs.Reader.{For, for-tag, for-attribute, for-closing, State, in-ident, behind-ident, behind-sep, refused, fits, named, step-behind, step, no-reading, at-end, outcome}
+use Rattle.grammar.specs.Reader.{For, for-tag, for-attribute, for-closing, State, in-ident, behind-ident, behind-sep, refused, fits, named, step-behind, step, at-end, outcome}
 use Rattle.grammar.proofs.Tests.{chose, passed, not-or, letter-no-space, separator-no-space}
 use Rattle.grammar.proofs.Complete.{go, through, refused-never, skip-behind, skip-sep, name-leaves}
 use Rattle.read_tag.specs.Runs.{Ran}
 use Rattle.read_tag.specs.Shapes.{name-tag, all-short, all-plain, all-points, Separated, shape-tag}
-use Rattle.read_tag.specs.Names.{Behind, last, parted, PartAt, named-if, FoundName, Scanned}
+use Rattle.read_tag.specs.Names.{Behind, last, parted, PartAt, named-if, Scanned}
 use Rattle.read_tag.specs.declared.name.NamePart.{NamePart}
 use Rattle.read_tag.specs.declared.name.ScannedName.the-variants as F
 use Rattle.read_tag.proofs.ShapeLaws.{shape-is}
@@ -29,15 +29,15 @@ use Rattle.read_tag.proofs.ShapeLaws.{shape-is}
 abbrev pub word : Bytes → ℕ → ℕ → Bytes
 word s k e = take (e - k) (drop k s)
 
-next : (s : Bytes) (k : ℕ) → k < length s → drop k s ≡ getD s k 0 ∷ drop (k + 1) s
+pub next : (s : Bytes) (k : ℕ) → k < length s → drop k s ≡ getD s k 0 ∷ drop (k + 1) s
 next s k h = rw (add-one k) (drop-cons s k 0 h)
 
-word-next : (s : Bytes) (k e : ℕ) → k < e → e ≤ length s → word s k e ≡ getD s k 0 ∷ word s (k + 1) e
+pub word-next : (s : Bytes) (k e : ℕ) → k < e → e ≤ length s → word s k e ≡ getD s k 0 ∷ word s (k + 1) e
 word-next s k e h l =
     let m : e - k ≡ suc (e - (k + 1)) = omega arith in
     ap (λ (n : ℕ). take n (drop k s)) m ∙ ap (take (suc (e - (k + 1)))) (next s k (omega arith))
 
-word-length : (s : Bytes) (k e : ℕ) → e ≤ length s → length (word s k e) ≡ e - k
+pub word-length : (s : Bytes) (k e : ℕ) → e ≤ length s → length (word s k e) ≡ e - k
 word-length s k e h = length-take-le (e - k) (drop k s) (omega (arith, length-drop k s))
 
 -- ---- no hyphen in a part
