@@ -9,3 +9,4 @@ pub mod ShapeLaws
 pub mod NameLaws
 pub mod NameWalkLaws
 pub mod NameFieldLaws
+pub mod NameLimitLaws
