@@ -6,3 +6,7 @@ pub mod SourceLaws
 pub mod EntityLaws
 pub mod TrimLaws
 pub mod ShapeLaws
+pub mod NameLaws
+pub mod NameWalkLaws
+pub mod NameFieldLaws
+pub mod NameLimitLaws
