@@ -6,3 +6,4 @@ pub mod SourceLaws
 pub mod EntityLaws
 pub mod TrimLaws
 pub mod ShapeLaws
+pub mod TextLaws

@@ -5,3 +5,4 @@ pub mod Flags
 pub mod Sources
 pub mod Entities
 pub mod Shapes
+pub mod Texts
