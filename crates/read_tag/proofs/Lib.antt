@@ -10,3 +10,4 @@ pub mod NameLaws
 pub mod NameWalkLaws
 pub mod NameFieldLaws
 pub mod NameLimitLaws
+pub mod TextLaws

@@ -5,3 +5,4 @@ pub mod known;
 pub mod name;
 pub mod signs;
 pub mod source;
+pub mod texts;
