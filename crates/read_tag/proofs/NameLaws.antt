@@ -23,6 +23,7 @@ use Rattle.read_tag.specs.Shapes.{name-tag, all-short, all-plain, all-po
 use Rattle.read_tag.specs.Names.{Behind, last, parted, PartAt, named-if, Scanned}
 use Rattle.read_tag.specs.declared.name.NamePart.{NamePart}
 use Rattle.read_tag.specs.declared.name.ScannedName.the-variants as F
+use Rattle.read_tag.proofs.FlagLaws.{and-assoc, and-true}
 use Rattle.read_tag.proofs.ShapeLaws.{shape-is}
 
 -- the bytes from k to e
@@ -203,14 +204,6 @@ module _ (s : Bytes) (k : ℕ) (r : NamePart) (h : k < length s) (p : PartAt s k
   next-after z = let b = signed s (p .behind) z in omega (arith, b .ran .after, b .then .after)
 
 -- ---- what is counted
-
-and-assoc : (a b c : Bool) → ((a && b) && c) ≡ (a && (b && c))
-and-assoc true b c = refl
-and-assoc false b c = refl
-
-and-true : (a : Bool) → (a && true) ≡ a
-and-true true = refl
-and-true false = refl
 
 short-more : (n : Name) (d : ℕ) (w : Bytes) → all-short (n ++ (part d w ∷ [])) ≡ (all-short n && short w)
 unfolding all-short
