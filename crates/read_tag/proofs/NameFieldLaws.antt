@@ -1,25 +1,29 @@
--- The field of a name by its tag, and that of an attribute's name. Main statements: `name-one`, `name-many`, `attr-name-same`, `member-tag`.
+-- What a name's tag says: its field, that of an attribute's name, and how the reader goes on behind it. Main statements: `name-one`, `name-many`,
+-- `attr-name-same`, `member-tag`, `found-tag`, `found-attribute`, `found-member`, `found-closing`.
 -- Assumes nothing.
-use Prim.Native.Nat.{ℕ}
+use Prim.Native.Nat.{ℕ, _+_}
 use mathlib.Core.Path.{_≡_, refl, sym, _∙_, ap, subst}
 use mathlib.Core.Bool.{Bool, true, false, _&&_, _||_, not}
 use mathlib.Core.List.{List, [], _∷_, append-nil}
 use mathlib.Core.Logic.{_⊎_, inl, inr}
 use native.Mathlib.Omega.{arith}
+use borrow.Author.Tests.{eq-eqb, ne-eqb}
 use lib.Dec.{T, leb, eqb, eqb→eq}
-use lib.ListN.{length}
+use lib.ListN.{length, drop, getD}
 use Rattle.field.specs.Bytes.{Bytes, pick}
 use Rattle.field.specs.Row.{Row, end, field, field-bytes, bytes}
 use Rattle.page.specs.Page as P
 use Rattle.page.specs.Encode.{texts-row, name-row, attr-name-row}
 use Rattle.page.proofs.Verdicts.{and-both}
 use Rattle.grammar.specs.Signs.{choose}
-use Rattle.grammar.specs.Syntax.{Part, part, Name, short, no-hyphen, member-parts, attribute-name-fits, member-fits, tag-name-fits}
-use Rattle.grammar.proofs.Tests.{or-cases, or-left, at-eq}
+use Rattle.grammar.specs.Syntax.{Part, part, Name, short, no-hyphen, member-parts, attribute-name-fits, member-fits, tag-name-fits, Attributes, no-attributes, Children}
+use Rattle.grammar.specs.Reader.{Stack, For, for-tag, for-attribute, for-closing, State, in-ident, in-tag, attribute-named, close-named, refused, fits, named, no-reading, outcome}
+use Rattle.grammar.proofs.Tests.{chose, passed, or-cases, or-left, at-eq}
+use Rattle.grammar.proofs.Complete.{refused-never}
 use Rattle.tag.specs.PageTag.{idents, page-name, page-attr-name}
 use Rattle.read_tag.specs.Progress.{name-bytes, attr-name-bytes}
 use Rattle.read_tag.specs.Shapes.{name-tag}
-use Rattle.read_tag.specs.Names.{parts-bytes}
+use Rattle.read_tag.specs.Names.{named-if, FoundName, parts-bytes}
 
 -- ---- which names have a colon
 
@@ -121,3 +125,35 @@ member-tag (part d w ∷ part e v ∷ q ∷ qs) f = on (eqb e 58) refl
     on : (b : Bool) → eqb e 58 ≡ b → false ≡ not (eqb (choose b 0x42 0x41) 0x41)
     on true h = absurd (colon-last d e w v q qs h f)
     on false h = refl
+
+-- ---- how the reader goes on behind a name that was found
+
+module _ (s : Bytes) (i tag e : ℕ) (f : FoundName s i tag e) where
+  pub found-tag : (K : Stack) → outcome (in-ident [] 0 (getD s i 0 ∷ []) (for-tag K)) (drop (i + 1) s) ≡ outcome (in-tag (f .name) no-attributes K) (drop e s)
+  unfolding named-if fits named
+  found-tag K = f .leads (for-tag K) ∙ ap (λ (z : State). outcome z (drop e s)) (chose (tag-name-fits (f .name)) (in-tag (f .name) no-attributes K) refused (f .fits-tag))
+
+  pub found-closing : (n : Name) (ps : Attributes) (ks : Children) (K : Stack) → outcome (in-ident [] 0 (getD s i 0 ∷ []) (for-closing n ps ks K)) (drop (i + 1) s) ≡ outcome (close-named (f .name) n ps ks K) (drop e s)
+  unfolding named-if fits named
+  found-closing n ps ks K =
+      f .leads (for-closing n ps ks K) ∙ ap (λ (z : State). outcome z (drop e s)) (chose (tag-name-fits (f .name)) (close-named (f .name) n ps ks K) refused (f .fits-tag))
+
+  -- a 40 or a 42 may name an attribute, a 41 may not
+  fits-by-tag : (b : Bool) → eqb tag 0x41 ≡ b → attribute-name-fits (f .name) ≡ not b
+  fits-by-tag b h = member-tag (f .name) (f .fits-tag) ∙ ap (λ (t : ℕ). not (eqb t 0x41)) (sym (f .tag-is)) ∙ ap not h
+
+  pub found-fits : (tag ≡ 0x41 → ⊥) → T (attribute-name-fits (f .name))
+  found-fits z = subst T (sym (fits-by-tag false (ne-eqb tag 0x41 z))) tt
+
+  pub found-attribute : (tag ≡ 0x41 → ⊥) → (n : Name) (ps : Attributes) (K : Stack) → outcome (in-ident [] 0 (getD s i 0 ∷ []) (for-attribute n ps K)) (drop (i + 1) s) ≡ outcome (attribute-named (f .name) n ps K) (drop e s)
+  unfolding named-if fits named
+  found-attribute z n ps K =
+      f .leads (for-attribute n ps K) ∙ ap (λ (y : State). outcome y (drop e s)) (chose (attribute-name-fits (f .name)) (attribute-named (f .name) n ps K) refused (found-fits z))
+
+  pub found-member : tag ≡ 0x41 → (n : Name) (ps : Attributes) (K : Stack) → outcome (in-ident [] 0 (getD s i 0 ∷ []) (for-attribute n ps K)) (drop (i + 1) s) ≡ no-reading
+  unfolding named-if fits named
+  found-member z n ps K =
+      let h : T (not (attribute-name-fits (f .name))) = subst (λ (b : Bool). T (not b)) (sym (fits-by-tag true (eq-eqb tag 0x41 z))) tt in
+      f .leads (for-attribute n ps K) ∙
+      ap (λ (y : State). outcome y (drop e s)) (passed (attribute-name-fits (f .name)) (attribute-named (f .name) n ps K) refused h) ∙
+      refused-never (drop e s)

@@ -1,5 +1,5 @@
 -- The parts of a name one by one, as the grammar and its reader have them, and what is counted of them. Main statements: `part-last`,
--- `part-ends`, `part-parted`, `naming-first`, `naming-next`, `name-found`, `name-misfit`, `name-cut`, `name-broken`.
+-- `part-ends`, `part-parted`, `naming-first`, `naming-next`, `name-found`, `name-misfit`, `name-cut`, `name-broken`, `ident-found`, `ident-long`.
 -- Assumes nothing.
 use Prim.Native.Nat.{ℕ, suc, _+_, _-_, _≤_, _<_}
 use mathlib.Core.Path.{_≡_, refl, sym, _∙_, ap, ap₂, subst}
@@ -7,7 +7,7 @@ use mathlib.Core.Bool.{Bool, true, false, _&&_, _||_, not, false≢true}
 use mathlib.Core.List.{[], _∷_, _++_, append-assoc}
 use native.Mathlib.Omega.{arith}
 use native.Mathlib.Numerals.{add-one}
-use borrow.Author.Tests.{ne-eqb}
+use borrow.Author.Tests.{ne-eqb, le-leb, lt-leb}
 use lib.Dec.{T, leb, eqb}
 use lib.ListN.{length, take, drop, getD, length-append, length-drop, drop-of-length-le}
 use lib.Seq.{drop-cons, length-take-le}
@@ -23,7 +23,8 @@ use Rattle.read_tag.specs.Shapes.{name-tag, all-short, all-plain, all-po
 use Rattle.read_tag.specs.Names.{Behind, last, parted, PartAt, named-if, Scanned}
 use Rattle.read_tag.specs.declared.name.NamePart.{NamePart}
 use Rattle.read_tag.specs.declared.name.ScannedName.the-variants as F
-use Rattle.read_tag.proofs.ShapeLaws.{shape-is}
+use Rattle.read_tag.proofs.FlagLaws.{and-assoc, and-true}
+use Rattle.read_tag.proofs.ShapeLaws.{shape-is, shape-long, shape-one}
 
 -- the bytes from k to e
 abbrev pub word : Bytes → ℕ → ℕ → Bytes
@@ -203,14 +204,6 @@ module _ (s : Bytes) (k : ℕ) (r : NamePart) (h : k < length s) (p : PartAt s k
   next-after z = let b = signed s (p .behind) z in omega (arith, b .ran .after, b .then .after)
 
 -- ---- what is counted
-
-and-assoc : (a b c : Bool) → ((a && b) && c) ≡ (a && (b && c))
-and-assoc true b c = refl
-and-assoc false b c = refl
-
-and-true : (a : Bool) → (a && true) ≡ a
-and-true true = refl
-and-true false = refl
 
 short-more : (n : Name) (d : ℕ) (w : Bytes) → all-short (n ++ (part d w ∷ [])) ≡ (all-short n && short w)
 unfolding all-short
@@ -436,3 +429,16 @@ module _ (s : Bytes) (i : ℕ) where
         ap (outcome (behind-sep m (r .sep) x)) (next s (r .next) l) ∙
         go (behind-sep m (r .sep) x) refused d (drop (r .next + 1) s) (no-part m (r .sep) x d v (no t (letter d) e g)) ∙
         refused-never (drop (r .next + 1) s)
+
+  -- ---- one identifier alone
+
+  module _ (h : i < length s) (t : letter (getD s i 0) ≡ true) (r : NamePart) (p : PartAt s i r) (z : r .sep ≡ 0) where
+    pub ident-found : r .end - i ≤ 128 → Scanned s i (F.Found 0x40 (r .next))
+    ident-found l =
+        name-found i 1 true true true (no-hyphen (word s i (r .end))) r (naming-first h t) p refl z 0x40
+        (shape-one 1 (leb (r .end - i) 128) (no-hyphen (word s i (r .end))) true (ap not (le-leb (r .end - i) 128 l)) refl) (λ e. omega arith)
+
+    pub ident-long : 128 < r .end - i → Scanned s i F.Nothing
+    ident-long l =
+        name-misfit i 1 true true true (no-hyphen (word s i (r .end))) r (naming-first h t) p refl z 0
+        (shape-long 1 (leb (r .end - i) 128) (no-hyphen (word s i (r .end))) true (ap not (lt-leb (r .end - i) 128 l))) refl

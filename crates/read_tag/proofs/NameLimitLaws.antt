@@ -1,7 +1,8 @@
--- The limits of a name's field: how deep it goes, and that no body in it is long, since it has at most eight parts of at most 128 bytes.
--- Main statements: `shallow-name`, `shallow-attr-name`, `long-name`, `long-attr-name`, and of each the same in front of other fields.
+-- The limits of a name's field: how deep it goes; that no body in it is long, since it has at most eight parts of at most 128 bytes; and its
+-- length by that of the name's text. Main statements: `shallow-name`, `shallow-attr-name`, `long-name`, `long-attr-name`, and of each the same
+-- in front of other fields; `name-room`.
 -- Assumes nothing.
-use Prim.Native.Nat.{ℕ, suc, _+_, _*_, _≤_}
+use Prim.Native.Nat.{ℕ, suc, _+_, _-_, _*_, _≤_}
 use mathlib.Core.Path.{_≡_, refl, sym, _∙_, ap, ap₂, subst}
 use mathlib.Core.Bool.{Bool, true, false, _&&_, _||_}
 use mathlib.Core.List.{List, [], _∷_, _++_}
@@ -10,7 +11,7 @@ use native.Mathlib.Omega.{arith}
 use native.Mathlib.Numerals.{add-one}
 use borrow.Author.Tests.{le-leb, le-ltb}
 use lib.Dec.{T, leb, ltb, eqb, leb→le}
-use lib.ListN.{length, length-append}
+use lib.ListN.{length, drop, length-append, length-drop}
 use Rattle.field.specs.Bytes.{Bytes, pick}
 use Rattle.field.specs.Row.{Row, end, field, field-bytes, bytes, long-body}
 use Rattle.field.proofs.PutLaws.{length-field-bytes}
@@ -19,18 +20,19 @@ use Rattle.page.specs.Encode.{texts-row, name-row, attr-name-row}
 use Rattle.page.proofs.Verdicts.{and-both, both-and}
 use Rattle.grammar.specs.Signs.{choose}
 use Rattle.grammar.specs.Syntax.{part, Name, short, no-hyphen, member-parts, attribute-name-fits, member-fits, tag-name-fits}
+use Rattle.grammar.specs.Grammar.{Spaces, no-space, space-on, IsIdent, ident, IsParts, no-parts, one-part, IsName, is-name}
 use Rattle.grammar.proofs.Tests.{or-cases}
+use Rattle.grammar.proofs.Letters.{run-is}
 use Rattle.tag.specs.PageTag.{idents, page-name, page-attr-name}
 use Rattle.tag.specs.TagAnswer.{shallow}
 use Rattle.read_tag.specs.Shapes.{name-tag, all-short}
-use Rattle.read_tag.specs.Names.{name-depth}
-use Rattle.read_tag.proofs.NameFieldLaws.{colon-last, tag-fits, attr-row-same}
+use Rattle.read_tag.specs.Progress.{name-bytes}
+use Rattle.read_tag.specs.Names.{FoundName, parts-bytes, name-depth}
+use Rattle.read_tag.proofs.FlagLaws.{and-true}
+use Rattle.read_tag.proofs.NameWalkLaws.{parts-bytes-none, parts-bytes-first}
+use Rattle.read_tag.proofs.NameFieldLaws.{name-one, name-many, colon-last, tag-fits, attr-row-same}
 
 -- ---- depth
-
-and-true : (a : Bool) → (a && true) ≡ a
-and-true true = refl
-and-true false = refl
 
 and-same : (a : Bool) → (a && a) ≡ a
 and-same true = refl
@@ -165,3 +167,37 @@ long-attr-name-then n x f = ap long-body (attr-row-same n f x) ∙ long-name-the
 
 pub long-attr-name : (n : Name) → T (attribute-name-fits n) → long-body (attr-name-row (page-attr-name n) end) ≡ false
 long-attr-name n f = ap long-body (attr-row-same n f end) ∙ long-name n (tag-fits n f)
+
+-- ---- the room that a name's field takes
+
+ident-length : {s w r : Bytes} → IsIdent s w r → (length s ≡ length w + length r) × (1 ≤ length w)
+ident-length (ident {w = w} {r} t q) = (omega (arith, ap length (run-is q), length-append w r), omega arith)
+
+spaces-length : {s r : Bytes} → Spaces s r → length r ≤ length s
+spaces-length no-space = omega arith
+spaces-length (space-on t p) = let h = spaces-length p in omega arith
+
+-- a 40 has at most four bytes for each of its own, and a further part has a sign besides
+parts-room : {s r : Bytes} {ps : Name} → IsParts s ps r → length (parts-bytes ps) + (4 * length ps + 4 * length r) ≤ 4 * length s
+parts-room {s} {r} (no-parts p e) = omega (arith, ap length parts-bytes-none, spaces-length p)
+parts-room {s} {r} (one-part {w = w} {d = d} {ps} p t q i k) =
+    let x = ident-length i in
+    omega (arith, parts-room k, x .0, x .1, spaces-length p, spaces-length q, ap length (parts-bytes-first d w ps), length-append (field-bytes 0x40 w) (parts-bytes ps), length-field-bytes 0x40 w)
+
+whole-room : {s r : Bytes} {n : Name} → IsName s n r → T (tag-name-fits n) → length (name-bytes n) + 4 * length r ≤ 4 * length s
+unfolding name-tag choose
+whole-room (is-name {w = w} {ps = []} i k) f =
+    let n : Name = part 0 w ∷ [] in
+    let x = ident-length i in
+    omega (arith, parts-room k, x .0, x .1, ap length (name-one n 0x40 f refl refl), ap length (parts-bytes-first 0 w []), length-append (field-bytes 0x40 w) (parts-bytes []), length-field-bytes 0x40 w)
+whole-room (is-name {w = w} {ps = part e v ∷ ps} i k) f =
+    let n : Name = part 0 w ∷ part e v ∷ ps in
+    let x = ident-length i in
+    omega (arith, parts-room k, x .0, x .1, ap length (name-many n (name-tag n) f refl (other (eqb e 58))), length-field-bytes (name-tag n) (parts-bytes n), ap length (parts-bytes-first 0 w (part e v ∷ ps)), length-append (field-bytes 0x40 w) (parts-bytes (part e v ∷ ps)), length-field-bytes 0x40 w)
+  where
+    other : (b : Bool) → _≡_ {A = ℕ} (choose b 0x42 0x41) 0x40 → ⊥
+    other true z = omega arith
+    other false z = omega arith
+
+pub name-room : (s : Bytes) (i tag e : ℕ) (f : FoundName s i tag e) → length (name-bytes (f .name)) ≤ 4 * (e - i)
+name-room s i tag e f = omega (arith, whole-room (f .is) (f .fits-tag), length-drop i s, length-drop e s, f .after, f .inside)

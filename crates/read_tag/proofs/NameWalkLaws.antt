@@ -19,7 +19,7 @@ use Rattle.grammar.specs.Syntax.{part, Name, same-name}
 use Rattle.grammar.specs.Grammar.{Ends, Run, run-ends, run-on, Spaces, no-space, space-on, IsIdent, ident, IsParts, no-parts, one-part, IsName, is-name}
 use Rattle.grammar.proofs.Tests.{clash, not-or, or-right, letter-no-space, separator-no-space}
 use Rattle.tag.specs.PageTag.{idents}
-use Rattle.read_tag.specs.Names.{PartAt, NameAt, parts-bytes, PartsPut, NamesCompared}
+use Rattle.read_tag.specs.Names.{PartAt, NameAt, FoundName, parts-bytes, PartsPut, NamesCompared}
 use Rattle.read_tag.specs.declared.name.NamePart.{NamePart}
 use Rattle.read_tag.proofs.NameLaws.{word, next, word-next, word-length, unsigned, signed, part-after, next-after}
 
@@ -116,6 +116,9 @@ ident-inside s k u = on (leb (length s) k) refl
 pub left-inside : (s : Bytes) (k d : ℕ) {n : Name} → Left s k d n → k < length s
 left-inside s k d l = ident-inside s k (l .stands)
 
+pub found-at : {s : Bytes} {i tag e : ℕ} → FoundName s i tag e → NameAt s i
+found-at {s} {e = e} f = record { name = f .name; rest = drop e s; is = f .is }
+
 pub name-inside : (s : Bytes) (i : ℕ) → NameAt s i → i < length s
 name-inside s i a = left-inside s i 0 (left-first s i (a .is))
 
@@ -158,6 +161,10 @@ ident-bytes w ws = ap (λ (x : Bytes). field-bytes 0x40 x ++ bytes (texts-row 0x
 pub parts-bytes-none : parts-bytes [] ≡ []
 unfolding parts-bytes idents texts-row bytes
 parts-bytes-none = refl
+
+pub parts-bytes-first : (d : ℕ) (w : Bytes) (n : Name) → parts-bytes (part d w ∷ n) ≡ field-bytes 0x40 w ++ parts-bytes n
+unfolding parts-bytes idents
+parts-bytes-first d w n = ident-bytes w (idents n)
 
 parts-bytes-more : (n : Name) (d : ℕ) (w : Bytes) → parts-bytes (n ++ (part d w ∷ [])) ≡ parts-bytes n ++ field-bytes 0x40 w
 unfolding parts-bytes idents

@@ -110,8 +110,8 @@ pub fn shape_of(parts: usize, short: bool, plain: bool, points: bool) -> u8
     0
 }
 
-// The name whose first letter stands at i.
-pub fn scan_name(text: &[u8], i: usize) -> ScannedName
+// The name whose first letter stands at i, part by part.
+fn scan_parts(text: &[u8], i: usize) -> ScannedName
     requires { ⌜ (i < length (now text)) × (letter (getD (now text) i 0) ≡ true) ⌝ }
     ensures { λ r. ⌜ Scanned (now (text .entry)) i r ⌝ }
 {
@@ -146,6 +146,23 @@ pub fn scan_name(text: &[u8], i: usize) -> ScannedName
     }
 }
 
+// The same. Most names are one identifier, in which hyphens need not be looked for.
+pub fn scan_name(text: &[u8], i: usize) -> ScannedName
+    requires { ⌜ (i < length (now text)) × (letter (getD (now text) i 0) ≡ true) ⌝ }
+    ensures { λ r. ⌜ Scanned (now (text .entry)) i r ⌝ }
+{
+    let p = part_at(text, i);
+    let e = p.end;
+    let n = p.next;
+    if p.sep != 0 {
+        return scan_parts(text, i);
+    }
+    if MAX_NAME < e - i {
+        return ScannedName::Nothing;
+    }
+    ScannedName::Found { tag: 0x40, end: n }
+}
+
 // A 40.
 fn put_ident(out: &mut [u8], at: usize, w: &[u8]) -> usize
     requires { ⌜ at + (length (now w) + 3) < 2 ^ 63 ⌝ }
@@ -155,7 +172,7 @@ fn put_ident(out: &mut [u8], at: usize, w: &[u8]) -> usize
     put_bytes(out, b, w)
 }
 
-// A 40 for each part of the name at i. A part of n bytes takes n + 3, and the text has a sign behind it or ends.
+// A 40 for each part of the name at i. A part of n bytes takes n + 3, so at most four for each byte of the text.
 fn put_parts(text: &[u8], i: usize, out: &mut [u8], at: usize) -> usize
     requires { ⌜ NameAt (now text) i × (at + 4 * length (now text) < 2 ^ 63) ⌝ }
     ensures { λ r. ⌜ PartsPut (now (text .entry)) i (now (out .entry)) at (now (out .exit)) r ⌝ }

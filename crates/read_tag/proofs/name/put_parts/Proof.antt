@@ -42,7 +42,9 @@ same-length : tie.Need-same-length Inv-loop μ-loop
 same-length c = wrote-length (c .before .before .before .put-ident .ensures) ∙ c .before .before .before .before .before .before .before .loop .inv .kept
 
 returns : tie.Need-returns Inv-loop μ-loop
-returns c = parts-put _ _ _ _ (c .before .before .before .before .before .before .before .before .before .before .pre .0) _ _ _ _ _ _ (c .before .before .before .before .before .before .before .loop .inv) (c .before .before .before .before .before .before .part-at .ensures) (c .before .before .before .put-ident .ensures) (c .if1 .taken)
+returns c =
+    let put = c .before .before .before in
+    parts-put _ _ _ _ (put .before .before .before .before .before .before .before .pre .0) _ _ _ _ _ _ (put .before .before .before .before .loop .inv) (put .before .before .before .part-at .ensures) (put .put-ident .ensures) (c .if1 .taken)
 
 loop-less : tie.Need-loop-less Inv-loop μ-loop
 loop-less c =
@@ -51,7 +53,9 @@ loop-less c =
     omega (arith, loop .inv .inside, part-after _ _ _ (loop .inv .inside) (part .ensures), next-after _ _ _ (loop .inv .inside) (part .ensures) (c .if1 .left))
 
 loop-again : tie.Need-loop-again Inv-loop μ-loop
-loop-again c = putting-more _ _ _ _ (c .before .before .before .before .before .before .before .before .before .before .pre .0) _ _ _ _ _ _ (c .before .before .before .before .before .before .before .loop .inv) (c .before .before .before .before .before .before .part-at .ensures) (c .before .before .before .put-ident .ensures) (c .if1 .left)
+loop-again c =
+    let put = c .before .before .before in
+    putting-more _ _ _ _ (put .before .before .before .before .before .before .before .pre .0) _ _ _ _ _ _ (put .before .before .before .before .loop .inv) (put .before .before .before .part-at .ensures) (put .put-ident .ensures) (c .if1 .left)
 
 pub put-parts-spec : {M : Type 1} → statement M
 put-parts-spec =

@@ -45,13 +45,22 @@ same-bytes-requires : tie.Need-same-bytes-requires Inv-loop μ-loop
 same-bytes-requires c κs = search needs
 
 returns : tie.Need-returns Inv-loop μ-loop
-returns c = words-differ _ _ _ (c .before .before .before .before .before .before .before .before .pre .0) (c .before .before .before .before .before .before .before .before .pre .1) _ _ _ _ (c .before .before .before .before .before .before .loop .inv) (c .before .before .before .before .before .part-at .ensures) (c .before .before .before .before .part-at2 .ensures) _ (c .before .same-bytes .ensures) (c .if1 .taken)
+returns c =
+    let after = c .before in
+    let pre = after .before .before .before .before .before .before .before .pre in
+    words-differ _ _ _ (pre .0) (pre .1) _ _ _ _ (after .before .before .before .before .before .loop .inv) (after .before .before .before .before .part-at .ensures) (after .before .before .before .part-at2 .ensures) _ (after .same-bytes .ensures) (c .if1 .taken)
 
 returns-2 : tie.Need-returns-2 Inv-loop μ-loop
-returns-2 c = signs-differ _ _ _ (c .before .before .before .before .before .before .before .before .before .before .pre .0) (c .before .before .before .before .before .before .before .before .before .before .pre .1) _ _ _ _ (c .before .before .before .before .before .before .before .before .loop .inv) (c .before .before .before .before .before .before .before .part-at .ensures) (c .before .before .before .before .before .before .part-at2 .ensures) _ (c .before .before .before .same-bytes .ensures) (c .before .before .if1 .left) (c .if2 .taken)
+returns-2 c =
+    let after = c .before .before .before in
+    let pre = after .before .before .before .before .before .before .before .pre in
+    signs-differ _ _ _ (pre .0) (pre .1) _ _ _ _ (after .before .before .before .before .before .loop .inv) (after .before .before .before .before .part-at .ensures) (after .before .before .before .part-at2 .ensures) _ (after .same-bytes .ensures) (c .before .before .if1 .left) (c .if2 .taken)
 
 returns-3 : tie.Need-returns-3 Inv-loop μ-loop
-returns-3 c = names-same _ _ _ (c .before .before .before .before .before .before .before .before .before .before .before .pre .0) (c .before .before .before .before .before .before .before .before .before .before .before .pre .1) _ _ _ _ (c .before .before .before .before .before .before .before .before .before .loop .inv) (c .before .before .before .before .before .before .before .before .part-at .ensures) (c .before .before .before .before .before .before .before .part-at2 .ensures) _ (c .before .before .before .before .same-bytes .ensures) (c .before .before .before .if1 .left) (c .before .if2 .left) (c .if3 .taken)
+returns-3 c =
+    let after = c .before .before .before .before in
+    let pre = after .before .before .before .before .before .before .before .pre in
+    names-same _ _ _ (pre .0) (pre .1) _ _ _ _ (after .before .before .before .before .before .loop .inv) (after .before .before .before .before .part-at .ensures) (after .before .before .before .part-at2 .ensures) _ (after .same-bytes .ensures) (c .before .before .before .if1 .left) (c .before .if2 .left) (c .if3 .taken)
 
 loop-less : tie.Need-loop-less Inv-loop μ-loop
 loop-less c =
@@ -60,7 +69,10 @@ loop-less c =
     omega (arith, loop .inv .inside-a, part-after _ _ _ (loop .inv .inside-a) (part .ensures), next-after _ _ _ (loop .inv .inside-a) (part .ensures) (c .if3 .left))
 
 loop-again : tie.Need-loop-again Inv-loop μ-loop
-loop-again c = comparing-more _ _ _ (c .before .before .before .before .before .before .before .before .before .before .before .pre .0) (c .before .before .before .before .before .before .before .before .before .before .before .pre .1) _ _ _ _ (c .before .before .before .before .before .before .before .before .before .loop .inv) (c .before .before .before .before .before .before .before .before .part-at .ensures) (c .before .before .before .before .before .before .before .part-at2 .ensures) _ (c .before .before .before .before .same-bytes .ensures) (c .before .before .before .if1 .left) (c .before .if2 .left) (c .if3 .left)
+loop-again c =
+    let after = c .before .before .before .before in
+    let pre = after .before .before .before .before .before .before .before .pre in
+    comparing-more _ _ _ (pre .0) (pre .1) _ _ _ _ (after .before .before .before .before .before .loop .inv) (after .before .before .before .before .part-at .ensures) (after .before .before .before .part-at2 .ensures) _ (after .same-bytes .ensures) (c .before .before .before .if1 .left) (c .before .if2 .left) (c .if3 .left)
 
 pub same-names-spec : {M : Type 1} → statement M
 same-names-spec =
