@@ -7,3 +7,7 @@ pub mod EntityLaws
 pub mod TrimLaws
 pub mod ShapeLaws
 pub mod TextLaws
+pub mod KnownLaws
+pub mod HeldLaws
+pub mod DigitLaws
+pub mod ChoiceLaws

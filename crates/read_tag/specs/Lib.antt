@@ -6,3 +6,4 @@ pub mod Sources
 pub mod Entities
 pub mod Shapes
 pub mod Texts
+pub mod Knowns
