@@ -3,21 +3,21 @@
 use Prim.Native.Nat.{ℕ, _+_, _-_, _≤_, _<_}
 use mathlib.Core.Path.{_≡_, refl, sym, _∙_, ap, ap₂, subst}
 use mathlib.Core.Bool.{Bool, true, false, _&&_, _||_, not}
-use mathlib.Core.List.{List, [], _∷_, _++_}
+use mathlib.Core.List.{[], _∷_, _++_}
 use native.Mathlib.Omega.{arith}
 use lib.Dec.{T, ltb, eqb}
 use lib.ListN.{length, take, drop, getD, length-drop, drop-of-length-le}
 use lib.Seq.{take-all}
 use Rattle.field.specs.Bytes.{Bytes, ascii, same}
 use Rattle.grammar.specs.Signs.{choose, some-byte, digit}
-use Rattle.grammar.specs.Known.{Known, whole, minus-whole, decimal, minus-decimal, quoted, boolean, null, other, Found, none, some, trimmed-end, value-from, is-whole, is-decimal, before-point, after-point, number-of, unsigned, has-minus, trimmed-front, string-of, digit-or-point, of-a-number, not-read, rest-of, or-else, known-trimmed, known-of}
+use Rattle.grammar.specs.Known.{Known, whole, minus-whole, decimal, minus-decimal, quoted, boolean, null, other, Found, none, some, value-from, is-whole, is-decimal, before-point, after-point, number-of, unsigned, has-minus, trimmed-front, string-of, digit-or-point, of-a-number, not-read, rest-of, or-else, known-trimmed, known-of}
 use Rattle.grammar.proofs.Tests.{chose, passed}
 use Rattle.read_tag.specs.Sources.{Trimmed}
-use Rattle.read_tag.specs.Knowns.{Capped, Numbered, Unsigned, signed-whole, signed-decimal, Quoted, barred, unquoted, Holding, Holds, HeldWhole, HeldDecimal}
+use Rattle.read_tag.specs.Knowns.{Numbered, Unsigned, signed-whole, signed-decimal, Quoted, barred, unquoted, Holding, Holds, HeldWhole, HeldDecimal}
 use Rattle.read_tag.specs.declared.known.Held.{Held}
 use Rattle.read_tag.specs.declared.known.Numeral.{Numeral}
 use Rattle.read_tag.specs.declared.known.Numeral.the-variants as N
-use Rattle.read_tag.proofs.KnownLaws.{next}
+use Rattle.read_tag.proofs.TextLaws.{next}
 
 yes : (b : Bool) → b ≡ true → T b
 yes b e = subst T (sym e) tt

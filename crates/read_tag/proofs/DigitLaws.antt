@@ -1,13 +1,13 @@
 -- Digits counted one by one, and what they make: a whole number, a decimal, or none. Main statements: `counting-on`, `counting-more`,
 -- `counting-stops`, `number-whole`, `number-decimal` and those beside them. Assumes nothing.
-use Prim.Native.Nat.{ℕ, zero, suc, _+_, _-_, _*_, _^_, _≤_, _<_}
+use Prim.Native.Nat.{ℕ, _+_, _-_, _*_, _^_, _≤_, _<_}
 use mathlib.Core.Path.{_≡_, refl, sym, _∙_, ap, ap₂, subst}
-use mathlib.Core.Bool.{Bool, true, false, _&&_, not, false≢true}
-use mathlib.Core.List.{List, [], _∷_, _++_, append-nil}
+use mathlib.Core.Bool.{Bool, true, false, _&&_, not, false≢true, and-false}
+use mathlib.Core.List.{[], _∷_, _++_, append-nil}
 use native.Mathlib.Omega.{arith}
 use borrow.Author.Tests.{leb-true, leb-false, lt-ltb, ltb-true, eq-eqb, eqb-true, not-false}
 use lib.Dec.{T, leb, ltb, eqb, eqb→eq, not-T}
-use lib.ListN.{length, take, drop, getD, length-append, length-drop, drop-of-length-le}
+use lib.ListN.{length, take, drop, getD, length-drop, drop-of-length-le}
 use lib.Seq.{take-all, length-take-le, getD-take}
 use Rattle.field.specs.Bytes.{Bytes}
 use Rattle.grammar.specs.Signs.{choose, each, digit}
@@ -15,12 +15,12 @@ use Rattle.grammar.specs.Known.{value-from, is-whole, is-decimal, before-point,
 use Rattle.grammar.specs.Grammar.{Ends, Run, run-ends, run-on}
 use Rattle.grammar.proofs.Tests.{passed, at-eq}
 use Rattle.grammar.proofs.Letters.{run-is}
-use Rattle.read_tag.specs.Runs.{Ran}
 use Rattle.read_tag.specs.Knowns.{Capped, Counted, Numbered}
 use Rattle.read_tag.specs.declared.known.Digits.{Digits}
 use Rattle.read_tag.specs.declared.known.Numeral.the-variants as N
 use Rattle.read_tag.proofs.RunLaws.{Running, running-none, tested-on, tested-stops, ran-out}
-use Rattle.read_tag.proofs.KnownLaws.{next, take-more}
+use Rattle.read_tag.proofs.TextLaws.{next, run-end}
+use Rattle.read_tag.proofs.KnownLaws.{take-more}
 
 -- ---- values
 
@@ -120,10 +120,6 @@ is-false : (b : Bool) → T (not b) → b ≡ false
 is-false true t = absurd t
 is-false false t = refl
 
-never : (a : Bool) → (a && false) ≡ false
-never true = refl
-never false = refl
-
 digit-no-point : (c : ℕ) → T (digit c) → T (not (eqb c 46))
 unfolding digit
 digit-no-point c t = not-T (eqb c 46) (λ u. at-eq (λ (d : ℕ). T (digit d) → ⊥) c 46 u (λ x. x) t)
@@ -143,10 +139,6 @@ unfolding after-point
 after-front (run-ends e) = refl
 after-front (run-on {c} {s} t q) = passed (eqb c 46) s (after-point s) (digit-no-point c t) ∙ after-front q
 
-run-end : {s a r : Bytes} → Run digit s a r → Ends digit r
-run-end (run-ends e) = e
-run-end (run-on t q) = run-end q
-
 -- ---- what is no whole number, and what is
 
 other-each : (c : ℕ) (r : Bytes) → T (not (digit c)) → each digit (c ∷ r) ≡ false
@@ -161,7 +153,7 @@ whole-each (c ∷ []) e = on (digit c) e
     on : (b : Bool) → (b && true) ≡ false → b ≡ false
     on true f = f
     on false f = refl
-whole-each (c ∷ d ∷ w) e = ap (λ (b : Bool). not (eqb c 48) && b) e ∙ never (not (eqb c 48))
+whole-each (c ∷ d ∷ w) e = ap (λ (b : Bool). not (eqb c 48) && b) e ∙ and-false (not (eqb c 48))
 
 no-decimal : (w : Bytes) → is-whole (before-point w) ≡ false → is-decimal w ≡ false
 unfolding is-decimal
@@ -320,7 +312,7 @@ module _ (s : Bytes) (a : Digits) (u : Counted s 0 0 a) where
               let nx : drop (d .end) s ≡ getD s (d .end) 0 ∷ drop (d .end + 1) s = next s (d .end) h in
               let t : T (not (digit (getD s (d .end) 0))) = subst (Ends digit) nx (run-end (v .ran .run)) in
               let e : each digit rest ≡ false = each-rest (getD s (d .end) 0 ∷ drop (d .end + 1) s) nx ∙ other-each (getD s (d .end) 0) (drop (d .end + 1) s) t in
-              (no-whole, decimal-is ∙ all-three (is-whole front) (not (is-empty-text rest)) (each digit rest) (ap (λ (b : Bool). not (is-empty-text rest) && b) e ∙ never (not (is-empty-text rest))))
+              (no-whole, decimal-is ∙ all-three (is-whole front) (not (is-empty-text rest)) (each digit rest) (ap (λ (b : Bool). not (is-empty-text rest) && b) e ∙ and-false (not (is-empty-text rest))))
 
           rest-length : length rest ≡ length s - (a .end + 1)
           unfolding rest

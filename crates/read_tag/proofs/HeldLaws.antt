@@ -1,33 +1,30 @@
 -- What is known becomes one field, or a 79 and its 20: its place, its depth and its bytes. Main statements: `held-boolean`, `held-null`,
 -- `held-quoted`, `held-other`, `held-whole`, `held-decimal`. Assumes nothing.
-use Prim.Native.Nat.{ℕ, zero, suc, _+_, _-_, _*_, _%_, _≤_, _<_}
+use Prim.Native.Nat.{ℕ, suc, _+_, _%_, _≤_, _<_}
 use mathlib.Core.Path.{_≡_, refl, sym, _∙_, ap, ap₂, subst}
-use mathlib.Core.Bool.{Bool, true, false, _&&_, _||_, not}
-use mathlib.Core.List.{List, [], _∷_, _++_, append-nil}
+use mathlib.Core.Bool.{Bool, true, false, _&&_, _||_, and-true, and-false}
+use mathlib.Core.List.{[], _∷_, _++_, append-nil}
 use native.Mathlib.Omega.{arith}
 use native.Mathlib.Nat.{add-zero}
 use native.Mathlib.Numerals.{add-one}
 use borrow.Author.Tests.{leb-true, leb-false, le-leb, lt-leb, le-ltb}
-use lib.Dec.{leb, ltb}
+use lib.Dec.{leb}
 use lib.ListN.{length, length-append}
 use Rattle.field.specs.Bytes.{Bytes}
 use Rattle.field.specs.Number.{big-endian}
-use Rattle.field.specs.Row.{Row, end, field, field-bytes, bytes, long-body}
+use Rattle.field.specs.Row.{end, field, field-bytes, bytes, long-body}
 use Rattle.field.specs.Put.{head, Wrote}
 use Rattle.field.proofs.PutLaws.{wrote-is, wrote-then, wrote-length, wrote-field, length-field-bytes}
 use Rattle.page.specs.Number as N
 use Rattle.page.specs.Number.{number-tag, minus-tag, number-bytes, in-range}
 use Rattle.page.specs.Encode.{boolean-byte, tag-row, expr-row}
-use Rattle.grammar.specs.Known.{Known, whole, minus-whole, decimal, minus-decimal, quoted, boolean, null, other, Found, none, some}
+use Rattle.grammar.specs.Known.{Known, whole, quoted, boolean, null, other, some}
 use Rattle.grammar.specs.Syntax.{known-expr}
 use Rattle.tag.specs.PageTag.{page-known, page-tag, page-expr}
 use Rattle.tag.specs.TagAnswer.{known-in-range, shallow}
 use Rattle.read_tag.specs.Progress.{expr-bytes}
+use Rattle.read_tag.proofs.ProgressLaws.{leaf-alone}
 use Rattle.read_tag.specs.Knowns.{Capped, signed-whole, signed-decimal, whole-tag, decimal-tag, Holding, Holds, HeldWhole, HeldDecimal}
-
-and-true : (b : Bool) → (b && true) ≡ b
-and-true true = refl
-and-true false = refl
 
 -- ---- a field alone
 
@@ -39,14 +36,10 @@ leaf-short : (t : ℕ) (f : Bytes) → length f ≤ 65535 → long-body (field t
 unfolding long-body bytes
 leaf-short t f m = ap (λ (b : Bool). b || (false || false)) (le-ltb 65535 (length (f ++ [])) (omega (arith, length-append f [])))
 
-leaf-bytes : (t : ℕ) (f : Bytes) → bytes (field t f end end) ≡ field-bytes t f
-unfolding bytes
-leaf-bytes t f = append-nil (field-bytes t (f ++ [])) ∙ ap (field-bytes t) (append-nil f)
-
 module _ (k : Known) (t : ℕ) (f : Bytes) (row : expr-row (page-expr (known-expr k)) end ≡ field t f end end) (m : length f ≤ 65535) where
   body : expr-bytes (known-expr k) ≡ field-bytes t f
   unfolding expr-bytes
-  body = ap bytes row ∙ leaf-bytes t f
+  body = ap bytes row ∙ leaf-alone t f
 
   -- b: whether it is within the limit; only then the bytes that were written count
   leaf-held : {o o′ : Bytes} {at e : ℕ} (b : Bool) (g : Bytes) → b ≡ known-in-range k → (b ≡ true → g ≡ f) → length g ≡ length f → Wrote o at (field-bytes t g) o′ e → Holding k o at o′ record { read = true; fits = b; at = e; deep = 0 }
@@ -82,24 +75,20 @@ two-shallow d w = on (leb (suc d) 48) refl
     last : leb (d + 1) 48 ≡ leb (suc d) 48
     last = ap (λ (n : ℕ). leb n 48) (add-one d)
 
-    never : (a : Bool) → (a && false) ≡ false
-    never true = refl
-    never false = refl
-
     on : (b : Bool) → leb (suc d) 48 ≡ b → (leb d 48 && ((leb (suc d) 48 && (true && true)) && true)) ≡ leb (d + 1) 48
     on true e =
         let h : suc d ≤ 48 = leb-true (suc d) 48 e in
         ap₂ (λ (a b : Bool). a && ((b && (true && true)) && true)) (le-leb d 48 (omega arith)) e ∙ sym (last ∙ e)
-    on false e = ap (λ (b : Bool). leb d 48 && ((b && (true && true)) && true)) e ∙ never (leb d 48) ∙ sym (last ∙ e)
+    on false e = ap (λ (b : Bool). leb d 48 && ((b && (true && true)) && true)) e ∙ and-false (leb d 48) ∙ sym (last ∙ e)
 
 two-bytes : (w : Bytes) → bytes (field 0x79 [] (field 0x20 w end end) end) ≡ field-bytes 0x79 (field-bytes 0x20 w)
 unfolding bytes
-two-bytes w = append-nil (field-bytes 0x79 (field-bytes 0x20 (w ++ []) ++ [])) ∙ ap (field-bytes 0x79) (leaf-bytes 0x20 w)
+two-bytes w = append-nil (field-bytes 0x79 (field-bytes 0x20 (w ++ []) ++ [])) ∙ ap (field-bytes 0x79) (leaf-alone 0x20 w)
 
 two-short : (w : Bytes) → length w ≤ 32768 → long-body (field 0x79 [] (field 0x20 w end end) end) ≡ false
 unfolding long-body
 two-short w l =
-    ap₂ (λ (a b : Bool). a || (b || false)) (le-ltb 65535 (length (bytes (field 0x20 w end end))) (omega (arith, ap length (leaf-bytes 0x20 w), length-field-bytes 0x20 w))) (leaf-short 0x20 w (omega arith))
+    ap₂ (λ (a b : Bool). a || (b || false)) (le-ltb 65535 (length (bytes (field 0x20 w end end))) (omega (arith, ap length (leaf-alone 0x20 w), length-field-bytes 0x20 w))) (leaf-short 0x20 w (omega arith))
 
 pub held-other : {o o₁ o′ : Bytes} {at a e : ℕ} (w : Bytes) → length w ≤ 32768 → Wrote o at (head 0x79 (3 + length w)) o₁ a → Wrote o₁ a (field-bytes 0x20 w) o′ e → Holds (some (other w)) o at o′ record { read = true; fits = true; at = e; deep = 1 }
 unfolding Holds page-tag page-known tag-row known-in-range expr-bytes

@@ -1,34 +1,28 @@
 -- What braces hold, test by test: bytes that bar it, its minus, its quotes. Main statements: `scanned-on`, `scanned-found`, `unsigned-minus`,
 -- `string-on`, `string-at-quote`. Assumes nothing.
-use Prim.Native.Nat.{ℕ, zero, suc, _+_, _-_, _≤_, _<_}
+use Prim.Native.Nat.{ℕ, suc, _+_, _-_, _≤_, _<_}
 use mathlib.Core.Path.{_≡_, refl, sym, _∙_, ap, subst}
-use mathlib.Core.Bool.{Bool, true, false, _&&_, _||_, not, false≢true}
-use mathlib.Core.List.{List, [], _∷_, _++_}
+use mathlib.Core.Bool.{Bool, true, false, _&&_, not}
+use mathlib.Core.List.{[], _∷_, _++_}
 use native.Mathlib.Omega.{arith}
-use native.Mathlib.Numerals.{add-one}
 use borrow.Author.Tests.{lt-ltb, eq-eqb, ne-eqb, not-false}
-use lib.Dec.{T, ltb, eqb, eqb→eq, not-T}
+use lib.Dec.{T, eqb, eqb→eq}
 use lib.ListN.{length, take, drop, getD, length-drop, drop-of-length-le}
-use lib.Seq.{drop-cons, take-suc, getD-drop}
+use lib.Seq.{take-suc, getD-drop}
 use Rattle.field.specs.Bytes.{Bytes}
-use Rattle.grammar.specs.Signs.{choose, each, some-byte, space, quote}
-use Rattle.grammar.specs.Known.{Known, quoted, Found, none, some, trimmed-front, unsigned, has-minus, string-from, string-of}
+use Rattle.grammar.specs.Signs.{each, some-byte, space, quote}
+use Rattle.grammar.specs.Known.{quoted, none, some, trimmed-front, unsigned, has-minus, string-from, string-of}
 use Rattle.grammar.specs.Grammar.{Ends, Run, run-ends, run-on}
 use Rattle.grammar.proofs.Tests.{chose, passed}
 use Rattle.read_tag.specs.Runs.{Ran}
 use Rattle.read_tag.specs.Knowns.{Unsigned, Quoted}
+use Rattle.read_tag.proofs.TextLaws.{other, next}
 
 -- ---- tests
-
-other : (c e : ℕ) → (c ≡ e → ⊥) → T (not (eqb c e))
-other c e n = not-T (eqb c e) (λ t. n (eqb→eq c e t))
 
 decided : (P : Bool → Type 0) (b : Bool) → (T b → P true) → (T (not b) → P false) → P b
 decided P true f g = f tt
 decided P false f g = g tt
-
-pub next : (s : Bytes) (k : ℕ) → k < length s → drop k s ≡ getD s k 0 ∷ drop (k + 1) s
-next s k h = rw (add-one k) (drop-cons s k 0 h)
 
 -- one byte more of the part from k on
 pub take-more : (s : Bytes) (k i : ℕ) → k ≤ i → i < length s → take (i + 1 - k) (drop k s) ≡ take (i - k) (drop k s) ++ (getD s i 0 ∷ [])

@@ -186,7 +186,7 @@ field-alone : (t : ℕ) (i : Row) → bytes (field t [] i end) ≡ field-bytes t
 unfolding bytes
 field-alone t i = append-nil (field-bytes t (bytes i))
 
-leaf-alone : (t : ℕ) (w : Bytes) → bytes (field t w end end) ≡ field-bytes t w
+pub leaf-alone : (t : ℕ) (w : Bytes) → bytes (field t w end end) ≡ field-bytes t w
 unfolding bytes
 leaf-alone t w = append-nil (field-bytes t (w ++ [])) ∙ ap (field-bytes t) (append-nil w)
 

@@ -3,7 +3,7 @@
 use Prim.Native.Nat.{ℕ, _+_, _-_, _^_, _≤_, _<_}
 use mathlib.Core.Path.{_≡_}
 use mathlib.Core.Bool.{Bool, true, false, _&&_, _||_}
-use mathlib.Core.List.{[], _∷_, _++_}
+use mathlib.Core.List.{_++_}
 use lib.Dec.{leb, ltb}
 use lib.ListN.{length, take, drop}
 use Rattle.field.specs.Bytes.{Bytes}

@@ -1,8 +1,6 @@
 // What braces hold where it is no tag: read by its text alone, and written as an expression's field.
 ghost use mathlib.Core.Path.{_≡_};
-ghost use mathlib.Core.Bool.{Bool, true};
-ghost use mathlib.Core.List.{_∷_, []};
-ghost use Prim.Native.Nat.{_+_, _*_, _-_, _^_, _≤_, _<_};
+ghost use Prim.Native.Nat.{_+_, _-_, _^_, _≤_, _<_};
 ghost use lib.ListN.{length, take, drop};
 ghost use Rattle.field.specs.Row.{field-bytes};
 ghost use Rattle.field.specs.Put.{Wrote};
