@@ -11,3 +11,7 @@ pub mod NameWalkLaws
 pub mod NameFieldLaws
 pub mod NameLimitLaws
 pub mod TextLaws
+pub mod KnownLaws
+pub mod HeldLaws
+pub mod DigitLaws
+pub mod ChoiceLaws

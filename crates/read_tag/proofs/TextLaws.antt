@@ -1,16 +1,15 @@
 -- Runs of text and of strings, a stretch or an entity further, and where they end. Main statements: `entity-found`, `entity-long`,
 -- `decoding-plain`, `decoding-entity`, `decoding-ends`, `text-ends`, `string-closes`. Assumes nothing.
-use Prim.Native.Nat.{ℕ, zero, suc, _+_, _-_, _≤_, _<_}
+use Prim.Native.Nat.{ℕ, _+_, _-_, _≤_, _<_}
 use mathlib.Core.Path.{_≡_, refl, sym, _∙_, ap, subst}
-use mathlib.Core.Bool.{Bool, true, false, _&&_, not, false≢true}
-use mathlib.Core.List.{List, [], _∷_, _++_, append-nil, append-assoc}
+use mathlib.Core.Bool.{Bool, true, false, _&&_, not}
+use mathlib.Core.List.{[], _∷_, _++_, append-nil, append-assoc}
 use native.Mathlib.Omega.{arith}
 use native.Mathlib.Numerals.{add-one}
-use lib.Dec.{T, eqb, eqb→eq, eqb-refl, not-T}
+use lib.Dec.{T, eqb, eqb→eq, not-T}
 use lib.ListN.{length, take, drop, getD, length-append, length-drop, drop-of-length-le}
 use lib.Seq.{drop-cons, length-take-le}
 use Rattle.field.specs.Bytes.{Bytes, ascii, same}
-use Rattle.field.specs.Row.{field-bytes}
 use Rattle.field.specs.Put.{head, Wrote}
 use Rattle.field.proofs.PutLaws.{wrote-none, wrote-then, wrote-length, wrote-behind}
 use Rattle.names.proofs.CompareLaws.{same-other}
@@ -18,12 +17,12 @@ use Rattle.grammar.specs.Signs.{snoc, choose, text-byte, string-byte, entity-by
 use Rattle.grammar.specs.Known.{Found, none, some, entity-of}
 use Rattle.grammar.specs.Syntax.{Name, Attributes, string-value, Children, text-child, add-attribute, add-child}
 use Rattle.grammar.specs.Grammar.{Ends, Run, run-ends, run-on}
-use Rattle.grammar.specs.Reader.{Stack, Of, of-text, of-string, State, in-tag, in-string, in-entity, in-children, in-text, refused, resumed, resumed-if, no-reading, at-end, step, step-children, outcome}
+use Rattle.grammar.specs.Reader.{Stack, Of, of-text, of-string, State, in-tag, in-string, in-entity, in-children, in-text, resumed, resumed-if, no-reading, at-end, step, step-children, outcome}
 use Rattle.grammar.proofs.Tests.{chose, passed, clash, quote-is, no-text-no-amp}
 use Rattle.grammar.proofs.Complete.{go, through, entity-read, entity-ends, refused-never, string-ends}
 use Rattle.read_tag.specs.Runs.{Ran, plain-text, plain-string}
 use Rattle.read_tag.specs.Entities.{entity-code}
-use Rattle.read_tag.specs.Texts.{run-byte, plain, Signed, holding, running, Entered, Decoded, Decodes, TextEnds, TextRead, StringEnds, StringRead}
+use Rattle.read_tag.specs.Texts.{run-byte, plain, Signed, holding, running, Entered, Decoded, Decodes, TextRead, StringRead}
 use Rattle.read_tag.specs.declared.texts.Run as Answer
 use Rattle.read_tag.specs.declared.texts.Run.the-variants as R
 use Rattle.read_tag.specs.declared.texts.Entity.{Entity}
@@ -32,7 +31,7 @@ use Rattle.read_tag.proofs.RunLaws.{Front, front-none, front-on, Runnin
 
 -- ---- tests
 
-other : (c e : ℕ) → (c ≡ e → ⊥) → T (not (eqb c e))
+pub other : (c e : ℕ) → (c ≡ e → ⊥) → T (not (eqb c e))
 other c e n = not-T (eqb c e) (λ t. n (eqb→eq c e t))
 
 both-not : (a b : Bool) → T (not (a && b)) → T b → T (not a)
@@ -52,7 +51,7 @@ double : (b : Bool) → T (not (not b)) → T b
 double true t = tt
 double false t = absurd t
 
-next : (s : Bytes) (k : ℕ) → k < length s → drop k s ≡ getD s k 0 ∷ drop (k + 1) s
+pub next : (s : Bytes) (k : ℕ) → k < length s → drop k s ≡ getD s k 0 ∷ drop (k + 1) s
 next s k h = rw (add-one k) (drop-cons s k 0 h)
 
 -- ---- the sort of a run
@@ -198,7 +197,7 @@ unfolding holding running resumed
 entity-over (of-text v n ps ks K) w d = refl
 entity-over (of-string p v a n ps K) w d = refl
 
-run-end : {p : ℕ → Bool} {x w r : Bytes} → Run p x w r → Ends p r
+pub run-end : {p : ℕ → Bool} {x w r : Bytes} → Run p x w r → Ends p r
 run-end (run-ends e) = e
 run-end (run-on t y) = run-end y
 

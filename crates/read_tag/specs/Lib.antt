@@ -7,3 +7,4 @@ pub mod Entities
 pub mod Shapes
 pub mod Names
 pub mod Texts
+pub mod Knowns
