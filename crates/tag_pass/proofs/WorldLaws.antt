@@ -135,6 +135,17 @@ fifty-shallow d a x =
 tests-more : (k e b f : Bool) → f ≡ e && b → ((k && e) && true) && b ≡ k && f
 tests-more k e b f q = ap (λ (z : Bool). z && b) (and-true (k && e)) ∙ and-assoc k e b ∙ ap (λ (z : Bool). k && z) (sym q)
 
+pub attribute-more : (W : World) (d : ℕ) (n : Name) (ps : Attributes) (b : S.Attribute) → more (tag-world W d n ps) (attribute-bytes b) (every-attribute b same-name any-known) (every-attribute b any-names known-in-range) (shallow (suc d) (attributes-row (page-attribute b P.no-attributes) end)) ≡ tag-world W d n (S.add-attribute ps b)
+unfolding tag-world
+attribute-more W d n ps b =
+    let H : Bool = shallow (suc d) (attributes-row (page-attributes ps) end) in
+    let X : Bool = shallow (suc d) (attributes-row (page-attribute b P.no-attributes) end) in
+    sym
+    (world-is (L.begun-more (W .bytes) n ps b)
+    (ap (λ (z : Bool). W .names && z) (every-attributes-more same-name any-known ps b) ∙ sym (and-assoc (W .names) (every-attributes ps same-name any-known) (every-attribute b same-name any-known)))
+    (ap (λ (z : Bool). W .numbers && z) (every-attributes-more any-names known-in-range ps b) ∙ sym (and-assoc (W .numbers) (every-attributes ps any-names known-in-range) (every-attribute b any-names known-in-range)))
+    (ap (λ (z : Bool). W .shallow && (leb d 48 && (shallow-name (suc d) n && z))) (shallow-attributes-more (suc d) ps b) ∙ sym (and-four (W .shallow) (leb d 48) (shallow-name (suc d) n) H X)))
+
 -- it ends: its name was written behind its head, and then its value
 pub attribute-ended : {o out out′ : Bytes} {at p : ℕ} {u v w : Bool} (W : World) (d : ℕ) (a n : Name) (ps : Attributes) (b : S.Attribute) (x : Row) → attributes-row (page-attribute b P.no-attributes) end ≡ field 0x50 [] (attr-name-row (page-attr-name a) x) end → Made o (more (value-world W d a n ps) (bytes x) (every-attribute b same-name any-known) (every-attribute b any-names known-in-range) (shallow (suc (suc d)) x)) out at u v w → p ≡ length (begun (W .bytes) n ps) → out′ ≡ put out p (head 0x50 (at - p - 3)) → Made o (tag-world W d n (S.add-attribute ps b)) out′ at u v w
 unfolding value-world tag-world attribute-begun attribute-bytes

@@ -1,3 +1,4 @@
 -- What the parts of the pass promise to each other.
 pub mod Worlds
 pub mod States
+pub mod Turns

@@ -18,9 +18,9 @@ use Rattle.tag_pass.specs.declared.state.Reading.{Reading}
 -- ---- names by their places
 
 -- a fragment's is 0; before another stands at least a `<`
-pub data NameAt (s : Bytes) : ℕ → Name → Type 0 where
-  no-name : NameAt s 0 []
-  name-at : {p : ℕ} {n : Name} (r : Bytes) → 0 < p → IsName (drop p s) n r → T (tag-name-fits n) → NameAt s p n
+pub data TagName (s : Bytes) : ℕ → Name → Type 0 where
+  no-name : TagName s 0 []
+  name-at : {p : ℕ} {n : Name} (r : Bytes) → 0 < p → IsName (drop p s) n r → T (tag-name-fits n) → TagName s p n
 
 unfoldable pub Named : Name → Type 0
 Named [] = ⊥
@@ -84,7 +84,7 @@ Fifty w (in-braces h) f = BracesFifty w h f
 
 pub record Framed (s : Bytes) (fs : List ℕ) (h : ℕ) (f : Frame) (K : Stack) : Type 0 where
   pub head-is : getD fs h 0 ≡ length (world-of K .bytes)
-  pub name-is : NameAt s (getD fs (h + 1) 0) (frame-name f)
+  pub name-is : TagName s (getD fs (h + 1) 0) (frame-name f)
   pub kind-is : getD fs (h + 2) 0 ≡ kind-of f
   pub fifty-is : Fifty (world-of K .bytes) f (getD fs (h + 3) 0)
   pub plain : PlainFrame f
@@ -100,7 +100,7 @@ pub record Bounded (n : ℕ) (st : Reading) (i : ℕ) : Type 0 where
   pub small : n ≤ 32768
   pub inside : i ≤ n
   pub grown : st .at ≤ 16 * i
-  pub deep : st .depth ≤ 65540
+  pub deep : st .depth ≤ 65560
 
 -- the reader is in the state x, W was made, and the pass knows the tag of that name in K
 pub record Stands (s o : Bytes) (x : State) (W : World) (n : Name) (K : Stack) (h : ℕ) (st : Reading) (i : ℕ) (out : Bytes) : Type 0 where
@@ -108,7 +108,16 @@ pub record Stands (s o : Bytes) (x : State) (W : World) (n : Name) (K : Stack) (
   pub inside : i ≤ length s
   pub grown : st .at ≤ 16 * i
   pub head-is : st .head ≡ length (world-of K .bytes)
-  pub name-is : NameAt s (st .name) n
+  pub name-is : TagName s (st .name) n
+  pub depth-is : st .depth ≡ depth-of K
+  pub height-is : st .height ≡ h
+  pub made : Made o W out (st .at) (st .names) (st .numbers) (st .shallow)
+
+-- the same before the tag has a name and a head
+pub record OpensIn (s o : Bytes) (x : State) (W : World) (K : Stack) (h : ℕ) (st : Reading) (i : ℕ) (out : Bytes) : Type 0 where
+  pub reads : outcome start s ≡ outcome x (drop i s)
+  pub inside : i ≤ length s
+  pub grown : st .at ≤ 16 * i
   pub depth-is : st .depth ≡ depth-of K
   pub height-is : st .height ≡ h
   pub made : Made o W out (st .at) (st .names) (st .numbers) (st .shallow)
@@ -121,3 +130,30 @@ pub data Next (s o : Bytes) (K : Stack) (h i : ℕ) (r : Reading) (out : Bytes) 
   next-ended : {n : Name} (t : Tag) → r .mode ≡ 3 → i < r .place → Stands s o (closed t K) (ended-world (world-of K) (depth-of K) t) n K h r (r .place) out → Next s o K h i r out
   next-refused : r .mode ≡ 4 → outcome start s ≡ no-reading → Next s o K h i r out
   next-done : {t : Tag} → r .mode ≡ 5 → outcome start s ≡ read t → Made o (ended-world nothing-made 3 t) out (r .at) (r .names) (r .numbers) (r .shallow) → Next s o K h i r out
+
+-- the stack and the pass together; a turn began at i. Four words of the stack cost two bytes of text
+pub record Going (s o : Bytes) (fs : List ℕ) (i : ℕ) (r : Reading) (out : Bytes) : Type 0 where
+  pub K : Stack
+  pub h : ℕ
+  pub stacked : Stacked s fs h K
+  pub room : h + 2 ≤ 2 * i
+  pub inner-room : r .mode ≡ 2 → h + 4 ≤ 2 * i
+  pub next : Next s o K h i r out
+
+-- whatever was lent
+pub record Lent (s : Bytes) (fs : List ℕ) (r : Reading) (out : Bytes) : Type 0 where
+  pub o : Bytes
+  pub i : ℕ
+  pub small : length s ≤ 32768
+  pub words : 2 * length s ≤ length fs
+  pub going : Going s o fs i r out
+
+-- the whole text was read, or has no reading
+pub data Passed (s o : Bytes) (r : Reading) (out : Bytes) : Type 0 where
+  passed-none : r .mode ≡ 4 → outcome start s ≡ no-reading → Passed s o r out
+  passed-tag : {t : Tag} → r .mode ≡ 5 → outcome start s ≡ read t → Made o (ended-world nothing-made 3 t) out (r .at) (r .names) (r .numbers) (r .shallow) → Passed s o r out
+
+-- a tag that was opened is neither behind another `<` nor at its end
+pub record Settled (r : Reading) : Type 0 where
+  pub not-inner : r .mode ≡ 2 → ⊥
+  pub not-ended : r .mode ≡ 3 → ⊥

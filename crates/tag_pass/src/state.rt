@@ -1,6 +1,8 @@
 // Where the pass stands. Behind a mode stands a state of the grammar's reader (specs/States.antt).
 ghost use mathlib.Core.Path.{_≡_};
-ghost use Prim.Native.Nat.{_+_};
+ghost use Prim.Native.Nat.{_-_, _<_, _^_};
+ghost use Rattle.tag_pass.specs.Turns.{at-mode, at-inner, at-more, at-fifty, at-begin, Patched};
+use field::writer::put_head;
 
 pub struct Reading {
     pub mode: usize,
@@ -58,4 +60,78 @@ pub fn refuse(st: Reading) -> Reading
     let mut w = st;
     w.mode = REFUSED;
     w
+}
+
+pub fn in_mode(st: Reading, mode: usize, i: usize) -> Reading
+    ensures { λ r. ⌜ r ≡ at-mode st mode i ⌝ }
+{
+    let mut w = st;
+    w.mode = mode;
+    w.place = i;
+    w
+}
+
+// Behind the `<` of a tag that stands in that.
+pub fn at_inner(st: Reading, kind: usize, i: usize) -> Reading
+    ensures { λ r. ⌜ r ≡ at-inner st kind i ⌝ }
+{
+    let mut w = st;
+    w.mode = INNER;
+    w.kind = kind;
+    w.place = i;
+    w
+}
+
+// Something more was written.
+pub fn wrote(st: Reading, at: usize, fits: bool, shallow: bool) -> Reading
+    ensures { λ r. ⌜ r ≡ at-more st at fits shallow ⌝ }
+{
+    let mut w = st;
+    w.at = at;
+    w.numbers = st.numbers & fits;
+    w.shallow = st.shallow & shallow;
+    w
+}
+
+// An attribute's head stands at f.
+pub fn at_fifty(st: Reading, f: usize) -> Reading
+    ensures { λ r. ⌜ r ≡ at-fifty st f ⌝ }
+{
+    let mut w = st;
+    w.fifty = f;
+    w
+}
+
+// A tag's head stands at h, its name at p in the text.
+pub fn at_begin(st: Reading, h: usize, p: usize) -> Reading
+    ensures { λ r. ⌜ r ≡ at-begin st h p ⌝ }
+{
+    let mut w = st;
+    w.head = h;
+    w.name = p;
+    w
+}
+
+// 0 where b is more.
+pub fn less(a: usize, b: usize) -> usize
+    ensures { λ r. ⌜ r ≡ a - b ⌝ }
+{
+    if b <= a {
+        return a - b;
+    }
+    0
+}
+
+// A field whose head stands at p has ended: it gets its length.
+pub fn patch(out: &mut [u8], p: usize, tag: u8, at: usize)
+    requires { ⌜ at < 2 ^ 62 ⌝ }
+    ensures { λ _. ⌜ Patched (now (out .entry)) p tag at (now (out .exit)) ⌝ }
+{
+    if at < 3 {
+        return;
+    }
+    if at - 3 < p {
+        return;
+    }
+    put_head(out, p, tag, at - p - 3);
 }
