@@ -9,3 +9,4 @@ pub mod AttributeLaws
 pub mod TagLaws
 pub mod FrameLaws
 pub mod PassLaws
+pub mod AnswerLaws

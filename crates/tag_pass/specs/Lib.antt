@@ -2,3 +2,4 @@
 pub mod Worlds
 pub mod States
 pub mod Turns
+pub mod Answers
