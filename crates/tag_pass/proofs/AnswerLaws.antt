@@ -1,12 +1,12 @@
 -- What the pass found is what is answered. Main statements: `long-whole`, `answer-long`, `answer-no-utf8`, `answer-read`, `answer-refused`.
 -- Assumes nothing.
-use Prim.Native.Nat.{ℕ, zero, suc, _+_, _-_, _≤_, _<_}
-use mathlib.Core.Path.{_≡_, refl, sym, _∙_, ap, ap₂, subst}
-use mathlib.Core.Bool.{Bool, true, false, _&&_, _||_, not, false≢true}
-use mathlib.Core.List.{List, [], _∷_, _++_}
+use Prim.Native.Nat.{ℕ, _+_, _≤_, _<_}
+use mathlib.Core.Path.{_≡_, refl, sym, _∙_, ap, ap₂}
+use mathlib.Core.Bool.{Bool, true, false, _||_, not, false≢true}
+use mathlib.Core.List.{[], _++_}
 use native.Mathlib.Omega.{arith}
-use borrow.Author.Tests.{lt-ltb, le-ltb, le-leb, lt-leb, ltb-true, ltb-false, eq-eqb, ne-eqb}
-use lib.Dec.{T, leb, ltb, eqb}
+use borrow.Author.Tests.{lt-ltb, le-ltb, le-leb, lt-leb, ltb-true, ltb-false}
+use lib.Dec.{leb, ltb, eqb}
 use lib.ListN.{length, replicate, length-append}
 use Rattle.field.specs.Bytes.{Bytes, pick}
 use Rattle.field.specs.Row.{Row, end, loose, field, field-bytes, bytes, long-body}
@@ -16,18 +16,17 @@ use Rattle.utf8.specs.Utf8.{utf8}
 use Rattle.page.specs.Page as P
 use Rattle.page.specs.Encode.{name-row, tag-row, attributes-row, children-row}
 use Rattle.grammar.specs.Signs.{choose}
-use Rattle.grammar.specs.Syntax.{Tag, matched, every-tag}
-use Rattle.grammar.specs.Reader.{start, outcome, read, no-reading, Answer, taken, refused-14, refused-15, judged, answer}
+use Rattle.grammar.specs.Syntax.{Tag, matched}
+use Rattle.grammar.specs.Reader.{start, outcome, read, no-reading, taken, refused-15, judged, answer}
 use Rattle.tag.specs.PageTag.{page-tag}
 use Rattle.tag.specs.TagAnswer as TA
 use Rattle.tag.specs.TagAnswer.{TagOutcome, tag-refused, tag-accepted, numbers-in-range, shallow, tag-field, tag-encode, given, within, answered, tag-outcome, tag-number, tag-refusal-number, tag-left}
 use Rattle.read_tag.specs.Progress as R
-use Rattle.tag_pass.specs.Worlds.{World, ended-world, nothing-made, Made}
+use Rattle.tag_pass.specs.Worlds.{ended-world, nothing-made, Made}
 use Rattle.tag_pass.specs.States.{Passed, passed-none, passed-tag}
 use Rattle.tag_pass.specs.Answers.{TagAnswers, reading-number}
 use Rattle.tag_pass.specs.declared.state.Reading.{Reading}
 use Rattle.tag_pass.specs.declared.answer.TagAnswer.{TagAnswer}
-use Rattle.tag_pass.proofs.WorldLaws.{and-left}
 
 -- ---- 11: the tag's own body is the longest
 

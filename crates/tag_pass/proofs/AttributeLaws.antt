@@ -1,24 +1,23 @@
 -- Attributes: a name, its value, and a spread. Main statements: `attribute-found`, `value-done`. Assumes nothing.
-use Prim.Native.Nat.{ℕ, zero, suc, _+_, _-_, _*_, _≤_, _<_}
+use Prim.Native.Nat.{ℕ, suc, _+_, _*_, _≤_, _<_}
 use mathlib.Core.Path.{_≡_, refl, sym, _∙_, ap, ap₂, subst}
-use mathlib.Core.Bool.{Bool, true, false, _&&_, _||_, not}
-use mathlib.Core.List.{List, [], _∷_, _++_}
+use mathlib.Core.Bool.{Bool, true, false, _&&_, not}
+use mathlib.Core.List.{[], _∷_, _++_}
 use native.Mathlib.Omega.{arith}
 use borrow.Author.Tests.{eq-eqb, ne-eqb}
 use lib.Dec.{T, leb, eqb}
-use lib.ListN.{length, drop, getD, length-drop, length-append}
+use lib.ListN.{length, drop, getD, length-drop}
 use Rattle.field.specs.Bytes.{Bytes}
-use Rattle.field.specs.Number.{big-endian}
 use Rattle.field.specs.Row.{Row, end, field, field-bytes, bytes}
-use Rattle.field.specs.Put.{put, head, Wrote}
+use Rattle.field.specs.Put.{head, Wrote}
 use Rattle.field.proofs.PutLaws.{length-head, length-field-bytes, wrote-then}
 use Rattle.page.specs.Page as P
 use Rattle.page.specs.Encode.{attr-name-row, tag-row, attributes-row}
-use Rattle.grammar.specs.Signs.{choose, letter, space, quote, equals-sign}
+use Rattle.grammar.specs.Signs.{choose, space, quote, equals-sign}
 use Rattle.grammar.specs.Syntax as S
 use Rattle.grammar.specs.Syntax.{Name, Attributes, attribute-name-fits, same-name, every-tag, every-attribute}
 use Rattle.grammar.specs.Grammar.{Ends}
-use Rattle.grammar.specs.Reader.{Braces, value-braces, spread-braces, value-of, Stack, State, for-attribute, in-ident, in-tag, attribute-named, equals, in-string, spread-opened, one-point, braces-opened, opened, fits, named, refused, step, step-tag, step-attribute-named, at-end, no-reading, outcome}
+use Rattle.grammar.specs.Reader.{value-braces, spread-braces, value-of, Stack, for-attribute, in-tag, attribute-named, equals, in-string, spread-opened, one-point, braces-opened, opened, fits, named, refused, step, step-attribute-named, at-end, outcome}
 use Rattle.grammar.proofs.Complete.{skip-equals, skip-spread, no-value-leaves, string-opens, refused-never}
 use Rattle.tag.specs.PageTag.{page-attr-name, page-tag, page-attribute}
 use Rattle.tag.specs.TagAnswer.{shallow, known-in-range}
@@ -38,7 +37,7 @@ use Rattle.read_tag.proofs.NameLimitLaws.{shallow-attr-name}
 use Rattle.read_tag.proofs.ProgressLaws as L
 use Rattle.tag_pass.specs.Worlds.{World, more, any-known, any-names, tag-world, value-world, before-world, frame-world, world-of, Made}
 use Rattle.tag_pass.specs.States.{Named, braces-kind, kind-of, braces-name, frame-name, PlainBraces, PlainFrame, BracesFifty, Fifty, Bounded, Stands, Next}
-use Rattle.tag_pass.specs.Turns.{at-mode, at-more, at-inner, at-fifty, BracesTurn, PointTurn, AttributeTurn, NoValueTurn, StringTurn, ValueTurn, SpreadTurn, AttributeEnded}
+use Rattle.tag_pass.specs.Turns.{at-more, at-inner, at-fifty, BracesTurn, PointTurn, AttributeTurn, NoValueTurn, StringTurn, ValueTurn, SpreadTurn, AttributeEnded}
 use Rattle.tag_pass.specs.declared.state.Reading.{Reading}
 use Rattle.tag_pass.proofs.Machine.{next, spaces, not-space, steps, stuck, out-of}
 use Rattle.tag_pass.proofs.WorldLaws.{more-none, attribute-ended}

@@ -3,33 +3,31 @@
 use Prim.Native.Nat.{ℕ, zero, suc, _+_, _-_, _*_, _≤_, _<_}
 use mathlib.Core.Path.{_≡_, refl, sym, _∙_, ap, ap₂, subst}
 use mathlib.Core.Bool.{Bool, true, false, _&&_, not, false≢true}
-use mathlib.Core.List.{List, [], _∷_, _++_}
+use mathlib.Core.List.{[], _∷_, _++_}
 use native.Mathlib.Omega.{arith}
 use lib.Dec.{leb, eqb}
 use lib.ListN.{length, drop, take, getD, length-append, length-take}
 use borrow.Author.Tests.{ne-eqb, leb-true}
 use Rattle.field.specs.Bytes.{Bytes, pick}
-use Rattle.field.specs.Number.{big-endian}
-use Rattle.field.specs.Row.{end, field, field-bytes, bytes}
+use Rattle.field.specs.Row.{end, field, bytes}
 use Rattle.field.specs.Put.{put, head, Wrote}
 use Rattle.field.proofs.PutLaws.{length-head}
-use Rattle.page.specs.Page as P
-use Rattle.page.specs.Encode.{attr-name-row, tag-row, attributes-row, value-row, children-row, expr-row}
+use Rattle.page.specs.Encode.{tag-row, expr-row}
 use Rattle.grammar.specs.Known.{Known, whole, minus-whole, decimal, minus-decimal, quoted, boolean, null, other, Found, none, some, known-of}
 use Rattle.grammar.specs.Syntax as S
-use Rattle.grammar.specs.Syntax.{Name, Attributes, Children, Expr, same-name, every-tag, every-expr}
-use Rattle.grammar.specs.Reader.{Braces, child-braces, spread-child-braces, value-braces, spread-braces, in-braces, Frame, Stack, State, filled, filled-if, opened, in-tag, in-children, in-source, one-point, two-points, braces-opened, refused, emptied, pointed, step, at-end, no-reading, outcome}
+use Rattle.grammar.specs.Syntax.{Name, Attributes, Expr, same-name, every-tag, every-expr}
+use Rattle.grammar.specs.Reader.{Braces, child-braces, spread-child-braces, value-braces, spread-braces, in-braces, Stack, filled, filled-if, opened, in-source, one-point, two-points, braces-opened, refused, emptied, pointed, step, at-end, outcome}
 use Rattle.grammar.proofs.Complete.{refused-never, skip-braces}
 use Rattle.grammar.specs.Signs.{choose, space, source-start}
-use Rattle.tag.specs.PageTag.{page-attr-name, page-tag, page-known, page-expr, page-attribute, page-child}
+use Rattle.tag.specs.PageTag.{page-tag, page-known, page-expr}
 use Rattle.tag.specs.TagAnswer.{shallow, known-in-range}
 use Rattle.read_tag.specs.Progress.{begun, expr-bytes, child-bytes, attribute-bytes, attribute-begun, attr-name-bytes, braces-code}
 use Rattle.read_tag.specs.Flags.{depth-of}
-use Rattle.read_tag.proofs.FlagLaws.{and-assoc, and-true}
-use Rattle.read_tag.specs.Knowns.{Holds, Holding}
+use Rattle.read_tag.proofs.FlagLaws.{and-assoc}
+use Rattle.read_tag.specs.Knowns.{Holds}
 use Rattle.read_tag.specs.declared.known.Held.{Held}
-use Rattle.tag_pass.specs.Worlds.{World, more, any-known, any-names, tag-world, children-world, value-world, before-world, braces-at, braces-world, frame-world, world-of, Made}
-use Rattle.tag_pass.specs.States.{Named, Plain, braces-kind, kind-of, braces-name, frame-name, PlainBraces, PlainFrame, BracesFifty, Fifty, Bounded, Stands, Next}
+use Rattle.tag_pass.specs.Worlds.{World, more, any-known, any-names, tag-world, value-world, before-world, braces-at, braces-world, frame-world, world-of, Made}
+use Rattle.tag_pass.specs.States.{braces-kind, kind-of, braces-name, frame-name, PlainBraces, PlainFrame, BracesFifty, Fifty, Bounded, Stands, Next}
 use Rattle.tag_pass.specs.Turns.{at-mode, at-more, at-inner, kind-code, kind-depth, Patched, AttributeEnded, FilledTurn, KnownTurn, BracesTurn, PointTurn}
 use Rattle.read_tag.specs.Runs.{Ran}
 use Rattle.read_tag.specs.Sources.{Sourced}

@@ -1,26 +1,26 @@
 -- Children: text, braces and tags among them. Main statements: `child-empty`, `child-pointed`, `text-some`. Assumes nothing.
-use Prim.Native.Nat.{ℕ, zero, suc, _+_, _-_, _*_, _≤_, _<_}
+use Prim.Native.Nat.{ℕ, suc, _+_, _*_, _≤_, _<_}
 use mathlib.Core.Path.{_≡_, refl, sym, _∙_, ap, ap₂, subst}
-use mathlib.Core.Bool.{Bool, true, false, _&&_, _||_, not}
-use mathlib.Core.List.{List, [], _∷_, _++_}
+use mathlib.Core.Bool.{Bool, true, _&&_}
+use mathlib.Core.List.{_∷_}
 use native.Mathlib.Omega.{arith}
 use borrow.Author.Tests.{ne-eqb}
-use lib.Dec.{leb, eqb}
-use lib.ListN.{length, drop, getD}
+use lib.Dec.{leb}
+use lib.ListN.{length, getD}
 use Rattle.field.specs.Bytes.{Bytes}
 use Rattle.field.specs.Number.{big-endian}
-use Rattle.field.specs.Row.{end, field, field-bytes, bytes}
-use Rattle.field.specs.Put.{put, head, Wrote}
+use Rattle.field.specs.Row.{field, field-bytes}
+use Rattle.field.specs.Put.{head, Wrote}
 use Rattle.field.proofs.PutLaws.{length-head, length-field-bytes}
 use Rattle.page.specs.Page as P
 use Rattle.page.specs.Encode.{tag-row, children-row}
-use Rattle.grammar.specs.Signs.{choose, space, text-byte, source-start}
+use Rattle.grammar.specs.Signs.{choose, space, text-byte}
 use Rattle.grammar.specs.Syntax as S
-use Rattle.grammar.specs.Syntax.{Name, Attributes, Children, same-name, every-tag, every-child}
-use Rattle.grammar.specs.Reader.{Braces, child-braces, spread-child-braces, within, Stack, State, opened, braces-opened, one-point, in-children, emptied, pointed, step, step-children, at-end, refused, no-reading, outcome}
+use Rattle.grammar.specs.Syntax.{Name, Attributes, Children, every-tag}
+use Rattle.grammar.specs.Reader.{child-braces, spread-child-braces, within, Stack, opened, braces-opened, one-point, in-children, emptied, pointed, step, step-children, at-end, refused}
 use Rattle.grammar.proofs.Complete.{skip-braces}
 use Rattle.tag.specs.PageTag.{page-tag, page-child}
-use Rattle.tag.specs.TagAnswer.{shallow, known-in-range}
+use Rattle.tag.specs.TagAnswer.{shallow}
 use Rattle.read_tag.specs.Progress.{child-bytes}
 use Rattle.read_tag.specs.Flags.{depth-of}
 use Rattle.read_tag.specs.Runs.{Ran}
@@ -29,8 +29,8 @@ use Rattle.read_tag.specs.declared.texts.Run.{Run}
 use Rattle.read_tag.specs.declared.texts.Run.the-variants as R
 use Rattle.read_tag.proofs.FlagLaws.{and-true}
 use Rattle.read_tag.proofs.ProgressLaws as L
-use Rattle.tag_pass.specs.Worlds.{World, more, any-known, any-names, children-world, before-world, frame-world, world-of, Made}
-use Rattle.tag_pass.specs.States.{Plain, braces-kind, kind-of, braces-name, frame-name, PlainBraces, PlainFrame, BracesFifty, Fifty, Stands, Next}
+use Rattle.tag_pass.specs.Worlds.{World, more, children-world, before-world, frame-world, world-of, Made}
+use Rattle.tag_pass.specs.States.{braces-kind, kind-of, braces-name, frame-name, PlainBraces, PlainFrame, BracesFifty, Fifty}
 use Rattle.tag_pass.specs.Turns.{at-mode, at-more, at-inner, BracesTurn, PointTurn, ChildBracesTurn, ChildrenTurn}
 use Rattle.tag_pass.specs.declared.state.Reading.{Reading}
 use Rattle.tag_pass.proofs.Machine.{spaces, steps, stuck, out-of}

@@ -1,5 +1,5 @@
 -- The stack of the pass: frames stored, found and taken back. Main statements: `stored`, `stacked-push`, `stacked-depth`. Assumes nothing.
-use Prim.Native.Nat.{ℕ, zero, suc, _+_, _-_, _*_, _%_, _≤_, _<_}
+use Prim.Native.Nat.{ℕ, _+_, _-_, _%_, _≤_, _<_}
 use mathlib.Core.Path.{_≡_, refl, sym, _∙_, ap, subst}
 use mathlib.Core.Bool.{Bool, true, false}
 use mathlib.Core.List.{List, [], _∷_}
@@ -8,7 +8,7 @@ use lib.Dec.{eqb}
 use lib.ListN.{length, getD, set, length-set}
 use lib.Seq.{getD-set-same, getD-set-other}
 use Rattle.field.specs.Bytes.{Bytes, pick}
-use Rattle.grammar.specs.Reader.{Braces, child-braces, spread-child-braces, value-braces, spread-braces, Frame, within, value-of, in-braces, Stack}
+use Rattle.grammar.specs.Reader.{child-braces, spread-child-braces, value-braces, spread-braces, Frame, within, value-of, in-braces, Stack}
 use Rattle.read_tag.specs.Flags.{depth-of, braces-depth}
 use Rattle.tag_pass.specs.Worlds.{world-of}
 use Rattle.tag_pass.specs.States.{TagName, kind-of, braces-kind, frame-name, PlainFrame, Fifty, Framed, Stacked, empty, frame}

@@ -1,23 +1,22 @@
 -- Turns with the stack. Main statements: `inner-letter`, `inner-fragment`, `inner-close`, `ended-within`, `ended-value`, `ended-braces`,
 -- `behind-filled`. Assumes nothing.
-use Prim.Native.Nat.{ℕ, zero, suc, _+_, _-_, _*_, _%_, _≤_, _<_}
-use mathlib.Core.Path.{_≡_, refl, sym, _∙_, ap, ap₂, subst}
-use mathlib.Core.Bool.{Bool, true, false, _&&_, not}
+use Prim.Native.Nat.{ℕ, suc, _+_, _-_, _*_, _%_, _≤_, _<_}
+use mathlib.Core.Path.{_≡_, refl, sym, _∙_, ap, subst}
+use mathlib.Core.Bool.{Bool, true, false, not}
 use mathlib.Core.List.{List, [], _∷_, _++_, append-nil}
 use native.Mathlib.Omega.{arith}
 use borrow.Author.Tests.{ne-eqb, lt-ltb, ltb-true}
-use lib.Dec.{leb, ltb, eqb}
+use lib.Dec.{ltb, eqb}
 use lib.ListN.{length, drop, getD, length-append, drop-of-length-le}
 use Rattle.field.specs.Bytes.{Bytes, pick}
 use Rattle.field.specs.Row.{end, bytes}
 use Rattle.field.specs.Put.{put, head}
 use Rattle.field.proofs.PutLaws.{length-head, put-nil}
-use Rattle.page.specs.Page as P
-use Rattle.page.specs.Encode.{tag-row, attributes-row, children-row, expr-row}
+use Rattle.page.specs.Encode.{tag-row, expr-row}
 use Rattle.grammar.specs.Signs.{choose, letter, space}
 use Rattle.grammar.specs.Syntax as S
-use Rattle.grammar.specs.Syntax.{Name, Tag, Attributes, no-attributes, Children, no-children, same-name, every-tag}
-use Rattle.grammar.specs.Reader.{Braces, child-braces, spread-child-braces, value-braces, spread-braces, Frame, within, value-of, in-braces, Stack, State, start, for-tag, in-ident, opened, behind-tag, in-children, closing, closed, close-of, done, filled, refused, step, at-end, read, no-reading, outcome}
+use Rattle.grammar.specs.Syntax.{Name, Tag, Attributes, no-attributes, no-children, same-name, every-tag}
+use Rattle.grammar.specs.Reader.{Braces, child-braces, spread-child-braces, value-braces, spread-braces, Frame, within, value-of, in-braces, Stack, State, start, for-tag, in-ident, opened, behind-tag, in-children, closed, close-of, done, filled, refused, step, at-end, no-reading, outcome}
 use Rattle.grammar.proofs.Complete.{skip-opened, skip-behind-tag, refused-never}
 use Rattle.tag.specs.PageTag.{page-tag, page-expr}
 use Rattle.tag.specs.TagAnswer.{shallow, known-in-range}
@@ -27,15 +26,15 @@ use Rattle.read_tag.specs.Names.{NameAt}
 use Rattle.read_tag.specs.Runs.{Ran}
 use Rattle.read_tag.proofs.NameWalkLaws.{name-inside}
 use Rattle.tag_pass.specs.Worlds.{World, more, any-known, any-names, tag-world, children-world, value-world, before-world, braces-at, braces-world, frame-world, world-of, ended-world, nothing-made, Made}
-use Rattle.tag_pass.specs.States.{TagName, no-name, name-at, Named, Plain, braces-kind, kind-of, braces-name, frame-name, PlainBraces, PlainFrame, BracesFifty, Fifty, Framed, Stacked, empty, frame, Bounded, Stands, OpensIn, Next, next-tag, next-children, next-inner, next-ended, next-refused, next-done, Going, Lent, Passed, passed-none, passed-tag, Settled}
-use Rattle.tag_pass.specs.Turns.{at-mode, pushed, popped, kind-added, Stored, AttributeEnded, FilledTurn, TagTurn, ChildrenTurn, ClosingTurn, NamedTurn, FragmentTurn, InnerTurn, EndedTurn, BehindTurn, StepTurn, PassTurn, OuterTurn, fresh-reading, NamePlace}
+use Rattle.tag_pass.specs.States.{TagName, no-name, name-at, braces-kind, kind-of, frame-name, PlainFrame, BracesFifty, Fifty, Framed, Stacked, empty, frame, Bounded, Stands, OpensIn, Next, next-tag, next-children, next-inner, next-ended, next-refused, next-done, Going, Lent, Passed, passed-none, passed-tag, Settled}
+use Rattle.tag_pass.specs.Turns.{at-mode, pushed, popped, kind-added, Stored, AttributeEnded, FilledTurn, TagTurn, ChildrenTurn, ClosingTurn, NamedTurn, FragmentTurn, InnerTurn, EndedTurn, BehindTurn, StepTurn, OuterTurn, fresh-reading, NamePlace}
 use Rattle.tag_pass.specs.declared.state.Reading.{Reading}
 use Rattle.tag_pass.proofs.Machine.{spaces, not-space, steps, stuck, out-of}
 use Rattle.tag_pass.proofs.WorldLaws.{child-more}
 use Rattle.tag_pass.proofs.BracesLaws.{value-room}
 use Rattle.tag_pass.proofs.AttributeLaws.{value-done}
 use Rattle.tag_pass.proofs.Standing.{made-is, remade, move, refuses, later, to-children}
-use Rattle.tag_pass.proofs.FrameLaws.{kind-added-small, added-of, stacked-push, stacked-depth, Top, stacked-top, stacked-none, low-is}
+use Rattle.tag_pass.proofs.FrameLaws.{kind-added-small, added-of, stacked-push, stacked-depth, low-is}
 
 -- ---- names by their places
 

@@ -1,19 +1,18 @@
 -- How much is written for what is read: a name, and what braces hold. Main statements: `known-size`, `name-size`. Assumes nothing.
-use Prim.Native.Nat.{ℕ, zero, suc, _+_, _-_, _*_, _≤_, _<_}
-use mathlib.Core.Path.{_≡_, refl, sym, _∙_, ap, subst}
-use mathlib.Core.Bool.{Bool, true, false, _&&_, _||_, not}
+use Prim.Native.Nat.{ℕ, suc, _+_, _*_, _≤_}
+use mathlib.Core.Path.{_≡_, refl, _∙_, ap, subst}
+use mathlib.Core.Bool.{Bool, true, false}
 use mathlib.Core.List.{List, [], _∷_, _++_}
 use native.Mathlib.Omega.{arith}
-use lib.Dec.{T, eqb}
+use lib.Dec.{eqb}
 use lib.ListN.{length, length-append}
 use Rattle.field.specs.Bytes.{Bytes, ascii, same, pick}
 use Rattle.field.specs.Number.{big-endian}
-use Rattle.field.specs.Row.{Row, end, field, field-bytes, bytes}
+use Rattle.field.specs.Row.{Row, end, field, bytes}
 use Rattle.field.proofs.PutLaws.{length-field-bytes}
-use Rattle.page.specs.Number as N
 use Rattle.page.specs.Number.{number-bytes, number-tag, minus-tag}
 use Rattle.page.specs.Page as P
-use Rattle.page.specs.Encode.{texts-row, name-row, tag-row, expr-row, boolean-byte}
+use Rattle.page.specs.Encode.{texts-row, name-row, tag-row, boolean-byte}
 use Rattle.grammar.specs.Signs.{choose, space, quote}
 use Rattle.grammar.specs.Known.{Known, whole, minus-whole, decimal, minus-decimal, quoted, boolean, null, other, Found, none, some, kept, trimmed-end, is-whole, is-decimal, before-point, after-point, value-from, number-of, unsigned, has-minus, string-from, string-of, rest-of, or-else, known-trimmed, known-of}
 use Rattle.grammar.specs.Syntax.{Part, part, Name, known-expr}

@@ -1,21 +1,22 @@
 -- How the pass goes from one state of the reader to the next. Main statements: `move`, `refuses`, `later`, `to-tag`, `to-children`, `to-inner`.
 -- Assumes nothing.
-use Prim.Native.Nat.{ℕ, suc, _+_, _-_, _*_, _≤_, _<_}
+use Prim.Native.Nat.{ℕ, _+_, _≤_, _<_}
 use mathlib.Core.Path.{_≡_, refl, sym, _∙_, ap, subst}
 use mathlib.Core.Bool.{Bool, true, false, _&&_}
-use mathlib.Core.List.{List, [], _∷_, _++_}
+use mathlib.Core.List.{_∷_}
 use native.Mathlib.Omega.{arith}
 use borrow.Author.Tests.{leb-true, le-leb}
 use lib.Dec.{leb}
 use lib.ListN.{length, drop}
 use Rattle.field.specs.Bytes.{Bytes}
-use Rattle.field.specs.Put.{put, head}
+use Rattle.field.specs.Put.{put}
 use Rattle.grammar.specs.Syntax.{Name, Attributes, Children}
 use Rattle.grammar.specs.Reader.{Frame, Stack, State, opened, in-tag, in-children, no-reading, outcome}
+use Rattle.read_tag.specs.Progress.{Plain}
 use Rattle.read_tag.specs.Flags.{depth-of}
-use Rattle.read_tag.proofs.FlagLaws.{and-assoc, and-true}
+use Rattle.read_tag.proofs.FlagLaws.{and-true}
 use Rattle.tag_pass.specs.Worlds.{World, more, tag-world, children-world, world-of, Made}
-use Rattle.tag_pass.specs.States.{Named, Plain, kind-of, frame-name, PlainFrame, Fifty, Stands, Next, next-tag, next-children, next-inner, next-ended, next-refused, next-done, Settled}
+use Rattle.tag_pass.specs.States.{Named, kind-of, frame-name, PlainFrame, Fifty, Stands, Next, next-tag, next-children, next-inner, next-ended, next-refused, next-done, Settled}
 use Rattle.tag_pass.specs.Turns.{at-mode, at-inner}
 use Rattle.tag_pass.specs.declared.state.Reading.{Reading}
 use Rattle.tag_pass.proofs.WorldLaws.{made-more}

@@ -1,45 +1,44 @@
 -- Tags: how they open, and how they end. Main statements: `tag-done`, `named-found`, `fragment-opens`, `closing-named`. Assumes nothing.
-use Prim.Native.Nat.{ℕ, zero, suc, _+_, _-_, _*_, _≤_, _<_}
+use Prim.Native.Nat.{ℕ, suc, _+_, _-_, _*_, _≤_, _<_}
 use mathlib.Core.Path.{_≡_, refl, sym, _∙_, ap, ap₂, subst}
 use mathlib.Core.Bool.{Bool, true, false, _&&_, _||_, not}
-use mathlib.Core.List.{List, [], _∷_, _++_, append-nil, append-assoc}
+use mathlib.Core.List.{[], _∷_, _++_, append-nil}
 use native.Mathlib.Omega.{arith}
 use borrow.Author.Tests.{eq-eqb, ne-eqb}
-use lib.Dec.{T, leb, eqb, eqb-refl}
+use lib.Dec.{T, leb, eqb}
 use lib.ListN.{length, drop, getD, length-drop, length-append}
 use Rattle.field.specs.Bytes.{Bytes, pick, same}
-use Rattle.field.specs.Number.{big-endian}
-use Rattle.field.specs.Row.{Row, end, bytes}
+use Rattle.field.specs.Row.{end, bytes}
 use Rattle.field.specs.Put.{put, head, Wrote}
 use Rattle.field.proofs.PutLaws.{length-head, wrote-then}
 use Rattle.names.proofs.CompareLaws.{same-refl}
-use Rattle.page.specs.Encode.{name-row, tag-row, attributes-row, children-row}
+use Rattle.page.specs.Encode.{tag-row}
 use Rattle.grammar.specs.Signs.{choose, letter, space, name-goes-on}
 use Rattle.grammar.specs.Syntax as S
-use Rattle.grammar.specs.Syntax.{Part, part, Name, Attributes, no-attributes, Children, no-children, tag, tag-name-fits, attribute-name-fits, member-fits, same-name, every-tag}
+use Rattle.grammar.specs.Syntax.{part, Name, Attributes, no-attributes, Children, no-children, tag, tag-name-fits, attribute-name-fits, member-fits, same-name, every-tag}
 use Rattle.grammar.specs.Grammar.{Ends, IsParts, no-parts, one-part, IsName, is-name}
-use Rattle.grammar.specs.Reader.{Stack, State, for-tag, for-attribute, for-closing, in-ident, in-tag, slashed, spread-opened, in-children, closing, close-named, closed, fits, named, refused, step, step-tag, step-close-named, at-end, no-reading, outcome}
+use Rattle.grammar.specs.Reader.{Stack, State, for-tag, for-attribute, for-closing, in-ident, in-tag, slashed, spread-opened, in-children, closing, close-named, closed, fits, named, refused, step, step-tag, step-close-named, at-end, outcome}
 use Rattle.grammar.proofs.Tests.{chose}
-use Rattle.grammar.proofs.Complete.{skip-tag, skip-slashed, skip-closing, refused-never}
-use Rattle.tag.specs.PageTag.{page-name, page-tag}
-use Rattle.tag.specs.TagAnswer.{shallow, known-in-range}
-use Rattle.read_tag.specs.Progress.{tag-code, name-bytes, attributes-bytes, children-bytes, begun}
+use Rattle.grammar.proofs.Complete.{skip-tag, skip-slashed, skip-closing}
+use Rattle.tag.specs.PageTag.{page-tag}
+use Rattle.tag.specs.TagAnswer.{shallow}
+use Rattle.read_tag.specs.Progress.{tag-code, name-bytes, attributes-bytes, children-bytes, begun, Plain}
 use Rattle.read_tag.specs.Flags.{depth-of}
 use Rattle.read_tag.specs.Runs.{Ran}
 use Rattle.read_tag.specs.Shapes.{name-tag}
-use Rattle.read_tag.specs.Names.{named-if, NameAt, FoundName, Scanned, NamePut, NamesCompared, name-depth}
+use Rattle.read_tag.specs.Names.{named-if, FoundName, Scanned, NamePut, NamesCompared, name-depth}
 use Rattle.read_tag.specs.declared.name.ScannedName.{ScannedName}
 use Rattle.read_tag.specs.declared.name.ScannedName.the-variants as SN
 use Rattle.read_tag.proofs.FlagLaws.{and-true}
 use Rattle.read_tag.proofs.NameLimitLaws as NL
-use Rattle.tag_pass.specs.Worlds.{World, more, shallow-name, tag-world, children-world, world-of, ended-world, Made}
-use Rattle.tag_pass.specs.States.{TagName, no-name, name-at, Named, Plain, Bounded, Stands, OpensIn, Next, next-ended, next-refused}
-use Rattle.tag_pass.specs.Turns.{at-mode, at-more, at-begin, at-end-of, name-code, AttributeTurn, SlashedTurn, SpreadTurn, TagTurn, ClosingTurn, NamedTurn, FragmentTurn, Patched, TagEnded, NamePlace, ClosingCompared}
+use Rattle.tag_pass.specs.Worlds.{World, more, shallow-name, tag-world, children-world, world-of, Made}
+use Rattle.tag_pass.specs.States.{TagName, no-name, name-at, Named, Stands, Next, next-ended, next-refused}
+use Rattle.tag_pass.specs.Turns.{at-mode, at-more, at-begin, at-end-of, name-code, AttributeTurn, SlashedTurn, SpreadTurn, TagTurn, ClosingTurn, NamedTurn, FragmentTurn, Patched, TagEnded, ClosingCompared}
 use Rattle.tag_pass.specs.declared.state.Reading.{Reading}
 use Rattle.tag_pass.proofs.Machine.{next, spaces, not-space, steps, stuck, out-of}
 use Rattle.tag_pass.proofs.WorldLaws.{world-is, no-children-yet, tag-ended}
 use Rattle.tag_pass.proofs.Sizes.{name-size}
-use Rattle.tag_pass.proofs.AttributeLaws.{is-T, found, deep-enough}
+use Rattle.tag_pass.proofs.AttributeLaws.{found, deep-enough}
 use Rattle.tag_pass.proofs.Standing.{deeper-decides, made-as, made-wrote, made-is, remade, move, refuses, later, to-tag, to-children}
 
 -- ---- names

@@ -1,9 +1,9 @@
 -- What is made grows by what is read, and a field that ends gets its length. Main statements: `made-more`, `made-closed`, `child-more`,
 -- `attribute-ended`, `braces-ended`, `tag-ended`. Assumes nothing.
-use Prim.Native.Nat.{ℕ, suc, _+_, _-_, _≤_}
-use mathlib.Core.Path.{_≡_, refl, sym, _∙_, ap, ap₂, subst}
+use Prim.Native.Nat.{ℕ, suc, _+_, _-_}
+use mathlib.Core.Path.{_≡_, refl, sym, _∙_, ap, ap₂}
 use mathlib.Core.Bool.{Bool, true, false, _&&_, false≢true}
-use mathlib.Core.List.{List, [], _∷_, _++_, append-nil, append-assoc}
+use mathlib.Core.List.{[], _∷_, _++_, append-nil, append-assoc}
 use native.Mathlib.Omega.{arith}
 use lib.Dec.{leb}
 use lib.ListN.{length, length-append}
@@ -15,15 +15,13 @@ use Rattle.names.specs.Names as AN
 use Rattle.page.specs.Page as P
 use Rattle.page.specs.Encode.{texts-row, name-row, attr-name-row, tag-row, attributes-row, value-row, children-row, expr-row}
 use Rattle.grammar.specs.Syntax as S
-use Rattle.grammar.specs.Syntax.{Name, Attributes, Children, Tag, same-name, every-tag, every-attributes, every-attribute, every-children, every-child}
-use Rattle.grammar.specs.Reader.{Braces, child-braces, spread-child-braces, value-braces, spread-braces, Stack}
-use Rattle.tag.specs.PageTag.{page-name, page-attr-name, page-tag, page-tag-by, page-attributes, page-attribute, page-children, page-child, page-expr}
+use Rattle.grammar.specs.Syntax.{Name, Attributes, Children, same-name, every-tag, every-attributes, every-attribute, every-children, every-child}
+use Rattle.tag.specs.PageTag.{page-name, page-attr-name, page-tag, page-tag-by, page-attributes, page-attribute, page-children, page-child}
 use Rattle.tag.specs.TagAnswer.{shallow, known-in-range}
-use Rattle.read_tag.specs.Progress.{tag-code, name-bytes, attr-name-bytes, attribute-bytes, attributes-bytes, child-bytes, children-bytes, expr-bytes, tag-bytes, begun, attribute-begun, braces-code}
+use Rattle.read_tag.specs.Progress.{tag-code, name-bytes, attr-name-bytes, attribute-bytes, attributes-bytes, child-bytes, children-bytes, begun, attribute-begun, Plain}
 use Rattle.read_tag.proofs.ProgressLaws as L
 use Rattle.read_tag.proofs.FlagLaws.{and-assoc, and-true, every-attributes-more, every-children-more, shallow-attributes-more, shallow-children-more}
-use Rattle.tag_pass.specs.Worlds.{World, nothing-made, more, any-known, any-names, shallow-name, tag-world, children-world, value-world, before-world, braces-at, braces-world, ended-world, Made}
-use Rattle.tag_pass.specs.States.{Named, Plain}
+use Rattle.tag_pass.specs.Worlds.{World, more, any-known, any-names, shallow-name, tag-world, children-world, value-world, ended-world, Made}
 
 pub world-is : {b b′ : Bytes} {x x′ y y′ z z′ : Bool} → b ≡ b′ → x ≡ x′ → y ≡ y′ → z ≡ z′ → _≡_ {A = World} (record { bytes = b; names = x; numbers = y; shallow = z }) (record { bytes = b′; names = x′; numbers = y′; shallow = z′ })
 world-is e f g h = cc
@@ -211,18 +209,13 @@ tag-shallow d (p ∷ n) ps ks m e =
     sym (name-then (suc d) (page-name (p ∷ n)) (attributes-row (page-attributes ps) (children-row (page-children ks)))) ∙
     sym (and-true (shallow (suc d) (name-row (page-name (p ∷ n)) (attributes-row (page-attributes ps) (children-row (page-children ks)))))))
 
-plain-is : (n : Name) (ps : Attributes) → Plain n ps → L.Plain n ps
-unfolding Plain L.Plain
-plain-is [] ps e = e
-plain-is (p ∷ n) ps e = tt
-
 -- it ends: its name, attributes and children were written behind its head
 pub tag-ended : {o out out′ : Bytes} {at p : ℕ} {u v w : Bool} (W : World) (d : ℕ) (n : Name) (ps : Attributes) (ks : Children) (m : Name) (b : Bool) → Plain n ps → b ≡ same-name n m → Made o (children-world W d n ps ks) out at u v w → p ≡ length (W .bytes) → out′ ≡ put out p (head (tag-code n) (at - p - 3)) → Made o (ended-world W d (S.tag n ps ks m)) out′ at (u && b) v w
 unfolding children-world tag-world ended-world every-tag
 tag-ended W d n ps ks m b h c r e f =
     let body : Bytes = name-bytes n ++ (attributes-bytes ps ++ children-bytes ks) in
     let q : begun (W .bytes) n ps ++ children-bytes ks ≡ (W .bytes ++ head (tag-code n) 0) ++ body = L.body-of (W .bytes) n ps ks ∙ sym (append-assoc (W .bytes) (head (tag-code n) 0) body) in
-    made-closed (W .bytes) body (tag-code n) r e f q (ap (λ (z : Bytes). W .bytes ++ z) (sym (L.tag-field n ps ks m (plain-is n ps h))))
+    made-closed (W .bytes) body (tag-code n) r e f q (ap (λ (z : Bytes). W .bytes ++ z) (sym (L.tag-field n ps ks m h)))
     (λ z. and-assoc (W .numbers) (every-attributes ps any-names known-in-range) (every-children ks any-names known-in-range) ∙ z)
     (ap₂ (λ (x y : Bool). x && y) (r .names-is) c ∙ and-turn (W .names) (every-attributes ps same-name any-known) (every-children ks same-name any-known) (same-name n m))
     (r .numbers-is ∙ and-assoc (W .numbers) (every-attributes ps any-names known-in-range) (every-children ks any-names known-in-range))

@@ -1,16 +1,15 @@
 -- What holds of the pass between its parts: where the grammar's reader is, what was made, and what the pass's numbers and its stack say of it.
 -- Main definitions: `Stands`, `Next`, `Stacked`. Assumes nothing: these are definitions.
-use Prim.Native.Nat.{ℕ, suc, _+_, _*_, _≤_, _<_}
+use Prim.Native.Nat.{ℕ, _+_, _*_, _≤_, _<_}
 use mathlib.Core.Path.{_≡_}
-use mathlib.Core.Bool.{Bool, true}
 use mathlib.Core.List.{List, [], _∷_}
 use lib.Dec.{T}
 use lib.ListN.{length, drop, getD}
 use Rattle.field.specs.Bytes.{Bytes}
-use Rattle.grammar.specs.Syntax.{Name, tag-name-fits, Tag, Attributes, no-attributes, Children}
+use Rattle.grammar.specs.Syntax.{Name, tag-name-fits, Tag, Attributes, Children}
 use Rattle.grammar.specs.Grammar.{IsName}
 use Rattle.grammar.specs.Reader.{Braces, child-braces, spread-child-braces, value-braces, spread-braces, Frame, within, value-of, in-braces, Stack, State, start, in-tag, in-children, opened, closed, outcome, read, no-reading}
-use Rattle.read_tag.specs.Progress.{begun}
+use Rattle.read_tag.specs.Progress.{begun, Plain}
 use Rattle.read_tag.specs.Flags.{depth-of}
 use Rattle.tag_pass.specs.Worlds.{World, nothing-made, tag-world, children-world, world-of, ended-world, Made}
 use Rattle.tag_pass.specs.declared.state.Reading.{Reading}
@@ -25,11 +24,6 @@ pub data TagName (s : Bytes) : ℕ → Name → Type 0 where
 unfoldable pub Named : Name → Type 0
 Named [] = ⊥
 Named (p ∷ n) = Unit {0}
-
--- a fragment has no attributes
-unfoldable pub Plain : Name → Attributes → Type 0
-Plain [] ps = ps ≡ no-attributes
-Plain (p ∷ n) ps = Unit {0}
 
 -- ---- what an inner tag stands in, by a number
 

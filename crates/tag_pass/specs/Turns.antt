@@ -2,7 +2,7 @@
 -- Assumes nothing: these are definitions.
 use Prim.Native.Nat.{ℕ, suc, _+_, _-_, _*_, _≤_, _<_}
 use mathlib.Core.Path.{_≡_}
-use mathlib.Core.Bool.{Bool, true, false, _&&_}
+use mathlib.Core.Bool.{Bool, true, _&&_}
 use mathlib.Core.List.{List, [], _∷_}
 use lib.Dec.{eqb}
 use lib.ListN.{length, drop, take, getD}
@@ -16,11 +16,11 @@ use Rattle.grammar.specs.Grammar.{IsName}
 use Rattle.grammar.specs.Reader.{Braces, child-braces, in-braces, behind-tag, Frame, Stack, State, for-attribute, for-tag, in-ident, opened, in-tag, slashed, attribute-named, equals, in-string, spread-opened, one-point, braces-opened, in-children, closing, closed, filled, filled-if}
 use Rattle.tag.specs.PageTag.{page-expr}
 use Rattle.tag.specs.TagAnswer.{shallow, known-in-range}
-use Rattle.read_tag.specs.Progress.{begun, expr-bytes}
+use Rattle.read_tag.specs.Progress.{begun, expr-bytes, Plain}
 use Rattle.read_tag.specs.Flags.{depth-of}
 use Rattle.read_tag.specs.Names.{NameAt}
 use Rattle.tag_pass.specs.Worlds.{World, more, any-known, any-names, tag-world, children-world, value-world, before-world, braces-at, braces-world, world-of, ended-world}
-use Rattle.tag_pass.specs.States.{Named, Plain, braces-kind, kind-of, braces-name, frame-name, PlainBraces, PlainFrame, BracesFifty, Fifty, TagName, Stacked, Stands, OpensIn, Next, Going, Passed}
+use Rattle.tag_pass.specs.States.{Named, braces-kind, kind-of, braces-name, frame-name, PlainBraces, PlainFrame, BracesFifty, Fifty, TagName, Stacked, Stands, OpensIn, Next, Going, Passed}
 use Rattle.tag_pass.specs.declared.state.Reading.{Reading}
 
 -- ---- the numbers of the pass, some of them changed

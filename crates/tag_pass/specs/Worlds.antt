@@ -3,16 +3,15 @@
 use Prim.Native.Nat.{ℕ, suc}
 use mathlib.Core.Path.{_≡_}
 use mathlib.Core.Bool.{Bool, true, _&&_}
-use mathlib.Core.List.{List, [], _∷_, _++_}
+use mathlib.Core.List.{[], _∷_, _++_}
 use lib.Dec.{leb}
 use lib.ListN.{length}
 use Rattle.field.specs.Bytes.{Bytes}
-use Rattle.field.specs.Row.{Row, end}
+use Rattle.field.specs.Row.{end}
 use Rattle.field.specs.Put.{put, head}
-use Rattle.page.specs.Page as P
 use Rattle.page.specs.Encode.{name-row, attr-name-row, tag-row, attributes-row, children-row}
 use Rattle.grammar.specs.Known.{Known}
-use Rattle.grammar.specs.Syntax.{Name, same-name, Tag, Attributes, Attribute, Children, Child, Expr, every-tag, every-attributes, every-attribute, every-children, every-child, every-expr}
+use Rattle.grammar.specs.Syntax.{Name, same-name, Tag, Attributes, Children, every-tag, every-attributes, every-children, every-child}
 use Rattle.grammar.specs.Reader.{Braces, child-braces, spread-child-braces, value-braces, spread-braces, Frame, within, value-of, in-braces, Stack}
 use Rattle.tag.specs.PageTag.{page-name, page-attr-name, page-tag, page-attributes, page-children}
 use Rattle.tag.specs.TagAnswer.{shallow, known-in-range}

@@ -1,7 +1,6 @@
 -- `tag_pass::answer::number_of` meets its contract. Assumes nothing.
 use borrow.Author.Tests.{eq-eqb, ne-eqb, lt-ltb, le-ltb}
 use Rattle.tag_pass.specs.Answers.{reading-number}
-use borrow.Author.Needs.{needs}
 use Rattle.tag_pass.proofs.answer.number_of.Statement.{statement}
 use Rattle.tag_pass.proofs.answer.number_of.Tie as tie
 

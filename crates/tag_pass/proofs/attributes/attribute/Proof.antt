@@ -6,16 +6,6 @@ use Rattle.tag_pass.proofs.AttributeLaws.{attribute-none, attribute-mem
 use borrow.Author.Needs.{needs}
 use Rattle.tag_pass.proofs.attributes.attribute.Statement.{statement}
 use Rattle.tag_pass.proofs.attributes.attribute.Tie as tie
-use Rattle.tag_pass.proofs.attributes.attribute.Reads as reads
-use Rattle.tag_pass.proofs.attributes.attribute.Lts as lts
-use Rattle.field.proofs.writer.put_head.Reads as put-head-reads
-use Rattle.read_tag.proofs.name.put_name.Reads as put-name-reads
-use Rattle.read_tag.proofs.name.scan_name.Reads as scan-name-reads
-use Rattle.tag_pass.proofs.attributes.behind_name.Reads as behind-name-reads
-use Rattle.tag_pass.proofs.attributes.name_depth.Reads as name-depth-reads
-use Rattle.tag_pass.proofs.state.at_fifty.Reads as at-fifty-reads
-use Rattle.tag_pass.proofs.state.refuse.Reads as refuse-reads
-use Rattle.tag_pass.proofs.state.wrote.Reads as wrote-reads
 
 scan-name-requires : tie.Need-scan-name-requires
 scan-name-requires c κs = search needs

@@ -3,11 +3,6 @@ use Rattle.tag_pass.proofs.AttributeLaws.{named-out, named-equals, name
 use borrow.Author.Needs.{needs}
 use Rattle.tag_pass.proofs.attributes.behind_name.Statement.{statement}
 use Rattle.tag_pass.proofs.attributes.behind_name.Tie as tie
-use Rattle.tag_pass.proofs.attributes.behind_name.Reads as reads
-use Rattle.tag_pass.proofs.attributes.behind_name.Lts as lts
-use Rattle.tag_pass.proofs.attributes.value.Reads as value-reads
-use Rattle.tag_pass.proofs.braces.end_attribute.Reads as end-attribute-reads
-use Rattle.tag_pass.proofs.state.refuse.Reads as refuse-reads
 
 refuse-requires : tie.Need-refuse-requires
 refuse-requires c κs = search needs

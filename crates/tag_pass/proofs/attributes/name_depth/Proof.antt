@@ -5,8 +5,6 @@ use Rattle.read_tag.specs.Names.{name-depth}
 use borrow.Author.Needs.{needs}
 use Rattle.tag_pass.proofs.attributes.name_depth.Statement.{statement}
 use Rattle.tag_pass.proofs.attributes.name_depth.Tie as tie
-use Rattle.tag_pass.proofs.attributes.name_depth.Reads as reads
-use Rattle.tag_pass.proofs.attributes.name_depth.Lts as lts
 
 returns : tie.Need-returns
 unfolding name-depth choose

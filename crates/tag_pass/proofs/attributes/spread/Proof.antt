@@ -3,11 +3,6 @@ use Rattle.tag_pass.proofs.AttributeLaws.{spread-out, spread-barred, sp
 use borrow.Author.Needs.{needs}
 use Rattle.tag_pass.proofs.attributes.spread.Statement.{statement}
 use Rattle.tag_pass.proofs.attributes.spread.Tie as tie
-use Rattle.tag_pass.proofs.attributes.spread.Reads as reads
-use Rattle.tag_pass.proofs.attributes.spread.Lts as lts
-use Rattle.read_tag.proofs.signs.skip_spaces.Reads as skip-spaces-reads
-use Rattle.tag_pass.proofs.braces.points.Reads as points-reads
-use Rattle.tag_pass.proofs.state.refuse.Reads as refuse-reads
 
 skip-spaces-requires : tie.Need-skip-spaces-requires
 skip-spaces-requires c κs = search needs

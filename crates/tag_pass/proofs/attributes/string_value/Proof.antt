@@ -6,12 +6,6 @@ use Rattle.tag_pass.proofs.AttributeLaws.{string-none, string-some, str
 use borrow.Author.Needs.{needs}
 use Rattle.tag_pass.proofs.attributes.string_value.Statement.{statement}
 use Rattle.tag_pass.proofs.attributes.string_value.Tie as tie
-use Rattle.tag_pass.proofs.attributes.string_value.Reads as reads
-use Rattle.tag_pass.proofs.attributes.string_value.Lts as lts
-use Rattle.read_tag.proofs.texts.read_string.Reads as read-string-reads
-use Rattle.tag_pass.proofs.braces.end_attribute.Reads as end-attribute-reads
-use Rattle.tag_pass.proofs.state.refuse.Reads as refuse-reads
-use Rattle.tag_pass.proofs.state.wrote.Reads as wrote-reads
 
 read-string-requires : tie.Need-read-string-requires
 read-string-requires c κs = search needs

@@ -1,18 +1,10 @@
 -- `tag_pass::attributes::value` meets its contract. Assumes nothing.
 use mathlib.Core.Path.{sym, _∙_}
-use Rattle.tag_pass.proofs.BracesLaws.{bounded-on, bounded-next}
+use Rattle.tag_pass.proofs.BracesLaws.{bounded-next}
 use Rattle.tag_pass.proofs.AttributeLaws.{value-out, value-string, value-braced, value-tag, value-barred}
 use borrow.Author.Needs.{needs}
 use Rattle.tag_pass.proofs.attributes.value.Statement.{statement}
 use Rattle.tag_pass.proofs.attributes.value.Tie as tie
-use Rattle.tag_pass.proofs.attributes.value.Reads as reads
-use Rattle.tag_pass.proofs.attributes.value.Lts as lts
-use Rattle.read_tag.proofs.signs.is_quote.Reads as is-quote-reads
-use Rattle.read_tag.proofs.signs.skip_spaces.Reads as skip-spaces-reads
-use Rattle.tag_pass.proofs.attributes.string_value.Reads as string-value-reads
-use Rattle.tag_pass.proofs.braces.braces.Reads as braces-reads
-use Rattle.tag_pass.proofs.state.at_inner.Reads as at-inner-reads
-use Rattle.tag_pass.proofs.state.refuse.Reads as refuse-reads
 
 skip-spaces-requires : tie.Need-skip-spaces-requires
 skip-spaces-requires c κs = search needs

@@ -1,15 +1,9 @@
 -- `tag_pass::braces::braces` meets its contract. Assumes nothing.
-use native.Mathlib.Omega.{arith}
 use Rattle.tag_pass.proofs.Machine.{not-space}
 use Rattle.tag_pass.proofs.BracesLaws.{bounded-on, braces-out, braces-empty, braces-pointed, braces-behind}
 use borrow.Author.Needs.{needs}
 use Rattle.tag_pass.proofs.braces.braces.Statement.{statement}
 use Rattle.tag_pass.proofs.braces.braces.Tie as tie
-use Rattle.tag_pass.proofs.braces.braces.Reads as reads
-use Rattle.tag_pass.proofs.braces.braces.Lts as lts
-use Rattle.read_tag.proofs.signs.skip_spaces.Reads as skip-spaces-reads
-use Rattle.tag_pass.proofs.braces.expression.Reads as expression-reads
-use Rattle.tag_pass.proofs.state.refuse.Reads as refuse-reads
 
 skip-spaces-requires : tie.Need-skip-spaces-requires
 skip-spaces-requires c κs = search needs

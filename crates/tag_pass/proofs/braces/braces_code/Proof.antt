@@ -3,8 +3,6 @@ use borrow.Author.Tests.{ne-eqb}
 use Rattle.tag_pass.specs.Turns.{kind-code}
 use Rattle.tag_pass.proofs.braces.braces_code.Statement.{statement}
 use Rattle.tag_pass.proofs.braces.braces_code.Tie as tie
-use Rattle.tag_pass.proofs.braces.braces_code.Reads as reads
-use Rattle.tag_pass.proofs.braces.braces_code.Lts as lts
 
 returns : tie.Need-returns
 unfolding kind-code

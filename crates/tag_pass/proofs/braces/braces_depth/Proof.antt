@@ -3,8 +3,6 @@ use borrow.Author.Tests.{ne-eqb}
 use Rattle.tag_pass.specs.Turns.{kind-depth}
 use Rattle.tag_pass.proofs.braces.braces_depth.Statement.{statement}
 use Rattle.tag_pass.proofs.braces.braces_depth.Tie as tie
-use Rattle.tag_pass.proofs.braces.braces_depth.Reads as reads
-use Rattle.tag_pass.proofs.braces.braces_depth.Lts as lts
 
 returns : tie.Need-returns
 unfolding kind-depth

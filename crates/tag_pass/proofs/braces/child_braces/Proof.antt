@@ -6,15 +6,6 @@ use Rattle.tag_pass.proofs.ChildLaws.{child-out, child-empty, child-poi
 use borrow.Author.Needs.{needs}
 use Rattle.tag_pass.proofs.braces.child_braces.Statement.{statement}
 use Rattle.tag_pass.proofs.braces.child_braces.Tie as tie
-use Rattle.tag_pass.proofs.braces.child_braces.Reads as reads
-use Rattle.tag_pass.proofs.braces.child_braces.Lts as lts
-use Rattle.field.proofs.writer.put_head.Reads as put-head-reads
-use Rattle.read_tag.proofs.signs.skip_spaces.Reads as skip-spaces-reads
-use Rattle.tag_pass.proofs.braces.expression.Reads as expression-reads
-use Rattle.tag_pass.proofs.braces.points.Reads as points-reads
-use Rattle.tag_pass.proofs.state.in_mode.Reads as in-mode-reads
-use Rattle.tag_pass.proofs.state.refuse.Reads as refuse-reads
-use Rattle.tag_pass.proofs.state.wrote.Reads as wrote-reads
 
 skip-spaces-requires : tie.Need-skip-spaces-requires
 skip-spaces-requires c κs = search needs

@@ -7,12 +7,6 @@ use Rattle.tag_pass.proofs.BracesLaws.{filled-value, filled-spread, fil
 use borrow.Author.Needs.{needs}
 use Rattle.tag_pass.proofs.braces.end_braces.Statement.{statement}
 use Rattle.tag_pass.proofs.braces.end_braces.Tie as tie
-use Rattle.tag_pass.proofs.braces.end_braces.Reads as reads
-use Rattle.tag_pass.proofs.braces.end_braces.Lts as lts
-use Rattle.tag_pass.proofs.braces.braces_code.Reads as braces-code-reads
-use Rattle.tag_pass.proofs.braces.end_attribute.Reads as end-attribute-reads
-use Rattle.tag_pass.proofs.state.in_mode.Reads as in-mode-reads
-use Rattle.tag_pass.proofs.state.patch.Reads as patch-reads
 
 braces-code-requires : tie.Need-braces-code-requires
 braces-code-requires c κs = search needs

@@ -1,21 +1,10 @@
 -- `tag_pass::braces::expression` meets its contract. Assumes nothing.
 use native.Mathlib.Omega.{arith}
 use mathlib.Core.Path.{refl}
-use Rattle.read_tag.specs.Sources.{Sourced}
 use Rattle.tag_pass.proofs.BracesLaws.{kind-depth-small, braces-tag, bracket-barred, source-none, source-some, source-bounds}
 use borrow.Author.Needs.{needs}
 use Rattle.tag_pass.proofs.braces.expression.Statement.{statement}
 use Rattle.tag_pass.proofs.braces.expression.Tie as tie
-use Rattle.tag_pass.proofs.braces.expression.Reads as reads
-use Rattle.tag_pass.proofs.braces.expression.Lts as lts
-use Rattle.field.proofs.writer.put_head.Reads as put-head-reads
-use Rattle.read_tag.proofs.source.source_end.Reads as source-end-reads
-use Rattle.tag_pass.proofs.braces.braces_code.Reads as braces-code-reads
-use Rattle.tag_pass.proofs.braces.braces_depth.Reads as braces-depth-reads
-use Rattle.tag_pass.proofs.braces.known.Reads as known-reads
-use Rattle.tag_pass.proofs.state.at_inner.Reads as at-inner-reads
-use Rattle.tag_pass.proofs.state.refuse.Reads as refuse-reads
-use Rattle.tag_pass.proofs.state.wrote.Reads as wrote-reads
 
 shared-slice-read-c : tie.Need-shared-slice-read-c
 shared-slice-read-c c = search needs

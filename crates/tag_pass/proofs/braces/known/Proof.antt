@@ -6,15 +6,6 @@ use Rattle.tag_pass.proofs.BracesLaws.{known-none, known-some, kind-dep
 use borrow.Author.Needs.{needs}
 use Rattle.tag_pass.proofs.braces.known.Statement.{statement}
 use Rattle.tag_pass.proofs.braces.known.Tie as tie
-use Rattle.tag_pass.proofs.braces.known.Reads as reads
-use Rattle.tag_pass.proofs.braces.known.Lts as lts
-use Rattle.field.proofs.writer.put_head.Reads as put-head-reads
-use Rattle.tag_pass.proofs.braces.braces_code.Reads as braces-code-reads
-use Rattle.tag_pass.proofs.braces.braces_depth.Reads as braces-depth-reads
-use Rattle.tag_pass.proofs.braces.end_braces.Reads as end-braces-reads
-use Rattle.read_tag.proofs.known.put_known.Reads as put-known-reads
-use Rattle.tag_pass.proofs.state.refuse.Reads as refuse-reads
-use Rattle.tag_pass.proofs.state.wrote.Reads as wrote-reads
 
 braces-code-requires : tie.Need-braces-code-requires
 braces-code-requires c κs = search needs

@@ -3,10 +3,6 @@ use Rattle.tag_pass.proofs.BracesLaws.{points-out, points-other, points
 use borrow.Author.Needs.{needs}
 use Rattle.tag_pass.proofs.braces.points.Statement.{statement}
 use Rattle.tag_pass.proofs.braces.points.Tie as tie
-use Rattle.tag_pass.proofs.braces.points.Reads as reads
-use Rattle.tag_pass.proofs.braces.points.Lts as lts
-use Rattle.tag_pass.proofs.braces.braces.Reads as braces-reads
-use Rattle.tag_pass.proofs.state.refuse.Reads as refuse-reads
 
 refuse-requires : tie.Need-refuse-requires
 refuse-requires c κs = search needs

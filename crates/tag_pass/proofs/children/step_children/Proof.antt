@@ -3,12 +3,6 @@ use Rattle.tag_pass.proofs.ChildLaws.{children-out, children-tag, child
 use borrow.Author.Needs.{needs}
 use Rattle.tag_pass.proofs.children.step_children.Statement.{statement}
 use Rattle.tag_pass.proofs.children.step_children.Tie as tie
-use Rattle.tag_pass.proofs.children.step_children.Reads as reads
-use Rattle.tag_pass.proofs.children.step_children.Lts as lts
-use Rattle.tag_pass.proofs.braces.child_braces.Reads as child-braces-reads
-use Rattle.tag_pass.proofs.children.text_child.Reads as text-child-reads
-use Rattle.tag_pass.proofs.state.at_inner.Reads as at-inner-reads
-use Rattle.tag_pass.proofs.state.refuse.Reads as refuse-reads
 
 refuse-requires : tie.Need-refuse-requires
 refuse-requires c κs = search needs

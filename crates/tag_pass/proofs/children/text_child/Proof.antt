@@ -4,12 +4,6 @@ use Rattle.tag_pass.proofs.ChildLaws.{text-none, text-some}
 use borrow.Author.Needs.{needs}
 use Rattle.tag_pass.proofs.children.text_child.Statement.{statement}
 use Rattle.tag_pass.proofs.children.text_child.Tie as tie
-use Rattle.tag_pass.proofs.children.text_child.Reads as reads
-use Rattle.tag_pass.proofs.children.text_child.Lts as lts
-use Rattle.read_tag.proofs.texts.read_text.Reads as read-text-reads
-use Rattle.tag_pass.proofs.state.in_mode.Reads as in-mode-reads
-use Rattle.tag_pass.proofs.state.refuse.Reads as refuse-reads
-use Rattle.tag_pass.proofs.state.wrote.Reads as wrote-reads
 
 read-text-requires : tie.Need-read-text-requires
 read-text-requires c κs = search needs

@@ -4,9 +4,6 @@ use Rattle.tag_pass.proofs.FrameLaws.{kind-added-small}
 use borrow.Author.Needs.{needs}
 use Rattle.tag_pass.proofs.frames.deeper.Statement.{statement}
 use Rattle.tag_pass.proofs.frames.deeper.Tie as tie
-use Rattle.tag_pass.proofs.frames.deeper.Reads as reads
-use Rattle.tag_pass.proofs.frames.deeper.Lts as lts
-use Rattle.tag_pass.proofs.frames.depth_added.Reads as depth-added-reads
 
 add-w : tie.Need-add-w
 add-w c = search needs

@@ -3,8 +3,6 @@ use borrow.Author.Tests.{ne-eqb}
 use Rattle.tag_pass.specs.Turns.{kind-added}
 use Rattle.tag_pass.proofs.frames.depth_added.Statement.{statement}
 use Rattle.tag_pass.proofs.frames.depth_added.Tie as tie
-use Rattle.tag_pass.proofs.frames.depth_added.Reads as reads
-use Rattle.tag_pass.proofs.frames.depth_added.Lts as lts
 
 returns : tie.Need-returns
 unfolding kind-added

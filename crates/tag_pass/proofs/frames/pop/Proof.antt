@@ -2,11 +2,6 @@
 use borrow.Author.Needs.{needs}
 use Rattle.tag_pass.proofs.frames.pop.Statement.{statement}
 use Rattle.tag_pass.proofs.frames.pop.Tie as tie
-use Rattle.tag_pass.proofs.frames.pop.Reads as reads
-use Rattle.tag_pass.proofs.frames.pop.Lts as lts
-use Rattle.tag_pass.proofs.frames.depth_added.Reads as depth-added-reads
-use Rattle.tag_pass.proofs.frames.wide.Reads as wide-reads
-use Rattle.tag_pass.proofs.state.less.Reads as less-reads
 
 sub-h : tie.Need-sub-h
 sub-h c = search needs

@@ -3,11 +3,6 @@ use Rattle.tag_pass.proofs.FrameLaws.{stored-as}
 use borrow.Author.Needs.{needs}
 use Rattle.tag_pass.proofs.frames.push.Statement.{statement}
 use Rattle.tag_pass.proofs.frames.push.Tie as tie
-use Rattle.tag_pass.proofs.frames.push.Reads as reads
-use Rattle.tag_pass.proofs.frames.push.Lts as lts
-use Rattle.tag_pass.proofs.frames.deeper.Reads as deeper-reads
-use Rattle.tag_pass.proofs.frames.low.Reads as low-reads
-use Rattle.tag_pass.proofs.frames.store.Reads as store-reads
 
 low-requires : tie.Need-low-requires
 low-requires c κs = search needs

@@ -5,8 +5,6 @@ use Rattle.tag_pass.proofs.FrameLaws.{stored}
 use borrow.Author.Needs.{needs}
 use Rattle.tag_pass.proofs.frames.store.Statement.{statement}
 use Rattle.tag_pass.proofs.frames.store.Tie as tie
-use Rattle.tag_pass.proofs.frames.store.Reads as reads
-use Rattle.tag_pass.proofs.frames.store.Lts as lts
 
 mul-frames : tie.Need-mul-frames
 mul-frames c = search needs

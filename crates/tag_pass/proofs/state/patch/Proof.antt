@@ -3,9 +3,6 @@ use native.Mathlib.Omega.{arith}
 use borrow.Author.Needs.{needs}
 use Rattle.tag_pass.proofs.state.patch.Statement.{statement}
 use Rattle.tag_pass.proofs.state.patch.Tie as tie
-use Rattle.tag_pass.proofs.state.patch.Reads as reads
-use Rattle.tag_pass.proofs.state.patch.Lts as lts
-use Rattle.field.proofs.writer.put_head.Reads as put-head-reads
 
 returns : tie.Need-returns
 returns c = λ h. absurd (omega (arith, c .if1 .taken))

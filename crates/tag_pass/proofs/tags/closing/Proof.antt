@@ -6,14 +6,6 @@ use Rattle.tag_pass.proofs.TagLaws.{is-letter, closing-out, closing-fra
 use borrow.Author.Needs.{needs}
 use Rattle.tag_pass.proofs.tags.closing.Statement.{statement}
 use Rattle.tag_pass.proofs.tags.closing.Tie as tie
-use Rattle.tag_pass.proofs.tags.closing.Reads as reads
-use Rattle.tag_pass.proofs.tags.closing.Lts as lts
-use Rattle.read_tag.proofs.name.scan_name.Reads as scan-name-reads
-use Rattle.read_tag.proofs.signs.is_letter.Reads as is-letter-reads
-use Rattle.read_tag.proofs.signs.skip_spaces.Reads as skip-spaces-reads
-use Rattle.tag_pass.proofs.state.refuse.Reads as refuse-reads
-use Rattle.tag_pass.proofs.tags.end_tag.Reads as end-tag-reads
-use Rattle.tag_pass.proofs.tags.same_closing.Reads as same-closing-reads
 
 skip-spaces-requires : tie.Need-skip-spaces-requires
 skip-spaces-requires c κs = search needs

@@ -1,14 +1,8 @@
 -- `tag_pass::tags::end_tag` meets its contract. Assumes nothing.
-use mathlib.Core.Path.{ap, _∙_, subst, sym}
 use Rattle.tag_pass.proofs.TagLaws.{ended-tag}
 use borrow.Author.Needs.{needs}
 use Rattle.tag_pass.proofs.tags.end_tag.Statement.{statement}
 use Rattle.tag_pass.proofs.tags.end_tag.Tie as tie
-use Rattle.tag_pass.proofs.tags.end_tag.Reads as reads
-use Rattle.tag_pass.proofs.tags.end_tag.Lts as lts
-use Rattle.tag_pass.proofs.state.patch.Reads as patch-reads
-use Rattle.tag_pass.proofs.tags.at_ended.Reads as at-ended-reads
-use Rattle.tag_pass.proofs.tags.tag_code.Reads as tag-code-reads
 
 tag-code-requires : tie.Need-tag-code-requires
 tag-code-requires c κs = search needs

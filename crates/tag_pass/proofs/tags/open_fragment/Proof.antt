@@ -7,12 +7,6 @@ use Rattle.tag_pass.proofs.Standing.{settled}
 use borrow.Author.Needs.{needs}
 use Rattle.tag_pass.proofs.tags.open_fragment.Statement.{statement}
 use Rattle.tag_pass.proofs.tags.open_fragment.Tie as tie
-use Rattle.tag_pass.proofs.tags.open_fragment.Reads as reads
-use Rattle.tag_pass.proofs.tags.open_fragment.Lts as lts
-use Rattle.field.proofs.writer.put_head.Reads as put-head-reads
-use Rattle.tag_pass.proofs.state.at_begin.Reads as at-begin-reads
-use Rattle.tag_pass.proofs.state.in_mode.Reads as in-mode-reads
-use Rattle.tag_pass.proofs.state.wrote.Reads as wrote-reads
 
 put-head-requires : tie.Need-put-head-requires
 put-head-requires c κs = search needs

@@ -9,16 +9,6 @@ use Rattle.tag_pass.proofs.Standing.{settled}
 use borrow.Author.Needs.{needs}
 use Rattle.tag_pass.proofs.tags.open_named.Statement.{statement}
 use Rattle.tag_pass.proofs.tags.open_named.Tie as tie
-use Rattle.tag_pass.proofs.tags.open_named.Reads as reads
-use Rattle.tag_pass.proofs.tags.open_named.Lts as lts
-use Rattle.field.proofs.writer.put_head.Reads as put-head-reads
-use Rattle.read_tag.proofs.name.put_name.Reads as put-name-reads
-use Rattle.read_tag.proofs.name.scan_name.Reads as scan-name-reads
-use Rattle.tag_pass.proofs.attributes.name_depth.Reads as name-depth-reads
-use Rattle.tag_pass.proofs.state.at_begin.Reads as at-begin-reads
-use Rattle.tag_pass.proofs.state.in_mode.Reads as in-mode-reads
-use Rattle.tag_pass.proofs.state.refuse.Reads as refuse-reads
-use Rattle.tag_pass.proofs.state.wrote.Reads as wrote-reads
 
 scan-name-requires : tie.Need-scan-name-requires
 scan-name-requires c κs = search needs

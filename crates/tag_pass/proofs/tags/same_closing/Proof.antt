@@ -2,9 +2,6 @@
 use Rattle.tag_pass.proofs.TagLaws.{same-none, same-some}
 use Rattle.tag_pass.proofs.tags.same_closing.Statement.{statement}
 use Rattle.tag_pass.proofs.tags.same_closing.Tie as tie
-use Rattle.tag_pass.proofs.tags.same_closing.Reads as reads
-use Rattle.tag_pass.proofs.tags.same_closing.Lts as lts
-use Rattle.read_tag.proofs.name.same_names.Reads as same-names-reads
 
 returns : tie.Need-returns
 returns c = same-none (c .before .before .args .j) (c .if1 .taken)

@@ -3,11 +3,6 @@ use Rattle.tag_pass.proofs.TagLaws.{slashed-out, slashed-barred, slashe
 use borrow.Author.Needs.{needs}
 use Rattle.tag_pass.proofs.tags.slashed.Statement.{statement}
 use Rattle.tag_pass.proofs.tags.slashed.Tie as tie
-use Rattle.tag_pass.proofs.tags.slashed.Reads as reads
-use Rattle.tag_pass.proofs.tags.slashed.Lts as lts
-use Rattle.read_tag.proofs.signs.skip_spaces.Reads as skip-spaces-reads
-use Rattle.tag_pass.proofs.state.refuse.Reads as refuse-reads
-use Rattle.tag_pass.proofs.tags.end_tag.Reads as end-tag-reads
 
 skip-spaces-requires : tie.Need-skip-spaces-requires
 skip-spaces-requires c κs = search needs

@@ -5,15 +5,6 @@ use Rattle.tag_pass.proofs.TagLaws.{tag-out, tag-letter, tag-children, 
 use borrow.Author.Needs.{needs}
 use Rattle.tag_pass.proofs.tags.step_tag.Statement.{statement}
 use Rattle.tag_pass.proofs.tags.step_tag.Tie as tie
-use Rattle.tag_pass.proofs.tags.step_tag.Reads as reads
-use Rattle.tag_pass.proofs.tags.step_tag.Lts as lts
-use Rattle.read_tag.proofs.signs.is_letter.Reads as is-letter-reads
-use Rattle.read_tag.proofs.signs.skip_spaces.Reads as skip-spaces-reads
-use Rattle.tag_pass.proofs.attributes.attribute.Reads as attribute-reads
-use Rattle.tag_pass.proofs.attributes.spread.Reads as spread-reads
-use Rattle.tag_pass.proofs.state.in_mode.Reads as in-mode-reads
-use Rattle.tag_pass.proofs.state.refuse.Reads as refuse-reads
-use Rattle.tag_pass.proofs.tags.slashed.Reads as slashed-reads
 
 skip-spaces-requires : tie.Need-skip-spaces-requires
 skip-spaces-requires c κs = search needs

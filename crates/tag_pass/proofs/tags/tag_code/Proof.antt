@@ -3,8 +3,6 @@ use borrow.Author.Tests.{ne-eqb}
 use Rattle.tag_pass.specs.Turns.{name-code}
 use Rattle.tag_pass.proofs.tags.tag_code.Statement.{statement}
 use Rattle.tag_pass.proofs.tags.tag_code.Tie as tie
-use Rattle.tag_pass.proofs.tags.tag_code.Reads as reads
-use Rattle.tag_pass.proofs.tags.tag_code.Lts as lts
 
 returns : tie.Need-returns
 unfolding name-code
