@@ -31,6 +31,14 @@ const SHORT: usize = 512;
 
 const SHORT_WORDS: usize = 1024;
 
+const MIDDLE: usize = 2048;
+
+const MIDDLE_WORDS: usize = 4096;
+
+const LONG: usize = 8192;
+
+const LONG_WORDS: usize = 16384;
+
 const WORDS: usize = 65536;
 
 // Behind the `<` of a tag in another one, whose numbers are still those of the pass.
@@ -186,7 +194,25 @@ fn short_pass(text: &[u8], out: &mut [u8]) -> Reading
     pass(text, out, &mut frames, st)
 }
 
+fn middle_pass(text: &[u8], out: &mut [u8]) -> Reading
+    requires { ⌜ length (now text) ≤ 2048 ⌝ }
+    ensures { λ r. ⌜ Passed (now (text .entry)) (now (out .entry)) r (now (out .exit)) ⌝ }
+{
+    let mut frames = [0u32; MIDDLE_WORDS];
+    let st = open_outer(text, out);
+    pass(text, out, &mut frames, st)
+}
+
 fn long_pass(text: &[u8], out: &mut [u8]) -> Reading
+    requires { ⌜ length (now text) ≤ 8192 ⌝ }
+    ensures { λ r. ⌜ Passed (now (text .entry)) (now (out .entry)) r (now (out .exit)) ⌝ }
+{
+    let mut frames = [0u32; LONG_WORDS];
+    let st = open_outer(text, out);
+    pass(text, out, &mut frames, st)
+}
+
+fn full_pass(text: &[u8], out: &mut [u8]) -> Reading
     requires { ⌜ length (now text) ≤ 32768 ⌝ }
     ensures { λ r. ⌜ Passed (now (text .entry)) (now (out .entry)) r (now (out .exit)) ⌝ }
 {
@@ -195,7 +221,7 @@ fn long_pass(text: &[u8], out: &mut [u8]) -> Reading
     pass(text, out, &mut frames, st)
 }
 
-// A short text does not pay for the clearing of a stack that it cannot need.
+// A stack is cleared before it is used: a text pays for at most four times what it can need.
 pub fn read(text: &[u8], out: &mut [u8]) -> Reading
     requires { ⌜ length (now text) ≤ 32768 ⌝ }
     ensures { λ r. ⌜ Passed (now (text .entry)) (now (out .entry)) r (now (out .exit)) ⌝ }
@@ -203,5 +229,11 @@ pub fn read(text: &[u8], out: &mut [u8]) -> Reading
     if text.len() <= SHORT {
         return short_pass(text, out);
     }
-    long_pass(text, out)
+    if text.len() <= MIDDLE {
+        return middle_pass(text, out);
+    }
+    if text.len() <= LONG {
+        return long_pass(text, out);
+    }
+    full_pass(text, out)
 }

@@ -6,13 +6,13 @@ use Rattle.tag_pass.proofs.pass.long_pass.Statement.{statement}
 use Rattle.tag_pass.proofs.pass.long_pass.Tie as tie
 
 open-outer-requires : tie.Need-open-outer-requires
-open-outer-requires c κs = c .before .before .before .pre
+open-outer-requires c κs = omega (arith, c .before .before .before .pre)
 
 slice-aggregate-pass : tie.Need-slice-aggregate-pass
 slice-aggregate-pass c = search needs
 
 pass-requires : tie.Need-pass-requires
-pass-requires c κs = outer-lent _ (c .before .before .before .before .before .before .before .before .pre) (omega (arith, c .before .before .before .before .before .before .before .before .pre)) (c .before .before .before .before .open-outer .ensures)
+pass-requires c κs = outer-lent _ (omega (arith, c .before .before .before .before .before .before .before .before .pre)) (omega (arith, c .before .before .before .before .before .before .before .before .pre)) (c .before .before .before .before .open-outer .ensures)
 
 same-length : tie.Need-same-length
 same-length c = search needs
