@@ -1,7 +1,7 @@
 // Attributes of a tag.
 ghost use mathlib.Core.Path.{_≡_};
 ghost use mathlib.Core.Bool.{true};
-ghost use Prim.Native.Nat.{_+_, _≤_, _<_};
+ghost use Prim.Native.Nat.{_<_};
 ghost use lib.ListN.{length, getD};
 ghost use Rattle.grammar.specs.Signs.{letter, quote};
 ghost use Rattle.tag_pass.specs.States.{Bounded};

@@ -1,11 +1,11 @@
 // Braces: of a child, a spread and a value.
 ghost use mathlib.Core.Path.{_≡_};
 ghost use mathlib.Core.Bool.{false};
-ghost use Prim.Native.Nat.{_+_, _*_, _≤_, _<_, _^_};
+ghost use Prim.Native.Nat.{_≤_, _<_, _^_};
 ghost use lib.ListN.{length, getD};
 ghost use Rattle.grammar.specs.Signs.{space};
 ghost use Rattle.tag_pass.specs.States.{Bounded};
-ghost use Rattle.tag_pass.specs.Turns.{kind-code, kind-depth, AttributeEnded, FilledTurn, KnownTurn, BracesTurn, PointTurn, ChildrenTurn, ChildBracesTurn};
+ghost use Rattle.tag_pass.specs.Turns.{kind-code, kind-depth, AttributeEnded, FilledTurn, KnownTurn, BracesTurn, PointTurn, ChildBracesTurn};
 use crate::state::CHILD;
 use crate::state::CHILDREN;
 use crate::state::MAX_DEPTH;

@@ -1,6 +1,6 @@
 // The loop over the text, and what it does with the stack.
 ghost use mathlib.Core.Path.{_≡_};
-ghost use Prim.Native.Nat.{_+_, _*_, _≤_, _<_};
+ghost use Prim.Native.Nat.{_+_, _≤_, _<_};
 ghost use lib.ListN.{length};
 ghost use Rattle.tag_pass.specs.States.{Bounded, Lent, Passed};
 ghost use Rattle.tag_pass.specs.Turns.{fresh-reading, InnerTurn, EndedTurn, BehindTurn, StepTurn, PassTurn, OuterTurn, NamePlace};

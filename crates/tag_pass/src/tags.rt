@@ -1,7 +1,7 @@
 // Tags: how they open and end.
 ghost use mathlib.Core.Path.{_≡_};
 ghost use mathlib.Core.Bool.{true};
-ghost use Prim.Native.Nat.{_+_, _^_, _≤_, _<_};
+ghost use Prim.Native.Nat.{_^_, _<_};
 ghost use lib.ListN.{length, getD};
 ghost use Rattle.grammar.specs.Signs.{letter};
 ghost use Rattle.read_tag.specs.Names.{NameAt};
