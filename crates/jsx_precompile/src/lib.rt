@@ -4,8 +4,11 @@
 ghost use mathlib.Core.Path.{_≡_};
 ghost use lib.ListN.{length};
 ghost use Rattle.spec.specs.Answer.{outcome};
+ghost use Rattle.tag_pass.specs.Answers.{TagAnswers};
 ghost use Rattle.transform.specs.Run.{Answers};
 ghost use Rattle.jsx_precompile.specs.Version.{version};
+use tag_pass::answer::TagAnswer;
+use tag_pass::answer::read_tag;
 use transform::Answer;
 use transform::transform;
 
@@ -20,6 +23,14 @@ pub extern "C" fn jsx_precompile_transform<'a>(
     ensures { λ a. ⌜ Answers (outcome (now (page .entry)) (now (options .entry)) (length (now (scratch .entry))) (length (now («templates_out» .entry))) (length (now («page_out» .entry)))) (now (scratch .entry)) (now («templates_out» .entry)) (now («page_out» .entry)) a (now (scratch .exit)) (now («templates_out» .exit)) (now («page_out» .exit)) ⌝ }
 {
     transform(page, options, scratch, templates_out, page_out)
+}
+
+// Document 02, A3: the field of a tag that comes as text.
+#[no_mangle]
+pub extern "C" fn jsx_precompile_read_tag(text: &[u8], tag_out: &mut [u8]) -> TagAnswer
+    ensures { λ a. ⌜ TagAnswers (now (text .entry)) (now («tag_out» .entry)) a (now («tag_out» .exit)) ⌝ }
+{
+    read_tag(text, tag_out)
 }
 
 // The version of the library: major * 10,000 + minor * 100 + patch.

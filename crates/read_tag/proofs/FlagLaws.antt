@@ -16,11 +16,11 @@ use Rattle.grammar.specs.Syntax.{Name, every-tag, every-attributes, every-attri
 use Rattle.tag.specs.PageTag.{page-attr-name, page-tag, page-attributes, page-attribute, page-children, page-child, page-expr}
 use Rattle.tag.specs.TagAnswer.{shallow}
 
-and-assoc : (a b c : Bool) → ((a && b) && c) ≡ (a && (b && c))
+pub and-assoc : (a b c : Bool) → ((a && b) && c) ≡ (a && (b && c))
 and-assoc true b c = refl
 and-assoc false b c = refl
 
-and-true : (a : Bool) → (a && true) ≡ a
+pub and-true : (a : Bool) → (a && true) ≡ a
 and-true true = refl
 and-true false = refl
 

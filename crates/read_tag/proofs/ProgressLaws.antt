@@ -1,5 +1,5 @@
 -- What is written grows by what is read, and a field that ends gets its length. Main statements: `attributes-more`, `children-more`,
--- `head-last`, `tag-closed`. Assumes nothing.
+-- `head-last`, `field-closed`, `tag-field`. Assumes nothing.
 use Prim.Native.Nat.{ℕ, zero, suc, _+_, _-_, _≤_, _<_}
 use mathlib.Core.Path.{_≡_, refl, sym, _∙_, ap, ap₂, subst}
 use mathlib.Core.List.{List, [], _∷_, _++_, append-nil, append-assoc}
@@ -16,7 +16,7 @@ use Rattle.page.specs.Encode.{texts-row, name-row, attr-name-row, tag-row, attr
 use Rattle.grammar.specs.Syntax as S
 use Rattle.grammar.specs.Syntax.{Name, no-attributes, join-attributes, join-children}
 use Rattle.tag.specs.PageTag.{page-name, page-attr-name, page-tag, page-tag-by, page-attributes, page-attribute, page-children, page-child, page-expr}
-use Rattle.read_tag.specs.Progress.{tag-code, name-bytes, attr-name-bytes, attribute-bytes, attributes-bytes, child-bytes, children-bytes, expr-bytes, tag-bytes, begun, attribute-begun}
+use Rattle.read_tag.specs.Progress.{tag-code, name-bytes, attr-name-bytes, attribute-bytes, attributes-bytes, child-bytes, children-bytes, tag-bytes, begun, Plain}
 
 -- ---- rows one behind the other
 
@@ -31,7 +31,7 @@ unfolding tag-row bytes
 tag-behind (P.element n as′ cs) x = ap (λ (z : Bytes). z ++ bytes x) (sym (append-nil (field-bytes 0x30 (bytes (name-row n (attributes-row as′ (children-row cs)))))))
 tag-behind (P.fragment cs) x = ap (λ (z : Bytes). z ++ bytes x) (sym (append-nil (field-bytes 0x31 (bytes (children-row cs)))))
 
-one-field : (t : ℕ) (f : Bytes) (i r : Row) → bytes (field t f i r) ≡ bytes (field t f i end) ++ bytes r
+pub one-field : (t : ℕ) (f : Bytes) (i r : Row) → bytes (field t f i r) ≡ bytes (field t f i end) ++ bytes r
 unfolding bytes
 one-field t f i r = ap (λ (z : Bytes). z ++ bytes r) (sym (append-nil (field-bytes t (f ++ bytes i))))
 
@@ -126,14 +126,9 @@ head-last o w b t =
     put-front (put o 0 w) (length w) (head t 0) (head t (length b)) b (length-head t 0 ∙ sym (length-head t (length b))) ∙
     put-split o w (head t (length b) ++ b)
 
--- ---- states: a tag, an attribute around a tag, braces around a tag
+-- ---- a tag, and any field
 
--- a fragment has no attributes
-unfoldable pub Plain : Name → S.Attributes → Type 0
-Plain [] ps = ps ≡ S.no-attributes
-Plain (p ∷ n) ps = Unit {0}
-
-body-of : (w : Bytes) (n : Name) (ps : S.Attributes) (ks : S.Children) → begun w n ps ++ children-bytes ks ≡ w ++ (head (tag-code n) 0 ++ (name-bytes n ++ (attributes-bytes ps ++ children-bytes ks)))
+pub body-of : (w : Bytes) (n : Name) (ps : S.Attributes) (ks : S.Children) → begun w n ps ++ children-bytes ks ≡ w ++ (head (tag-code n) 0 ++ (name-bytes n ++ (attributes-bytes ps ++ children-bytes ks)))
 unfolding begun
 body-of w n ps ks = simp append-assoc
 
@@ -141,7 +136,7 @@ bare : (ks : S.Children) → attributes-bytes S.no-attributes ++ children-bytes 
 unfolding attributes-bytes page-tag tag-row bytes
 bare ks = refl
 
-tag-field : (n : Name) (ps : S.Attributes) (ks : S.Children) (m : Name) → Plain n ps → field-bytes (tag-code n) (name-bytes n ++ (attributes-bytes ps ++ children-bytes ks)) ≡ tag-bytes (S.tag n ps ks m)
+pub tag-field : (n : Name) (ps : S.Attributes) (ks : S.Children) (m : Name) → Plain n ps → field-bytes (tag-code n) (name-bytes n ++ (attributes-bytes ps ++ children-bytes ks)) ≡ tag-bytes (S.tag n ps ks m)
 unfolding Plain tag-code name-bytes
 tag-field [] ps ks m e =
     ap (λ (z : S.Attributes). field-bytes 0x31 (attributes-bytes z ++ children-bytes ks)) e ∙
@@ -149,17 +144,6 @@ tag-field [] ps ks m e =
     sym (fragment-whole ks m) ∙
     ap (λ (z : S.Attributes). tag-bytes (S.tag [] z ks m)) (sym e)
 tag-field (p ∷ n) ps ks m e = sym (tag-whole p n ps ks m)
-
--- a tag ends, its head standing behind w
-pub tag-closed : (o w : Bytes) (n : Name) (ps : S.Attributes) (ks : S.Children) (m : Name) → Plain n ps → put (put o 0 (begun w n ps ++ children-bytes ks)) (length w) (head (tag-code n) (length (begun w n ps ++ children-bytes ks) - (length w + 3))) ≡ put o 0 (w ++ tag-bytes (S.tag n ps ks m))
-tag-closed o w n ps ks m h =
-    let b : Bytes = name-bytes n ++ (attributes-bytes ps ++ children-bytes ks) in
-    let e : begun w n ps ++ children-bytes ks ≡ w ++ (head (tag-code n) 0 ++ b) = body-of w n ps ks in
-    let l : length (w ++ (head (tag-code n) 0 ++ b)) - (length w + 3) ≡ length b = omega (arith, length-append w (head (tag-code n) 0 ++ b), length-append (head (tag-code n) 0) b, length-head (tag-code n) 0) in
-    ap (λ (z : Bytes). put (put o 0 z) (length w) (head (tag-code n) (length z - (length w + 3)))) e ∙
-    ap (λ (k : ℕ). put (put o 0 (w ++ (head (tag-code n) 0 ++ b))) (length w) (head (tag-code n) k)) l ∙
-    head-last o w b (tag-code n) ∙
-    ap (λ (z : Bytes). put o 0 (w ++ z)) (tag-field n ps ks m h)
 
 -- any field that ends, its head standing behind w
 pub field-closed : (o w b : Bytes) (t : ℕ) → put (put o 0 ((w ++ head t 0) ++ b)) (length w) (head t (length ((w ++ head t 0) ++ b) - (length w + 3))) ≡ put o 0 (w ++ field-bytes t b)
@@ -177,107 +161,28 @@ begun-more w n ps a =
 
 -- ---- each attribute and child as a field
 
-attr-name-behind : (n : A.AttrName) (x : Row) → bytes (attr-name-row n x) ≡ bytes (attr-name-row n end) ++ bytes x
+pub attr-name-behind : (n : A.AttrName) (x : Row) → bytes (attr-name-row n x) ≡ bytes (attr-name-row n end) ++ bytes x
 unfolding attr-name-row
 attr-name-behind (A.ident w) x = one-field 0x40 w end x
 attr-name-behind (A.namespaced w v) x = one-field 0x42 [] (texts-row 0x40 (w ∷ v ∷ [])) x
 
-field-alone : (t : ℕ) (i : Row) → bytes (field t [] i end) ≡ field-bytes t (bytes i)
+pub field-alone : (t : ℕ) (i : Row) → bytes (field t [] i end) ≡ field-bytes t (bytes i)
 unfolding bytes
 field-alone t i = append-nil (field-bytes t (bytes i))
 
-leaf-alone : (t : ℕ) (w : Bytes) → bytes (field t w end end) ≡ field-bytes t w
+pub leaf-alone : (t : ℕ) (w : Bytes) → bytes (field t w end end) ≡ field-bytes t w
 unfolding bytes
 leaf-alone t w = append-nil (field-bytes t (w ++ [])) ∙ ap (field-bytes t) (append-nil w)
 
 -- 50: its name, and the row of its value
-attribute-alone : (n : Name) (x : Row) → bytes (field 0x50 [] (attr-name-row (page-attr-name n) x) end) ≡ field-bytes 0x50 (attr-name-bytes n ++ bytes x)
+pub attribute-alone : (n : Name) (x : Row) → bytes (field 0x50 [] (attr-name-row (page-attr-name n) x) end) ≡ field-bytes 0x50 (attr-name-bytes n ++ bytes x)
 unfolding attr-name-bytes
 attribute-alone n x = field-alone 0x50 (attr-name-row (page-attr-name n) x) ∙ ap (field-bytes 0x50) (attr-name-behind (page-attr-name n) x)
-
-pub no-value-bytes : (n : Name) → attribute-bytes (S.no-value n) ≡ field-bytes 0x50 (attr-name-bytes n)
-unfolding attribute-bytes page-tag tag-row attr-name-bytes
-no-value-bytes n = field-alone 0x50 (attr-name-row (page-attr-name n) end)
-
-pub string-value-bytes : (n : Name) (w : Bytes) → attribute-bytes (S.string-value n w) ≡ field-bytes 0x50 (attr-name-bytes n ++ field-bytes 0x51 w)
-unfolding attribute-bytes page-tag tag-row
-string-value-bytes n w = attribute-alone n (field 0x51 w end end) ∙ ap (λ (z : Bytes). field-bytes 0x50 (attr-name-bytes n ++ z)) (leaf-alone 0x51 w)
-
-pub container-value-bytes : (n : Name) (b : S.Expr) → attribute-bytes (S.container-value n b) ≡ field-bytes 0x50 (attr-name-bytes n ++ field-bytes 0x52 (expr-bytes b))
-unfolding attribute-bytes expr-bytes page-tag tag-row
-container-value-bytes n b =
-    attribute-alone n (field 0x52 [] (expr-row (page-expr b) end) end) ∙ ap (λ (z : Bytes). field-bytes 0x50 (attr-name-bytes n ++ z)) (field-alone 0x52 (expr-row (page-expr b) end))
-
-pub tag-value-bytes : (n : Name) (t : S.Tag) → attribute-bytes (S.tag-value n t) ≡ field-bytes 0x50 (attr-name-bytes n ++ tag-bytes t)
-unfolding attribute-bytes tag-bytes page-tag tag-row
-tag-value-bytes n t = attribute-alone n (tag-row (page-tag t) end)
-
-pub spread-attribute-bytes : (b : S.Expr) → attribute-bytes (S.spread-attribute b) ≡ field-bytes 0x53 (expr-bytes b)
-unfolding attribute-bytes expr-bytes page-tag tag-row
-spread-attribute-bytes b = field-alone 0x53 (expr-row (page-expr b) end)
 
 pub text-child-bytes : (w : Bytes) → child-bytes (S.text-child w) ≡ field-bytes 0x60 w
 unfolding child-bytes page-tag tag-row
 text-child-bytes w = leaf-alone 0x60 w
 
-pub tag-child-bytes : (t : S.Tag) → child-bytes (S.tag-child t) ≡ tag-bytes t
-unfolding child-bytes tag-bytes page-tag tag-row
-tag-child-bytes t = refl
-
 pub empty-child-bytes : child-bytes S.empty-child ≡ field-bytes 0x52 []
 unfolding child-bytes page-tag tag-row
 empty-child-bytes = leaf-alone 0x52 []
-
-pub container-child-bytes : (b : S.Expr) → child-bytes (S.container-child b) ≡ field-bytes 0x52 (expr-bytes b)
-unfolding child-bytes expr-bytes page-tag tag-row
-container-child-bytes b = field-alone 0x52 (expr-row (page-expr b) end)
-
-pub spread-child-bytes : (b : S.Expr) → child-bytes (S.spread-child b) ≡ field-bytes 0x61 (expr-bytes b)
-unfolding child-bytes expr-bytes page-tag tag-row
-spread-child-bytes b = field-alone 0x61 (expr-row (page-expr b) end)
-
-pub tag-expr-bytes : (t : S.Tag) → expr-bytes (S.tag-expr t) ≡ tag-bytes t
-unfolding expr-bytes tag-bytes page-tag tag-row
-tag-expr-bytes t = refl
-
--- ---- what stands around a tag that has ended
-
--- 50 around a tag
-pub value-closed : (o w : Bytes) (a n : Name) (ps : S.Attributes) (t : S.Tag) → put (put o 0 ((begun w n ps ++ attribute-begun a) ++ tag-bytes t)) (length (begun w n ps)) (head 0x50 (length ((begun w n ps ++ attribute-begun a) ++ tag-bytes t) - (length (begun w n ps) + 3))) ≡ put o 0 (begun w n (S.add-attribute ps (S.tag-value a t)))
-unfolding attribute-begun
-value-closed o w a n ps t =
-    let u : Bytes = begun w n ps in
-    let e : (u ++ (head 0x50 0 ++ attr-name-bytes a)) ++ tag-bytes t ≡ (u ++ head 0x50 0) ++ (attr-name-bytes a ++ tag-bytes t) = simp append-assoc in
-    ap (λ (z : Bytes). put (put o 0 z) (length u) (head 0x50 (length z - (length u + 3)))) e ∙
-    field-closed o u (attr-name-bytes a ++ tag-bytes t) 0x50 ∙
-    ap (λ (z : Bytes). put o 0 (u ++ z)) (sym (tag-value-bytes a t)) ∙
-    ap (put o 0) (sym (begun-more w n ps (S.tag-value a t)))
-
--- braces around a tag: of a child, a spread child, a spread
-pub child-closed : (o w : Bytes) (n : Name) (ps : S.Attributes) (ks : S.Children) (t : S.Tag) → put (put o 0 (((begun w n ps ++ children-bytes ks) ++ head 0x52 0) ++ tag-bytes t)) (length (begun w n ps ++ children-bytes ks)) (head 0x52 (length (((begun w n ps ++ children-bytes ks) ++ head 0x52 0) ++ tag-bytes t) - (length (begun w n ps ++ children-bytes ks) + 3))) ≡ put o 0 (begun w n ps ++ children-bytes (S.add-child ks (S.container-child (S.tag-expr t))))
-child-closed o w n ps ks t =
-    field-closed o (begun w n ps ++ children-bytes ks) (tag-bytes t) 0x52 ∙
-    ap (put o 0) (append-assoc (begun w n ps) (children-bytes ks) (field-bytes 0x52 (tag-bytes t)) ∙ ap (λ (z : Bytes). begun w n ps ++ z) (ap (λ (z : Bytes). children-bytes ks ++ z) (ap (field-bytes 0x52) (sym (tag-expr-bytes t)) ∙ sym (container-child-bytes (S.tag-expr t))) ∙ sym (children-more ks (S.container-child (S.tag-expr t)))))
-
-pub spread-child-closed : (o w : Bytes) (n : Name) (ps : S.Attributes) (ks : S.Children) (t : S.Tag) → put (put o 0 (((begun w n ps ++ children-bytes ks) ++ head 0x61 0) ++ tag-bytes t)) (length (begun w n ps ++ children-bytes ks)) (head 0x61 (length (((begun w n ps ++ children-bytes ks) ++ head 0x61 0) ++ tag-bytes t) - (length (begun w n ps ++ children-bytes ks) + 3))) ≡ put o 0 (begun w n ps ++ children-bytes (S.add-child ks (S.spread-child (S.tag-expr t))))
-spread-child-closed o w n ps ks t =
-    field-closed o (begun w n ps ++ children-bytes ks) (tag-bytes t) 0x61 ∙
-    ap (put o 0) (append-assoc (begun w n ps) (children-bytes ks) (field-bytes 0x61 (tag-bytes t)) ∙ ap (λ (z : Bytes). begun w n ps ++ z) (ap (λ (z : Bytes). children-bytes ks ++ z) (ap (field-bytes 0x61) (sym (tag-expr-bytes t)) ∙ sym (spread-child-bytes (S.tag-expr t))) ∙ sym (children-more ks (S.spread-child (S.tag-expr t)))))
-
-pub spread-closed : (o w : Bytes) (n : Name) (ps : S.Attributes) (t : S.Tag) → put (put o 0 ((begun w n ps ++ head 0x53 0) ++ tag-bytes t)) (length (begun w n ps)) (head 0x53 (length ((begun w n ps ++ head 0x53 0) ++ tag-bytes t) - (length (begun w n ps) + 3))) ≡ put o 0 (begun w n (S.add-attribute ps (S.spread-attribute (S.tag-expr t))))
-spread-closed o w n ps t =
-    field-closed o (begun w n ps) (tag-bytes t) 0x53 ∙
-    ap (put o 0) (ap (λ (z : Bytes). begun w n ps ++ z) (ap (field-bytes 0x53) (sym (tag-expr-bytes t)) ∙ sym (spread-attribute-bytes (S.tag-expr t))) ∙ sym (begun-more w n ps (S.spread-attribute (S.tag-expr t))))
-
--- braces that are a value: their own head, and then the attribute's
-pub container-value-closed : (o w : Bytes) (a n : Name) (ps : S.Attributes) (t : S.Tag) → put (put o 0 ((begun w n ps ++ attribute-begun a) ++ field-bytes 0x52 (tag-bytes t))) (length (begun w n ps)) (head 0x50 (length ((begun w n ps ++ attribute-begun a) ++ field-bytes 0x52 (tag-bytes t)) - (length (begun w n ps) + 3))) ≡ put o 0 (begun w n (S.add-attribute ps (S.container-value a (S.tag-expr t))))
-unfolding attribute-begun
-container-value-closed o w a n ps t =
-    let u : Bytes = begun w n ps in
-    let x : Bytes = field-bytes 0x52 (tag-bytes t) in
-    let e : (u ++ (head 0x50 0 ++ attr-name-bytes a)) ++ x ≡ (u ++ head 0x50 0) ++ (attr-name-bytes a ++ x) = simp append-assoc in
-    ap (λ (z : Bytes). put (put o 0 z) (length u) (head 0x50 (length z - (length u + 3)))) e ∙
-    field-closed o u (attr-name-bytes a ++ x) 0x50 ∙
-    ap (λ (z : Bytes). put o 0 (u ++ field-bytes 0x50 (attr-name-bytes a ++ field-bytes 0x52 z))) (sym (tag-expr-bytes t)) ∙
-    ap (λ (z : Bytes). put o 0 (u ++ z)) (sym (container-value-bytes a (S.tag-expr t))) ∙
-    ap (put o 0) (sym (begun-more w n ps (S.container-value a (S.tag-expr t))))

@@ -5,3 +5,6 @@ pub mod Flags
 pub mod Sources
 pub mod Entities
 pub mod Shapes
+pub mod Names
+pub mod Texts
+pub mod Knowns

@@ -1,14 +1,15 @@
--- What has been written when the grammar's reader is in a state: the bytes of what was read so far, and in the fields that are still open
--- heads without a length. Main definition: `written`. Assumes nothing: these are definitions.
+-- What is written of what was read, as bytes; fields that are still open have heads without a length. Main definitions: `begun`, `tag-bytes`.
+-- Assumes nothing: these are definitions.
 use Prim.Native.Nat.{ℕ}
+use mathlib.Core.Path.{_≡_}
 use mathlib.Core.List.{List, [], _∷_, _++_}
 use Rattle.field.specs.Bytes.{Bytes}
 use Rattle.field.specs.Row.{end, bytes}
 use Rattle.field.specs.Put.{head}
 use Rattle.page.specs.Page as P
 use Rattle.page.specs.Encode.{name-row, attr-name-row, tag-row, attributes-row, children-row, expr-row}
-use Rattle.grammar.specs.Syntax.{Name, Tag, Attributes, Attribute, Children, Child, Expr}
-use Rattle.grammar.specs.Reader.{Braces, child-braces, spread-child-braces, value-braces, spread-braces, Frame, within, value-of, in-braces, Stack}
+use Rattle.grammar.specs.Syntax.{Name, Tag, Attributes, no-attributes, Attribute, Children, Child, Expr}
+use Rattle.grammar.specs.Reader.{Braces, child-braces, spread-child-braces, value-braces, spread-braces}
 use Rattle.tag.specs.PageTag.{page-name, page-attr-name, page-tag, page-attributes, page-attribute, page-children, page-child, page-expr}
 
 -- ---- what was read, as bytes
@@ -58,15 +59,7 @@ braces-code (spread-child-braces n ps ks) = 0x61
 braces-code (value-braces a n ps) = 0x52
 braces-code (spread-braces n ps) = 0x53
 
-unfoldable pub before-braces : Bytes → Braces → Bytes
-before-braces w (child-braces n ps ks) = begun w n ps ++ children-bytes ks
-before-braces w (spread-child-braces n ps ks) = begun w n ps ++ children-bytes ks
-before-braces w (value-braces a n ps) = begun w n ps ++ attribute-begun a
-before-braces w (spread-braces n ps) = begun w n ps
-
--- where an inner tag begins
-unfoldable pub written : Stack → Bytes
-written [] = []
-written (within n ps ks ∷ K) = begun (written K) n ps ++ children-bytes ks
-written (value-of a n ps ∷ K) = begun (written K) n ps ++ attribute-begun a
-written (in-braces h ∷ K) = before-braces (written K) h ++ head (braces-code h) 0
+-- a fragment has no attributes
+unfoldable pub Plain : Name → Attributes → Type 0
+Plain [] ps = ps ≡ no-attributes
+Plain (p ∷ n) ps = Unit {0}
