@@ -20,6 +20,8 @@ uint32_t jsx_precompile_version(void);
 #define JSX_PRECOMPILE_MAX_PAGE 32768
 #define JSX_PRECOMPILE_MAX_OPTIONS 4096
 #define JSX_PRECOMPILE_MAX_DEPTH 48
+#define JSX_PRECOMPILE_MAX_TAG_TEXT 32768
+#define JSX_PRECOMPILE_MAX_TAG 65538 /* the longest field of a tag */
 #define JSX_PRECOMPILE_MIN_SCRATCH 65536
 
 /* The numbers of an answer. 9 is reserved and never given. */
@@ -36,7 +38,9 @@ enum jsx_precompile_number {
     JSX_PRECOMPILE_TAG_LEFT = 10,
     JSX_PRECOMPILE_OUTPUT_TOO_LONG = 11,
     JSX_PRECOMPILE_TEMPLATES_TOO_SMALL = 12,
-    JSX_PRECOMPILE_PAGE_TOO_SMALL = 13
+    JSX_PRECOMPILE_PAGE_TOO_SMALL = 13, /* of a tag: tag_out is too small */
+    JSX_PRECOMPILE_NO_READING = 14,
+    JSX_PRECOMPILE_NAMES_DIFFER = 15
 };
 
 /* A refusal has its number and zeros. */
@@ -62,6 +66,23 @@ jsx_precompile_answer jsx_precompile_transform(
     uint8_t *scratch, size_t scratch_length,
     uint8_t *templates_out, size_t templates_out_length,
     uint8_t *page_out, size_t page_out_length);
+
+/* A refusal has its number and a zero. */
+typedef struct jsx_precompile_tag_answer {
+    uint32_t number;
+    size_t tag_bytes; /* written to tag_out */
+} jsx_precompile_tag_answer;
+
+/* Reads the text of one element or fragment into its field, 30 or 31, as a page holds it. The text is read, tag_out is
+   written; neither is kept, and calls in several threads do not meet. No pointer may be null, not even with a length of
+   0, and the two parts may not overlap. Half a megabyte of stack is enough.
+
+   Accepted: the field stands at the front of tag_out, the bytes behind it are as before. Refused: tag_out is all zero.
+   The numbers are INPUT_TOO_LONG, NOT_UTF8, NO_READING, NAMES_DIFFER, NUMBER_TOO_LARGE, TOO_DEEP, OUTPUT_TOO_LONG and
+   PAGE_TOO_SMALL, the first of these that there is cause for. With MAX_TAG bytes lent tag_out is never too small. */
+jsx_precompile_tag_answer jsx_precompile_read_tag(
+    const uint8_t *text, size_t text_length,
+    uint8_t *tag_out, size_t tag_out_length);
 
 #ifdef __cplusplus
 }

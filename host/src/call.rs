@@ -1,4 +1,4 @@
-//! The library's one function, and safe calls of it.
+//! The transform of the library, and safe calls of it.
 
 use crate::check::{Fault, Input, check};
 use crate::javascript::Printer;

@@ -1,8 +1,9 @@
-//! JSX pages into templates and calls: safe Rust over libjsx_precompile.a, whose one function is proved to answer as
-//! document 01 says at every input.
+//! JSX pages into templates and calls: safe Rust over libjsx_precompile.a, whose functions are proved to answer as
+//! documents 01 and 02 say at every input.
 //!
 //! A page is written as a tree ([`page`]) or given as bytes; [`transform`] takes it apart; what comes out is read by
-//! [`out`] and printed as JavaScript by [`javascript`]. A refusal says where and why ([`Fault`]).
+//! [`out`] and printed as JavaScript by [`javascript`]. A refusal says where and why ([`Fault`]). A tag that comes as
+//! text is read by [`Tag::read`], and stands in a page as an element does.
 //! `const a = <p class="t">Hi {n}</p>;` becomes a template and a call of it:
 //!
 //! ```
@@ -48,7 +49,7 @@ pub use decimal::{Decimal, DecimalError};
 pub use options::Options;
 pub use page::write::WriteError;
 pub use refusal::Refusal;
-pub use tag::{Place, Tag, TagError, TagRefusal};
+pub use tag::{Place, Tag, TagAnswer, TagError, TagRefusal, read_tag_into};
 
 /// The version of this crate, which is also that of the proved library that it belongs to: see [`library_version`].
 ///

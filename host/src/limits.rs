@@ -34,6 +34,19 @@ pub const MAX_OPTIONS: usize = 4_096;
 /// ```
 pub const MAX_TAG_TEXT: usize = 32_768;
 
+/// The bytes of the longest field that a tag's text becomes: a header and a body.
+///
+/// ```
+/// use jsx_precompile::{TagRefusal, limits::MAX_TAG, read_tag_into};
+///
+/// let mut out = vec![0; MAX_TAG];
+/// // Each `{1}` gives 14 bytes.
+/// assert_eq!(read_tag_into(format!("<>{}</>", "{1}".repeat(4_681)).as_bytes(), &mut out).tag_bytes, MAX_TAG - 1);
+/// let answer = read_tag_into(format!("<>{}</>", "{1}".repeat(4_682)).as_bytes(), &mut out);
+/// assert_eq!(answer.refusal(), Some(TagRefusal::OutputTooLong));
+/// ```
+pub const MAX_TAG: usize = 65_538;
+
 /// How deep the fields of a page lie within each other; the page itself is 1.
 ///
 /// ```

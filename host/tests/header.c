@@ -1,10 +1,11 @@
-/* Transforms the page on the command line, in hex, and prints the answer and both outputs in hex. */
+/* Transforms the page on the command line, in hex, and prints the answer and both outputs in hex. With the word tag
+   before it, reads the tag text there, in hex, and prints the answer and the field in hex. */
 #include "jsx_precompile.h"
 #include <stdio.h>
 #include <string.h>
 
-static uint8_t page[JSX_PRECOMPILE_MAX_PAGE + 1], options[1], scratch[JSX_PRECOMPILE_MIN_SCRATCH];
-static uint8_t templates[1000], out[1000];
+static uint8_t input[JSX_PRECOMPILE_MAX_PAGE + 1], options[1], scratch[JSX_PRECOMPILE_MIN_SCRATCH];
+static uint8_t templates[1000], out[1000], tag[JSX_PRECOMPILE_MAX_TAG];
 
 static void print(const uint8_t *bytes, size_t length) {
     size_t i;
@@ -12,21 +13,34 @@ static void print(const uint8_t *bytes, size_t length) {
     for (i = 0; i < length; i++) printf("%02x", bytes[i]);
 }
 
-int main(int argc, char **argv) {
-    const char *digits = argc > 1 ? argv[1] : "";
-    size_t length = strlen(digits) / 2, i;
-    jsx_precompile_answer answer;
-    if (length > sizeof page) return 2;
-    for (i = 0; i < length; i++) {
-        unsigned byte;
-        if (sscanf(digits + 2 * i, "%2x", &byte) != 1) return 2;
-        page[i] = (uint8_t)byte;
-    }
-    answer = jsx_precompile_transform(page, length, options, 0, scratch, sizeof scratch, templates, sizeof templates, out,
-                                      sizeof out);
+static uint32_t transform(size_t length) {
+    jsx_precompile_answer answer = jsx_precompile_transform(input, length, options, 0, scratch, sizeof scratch, templates,
+                                                            sizeof templates, out, sizeof out);
     printf("%u %lu", (unsigned)answer.number, (unsigned long)answer.templates);
     print(templates, answer.templates_bytes);
     print(out, answer.page_bytes);
+    return answer.number;
+}
+
+static uint32_t read_tag(size_t length) {
+    jsx_precompile_tag_answer answer = jsx_precompile_read_tag(input, length, tag, sizeof tag);
+    printf("%u %lu", (unsigned)answer.number, (unsigned long)answer.tag_bytes);
+    print(tag, answer.tag_bytes);
+    return answer.number;
+}
+
+int main(int argc, char **argv) {
+    int is_tag = argc > 1 && strcmp(argv[1], "tag") == 0;
+    const char *digits = argc > 1 + is_tag ? argv[1 + is_tag] : "";
+    size_t length = strlen(digits) / 2, i;
+    uint32_t number;
+    if (length > sizeof input) return 2;
+    for (i = 0; i < length; i++) {
+        unsigned byte;
+        if (sscanf(digits + 2 * i, "%2x", &byte) != 1) return 2;
+        input[i] = (uint8_t)byte;
+    }
+    number = is_tag ? read_tag(length) : transform(length);
     putchar('\n');
-    return answer.number == JSX_PRECOMPILE_ACCEPTED ? 0 : 1;
+    return number == JSX_PRECOMPILE_ACCEPTED ? 0 : 1;
 }

@@ -1,7 +1,7 @@
 //! The C header: a C program with it is compiled, linked with the library, run, and answers as the Rust call does.
 
 use jsx_precompile::page::{Element, Expression, Item, Page};
-use jsx_precompile::{Options, transform};
+use jsx_precompile::{Options, Tag, transform};
 use std::path::Path;
 use std::process::Command;
 
@@ -44,6 +44,16 @@ fn answers_alike(program: &Path) {
     assert_eq!(String::from_utf8_lossy(&run(&page).stdout), expected);
     assert_eq!(String::from_utf8_lossy(&run(&[0x02, 0, 0]).stdout), "4 0  \n");
     assert_eq!(String::from_utf8_lossy(&run(&[]).stdout), "3 0  \n");
+
+    let read = |text: &str| {
+        let output = Command::new(program).args(["tag", &hex(text.as_bytes())]).output().expect("the program runs");
+        String::from_utf8(output.stdout).expect("text")
+    };
+    let text = "<p class=\"t\">Hi {n}</p>";
+    let field = Tag::read(text).expect("it is read");
+    assert_eq!(read(text), format!("0 {} {}\n", field.bytes().len(), hex(field.bytes())));
+    assert_eq!(read("<a></b>"), "15 0 \n");
+    assert_eq!(read(""), "14 0 \n");
 }
 
 #[test]
@@ -54,7 +64,7 @@ fn a_program_in_c() {
     let program = Path::new(env!("CARGO_TARGET_TMPDIR")).join("header_c");
     compile("cc", &["-std=c99", "-x", "c"], &program);
     answers_alike(&program);
-    println!("header: compiled by cc, three answers alike");
+    println!("header: compiled by cc, six answers alike");
 }
 
 #[test]
@@ -65,13 +75,13 @@ fn a_program_in_cpp() {
     let program = Path::new(env!("CARGO_TARGET_TMPDIR")).join("header_cpp");
     compile("c++", &["-x", "c++"], &program);
     answers_alike(&program);
-    println!("header: compiled by c++, three answers alike");
+    println!("header: compiled by c++, six answers alike");
 }
 
 /// The header's limits and numbers are the crate's.
 #[test]
 fn constants() {
-    use jsx_precompile::{Refusal, limits::*};
+    use jsx_precompile::{Refusal, TagRefusal, limits::*};
     let header = include_str!("../include/jsx_precompile.h");
     for (name, limit) in
         [("PAGE", MAX_PAGE), ("OPTIONS", MAX_OPTIONS), ("DEPTH", MAX_DEPTH)].map(|(n, l)| (format!("MAX_{n}"), l))
@@ -79,18 +89,22 @@ fn constants() {
         assert!(header.contains(&format!("#define JSX_PRECOMPILE_{name} {limit}\n")), "{name}");
     }
     assert!(header.contains(&format!("#define JSX_PRECOMPILE_MIN_SCRATCH {MIN_SCRATCH}\n")));
+    assert!(header.contains(&format!("#define JSX_PRECOMPILE_MAX_TAG_TEXT {MAX_TAG_TEXT}\n")));
+    assert!(header.contains(&format!("#define JSX_PRECOMPILE_MAX_TAG {MAX_TAG} ")));
     assert!(header.contains(&format!("#define JSX_PRECOMPILE_VERSION \"{}\"\n", jsx_precompile::VERSION)));
     let (major, minor, patch) = jsx_precompile::library_version();
     assert_eq!(format!("{major}.{minor}.{patch}"), jsx_precompile::VERSION, "the library's own answer");
     let number = major * 10_000 + minor * 100 + patch;
     assert!(header.contains(&format!("#define JSX_PRECOMPILE_VERSION_NUMBER {number}\n")));
-    for refusal in (1..=13).filter_map(Refusal::from_number) {
+    let of_tags = [TagRefusal::NoReading, TagRefusal::NamesDiffer].map(|one| (format!("{one:?}"), one.number()));
+    let refusals = (1..=13).filter_map(Refusal::from_number).map(|one| (format!("{one:?}"), one.number()));
+    for (refusal, number) in refusals.chain(of_tags) {
         // ScratchTooSmall: SCRATCH_TOO_SMALL
-        let name = format!("{refusal:?}").chars().fold(String::new(), |name, letter| {
+        let name = refusal.chars().fold(String::new(), |name, letter| {
             let gap = if letter.is_uppercase() && !name.is_empty() { "_" } else { "" };
             format!("{name}{gap}{}", letter.to_ascii_uppercase())
         });
-        let line = format!("JSX_PRECOMPILE_{name} = {}", refusal.number());
+        let line = format!("JSX_PRECOMPILE_{name} = {number}");
         assert!(header.contains(&line), "{line}");
     }
     assert!(!header.contains("= 9"), "9 is reserved");
@@ -132,5 +146,5 @@ fn installed() {
     let output = cc.output().expect("the compiler runs");
     assert!(output.status.success(), "{}", String::from_utf8_lossy(&output.stderr));
     answers_alike(&program);
-    println!("header: installed, compiled with {words}, three answers alike");
+    println!("header: installed, compiled with {words}, six answers alike");
 }

@@ -1,4 +1,5 @@
-//! Tag text: the host's own reader, which says where and why, against the judge's; tags in pages; what errors say.
+//! Tag text as the host reads it, the field by the library, place and reason by a reader of its own, against the judge's
+//! reader; tags in pages; what errors say.
 
 mod common;
 
@@ -43,7 +44,9 @@ fn stands(text: &[u8], error: &TagError) -> bool {
     let named = at_end == error.reason.contains("found the end of the text");
     let letters = error.refusal == TagRefusal::NotUtf8 || begins(place.byte);
     let long = error.refusal == TagRefusal::InputTooLong;
-    long || letters && place.line <= lines && opened && differs && end && named && !error.reason.is_empty()
+    // Where the two readers of a tag's text part, only the refusal would be said.
+    let said = !error.reason.is_empty() && error.reason != error.refusal.explanation();
+    long || letters && place.line <= lines && opened && differs && end && named && said
 }
 
 #[test]

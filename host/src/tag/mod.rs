@@ -1,14 +1,17 @@
 //! Tag text: one element or fragment as it is written in JSX, read into the field that a page holds. Document 02, A3.
 
 mod braces;
+mod call;
 mod error;
 mod name;
 mod read;
 mod write;
 
+pub use call::{TagAnswer, read_tag_into};
 pub use error::{Place, TagError, TagRefusal};
 
 use crate::field::Fields;
+use crate::limits::MAX_TAG;
 use crate::page::{Child, Expression, Piece, Value, read::piece};
 
 /// An element or a fragment, read from its text: the bytes of one field, 30 or 31, ready to be put into a page.
@@ -61,7 +64,21 @@ impl Tag {
     /// assert_eq!(error.to_string(), "line 1, column 7: 6: byte e9 is not UTF-8");
     /// ```
     pub fn read_bytes(text: &[u8]) -> Result<Tag, TagError> {
-        read::read(text).map(|bytes| Tag { bytes })
+        // Most fields are shorter than three times their text.
+        let guess = (3 * text.len() + 64).min(MAX_TAG);
+        let mut bytes = vec![0; guess];
+        let mut answer = read_tag_into(text, &mut bytes);
+        if answer.refusal() == Some(TagRefusal::TagTooSmall) {
+            bytes.resize(MAX_TAG, 0);
+            answer = read_tag_into(text, &mut bytes);
+        }
+        match answer.refusal() {
+            None => {
+                bytes.truncate(answer.tag_bytes);
+                Ok(Tag { bytes })
+            }
+            Some(refusal) => Err(located(text, refusal)),
+        }
     }
 
     /// The field: a tag of one byte, 30 or 31, a length of two and the body.
@@ -86,6 +103,18 @@ impl Tag {
         // A tag is one field.
         Fields::new(&self.bytes).next().map_or(Piece::Source(String::new()), piece)
     }
+}
+
+/// The library's refusal, with its place: the reader of this crate goes over the text a second time, and refuses as the
+/// library does.
+fn located(text: &[u8], refusal: TagRefusal) -> TagError {
+    let alike = read::read(text).err().filter(|error| error.refusal == refusal);
+    alike.unwrap_or_else(|| TagError {
+        refusal,
+        place: Place::of(text, 0),
+        opened: None,
+        reason: refusal.explanation().to_string(),
+    })
 }
 
 macro_rules! from_tag {
