@@ -1,7 +1,7 @@
 -- Writing static strings: the buffer with an open string, and what the parts of a template do to it. The open string's head is written when
 -- it is closed. Assumes nothing: these are definitions.
 use Prim.Native.Nat.{ℕ, _+_, _-_, _<_, _^_}
-use mathlib.Core.Bool.{Bool, true, false, _||_}
+use mathlib.Core.Bool.{Bool, true, false}
 use mathlib.Core.List.{List, [], _∷_}
 use mathlib.Core.Option.{Option, none, some}
 use lib.Dec.{ltb}
@@ -18,6 +18,7 @@ use Rattle.spec.specs.Pass.{Part, chars, gap, Mid, pure}
 use Rattle.spec.specs.Merge.{Shape, joined-text}
 use Rattle.spec.specs.Children.{maybe-wrap}
 use Rattle.spec.specs.Transform.{shape-of, expr}
+use Rattle.strings.specs.Due.{graver, long-due}
 use Rattle.strings.specs.declared.writer.Open.{Open}
 
 pub record Carved : Type 0 where
@@ -32,20 +33,20 @@ abbrev pub end : Open → ℕ
 end s = s .head + 3 + s .len
 
 abbrev pub put-on : Bytes → Carved → Carved
-put-on b w = record { out = put (w .out) (end (w .st)) b; st = record { head = w .st .head; len = w .st .len + length b; long = w .st .long } }
+put-on b w = record { out = put (w .out) (end (w .st)) b; st = record { head = w .st .head; len = w .st .len + length b; due = w .st .due } }
 
 -- the open string is closed, and another opened behind it
 abbrev pub close : Carved → Carved
-close w = record { out = put (w .out) (w .st .head) (head 0x81 (w .st .len)); st = record { head = end (w .st); len = 0; long = w .st .long || ltb 65535 (w .st .len) } }
+close w = record { out = put (w .out) (w .st .head) (head 0x81 (w .st .len)); st = record { head = end (w .st); len = 0; due = graver (w .st .due) (long-due (ltb 65535 (w .st .len))) } }
 
 unfoldable pub carve : List Part → Carved → Carved
 carve [] w = w
 carve (chars b ∷ ps) w = carve ps (put-on b w)
 carve (gap p ∷ ps) w = carve ps (close w)
 
--- a run that is merged a second time was too long
-abbrev pub flagged : Bool → Carved → Carved
-flagged b w = record { out = w .out; st = record { head = w .st .head; len = w .st .len; long = w .st .long || b } }
+-- something more is due
+abbrev pub flagged : ℕ → Carved → Carved
+flagged d w = record { out = w .out; st = record { head = w .st .head; len = w .st .len; due = graver (w .st .due) d } }
 
 abbrev pub Low : Carved → Type 0
 Low w = end (w .st) < 2 ^ 63
@@ -54,7 +55,7 @@ Low w = end (w .st) < 2 ^ 63
 
 -- the open string when it ends at that place
 abbrev pub ended-at : Open → ℕ → Open
-ended-at s e = record { head = s .head; len = e - (s .head + 3); long = s .long }
+ended-at s e = record { head = s .head; len = e - (s .head + 3); due = s .due }
 
 -- the normalised name of the attribute with these fields
 abbrev pub name-at : Bytes → Bytes
@@ -87,4 +88,4 @@ contained-parts o (contained e) = child-parts (shape-of e) (expr o e P.none)
 
 -- a run of n bytes is merged a second time, or was too long
 unfoldable pub put-again : ℕ → Bytes → Carved → Carved
-put-again n t w = pick (ltb 65535 n) (flagged true w) (put-on (jsx-text-to-str t true false) w)
+put-again n t w = pick (ltb 65535 n) (flagged (long-due true) w) (put-on (jsx-text-to-str t true false) w)
