@@ -1,5 +1,5 @@
 -- Laws of `graver`: the order in which reasons are found does not matter, nor how often. Main statements: `graver-assoc`, `graver-comm`,
--- `graver-none`, `graver-swap`, `graver-cross`, `due-or`, `grave-join`. Assumes nothing.
+-- `graver-none`, `graver-swap`, `graver-cross`, `due-or`, `grave-join`, `due-then`. Assumes nothing.
 use mathlib.Core.Path.{_≡_, refl, sym, ap, ap₂, _∙_}
 use Prim.Native.Nat.{ℕ, _≤_, _<_}
 use native.Mathlib.Omega.{arith}
@@ -100,9 +100,30 @@ grave-join f g =
     ap₂ graver (due-or 4 (f .left) (g .left)) (due-or 1 (f .long) (g .long))
     ∙ graver-cross (due-if 4 (f .left)) (due-if 4 (g .left)) (long-due (f .long)) (long-due (g .long))
 
+pub none-grave : grave no-flags ≡ 0
+unfolding graver
+none-grave = refl
+
+pub left-grave : grave (record { left = true; long = false }) ≡ 4
+unfolding graver
+left-grave = refl
+
+-- ---- flags and bodies, as a state takes them over
+
 -- nothing more
 pub due-none : (d : ℕ) → graver d (graver (grave no-flags) (long-due false)) ≡ d
-due-none d = ap (graver d) (graver-none (graver 0 0) ∙ graver-none 0) ∙ graver-none d
+due-none d = ap (graver d) (graver-none (grave no-flags) ∙ none-grave) ∙ graver-none d
+
+-- one body more
+pub due-more : (d k : ℕ) (a b : Bool) → graver d (graver k (long-due (a || b))) ≡ graver (graver d (graver k (long-due a))) (long-due b)
+due-more d k a b =
+    ap (λ (x : ℕ). graver d (graver k x)) (due-or 1 a b) ∙ ap (graver d) (sym (graver-assoc k (long-due a) (long-due b))) ∙ sym (graver-assoc d (graver k (long-due a)) (long-due b))
+
+-- flags that are raised first, or last
+pub due-raised : (d : ℕ) {f g k : ℕ} → f ≡ k → g ≡ 0 → (x : ℕ) → graver d (graver f x) ≡ graver (graver d (graver g x)) k
+due-raised d {f} {g} {k} e z x =
+    ap (λ (y : ℕ). graver d (graver y x)) e ∙ ap (graver d) (graver-comm k x) ∙ sym (graver-assoc d x k)
+    ∙ ap (λ (y : ℕ). graver (graver d y) k) (sym (ap (λ (y : ℕ). graver y x) z ∙ none-graver x))
 
 -- flags and long bodies of two, one after the other
 pub due-then : (d : ℕ) (f g : Flags) (a b : Bool) {c : Bool} → c ≡ (a || b) →
