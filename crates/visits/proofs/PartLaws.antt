@@ -5,7 +5,7 @@
 use mathlib.Core.Path.{_≡_, refl, sym, ap, _∙_, subst}
 use Prim.Native.Nat.{ℕ, _+_, _≤_}
 use native.Mathlib.Omega.{arith}
-use mathlib.Core.Bool.{Bool, true, false, or-false}
+use mathlib.Core.Bool.{Bool, true, false}
 use mathlib.Core.List.{List, [], _∷_, _++_}
 use mathlib.Core.Option.{Option, none, some}
 use lib.ListN.{length}
@@ -308,14 +308,7 @@ module _ (skip props s : Bytes) (n : ℕ) (e : n ≡ tag-of s) (w : World) {tota
 pub passed-plan : (m : Mid) (x : World) → passed (record { value = m; taken = 0; templates = []; flags = no-flags }) x ≡ x
 passed-plan m x =
     let k : x .st .first + 0 ≡ x .st .first = omega arith in
-    λ i. at (x .templates) (x .page)
-    (record {
-      first = k i;
-      later = x .st .later;
-      templates = x .st .templates;
-      page = x .st .page;
-      seen = record { jsx = x .st .seen .jsx; attr = x .st .seen .attr; escape = x .st .seen .escape; long = x .st .seen .long; left = or-false (x .st .seen .left) i };
-    })
+    λ i. at (x .templates) (x .page) (record { first = k i; later = x .st .later; templates = x .st .templates; page = x .st .page; seen = x .st .seen })
 
 -- the field of it
 module _ (t : ℕ) (f h z : Mid) (w : World) where
