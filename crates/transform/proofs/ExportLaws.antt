@@ -59,28 +59,28 @@ module _ (page options : Bytes) (n : ℕ) where
 -- ---- 10 to 13
 
 module _ (w : Walk) (tr pr : ℕ) where
-  pub outputs-left : w .seen .left ≡ true → Refused R.TagLeft ≡ verdict-of w tr pr
+  pub outputs-left : w .seen .due ≡ 4 → Refused R.TagLeft ≡ verdict-of w tr pr
   unfolding after
-  outputs-left b = rw b
+  outputs-left b = rw (eq-eqb (w .seen .due) 4 b)
 
-  module _ (b : w .seen .left ≡ false) where
-    pub outputs-long : w .seen .long ≡ true → Refused R.OutputTooLong ≡ verdict-of w tr pr
+  module _ (b : w .seen .due ≡ 4 → ⊥) where
+    pub outputs-long : w .seen .due ≡ 1 → Refused R.OutputTooLong ≡ verdict-of w tr pr
     unfolding after
-    outputs-long c = rw (b, c)
+    outputs-long c = rw (ne-eqb (w .seen .due) 4 b, eq-eqb (w .seen .due) 1 c)
 
-    module _ (c : w .seen .long ≡ false) where
+    module _ (c : w .seen .due ≡ 1 → ⊥) where
       pub outputs-templates : tr < w .templates → Refused R.TemplatesTooSmall ≡ verdict-of w tr pr
       unfolding after
-      outputs-templates d = rw (b, c, lt-leb (w .templates) tr d)
+      outputs-templates d = rw (ne-eqb (w .seen .due) 4 b, ne-eqb (w .seen .due) 1 c, lt-leb (w .templates) tr d)
 
       module _ (d : w .templates ≤ tr) where
         pub outputs-page : pr < w .page → Refused R.PageTooSmall ≡ verdict-of w tr pr
         unfolding after
-        outputs-page e = rw (b, c, le-leb (w .templates) tr d, lt-leb (w .page) pr e)
+        outputs-page e = rw (ne-eqb (w .seen .due) 4 b, ne-eqb (w .seen .due) 1 c, le-leb (w .templates) tr d, lt-leb (w .page) pr e)
 
         pub outputs-fine : w .page ≤ pr → Fine ≡ verdict-of w tr pr
         unfolding after
-        outputs-fine e = rw (b, c, le-leb (w .templates) tr d, le-leb (w .page) pr e)
+        outputs-fine e = rw (ne-eqb (w .seen .due) 4 b, ne-eqb (w .seen .due) 1 c, le-leb (w .templates) tr d, le-leb (w .page) pr e)
 
 -- ---- what is left of scratch
 

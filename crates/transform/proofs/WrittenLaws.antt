@@ -14,7 +14,9 @@ use Rattle.field.specs.Put.{put}
 use Rattle.field.proofs.RowLaws.{length-bytes}
 use Rattle.page.specs.Page.{Options, Page}
 use Rattle.page.specs.Refusal.{unless, after}
+use Rattle.page.specs.declared.Refusal.{Refusal}
 use Rattle.page.specs.declared.Refusal.the-variants as R
+use Rattle.page.specs.declared.Verdict.{Verdict}
 use Rattle.page.specs.Tree.{listed-in, source-in, options-in}
 use Rattle.spec.specs.Pass.{Done}
 use Rattle.spec.specs.Transform.{stands, helper-sum, with-import, with-templates, templates-row, page-out-row, transform}
@@ -22,6 +24,7 @@ use Rattle.spec.specs.Answer.{check-outputs}
 use Rattle.spec.proofs.PageOut.{import-row, import-related}
 use Rattle.decisions.specs.At.{opts}
 use Rattle.decisions.specs.Index.{names-of}
+use Rattle.strings.specs.Due.{graver, due-if, long-due}
 use Rattle.walk.specs.declared.state.Walk.{Walk}
 use Rattle.walk.specs.See.{World, at, see, to-page}
 use Rattle.transform.specs.Run.{module-mid, has-statement, items-mid, started, sum-of, import-bytes, headed, Headed, written-page, verdict-of}
@@ -125,13 +128,44 @@ pub page-long : (o : Options) (d : Done Row) → length (o .import-source) ≤ 6
 unfolding page-out-row
 page-long o d h = import-short (o .import-source) (helper-sum (d .value)) (placed-row d) h ∙ place-long (d .templates) (d .value)
 
+-- what is due tells the flags, the gravest first
+left-told : (x y b : Bool) → eqb (graver (graver (due-if 4 x) (long-due y)) (long-due b)) 4 ≡ x
+unfolding graver
+left-told true true true = refl
+left-told true true false = refl
+left-told true false true = refl
+left-told true false false = refl
+left-told false true true = refl
+left-told false true false = refl
+left-told false false true = refl
+left-told false false false = refl
+
+long-told : (x y b : Bool) → x ≡ false → eqb (graver (graver (due-if 4 x) (long-due y)) (long-due b)) 1 ≡ (y || b)
+long-told x y b e = ap (λ (z : Bool). eqb (graver (graver (due-if 4 z) (long-due y)) (long-due b)) 1) e ∙ on y b
+  where
+    on : (y b : Bool) → eqb (graver (graver 0 (long-due y)) (long-due b)) 1 ≡ (y || b)
+    on true true = unfold graver in refl
+    on true false = unfold graver in refl
+    on false true = unfold graver in refl
+    on false false = unfold graver in refl
+
+-- a check, and another behind it
+after-alike : {a x : Bool} (r : Refusal) (k l : Unit {0} → Verdict) → a ≡ x → (x ≡ false → k tt ≡ l tt) → after (unless (not a) r) k ≡ after (unless (not x) r) l
+after-alike {a} {x} r k l e h = ap (λ (b : Bool). after (unless (not b) r) k) e ∙ on x h
+  where
+    on : (b : Bool) → (b ≡ false → k tt ≡ l tt) → after (unless (not b) r) k ≡ after (unless (not b) r) l
+    on true h = unfold after in refl
+    on false h = unfold after in h refl
+
 pub verdict-is : (o : Options) (d : Done Row) (t p : Bytes) (tr pr : ℕ) → length (o .import-source) ≤ 65000 → verdict-of (written-page o d t p .st) tr pr ≡ check-outputs tr pr (d .flags) (templates-row (d .templates)) (page-out-row o d)
 unfolding check-outputs
 verdict-is o d t p tr pr h =
-    ap
-    (λ (b : Bool).
-    after (unless (not (d .flags .left)) R.TagLeft) λ _.
-    after (unless (not (d .flags .long || (long-body (templates-row (d .templates)) || b))) R.OutputTooLong) λ _.
+    let f = d .flags in
+    let l = long-body (templates-row (d .templates)) in
+    let long : Bool → Unit {0} → Verdict = λ b _.
+    after (unless (not b) R.OutputTooLong) λ _.
     after (unless (leb (length (bytes (templates-row (d .templates)))) tr) R.TemplatesTooSmall) λ _.
-    unless (leb (length (bytes (page-out-row o d))) pr) R.PageTooSmall)
-    (sym (page-long o d h))
+    unless (leb (length (bytes (page-out-row o d))) pr) R.PageTooSmall in
+    after-alike R.TagLeft (long (eqb (written-page o d t p .st .seen .due) 1)) (long (f .long || (l || long-body (page-out-row o d))))
+    (left-told (f .left) (f .long) (l || long-body (d .value))) λ e.
+    ap (λ (b : Bool). long b tt) (long-told (f .left) (f .long) (l || long-body (d .value)) e ∙ ap (λ (b : Bool). f .long || (l || b)) (sym (page-long o d h)))

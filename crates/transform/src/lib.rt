@@ -16,6 +16,8 @@ use page::Refusal;
 use page::Verdict;
 use page::whole::check_options;
 use page::whole::check_page;
+use strings::due::LEFT;
+use strings::due::LONG;
 use walk::state::Walk;
 
 #[repr(C)]
@@ -78,11 +80,11 @@ fn check_inputs<'a>(page: &'a [u8], options: &'a [u8], scratch: usize) -> Verdic
 fn check_outputs(w: Walk, templates_room: usize, page_room: usize) -> Verdict
     ensures { λ r. ⌜ r ≡ verdict-of w «templates_room» «page_room» ⌝ }
 {
-    let seen = w.seen;
-    if seen.left {
+    let due = w.seen.due;
+    if due == LEFT {
         return Verdict::Refused(Refusal::TagLeft);
     }
-    if seen.long {
+    if due == LONG {
         return Verdict::Refused(Refusal::OutputTooLong);
     }
     if templates_room < w.templates {
