@@ -7,7 +7,7 @@ use mathlib.Core.List.{List, [], _∷_, _++_}
 use mathlib.Core.Option.{Option, none, some}
 use lib.Dec.{T, eqb}
 use Rattle.field.specs.Bytes.{Bytes, pick, same}
-use Rattle.names.specs.Names.{is-void-element}
+use Rattle.names.specs.Names.{is-void-element, small-letters}
 
 -- ---- well nested: read byte by byte
 
@@ -21,7 +21,7 @@ unfoldable pub to-space : Bytes → Bytes
 to-space [] = []
 to-space (c ∷ cs) = pick (eqb c 32) [] (c ∷ to-space cs)
 
--- a closing tag closes the last opened name, compared by bytes
+-- a closing tag closes the last opened name
 unfoldable pub close-tag : List Bytes → Bytes → Reading
 close-tag [] n = ill
 close-tag (m ∷ open-names) n = pick (same m n) (outside open-names) ill
@@ -30,10 +30,14 @@ close-tag (m ∷ open-names) n = pick (same m n) (outside open-names) ill
 unfoldable pub open-tag : List Bytes → Bytes → Reading
 open-tag open-names n = pick (is-void-element n) (outside open-names) (outside (n ∷ open-names))
 
+-- 02, A10: names are compared in small letters, the 14 too
+abbrev pub tag-name : Bytes → Bytes
+tag-name b = small-letters (to-space b)
+
 -- the tag whose text between `<` and `>` is given
 unfoldable pub end-tag : List Bytes → Bytes → Reading
 end-tag open-names [] = open-tag open-names []
-end-tag open-names (c ∷ cs) = pick (eqb c 47) (close-tag open-names (to-space cs)) (open-tag open-names (to-space (c ∷ cs)))
+end-tag open-names (c ∷ cs) = pick (eqb c 47) (close-tag open-names (tag-name cs)) (open-tag open-names (tag-name (c ∷ cs)))
 
 unfoldable pub read-byte : Reading → ℕ → Reading
 read-byte (outside ns) c = pick (eqb c 60) (inside-tag ns []) (pick (eqb c 62) ill (outside ns))
