@@ -9,9 +9,9 @@ use lib.Dec.{T, leb, eqb, eqb→eq, eqb-refl}
 use lib.ListN.{length}
 use native.Mathlib.Omega.{arith}
 use Rattle.field.specs.Bytes.{Bytes, pick, same}
-use Rattle.names.specs.Names.{is-void-element}
+use Rattle.names.specs.Names.{is-void-element, small-letters}
 use Rattle.page.specs.Check.{name-start, name-part, name-parts, is-name}
-use Rattle.spec.specs.Words.{Reading, outside, inside-tag, ill, to-space, close-tag, open-tag, end-tag, read-byte, read-markup, WellNested, free}
+use Rattle.spec.specs.Words.{Reading, outside, inside-tag, ill, to-space, close-tag, open-tag, tag-name, end-tag, read-byte, read-markup, WellNested, free}
 
 pub read-append : (m : Reading) (x y : Bytes) → read-markup m (x ++ y) ≡ read-markup (read-markup m x) y
 unfolding read-markup
@@ -106,7 +106,7 @@ pick-within os false h h′ = h′
 end-within : (os ns : List Bytes) (b : Bytes) → Within os (end-tag ns b) (end-tag (ns ++ os) b)
 unfolding end-tag
 end-within os ns [] = open-within os ns []
-end-within os ns (c ∷ cs) = pick-within os (eqb c 47) (close-within os ns (to-space cs)) (open-within os ns (to-space (c ∷ cs)))
+end-within os ns (c ∷ cs) = pick-within os (eqb c 47) (close-within os ns (tag-name cs)) (open-within os ns (tag-name (c ∷ cs)))
 
 byte-within : (os : List Bytes) (m : Reading) (c : ℕ) → Within os (read-byte m c) (read-byte (with-open os m) c)
 unfolding read-byte with-open
@@ -187,18 +187,18 @@ name-to-space (c ∷ n) t h k =
     rw (not-name-byte 32 (λ x. x) c (f .part)) (ap (λ (l : Bytes). c ∷ l) (name-to-space n t (f .rest) k))
 
 -- the text of an opening tag: a name, and what stands behind it
-pub end-named-tag : (ns : List Bytes) (n t : Bytes) → T (is-name n) → T (space-first t) → end-tag ns (n ++ t) ≡ open-tag ns n
+pub end-named-tag : (ns : List Bytes) (n t : Bytes) → T (is-name n) → T (space-first t) → end-tag ns (n ++ t) ≡ open-tag ns (small-letters n)
 unfolding end-tag is-name
 end-named-tag ns [] t h k = absurd h
 end-named-tag ns (c ∷ n) t h k =
     let p = name-has-parts (c ∷ n) h in
     rw (not-name-byte 47 (λ x. x) c (name-front c n p .part), name-to-space (c ∷ n) t p k)
 
-pub read-closing-tag : (ns : List Bytes) (n : Bytes) → T (is-name n) → read-markup (outside (n ∷ ns)) (60 ∷ 47 ∷ (n ++ (62 ∷ []))) ≡ outside ns
+pub read-closing-tag : (ns : List Bytes) (n : Bytes) → T (is-name n) → read-markup (outside (small-letters n ∷ ns)) (60 ∷ 47 ∷ (n ++ (62 ∷ []))) ≡ outside ns
 unfolding read-markup read-byte end-tag close-tag space-first
 read-closing-tag ns n h =
-    read-append (inside-tag (n ∷ ns) (47 ∷ [])) n (62 ∷ []) ∙
-    ap (λ (m : Reading). read-markup m (62 ∷ [])) (read-free-inside (n ∷ ns) (47 ∷ []) n (name-free n p)) ∙
+    read-append (inside-tag (small-letters n ∷ ns) (47 ∷ [])) n (62 ∷ []) ∙
+    ap (λ (m : Reading). read-markup m (62 ∷ [])) (read-free-inside (small-letters n ∷ ns) (47 ∷ []) n (name-free n p)) ∙
     closing
   where
     p : T (name-parts n)
@@ -207,5 +207,5 @@ read-closing-tag ns n h =
     named : to-space n ≡ n
     named = ap to-space (sym (append-nil n)) ∙ name-to-space n [] p tt
 
-    closing : read-markup (inside-tag (n ∷ ns) (47 ∷ n)) (62 ∷ []) ≡ outside ns
+    closing : read-markup (inside-tag (small-letters n ∷ ns) (47 ∷ n)) (62 ∷ []) ≡ outside ns
     closing = rw (named, same-refl)

@@ -7,13 +7,13 @@ use mathlib.Core.List.{List, [], _∷_, _++_, append-assoc, append-nil}
 use lib.Dec.{T}
 use lib.ListN.{length}
 use Rattle.field.specs.Bytes.{Bytes}
-use Rattle.names.specs.Names.{is-void-element}
+use Rattle.names.specs.Names.{is-void-element, small-letters}
 use Rattle.page.specs.Check.{is-name}
 use Rattle.spec.specs.Words.{Reading, outside, inside-tag, open-tag, read-byte, read-markup, WellNested, free, inside-opening-tag, places-after, filled, Fits, AllFit}
 use Rattle.spec.proofs.Good.{Piece, literal, hole, piece-strings, piece-kinds, Sound}
 use Rattle.spec.proofs.Markup.{read-append, read-free-outside, read-free-inside, read-nested, end-named-tag, read-closing-tag, name-has-parts, name-free, space-first, space-first-append}
 use Rattle.spec.proofs.Place.{Spot, out-of-tags, in-opening, spot-after, inside, spot-append, spot-inside, spot-free, spot-name, spot-closing-tag}
-pub use Rattle.spec.proofs.Free.{free-nested, free-append, escape-free, escape-name, text-free, render-free, boolean-free, attr-free}
+pub use Rattle.spec.proofs.Free.{free-nested, free-append, escape-free, escape-name, text-free, render-free, boolean-free, void-small, unmixed-small, attr-free}
 
 -- ---- pieces are read, and their holes are placed
 
@@ -76,7 +76,7 @@ neutral-hole = record { leads = λ ns f fits. read-nested ns f fits; placed = (r
 
 -- an opening tag, and pieces behind it
 opening-leads : {as′ : List Piece} (n : Bytes) → T (is-name n) → InTag as′ → (qs : List Piece) (ns : List Bytes) (Q : Reading → Type 0) →
-    Leads qs (open-tag ns n) Q → Leads (literal (60 ∷ n) ∷ (as′ ++ (literal (62 ∷ []) ∷ qs))) (outside ns) Q
+    Leads qs (open-tag ns (small-letters n)) Q → Leads (literal (60 ∷ n) ∷ (as′ ++ (literal (62 ∷ []) ∷ qs))) (outside ns) Q
 unfolding read-markup read-byte space-first
 opening-leads {as′} n h a qs ns Q g =
     subst (λ (m : Reading). Leads (as′ ++ (literal (62 ∷ []) ∷ qs)) m Q)
@@ -95,7 +95,7 @@ opening-placed {as′} n h a qs z g =
     subst (λ (y : Spot). Placed (as′ ++ (literal (62 ∷ []) ∷ qs)) y z) (sym (spot-name n h))
     (placed-append as′ (literal (62 ∷ []) ∷ qs) in-opening in-opening z (a .placed) g)
 
-pub neutral-void : {as′ : List Piece} (n : Bytes) → T (is-name n) → is-void-element n ≡ true → InTag as′ →
+pub neutral-void : {as′ : List Piece} (n : Bytes) → T (is-name n) → is-void-element (small-letters n) ≡ true → InTag as′ →
     Neutral (literal (60 ∷ n) ∷ (as′ ++ (literal (62 ∷ []) ∷ [])))
 unfolding open-tag
 neutral-void n h v a =
@@ -104,7 +104,7 @@ neutral-void n h v a =
       placed = opening-placed n h a [] out-of-tags refl;
     }
 
-pub neutral-element : {as′ cs : List Piece} (n : Bytes) → T (is-name n) → is-void-element n ≡ false → InTag as′ → Neutral cs →
+pub neutral-element : {as′ cs : List Piece} (n : Bytes) → T (is-name n) → is-void-element (small-letters n) ≡ false → InTag as′ → Neutral cs →
     Neutral (literal (60 ∷ n) ∷ (as′ ++ (literal (62 ∷ []) ∷ (cs ++ (literal (60 ∷ 47 ∷ (n ++ (62 ∷ []))) ∷ [])))))
 unfolding open-tag
 neutral-element {as′} {cs} n h v a c =
@@ -118,15 +118,15 @@ neutral-element {as′} {cs} n h v a c =
     closing : List Piece
     closing = literal (60 ∷ 47 ∷ (n ++ (62 ∷ []))) ∷ []
 
-    closing-leads : (ns : List Bytes) (k : Reading) → k ≡ outside (n ∷ ns) → Leads closing k (λ m. m ≡ outside ns)
+    closing-leads : (ns : List Bytes) (k : Reading) → k ≡ outside (small-letters n ∷ ns) → Leads closing k (λ m. m ≡ outside ns)
     closing-leads ns k e = ap (λ (m : Reading). read-markup m (60 ∷ 47 ∷ (n ++ (62 ∷ [])))) e ∙ read-closing-tag ns n h
 
-    content-leads : (ns : List Bytes) → Leads (cs ++ closing) (open-tag ns n) (λ m. m ≡ outside ns)
+    content-leads : (ns : List Bytes) → Leads (cs ++ closing) (open-tag ns (small-letters n)) (λ m. m ≡ outside ns)
     content-leads ns =
         subst (λ (m : Reading). Leads (cs ++ closing) m (λ k. k ≡ outside ns)) (sym opens)
-        (leads-append cs closing (outside (n ∷ ns)) (λ m. m ≡ outside (n ∷ ns)) (λ m. m ≡ outside ns) (c .leads (n ∷ ns)) (closing-leads ns))
+        (leads-append cs closing (outside (small-letters n ∷ ns)) (λ m. m ≡ outside (small-letters n ∷ ns)) (λ m. m ≡ outside ns) (c .leads (small-letters n ∷ ns)) (closing-leads ns))
       where
-        opens : open-tag ns n ≡ outside (n ∷ ns)
+        opens : open-tag ns (small-letters n) ≡ outside (small-letters n ∷ ns)
         opens = rw v
 
 -- ---- inside an opening tag

@@ -174,7 +174,7 @@ module _ (page : Row) (all : List Template) (balance : (p : Test) → called-row
 
 -- ---- both outputs
 
-module _ (Fragments : Type 0) (o : Options) (p : Page) (w : ℕ) (good : Visited Fragments w (transform o p)) (few : transform o p .taken ≤ 65535) (none-left : T (not (transform o p .flags .left))) where
+module _ (Fragments : Type 0) (o : Options) (p : Page) (w : ℕ) (good : Visited Fragments w (transform o p)) (few : transform o p .taken ≤ 65535) (none-left : T (not (transform o p .flags .left))) (none-mixed : T (not (transform o p .flags .mixed))) where
   within : AllWithin (transform o p .taken) (transform o p .templates)
   within = all-within (transform o p .taken) (transform o p .templates) (λ m l. numbers o p m ∙ span-above 1 (transform o p .taken) m (omega arith))
 
@@ -196,8 +196,8 @@ module _ (Fragments : Type 0) (o : Options) (p : Page) (w : ℕ) (good : Visited
         count-is = templates-counted (d .templates);
         recorded-once = λ m. recorded-row m (d .templates) ∙ recorded-is m ∙ up-to-count m;
         called-once = λ m. called-begins m page ∙ balanced (has-number m) ∙ recorded-is m ∙ up-to-count m;
-        each-sound = each-sound (d .templates) (good .kept .sound);
-        each-suits = each-suits page (d .templates) balanced (λ m. subst (λ (x : ℕ). x ≤ 1) (sym (recorded-is m)) (span-once 1 (d .taken) m)) (d .taken) few (d .templates) (good .kept .sound) within (λ t i. i);
+        each-sound = each-sound (d .templates) (good .kept .sound none-mixed);
+        each-suits = each-suits page (d .templates) balanced (λ m. subst (λ (x : ℕ). x ≤ 1) (sym (recorded-is m)) (span-once 1 (d .taken) m)) (d .taken) few (d .templates) (good .kept .sound none-mixed) within (λ t i. i);
         no-element-left = page-stands 0x30 refl refl refl o d ∙ good .no-element none-left;
         no-fragment-left = page-stands 0x31 refl refl refl o d ∙ good .no-fragment none-left;
         imported = λ h. page-imported h o p;
