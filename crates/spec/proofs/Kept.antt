@@ -26,13 +26,13 @@ use Rattle.spec.proofs.Counting.{None, uncounted, nothing-marked, Count
 
 -- ---- pages in which no tag is left
 
-abbrev Unflagged : Flags → Type 0
+abbrev pub Unflagged : Flags → Type 0
 Unflagged f = T (not (f .left))
 
-unflagged-left : (f g : Flags) → Unflagged (join f g) → Unflagged f
+pub unflagged-left : (f g : Flags) → Unflagged (join f g) → Unflagged f
 unflagged-left f g c = neither (f .left) (g .left) c .0
 
-unflagged-right : (f g : Flags) → Unflagged (join f g) → Unflagged g
+pub unflagged-right : (f g : Flags) → Unflagged (join f g) → Unflagged g
 unflagged-right f g c = neither (f .left) (g .left) c .1
 
 -- ---- source pieces of a row
