@@ -166,8 +166,8 @@ unfoldable pub AllHold : List Mark → Type 0
 AllHold [] = Unit {0}
 AllHold (m ∷ ms) = (reply (outcome (m .page) (m .options) (m .scratch) (m .templates-room) (m .page-room)) ≡ m .expected) × AllHold ms
 
-abbrev pub every-mark : List Mark
-every-mark =
+abbrev pub marks : List Mark
+marks =
 """
 
 PROOF = """-- The table of marks, by computation. Main statement: `k-table`. Written by tools/marks.py. Assumes nothing.
@@ -175,7 +175,8 @@ use Prim.Native.Nat.{ℕ}
 use mathlib.Core.Path.{_≡_, refl}
 use Rattle.field.specs.Bytes.{Bytes}
 use Rattle.spec.specs.Answer.{Outcome}
-use Rattle.spec.specs.Marks.{every-mark, AllHold, reply}
+use Rattle.spec.specs.Marks as K
+use Rattle.spec.specs.Marks.{AllHold, reply}
 %s
 
 -- all that an answer computes with
@@ -183,7 +184,7 @@ unfoldable pub computed : Bytes → Bytes → ℕ → ℕ → ℕ → Outcome
 unfolding %s
 computed p o d s q = outcome p o d s q
 
-pub k-table : AllHold every-mark
+pub k-table : AllHold K.marks
 unfolding AllHold computed reply
 k-table = %s
 """

@@ -13,13 +13,13 @@ use Rattle.page.specs.Number.{Number, render}
 use Rattle.page.specs.Check.{name-part, name-parts, is-name}
 use Rattle.page.proofs.NumberLaws.{render-escaped}
 use Rattle.spec.specs.Attributes.{serialize-attr, void-when-lowered}
-use Rattle.spec.specs.Words.{WellNested, free}
+use Rattle.spec.specs.Words.{Comparison, in-small-letters, by-bytes, compared, WellNestedBy, free}
 use Rattle.spec.proofs.Markup.{NameFront, read-free-outside, both-true, eqb-false, free-front, not-name-byte, name-has-parts, name-front}
 
 -- 01, Well nested: text with neither sign is well nested, the empty text too
-pub free-nested : (b : Bytes) → T (free b) → WellNested b
-unfolding WellNested
-free-nested b h = read-free-outside [] b h
+pub free-nested : (how : Comparison) (b : Bytes) → T (free b) → WellNestedBy how b
+unfolding WellNestedBy
+free-nested how b h = read-free-outside how [] b h
 
 pub free-append : (a b : Bytes) → T (free a) → T (free b) → T (free (a ++ b))
 unfolding free
@@ -115,17 +115,20 @@ among-small x (y ∷ ys) h e = let f = both-true (same (small-letters y) y) (all
     on true g first rest e = rw (g tt) first
     on false g first rest e = rest e
 
-in-small-letters : (n : Bytes) → is-void-element n ≡ true → small-letters n ≡ n
+void-small : (n : Bytes) → is-void-element n ≡ true → small-letters n ≡ n
 unfolding is-void-element void-names all-small small-letters small-letter same
-in-small-letters n h = among-small n void-names tt h
+void-small n h = among-small n void-names tt h
 
-pub void-small : (n : Bytes) → is-void-element n ≡ true → is-void-element (small-letters n) ≡ true
-void-small n h = ap is-void-element (in-small-letters n h) ∙ h
+pub void-compared : (n : Bytes) → is-void-element n ≡ true → (how : Comparison) → is-void-element (compared how n) ≡ true
+unfolding compared
+void-compared n h in-small-letters = ap is-void-element (void-small n h) ∙ h
+void-compared n h by-bytes = h
 
 -- what is not void stays so in small letters, unless it is marked
-pub unmixed-small : (n : Bytes) → is-void-element n ≡ false → T (not (void-when-lowered n)) → is-void-element (small-letters n) ≡ false
-unfolding void-when-lowered
-unmixed-small n e h = on (is-void-element (small-letters n)) (is-void-element n) e h
+pub unmixed-compared : (n : Bytes) → is-void-element n ≡ false → T (not (void-when-lowered n)) → (how : Comparison) → is-void-element (compared how n) ≡ false
+unfolding compared void-when-lowered
+unmixed-compared n e h by-bytes = e
+unmixed-compared n e h in-small-letters = on (is-void-element (small-letters n)) (is-void-element n) e h
   where
     on : (a b : Bool) → b ≡ false → T (not (a && not b)) → a ≡ false
     on true true e h = absurd (false≢true (sym e))

@@ -12,7 +12,7 @@ use Rattle.field.specs.Row.{Row, end, loose, field, Inside, only-bytes, fields-
 use Rattle.field.proofs.RowLaws.{Shaped}
 use Rattle.spec.specs.Pass.{Template, Done, Pass, Raw, Mid, none, node, raw, Part, chars, gap, mark}
 use Rattle.spec.specs.Transform.{stands}
-use Rattle.spec.specs.Words.{WellNested, places, filled, AllFit}
+use Rattle.spec.specs.Words.{Comparison, WellNestedBy, places, filled, AllFit}
 
 -- ---- templates
 
@@ -20,7 +20,7 @@ use Rattle.spec.specs.Words.{WellNested, places, filled, AllFit}
 pub record Sound (t : Template) : Type 0 where
   pub one-more : length (t .strings) ≡ suc (length (t .kinds))
   pub placed : places (t .strings) ≡ t .kinds
-  pub nested : (fs : List Bytes) → AllFit (t .kinds) fs → WellNested (filled (t .strings) fs)
+  pub nested : (how : Comparison) (fs : List Bytes) → AllFit how (t .kinds) fs → WellNestedBy how (filled (t .strings) fs)
 
 unfoldable pub AllSound : List Template → Type 0
 AllSound [] = Unit {0}

@@ -16,7 +16,7 @@ use Rattle.spec.specs.Attributes.{Attribute, void-when-lowered, tag-flag
 use Rattle.spec.specs.Words.{free}
 use Rattle.spec.proofs.Good.{GoodVisit, Clean, Still, GoodPass, GoodGap, GoodParts, FormedBy, OneNode, Piece, literal, hole}
 use Rattle.spec.proofs.Ledger.{neither, down-both, is-false, kept-valued}
-use Rattle.spec.proofs.Nested.{Neutral, InTag, neutral-nil, neutral-append, neutral-text, neutral-hole, neutral-void, neutral-element, in-tag-nil, in-tag-append, in-tag-text, in-tag-hole, escape-name, void-small, unmixed-small}
+use Rattle.spec.proofs.Nested.{Neutral, InTag, neutral-nil, neutral-append, neutral-text, neutral-hole, neutral-void, neutral-element, in-tag-nil, in-tag-append, in-tag-text, in-tag-hole, escape-name, void-compared, unmixed-compared}
 use Rattle.spec.proofs.Closure.{OneExpr, still-weaken, still-none, still-node, still-raw, still-append, good-weaken, good-pure, good-both, good-raise, good-template, parts-weaken, parts-append, good-after, good-after-any, good-leave, good-null}
 use Rattle.spec.proofs.Invariant.{Alone, AloneField, Invariant}
 
@@ -120,7 +120,7 @@ module _ (Fragments : Type 0) where
       record {
         pieces = literal (60 ∷ n) ∷ (x .pieces ++ (literal (62 ∷ []) ∷ []));
         good = (tt, (ap (λ (b : Bytes). 60 ∷ b) (escape-name n ok), parts-append Fragments ps (chars (62 ∷ []) ∷ []) (x .pieces) (literal (62 ∷ []) ∷ []) a c (x .good) (refl, tt)));
-        neutral = λ m. neutral-void n ok (void-small n e) (x .in-tag);
+        neutral = λ m. neutral-void n ok (void-compared n e) (x .in-tag);
       }
 
   -- and the children, and `</name>`
@@ -138,7 +138,7 @@ module _ (Fragments : Type 0) where
             λ m.
             let u = neither (void-when-lowered n) (marks (ps ++ (chars (62 ∷ []) ∷ (qs ++ close))) .mixed) m in
             let v = unmixed-append qs close (unmixed-append ps (chars (62 ∷ []) ∷ (qs ++ close)) (u .1) .1) in
-            neutral-element n ok (unmixed-small n e (u .0)) (x .in-tag) (y .neutral (v .0));
+            neutral-element n ok (unmixed-compared n e (u .0)) (x .in-tag) (y .neutral (v .0));
       }
 
   -- ---- expressions taken apart

@@ -30,6 +30,7 @@ pub mod LongRun
 pub mod Accept
 pub mod Kept
 pub mod Flagged
+pub mod NestedCases
 pub mod KeptCases
 pub mod LostCases
 pub mod Cost

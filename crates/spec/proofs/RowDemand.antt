@@ -14,7 +14,7 @@ use Rattle.page.specs.Page.{Options, Page}
 use Rattle.spec.specs.Pass.{Template, Done}
 use Rattle.spec.specs.Output.{strings-row, template-row}
 use Rattle.spec.specs.Transform.{bit, templates-row, page-out-row, transform}
-use Rattle.spec.specs.Words.{WellNested, places, filled, AllFit}
+use Rattle.spec.specs.Words.{Comparison, WellNestedBy, places, filled, AllFit}
 use Rattle.spec.specs.Demand.{begins, templates-in, up-to, strings-in, kinds-in, AllTags, Each80, Each90, SoundTemplate, Suits, Demand3}
 use Rattle.spec.proofs.Good.{Sound, AllSound}
 use Rattle.spec.proofs.Ledger.{Test, recorded, called-row, span}
@@ -49,7 +49,7 @@ sound-row : (t : Template) → Sound t → SoundTemplate (strings-row (t .string
 sound-row t s =
     record {
       only-strings = strings-tagged (t .strings);
-      nested = subst (λ (ss : List Bytes). (fs : List Bytes) → AllFit (places ss) fs → WellNested (filled ss fs)) (sym (strings-back (t .strings))) (λ fs h. s .nested fs (subst (λ (ks : List Bool). AllFit ks fs) (s .placed) h));
+      nested = subst (λ (ss : List Bytes). (how : Comparison) (fs : List Bytes) → AllFit how (places ss) fs → WellNestedBy how (filled ss fs)) (sym (strings-back (t .strings))) (λ how fs h. s .nested how fs (subst (λ (ks : List Bool). AllFit how ks fs) (s .placed) h));
     }
 
 each-sound : (ts : List Template) → AllSound ts → Each80 (λ front strings. SoundTemplate strings) (templates-row ts)

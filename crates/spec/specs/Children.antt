@@ -161,7 +161,8 @@ to-call-expr n as′ cs = map (call-node n as′) (found-pass (children-to-expr 
 -- a serializable element of that name, with what is found of it
 unfoldable pub open-close : Options → Bytes → List Attribute → List Child → List Part
 open-close o n as′ cs =
-    mark (tag-flags n as′) ∷ chars (60 ∷ escape-html n) ∷
+    mark (tag-flags n as′) ∷
+    chars (60 ∷ escape-html n) ∷
     (attrs-parts o as′ ++ (chars (62 ∷ []) ∷
     pick (is-void-element n) [] (children-to-string true cs ++ (chars (60 ∷ 47 ∷ (n ++ (62 ∷ []))) ∷ []))))
 

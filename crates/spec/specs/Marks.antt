@@ -39,8 +39,8 @@ unfoldable pub AllHold : List Mark → Type 0
 AllHold [] = Unit {0}
 AllHold (m ∷ ms) = (reply (outcome (m .page) (m .options) (m .scratch) (m .templates-room) (m .page-room)) ≡ m .expected) × AllHold ms
 
-abbrev pub every-mark : List Mark
-every-mark =
+abbrev pub marks : List Mark
+marks =
     -- K1 <br/>
     mark (fld 0x01 (fld 0x12 (fld 0x30 (fld 0x40 (ascii "br"))))) [] 65536 65536 65536 0 1 (fld 0x80 ((0 ∷ 1 ∷ []) ++ (fld 0x81 (ascii "<br>")))) ((fld 0x82 ((fld 0x81 (ascii "react/jsx-runtime")) ++ (2 ∷ []))) ++ ((fld 0x83 []) ++ (fld 0x12 (fld 0x90 (0 ∷ 1 ∷ []))))) ∷
     -- K2 <i disabled={false}>B</i>
