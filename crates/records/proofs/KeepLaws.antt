@@ -1,22 +1,22 @@
 -- Laws of `keep`: passes in a row, passes that record nothing, and a template, which takes its number before its dynamic expressions and is
 -- recorded after them. Main statements: `keep-both`, `keep-pure`, `keep-template`, `parts`, `entered`. Assumes nothing.
-use mathlib.Core.Path.{_≡_, refl, sym, ap, _∙_, subst}
+use mathlib.Core.Path.{_≡_, refl, sym, ap, ap₂, _∙_, subst}
 use Prim.Native.Nat.{ℕ, _+_}
 use native.Mathlib.Omega.{arith}
 use mathlib.Core.List.{List, [], _∷_, _++_}
-use mathlib.Core.Bool.{Bool, true, false, _||_, or-comm}
+use mathlib.Core.Bool.{Bool, true, false, _||_}
 use lib.ListN.{length, length-append}
 use Rattle.field.specs.Row.{bytes, long-body}
 use Rattle.field.specs.Put.{put}
 use Rattle.field.proofs.PutLaws.{put-put, put-nil, length-put}
 use Rattle.field.proofs.Actions.{Action, Lows}
-use Rattle.spec.specs.Pass.{Template, Done, Pass, pure, map, both, raise, join, long-if, Mid, none, _+++_, Part, chars, gap}
+use Rattle.spec.specs.Pass.{Template, Done, Pass, pure, map, both, raise, join, long-if, Mid, none, _+++_, Part, chars, gap, mark, marks}
 use Rattle.spec.specs.Output.{strings-after, kinds-of, dynamic-exprs, template-row, gen-template}
 use Rattle.spec.specs.Merge.{Entry}
 use Rattle.spec.specs.Children.{entry-pass, entries-pass}
 use Rattle.spec.specs.Transform.{templates-row}
 use Rattle.strings.specs.Due.{graver, long-due, grave}
-use Rattle.strings.proofs.DueLaws.{none-graver, graver-swap, due-or, due-none, due-then}
+use Rattle.strings.proofs.DueLaws.{grave-join, long-grave, due-none, due-then, due-template}
 use Rattle.records.specs.Keep.{Kept, at, add, keep, write, bumped, Low}
 use Rattle.records.specs.declared.Records.{Records}
 use Rattle.records.proofs.Templates.{bytes-append, long-append}
@@ -73,10 +73,10 @@ module _ (run : Bool) (ps : List Part) (w : Kept) where
       let p : w .st .place + length (bytes (templates-row (d .templates ++ u))) ≡ w .st .place + length x + length y = omega (arith, ap length e, length-append x y) in
       let l = long-body (templates-row (d .templates)) in
       let m = long-body (templates-row u) in
-      let q : graver (w .st .due) (graver (grave (join (long-if run) (d .flags))) (long-due (long-body (templates-row (d .templates ++ u))))) ≡ graver (graver (w .st .due) (graver (grave (d .flags)) (long-due l))) (long-due (run || m)) =
-      due-then (w .st .due) (long-if run) (d .flags) m l (long-append (d .templates) u ∙ or-comm l m)
-      ∙ graver-swap (w .st .due) (graver (grave (long-if run)) (long-due m)) (graver (grave (d .flags)) (long-due l))
-      ∙ ap (graver (graver (w .st .due) (graver (grave (d .flags)) (long-due l)))) (ap (λ (x : ℕ). graver x (long-due m)) (none-graver (long-due run)) ∙ sym (due-or 1 run m)) in
+      let q : graver (w .st .due) (graver (grave (join (long-if run) (join (marks ps) (d .flags)))) (long-due (long-body (templates-row (d .templates ++ u))))) ≡ graver (graver (w .st .due) (graver (grave (d .flags)) (long-due l))) (graver (grave (marks ps)) (long-due (run || m))) =
+      ap₂ (λ (x : ℕ) (y : Bool). graver (w .st .due) (graver x (long-due y)))
+      (grave-join (long-if run) (join (marks ps) (d .flags)) ∙ ap₂ graver (long-grave run) (grave-join (marks ps) (d .flags))) (long-append (d .templates) u)
+      ∙ due-template (w .st .due) (grave (marks ps)) (grave (d .flags)) run l m in
       λ i. at (o i) (record { next = n i; place = p i; due = q i })
 
 pub keep-gen : (ps : List Part) (w : Kept) → keep (gen-template ps) w ≡ write (w .st .next) false ps (keep (dynamic-exprs ps) (at (w .out) (bumped (w .st))))
@@ -96,6 +96,7 @@ pub parts-append : (ps qs : List Part) (w : Kept) → keep (dynamic-exprs (ps ++
 unfolding dynamic-exprs
 parts-append [] qs w = ap (keep (dynamic-exprs qs)) (sym (keep-pure none w))
 parts-append (chars b ∷ ps) qs w = parts-append ps qs w
+parts-append (mark f ∷ ps) qs w = parts-append ps qs w
 parts-append (gap p ∷ ps) qs w = keep-gap p (ps ++ qs) w ∙ parts-append ps qs (keep p w) ∙ ap (keep (dynamic-exprs qs)) (sym (keep-gap p ps w))
 
 pub entries-append : (es fs : List Entry) (w : Kept) → keep (entries-pass (es ++ fs)) w ≡ keep (entries-pass fs) (keep (entries-pass es) w)

@@ -12,13 +12,13 @@ use Rattle.field.specs.Number.{big-endian}
 use Rattle.field.specs.Row.{end, bytes, long-body, field-bytes}
 use Rattle.field.specs.Put.{put, head}
 use Rattle.field.proofs.PutLaws.{put-put, put-nil, put-back, put-then, length-field-bytes}
-use Rattle.spec.specs.Pass.{Template, Part, chars, gap}
+use Rattle.spec.specs.Pass.{join, Template, Part, chars, gap, mark, marks}
 use Rattle.spec.specs.Output.{strings-after, strings-row, template-row}
 use Rattle.spec.specs.Transform.{templates-row}
-use Rattle.strings.specs.Due.{graver, long-due}
+use Rattle.strings.specs.Due.{graver, long-due, grave}
 use Rattle.strings.specs.Carve as C
 use Rattle.strings.specs.declared.writer.Open.{Open}
-use Rattle.strings.proofs.DueLaws.{long-then}
+use Rattle.strings.proofs.DueLaws.{due-plain, due-body, due-front, due-more}
 use Rattle.strings.proofs.CarveLaws.{flagged-none, close-flagged}
 use Rattle.records.specs.Keep.{Kept, at, write, begin, end-at, template-of, Low}
 use Rattle.records.specs.declared.Records.{Records}
@@ -53,13 +53,14 @@ close-one o p last d = ap (λ (x : Bytes). C.at x (record { head = p + 3 + lengt
 -- the open string holds `last`; when all parts are carved and it is closed, the strings stand in the buffer
 strings-from : (ps : List Part) (o : Bytes) (p : ℕ) (last : Bytes) (d : ℕ) →
     C.close (C.carve ps (C.at (put o (p + 3) last) (record { head = p; len = length last; due = d })))
-    ≡ C.at (put o p (bytes (strings-row (strings-after last ps)))) (record { head = p + length (bytes (strings-row (strings-after last ps))); len = 0; due = graver d (long-due (long-body (strings-row (strings-after last ps)))) })
-unfolding C.carve strings-after strings-row bytes long-body
+    ≡ C.at (put o p (bytes (strings-row (strings-after last ps)))) (record { head = p + length (bytes (strings-row (strings-after last ps))); len = 0; due = graver d (graver (grave (marks ps)) (long-due (long-body (strings-row (strings-after last ps))))) })
+unfolding C.carve strings-after strings-row bytes long-body marks
 strings-from [] o p last d =
     let e : field-bytes 0x81 last ≡ field-bytes 0x81 (last ++ []) ++ [] = sym (append-nil (field-bytes 0x81 (last ++ [])) ∙ ap (field-bytes 0x81) (append-nil last)) in
     let h : p + 3 + length last ≡ p + length (field-bytes 0x81 (last ++ []) ++ []) = omega (arith, length-field-bytes 0x81 last, ap length e) in
     let b : ltb 65535 (length last) ≡ (ltb 65535 (length (last ++ [])) || (false || false)) = sym (or-false (ltb 65535 (length (last ++ []))) ∙ ap (λ (x : Bytes). ltb 65535 (length x)) (append-nil last)) in
-    close-one o p last d ∙ λ i. C.at (put o p (e i)) (record { head = h i; len = 0; due = graver d (long-due (b i)) })
+    let q = ap (λ (x : Bool). graver d (long-due x)) b ∙ sym (due-plain d (long-due (ltb 65535 (length (last ++ [])) || (false || false)))) in
+    close-one o p last d ∙ λ i. C.at (put o p (e i)) (record { head = h i; len = 0; due = q i })
 strings-from (chars c ∷ ps) o p last d =
     let e : put (put o (p + 3) last) (p + 3 + length last) c ≡ put o (p + 3) (last ++ c) = put-put o (p + 3) last c in
     let n : length last + length c ≡ length (last ++ c) = sym (length-append last c) in
@@ -68,19 +69,25 @@ strings-from (gap g ∷ ps) o p last d =
     let f = field-bytes 0x81 (last ++ []) in
     let r = strings-row (strings-after [] ps) in
     let fe : field-bytes 0x81 last ≡ f = ap (field-bytes 0x81) (sym (append-nil last)) in
-    let m : p + 3 + length last ≡ p + length f = omega (arith, length-field-bytes 0x81 last, ap length fe) in
+    let k : p + 3 + length last ≡ p + length f = omega (arith, length-field-bytes 0x81 last, ap length fe) in
     let o₁ = put o p f in
     let d₁ = graver d (long-due (ltb 65535 (length last))) in
-    let a : C.close (C.at (put o (p + 3) last) (record { head = p; len = length last; due = d })) ≡ C.at (put o₁ (p + length f + 3) []) (record { head = p + length f; len = 0; due = d₁ }) = close-one o p last d ∙ (λ i. C.at (put o p (fe i)) (record { head = m i; len = 0; due = d₁ })) ∙ ap (λ (x : Bytes). C.at x (record { head = p + length f; len = 0; due = d₁ })) (sym (put-nil o₁ (p + length f + 3))) in
+    let a : C.close (C.at (put o (p + 3) last) (record { head = p; len = length last; due = d })) ≡ C.at (put o₁ (p + length f + 3) []) (record { head = p + length f; len = 0; due = d₁ }) = close-one o p last d ∙ (λ i. C.at (put o p (fe i)) (record { head = k i; len = 0; due = d₁ })) ∙ ap (λ (x : Bytes). C.at x (record { head = p + length f; len = 0; due = d₁ })) (sym (put-nil o₁ (p + length f + 3))) in
     let ob : put o₁ (p + length f) (bytes r) ≡ put o p (f ++ bytes r) = put-put o p f (bytes r) in
     let h : p + length f + length (bytes r) ≡ p + length (f ++ bytes r) = omega (arith, length-append f (bytes r)) in
-    let b : graver d₁ (long-due (long-body r)) ≡ graver d (long-due (ltb 65535 (length (last ++ [])) || (false || long-body r))) = long-then d (ltb 65535 (length last)) (long-body r) ∙ ap (λ (x : Bytes). graver d (long-due (ltb 65535 (length x) || long-body r))) (sym (append-nil last)) in
+    let m = grave (marks ps) in
+    let b : graver d₁ (graver m (long-due (long-body r))) ≡ graver d (graver m (long-due (ltb 65535 (length (last ++ [])) || (false || long-body r)))) = due-body d m (ltb 65535 (length last)) (long-body r) ∙ ap (λ (x : Bytes). graver d (graver m (long-due (ltb 65535 (length x) || long-body r)))) (sym (append-nil last)) in
     ap (λ (w : C.Carved). C.close (C.carve ps w)) a ∙ strings-from ps o₁ (p + length f) [] d₁ ∙ λ i. C.at (ob i) (record { head = h i; len = 0; due = b i })
+strings-from (mark f ∷ ps) o p last d =
+    let l = long-due (long-body (strings-row (strings-after last ps))) in
+    let b : graver (graver d (grave f)) (graver (grave (marks ps)) l) ≡ graver d (graver (grave (join f (marks ps))) l) = due-front d f (marks ps) l in
+    strings-from ps o p last (graver d (grave f))
+    ∙ λ i. C.at (put o p (bytes (strings-row (strings-after last ps)))) (record { head = p + length (bytes (strings-row (strings-after last ps))); len = 0; due = b i })
 
 -- from an empty open string on
 pub strings-carved : (ps : List Part) (o : Bytes) (p : ℕ) (d : ℕ) →
     C.close (C.carve ps (C.at o (record { head = p; len = 0; due = d })))
-    ≡ C.at (put o p (bytes (strings-row (strings-after [] ps)))) (record { head = p + length (bytes (strings-row (strings-after [] ps))); len = 0; due = graver d (long-due (long-body (strings-row (strings-after [] ps)))) })
+    ≡ C.at (put o p (bytes (strings-row (strings-after [] ps)))) (record { head = p + length (bytes (strings-row (strings-after [] ps))); len = 0; due = graver d (graver (grave (marks ps)) (long-due (long-body (strings-row (strings-after [] ps))))) })
 strings-carved ps o p d =
     ap (λ (x : Bytes). C.close (C.carve ps (C.at x (record { head = p; len = 0; due = d })))) (sym (put-nil o (p + 3))) ∙ strings-from ps o p [] d
 
@@ -110,14 +117,14 @@ module _ (n : ℕ) (run : Bool) (ps : List Part) (o : Bytes) (st : Records) wher
   unfolding body big-endian
   length-body = omega arith
 
-  closed-is : C.close (C.flagged (long-due run) (C.carve ps (begin n (at o st)))) ≡ C.at (put o (st .place + 3) body) (record { head = st .place + 5 + length strings; len = 0; due = graver (graver (st .due) (long-due long-strings)) (long-due run) })
+  closed-is : C.close (C.flagged (long-due run) (C.carve ps (begin n (at o st)))) ≡ C.at (put o (st .place + 3) body) (record { head = st .place + 5 + length strings; len = 0; due = graver (graver (st .due) (graver (grave (marks ps)) (long-due long-strings))) (long-due run) })
   unfolding strings body long-strings big-endian
   closed-is =
       let b = big-endian 2 n [] in
       let e : put (put o (st .place + 3) b) (st .place + 5) strings ≡ put o (st .place + 3) (b ++ strings) = put-then o (st .place + 3) 2 (st .place + 5) b strings refl refl (omega arith) refl in
       close-flagged (long-due run) (C.carve ps (begin n (at o st)))
       ∙ ap (C.flagged (long-due run)) (strings-carved ps (put o (st .place + 3) b) (st .place + 5) (st .due))
-      ∙ ap (λ (x : Bytes). C.at x (record { head = st .place + 5 + length strings; len = 0; due = graver (graver (st .due) (long-due long-strings)) (long-due run) })) e
+      ∙ ap (λ (x : Bytes). C.at x (record { head = st .place + 5 + length strings; len = 0; due = graver (graver (st .due) (graver (grave (marks ps)) (long-due long-strings))) (long-due run) })) e
 
   row-bytes : bytes (template-row (template-of n ps) end) ≡ field-bytes 0x80 body
   unfolding body strings bytes template-row
@@ -133,21 +140,22 @@ module _ (n : ℕ) (run : Bool) (ps : List Part) (o : Bytes) (st : Records) wher
   unfolding field-bytes big-endian
   put-field = put-back o (st .place) (head 0x80 (length body)) body
 
-  due-is : graver (graver (graver (st .due) (long-due long-strings)) (long-due run)) (long-due (ltb 65535 (length body))) ≡ graver (st .due) (long-due (run || long-body (template-row (template-of n ps) end)))
+  due-is : graver (graver (graver (st .due) (graver (grave (marks ps)) (long-due long-strings))) (long-due run)) (long-due (ltb 65535 (length body))) ≡ graver (st .due) (graver (grave (marks ps)) (long-due (run || long-body (template-row (template-of n ps) end))))
   unfolding long-body template-row long-strings body strings
   due-is =
       let t = ltb 65535 (length body) in
-      ap (λ (x : ℕ). graver x (long-due t)) (long-then (st .due) long-strings run) ∙ long-then (st .due) (long-strings || run) t
-      ∙ ap (λ (x : Bool). graver (st .due) (long-due x)) (or-last long-strings run t)
+      let m = grave (marks ps) in
+      sym (due-more (st .due) m (long-strings || run) t ∙ ap (λ (x : ℕ). graver x (long-due t)) (due-more (st .due) m long-strings run))
+      ∙ ap (λ (x : Bool). graver (st .due) (graver m (long-due x))) (or-last long-strings run t)
 
-  ended : end-at st (C.at (put o (st .place + 3) body) (record { head = st .place + 5 + length strings; len = 0; due = graver (graver (st .due) (long-due long-strings)) (long-due run) })) ≡ write n run ps (at o st)
+  ended : end-at st (C.at (put o (st .place + 3) body) (record { head = st .place + 5 + length strings; len = 0; due = graver (graver (st .due) (graver (grave (marks ps)) (long-due long-strings))) (long-due run) })) ≡ write n run ps (at o st)
   unfolding write
   ended =
       let h = st .place + 5 + length strings - (st .place + 3) in
       let e : put (put o (st .place + 3) body) (st .place) (head 0x80 h) ≡ put o (st .place) (bytes (template-row (template-of n ps) end)) = ap (λ (x : ℕ). put (put o (st .place + 3) body) (st .place) (head 0x80 x)) length-is ∙ put-field ∙ ap (put o (st .place)) (sym row-bytes) in
       let p : st .place + 5 + length strings ≡ st .place + length (bytes (template-row (template-of n ps) end)) = omega (arith, length-row) in
-      let d = graver (graver (st .due) (long-due long-strings)) (long-due run) in
-      let b : graver d (long-due (ltb 65535 h)) ≡ graver (st .due) (long-due (run || long-body (template-row (template-of n ps) end))) = ap (λ (x : ℕ). graver d (long-due (ltb 65535 x))) length-is ∙ due-is in
+      let d = graver (graver (st .due) (graver (grave (marks ps)) (long-due long-strings))) (long-due run) in
+      let b : graver d (long-due (ltb 65535 h)) ≡ graver (st .due) (graver (grave (marks ps)) (long-due (run || long-body (template-row (template-of n ps) end)))) = ap (λ (x : ℕ). graver d (long-due (ltb 65535 x))) length-is ∙ due-is in
       λ i. at (e i) (record { next = st .next; place = p i; due = b i })
 
   -- a template that was begun, carved and ended is written

@@ -8,7 +8,7 @@ use Rattle.field.specs.Bytes.{Bytes}
 use Rattle.field.specs.Number.{big-endian}
 use Rattle.field.specs.Row.{end, bytes, long-body}
 use Rattle.field.specs.Put.{put, head}
-use Rattle.spec.specs.Pass.{Template, Done, Pass, Mid, Part}
+use Rattle.spec.specs.Pass.{Template, Done, Pass, Mid, Part, marks}
 use Rattle.spec.specs.Output.{strings-after, template-row}
 use Rattle.spec.specs.Transform.{templates-row}
 use Rattle.strings.specs.Due.{graver, long-due, grave}
@@ -53,7 +53,7 @@ unfoldable pub write : ℕ → Bool → List Part → Kept → Kept
 write n run ps w =
     record {
       out = put (w .out) (w .st .place) (bytes (template-row (template-of n ps) end));
-      st = record { next = w .st .next; place = w .st .place + length (bytes (template-row (template-of n ps) end)); due = graver (w .st .due) (long-due (run || long-body (template-row (template-of n ps) end))) };
+      st = record { next = w .st .next; place = w .st .place + length (bytes (template-row (template-of n ps) end)); due = graver (w .st .due) (graver (grave (marks ps)) (long-due (run || long-body (template-row (template-of n ps) end)))) };
     }
 
 -- its beginning: the number, and an open string behind it

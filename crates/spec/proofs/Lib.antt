@@ -1,5 +1,5 @@
 -- The table of marks, demand 3, acceptance, how long the outputs are at most, that as many templates are called as recorded, and that the
--- page's own expressions are kept.
+-- page's own expressions are kept; 16 and 19 exactly where the page has their cause.
 pub mod Marks
 pub mod Good
 pub mod Weight
@@ -29,6 +29,8 @@ pub mod TagLeft
 pub mod LongRun
 pub mod Accept
 pub mod Kept
+pub mod Flagged
+pub mod NestedCases
 pub mod KeptCases
 pub mod LostCases
 pub mod Cost

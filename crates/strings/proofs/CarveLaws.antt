@@ -11,10 +11,11 @@ use Rattle.field.specs.Bytes.{Bytes}
 use Rattle.field.specs.Put.{put, head, Wrote}
 use Rattle.field.proofs.PutLaws.{put-put, put-nil, length-put}
 use Rattle.field.proofs.Actions.{Action, Lows, Keeps, Steps, by-steps, place-steps, keep-steps}
-use Rattle.spec.specs.Pass.{Part, chars, gap, Pass, Mid}
+use Rattle.text.specs.Escape.{escape-html}
+use Rattle.spec.specs.Pass.{Part, chars, gap, mark, Pass, Mid}
 use Rattle.strings.specs.declared.writer.Open.{Open}
-use Rattle.strings.specs.Due.{graver, long-due}
-use Rattle.strings.specs.Carve.{Carved, at, end, put-on, close, carve, flagged, Low, ended-at}
+use Rattle.strings.specs.Due.{graver, long-due, grave}
+use Rattle.strings.specs.Carve.{Carved, at, end, put-on, close, carve, flagged, Low, ended-at, flags-at, opening}
 use Rattle.strings.proofs.DueLaws.{graver-none, graver-assoc, graver-swap}
 
 -- ---- carve as an action
@@ -22,11 +23,13 @@ use Rattle.strings.proofs.DueLaws.{graver-none, graver-assoc, graver-sw
 abbrev pub part : Part → Carved → Carved
 part (chars b) w = put-on b w
 part (gap p) w = close w
+part (mark f) w = flagged (grave f) w
 
 carve-part : (a : Part) (ps : List Part) (w : Carved) → carve (a ∷ ps) w ≡ carve ps (part a w)
 unfolding carve
 carve-part (chars b) ps w = refl
 carve-part (gap p) ps w = refl
+carve-part (mark f) ps w = refl
 
 pub carves : Steps part carve
 unfolding carve
@@ -42,6 +45,7 @@ part-grows : (a : Part) (w : Carved) → place w ≤ place (part a w)
 unfolding place
 part-grows (chars b) w = omega arith
 part-grows (gap p) w = omega arith
+part-grows (mark f) w = omega arith
 
 pub lows : Lows Low carve
 unfolding place
@@ -53,6 +57,7 @@ size w = length (w .out)
 part-keeps : (a : Part) (w : Carved) → size (part a w) ≡ size w
 part-keeps (chars b) w = length-put (w .out) (end (w .st)) b
 part-keeps (gap p) w = length-put (w .out) (w .st .head) (head 0x81 (w .st .len))
+part-keeps (mark f) w = refl
 
 pub same-size : Keeps size carve
 same-size = keep-steps carves size part-keeps
@@ -126,6 +131,9 @@ flagged-none w = sym (due-is w (graver (w .st .due) 0) (sym (graver-none (w .st 
 pub flagged-twice : (a b : ℕ) (w : Carved) → flagged b (flagged a w) ≡ flagged (graver a b) w
 flagged-twice a b w = due-is (flagged b (flagged a w)) (graver (w .st .due) (graver a b)) (graver-assoc (w .st .due) a b)
 
+pub flagged-swap : (a b : ℕ) (w : Carved) → flagged b (flagged a w) ≡ flagged a (flagged b w)
+flagged-swap a b w = due-is (flagged b (flagged a w)) (graver (graver (w .st .due) b) a) (graver-swap (w .st .due) a b)
+
 pub close-flagged : (d : ℕ) (w : Carved) → close (flagged d w) ≡ flagged d (close w)
 close-flagged d w = let l = long-due (ltb 65535 (w .st .len)) in due-is (close (flagged d w)) (graver (graver (w .st .due) l) d) (graver-swap (w .st .due) d l)
 
@@ -134,3 +142,19 @@ unfolding carve
 carve-flagged d [] w = refl
 carve-flagged d (chars b ∷ ps) w = carve-flagged d ps (put-on b w)
 carve-flagged d (gap p ∷ ps) w = ap (carve ps) (close-flagged d w) ∙ carve-flagged d ps (close w)
+carve-flagged d (mark f ∷ ps) w = ap (carve ps) (flagged-swap d (grave f) w) ∙ carve-flagged d ps (flagged (grave f) w)
+
+-- ---- an opening tag: `<name` is put on, and what is found of the element is flagged
+
+module _ (n r : Bytes) where
+  pub opening-low : (w : Carved) → Low (carve (opening n r) w) → Low (carve (chars (60 ∷ escape-html n) ∷ []) w)
+  unfolding carve
+  opening-low w l = l
+
+  pub opening-is : (w : Carved) {o : Bytes} {s : Open} → at o s ≡ carve (chars (60 ∷ escape-html n) ∷ []) w → {d : ℕ} → d ≡ graver (s .due) (grave (flags-at n r)) →
+      at o (record { head = s .head; len = s .len; due = d }) ≡ carve (opening n r) w
+  unfolding carve
+  opening-is w {o} {s} e q =
+      (λ i. at o (record { head = s .head; len = s .len; due = q i }))
+      ∙ ap (flagged (grave (flags-at n r))) e
+      ∙ sym (carve-flagged (grave (flags-at n r)) (chars (60 ∷ escape-html n) ∷ []) w)

@@ -7,7 +7,7 @@ use mathlib.Core.Bool.{Bool, true, false, _||_}
 use lib.Dec.{ltb}
 use borrow.Author.Tests.{lt-ltb, le-ltb, ltb-true, ltb-false}
 use Rattle.field.specs.Bytes.{pick}
-use Rattle.spec.specs.Pass.{no-flags, join}
+use Rattle.spec.specs.Pass.{no-flags, join, long-if}
 use Rattle.spec.specs.declared.Flags.{Flags}
 use Rattle.strings.specs.Due.{graver, due-if, long-due, grave}
 
@@ -97,16 +97,31 @@ long-then d a b = graver-assoc d (long-due a) (long-due b) ∙ ap (graver d) (sy
 
 pub grave-join : (f g : Flags) → grave (join f g) ≡ graver (grave f) (grave g)
 grave-join f g =
-    ap₂ graver (due-or 4 (f .left) (g .left)) (due-or 1 (f .long) (g .long))
-    ∙ graver-cross (due-if 4 (f .left)) (due-if 4 (g .left)) (long-due (f .long)) (long-due (g .long))
+    two 4 (f .left) (g .left) _ _ (two 3 (f .repeated) (g .repeated) _ _ (two 2 (f .mixed) (g .mixed) (long-due (f .long)) (long-due (g .long)) (due-or 1 (f .long) (g .long))))
+  where
+    two : (k : ℕ) (a b : Bool) (x y : ℕ) {z : ℕ} → z ≡ graver x y → graver (due-if k (a || b)) z ≡ graver (graver (due-if k a) x) (graver (due-if k b) y)
+    two k a b x y e = ap₂ graver (due-or k a b) e ∙ graver-cross (due-if k a) (due-if k b) x y
 
 pub none-grave : grave no-flags ≡ 0
 unfolding graver
 none-grave = refl
 
-pub left-grave : grave (record { left = true; long = false }) ≡ 4
+pub left-grave : grave (record { left = true; long = false; repeated = false; mixed = false }) ≡ 4
 unfolding graver
 left-grave = refl
+
+pub long-grave : (b : Bool) → grave (long-if b) ≡ long-due b
+unfolding graver
+long-grave true = refl
+long-grave false = refl
+
+-- what is found of an element by itself
+pub tag-grave : (a b : Bool) → grave (record { left = false; long = false; repeated = a; mixed = b }) ≡ pick a 3 (due-if 2 b)
+unfolding graver
+tag-grave true true = refl
+tag-grave true false = refl
+tag-grave false true = refl
+tag-grave false false = refl
 
 -- ---- flags and bodies, as a state takes them over
 
@@ -118,6 +133,31 @@ due-none d = ap (graver d) (graver-none (grave no-flags) ∙ none-grave) ∙ gra
 pub due-more : (d k : ℕ) (a b : Bool) → graver d (graver k (long-due (a || b))) ≡ graver (graver d (graver k (long-due a))) (long-due b)
 due-more d k a b =
     ap (λ (x : ℕ). graver d (graver k x)) (due-or 1 a b) ∙ ap (graver d) (sym (graver-assoc k (long-due a) (long-due b))) ∙ sym (graver-assoc d (graver k (long-due a)) (long-due b))
+
+-- a body before flags, and flags before others
+pub due-body : (d k : ℕ) (a b : Bool) → graver (graver d (long-due a)) (graver k (long-due b)) ≡ graver d (graver k (long-due (a || b)))
+due-body d k a b =
+    graver-assoc d (long-due a) (graver k (long-due b))
+    ∙ ap (graver d) (graver-comm (long-due a) (graver k (long-due b)) ∙ graver-assoc k (long-due b) (long-due a) ∙ ap (graver k) (graver-comm (long-due b) (long-due a) ∙ sym (due-or 1 a b)))
+
+pub due-front : (d : ℕ) (f g : Flags) (x : ℕ) → graver (graver d (grave f)) (graver (grave g) x) ≡ graver d (graver (grave (join f g)) x)
+due-front d f g x =
+    graver-assoc d (grave f) (graver (grave g) x) ∙ ap (graver d) (sym (graver-assoc (grave f) (grave g) x) ∙ ap (λ (y : ℕ). graver y x) (sym (grave-join f g)))
+
+-- no flags
+pub due-plain : (d x : ℕ) → graver d (graver (grave no-flags) x) ≡ graver d x
+due-plain d x = ap (graver d) (ap (λ (y : ℕ). graver y x) none-grave ∙ none-graver x)
+
+-- a template takes over its dynamic expressions first, and raises what is due by itself last
+pub due-template : (d m f : ℕ) (run a b : Bool) →
+    graver d (graver (graver (long-due run) (graver m f)) (long-due (a || b))) ≡ graver (graver d (graver f (long-due a))) (graver m (long-due (run || b)))
+due-template d m f run a b =
+    let r = long-due run in
+    let x = long-due a in
+    let y = long-due b in
+    ap₂ (λ (p q : ℕ). graver d (graver p q)) (sym (graver-assoc r m f) ∙ graver-comm (graver r m) f ∙ ap (graver f) (graver-comm r m)) (due-or 1 a b)
+    ∙ ap (graver d) (graver-cross f (graver m r) x y ∙ ap (graver (graver f x)) (graver-assoc m r y ∙ ap (graver m) (sym (due-or 1 run b))))
+    ∙ sym (graver-assoc d (graver f x) (graver m (long-due (run || b))))
 
 -- flags that are raised first, or last
 pub due-raised : (d : ℕ) {f g k : ℕ} → f ≡ k → g ≡ 0 → (x : ℕ) → graver d (graver f x) ≡ graver (graver d (graver g x)) k

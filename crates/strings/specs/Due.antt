@@ -1,4 +1,4 @@
--- What a page is refused for behind its walk, as one number: 0 for nothing, 1 for 11, 4 for 10; 2 and 3 are kept for document 02's 19 and 16.
+-- What a page is refused for behind its walk, as one number: 0 for nothing, 1 for 11, 2 for 19, 3 for 16, 4 for 10 (document 02, A4 and A10).
 -- Of two the graver is answered. Assumes nothing: these are definitions.
 use Prim.Native.Nat.{ℕ}
 use mathlib.Core.Bool.{Bool}
@@ -19,4 +19,4 @@ long-due b = due-if 1 b
 
 -- the gravest of a pass's flags
 abbrev pub grave : Flags → ℕ
-grave f = graver (due-if 4 (f .left)) (long-due (f .long))
+grave f = graver (due-if 4 (f .left)) (graver (due-if 3 (f .repeated)) (graver (due-if 2 (f .mixed)) (long-due (f .long))))

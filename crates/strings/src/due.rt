@@ -5,7 +5,11 @@ ghost use Rattle.strings.specs.Due.{graver, long-due};
 
 // 11: a body, or a run that is merged a second time, is over 65,535 bytes
 pub const LONG: u8 = 1;
-// 10: a tag is left; 2 and 3 are for 19 and 16
+// 19: an element that is serialized is void only in small letters (document 02, A10)
+pub const MIXED: u8 = 2;
+// 16: it has two attributes of one name (A4)
+pub const REPEATED: u8 = 3;
+// 10: a tag is left
 pub const LEFT: u8 = 4;
 
 pub fn graver(a: u8, b: u8) -> u8

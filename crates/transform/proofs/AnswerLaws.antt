@@ -67,8 +67,10 @@ module _ (w : Walk) (tr pr : ℕ) (b : Bytes) where
   unfolding scratch-left
   cleared {r} h =
       after-one Cleared _ _ (checked (not (eqb (w .seen .due) 4)) R.TagLeft refl)
+      (after-one Cleared _ _ (checked (not (eqb (w .seen .due) 3)) R.RepeatedAttribute refl)
+      (after-one Cleared _ _ (checked (not (eqb (w .seen .due) 2)) R.MixedCaseVoid refl)
       (after-one Cleared _ _ (checked (not (eqb (w .seen .due) 1)) R.OutputTooLong refl)
-      (after-one Cleared _ _ (checked (leb (w .templates) tr) R.TemplatesTooSmall refl) (unless-one Cleared (leb (w .page) pr) R.PageTooSmall refl)))
+      (after-one Cleared _ _ (checked (leb (w .templates) tr) R.TemplatesTooSmall refl) (unless-one Cleared (leb (w .page) pr) R.PageTooSmall refl)))))
       h
 
 -- zeros go by the length alone

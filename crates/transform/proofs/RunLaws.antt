@@ -19,11 +19,11 @@ use Rattle.text.specs.Escape.{escape-html}
 use Rattle.page.specs.Page as P
 use Rattle.page.specs.Page.{Options, Page, Name, identifier, member, namespaced}
 use Rattle.page.specs.Tree.{choose, listed-in, options-in}
-use Rattle.spec.specs.Pass.{Template, Done, pure, bind, both, Mid, none, node, raw, Part, chars, gap}
+use Rattle.spec.specs.Pass.{Template, Done, pure, bind, both, Mid, none, node, raw, Part, chars, gap, mark}
 use Rattle.spec.specs.Output.{gen-template}
 use Rattle.spec.specs.Merge as M
 use Rattle.spec.specs.Attributes as A
-use Rattle.spec.specs.Attributes.{first-upper, keeps-from-serializing, is-serializable, listed-attr, plain-attr, attr-parts, attrs-parts}
+use Rattle.spec.specs.Attributes.{first-upper, keeps-from-serializing, is-serializable, listed-attr, plain-attr, attr-parts, attrs-parts, tag-flags}
 use Rattle.spec.specs.Children.{children-to-string, to-call-expr, open-close, element-to-string-vec, serialize-jsx}
 use Rattle.spec.specs.Visit.{visit-exprs, visit-after, visit-fragment}
 use Rattle.spec.specs.Transform as Row
@@ -61,7 +61,7 @@ module _ (o o′ : Options) (e : (n : Bytes) → among n (o .skip-serialize) ≡
   unfolding open-close
   open-same n as′ cs =
       ap
-      (λ (ps : List Part). chars (60 ∷ escape-html n) ∷ (ps ++ (chars (62 ∷ []) ∷ pick (is-void-element n) [] (children-to-string true cs ++ (chars (60 ∷ 47 ∷ (n ++ (62 ∷ []))) ∷ [])))))
+      (λ (ps : List Part). mark (tag-flags n as′) ∷ chars (60 ∷ escape-html n) ∷ (ps ++ (chars (62 ∷ []) ∷ pick (is-void-element n) [] (children-to-string true cs ++ (chars (60 ∷ 47 ∷ (n ++ (62 ∷ []))) ∷ [])))))
       (attrs-same as′)
 
   parts-same : (n : Name) (as′ : List A.Attribute) (cs : List M.Child) → element-to-string-vec o n as′ cs ≡ element-to-string-vec o′ n as′ cs

@@ -133,10 +133,12 @@ written-page o d t p =
           };
     })
 
--- 10 to 13 by the state
+-- 10, 16, 19, 11, 12 and 13 by the state
 abbrev pub verdict-of : Walk → (templates-room page-room : ℕ) → Verdict
 verdict-of w tr pr =
     after (unless (not (eqb (w .seen .due) 4)) R.TagLeft) λ _.
+    after (unless (not (eqb (w .seen .due) 3)) R.RepeatedAttribute) λ _.
+    after (unless (not (eqb (w .seen .due) 2)) R.MixedCaseVoid) λ _.
     after (unless (not (eqb (w .seen .due) 1)) R.OutputTooLong) λ _.
     after (unless (leb (w .templates) tr) R.TemplatesTooSmall) λ _.
     unless (leb (w .page) pr) R.PageTooSmall

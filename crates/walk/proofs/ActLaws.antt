@@ -19,7 +19,8 @@ use Rattle.names.specs.Names.{get-attr-name}
 use Rattle.page.specs.Number.{whole, scaled, number-tag, minus-tag}
 use Rattle.page.specs.Page as P
 use Rattle.page.specs.Page.{Name, Options}
-use Rattle.spec.specs.Pass.{Done, Pass, pure, map, both, bind, raise, join, long-if, Raw, Mid, none, node, raw, _+++_, _⧺_, Part, chars, gap}
+use Rattle.spec.specs.Pass.{Done, Pass, pure, map, both, bind, raise, join, long-if, Raw, Mid, none, node, raw, _+++_, _⧺_, Part, chars, gap, mark}
+use Rattle.spec.specs.declared.Flags.{Flags}
 use Rattle.spec.specs.Output.{leaf, string-node, null-node, prop-node, dynamic-exprs, gen-template}
 use Rattle.spec.specs.Merge.{Entry, still, Found, nothing-found, one-found, array-found, Child, text, empty, container, element, fragment, spread}
 use Rattle.spec.specs.Attributes as Held
@@ -229,6 +230,10 @@ pub act-chars : (b : Bytes) (ps : List Part) (w : World) → act (dynamic-exprs 
 unfolding dynamic-exprs
 act-chars b ps w = refl
 
+pub act-mark : (f : Flags) (ps : List Part) (w : World) → act (dynamic-exprs (mark f ∷ ps)) w ≡ act (dynamic-exprs ps) w
+unfolding dynamic-exprs
+act-mark f ps w = refl
+
 pub act-gap : (p : Pass Mid) (ps : List Part) (w : World) → act (dynamic-exprs (gap p ∷ ps)) w ≡ act (dynamic-exprs ps) (act p w)
 unfolding dynamic-exprs
 act-gap p ps w = act-both p (dynamic-exprs ps) w
@@ -236,6 +241,7 @@ act-gap p ps w = act-both p (dynamic-exprs ps) w
 pub act-dynamic-append : (a b : List Part) (w : World) → act (dynamic-exprs (a ++ b)) w ≡ act (dynamic-exprs b) (act (dynamic-exprs a) w)
 act-dynamic-append [] b w = ap (act (dynamic-exprs b)) (sym (act-no-parts w))
 act-dynamic-append (chars c ∷ a) b w = act-chars c (a ++ b) w ∙ act-dynamic-append a b w ∙ ap (act (dynamic-exprs b)) (sym (act-chars c a w))
+act-dynamic-append (mark f ∷ a) b w = act-mark f (a ++ b) w ∙ act-dynamic-append a b w ∙ ap (act (dynamic-exprs b)) (sym (act-mark f a w))
 act-dynamic-append (gap p ∷ a) b w = act-gap p (a ++ b) w ∙ act-dynamic-append a b (act p w) ∙ ap (act (dynamic-exprs b)) (sym (act-gap p a w))
 
 -- ---- arrays

@@ -123,7 +123,7 @@ pub wrote-last : (v : Row) (k : ℕ) (ts : List Template) (f : Flags) (w : World
     wrote (record { value = v; taken = k + 0; templates = ts ++ []; flags = join f no-flags }) w ≡ wrote (record { value = v; taken = k; templates = ts; flags = f }) w
 wrote-last v k ts f w =
     let n : k + 0 ≡ k = omega arith in
-    λ i. wrote (record { value = v; taken = n i; templates = append-nil ts i; flags = record { left = or-false (f .left) i; long = or-false (f .long) i } }) w
+    λ i. wrote (record { value = v; taken = n i; templates = append-nil ts i; flags = record { left = or-false (f .left) i; long = or-false (f .long) i; repeated = or-false (f .repeated) i; mixed = or-false (f .mixed) i } }) w
 
 pub see-none : (w : World) → see none w ≡ w
 unfolding see visit-exprs pure templates-row bytes long-body stands
