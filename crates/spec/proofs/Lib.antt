@@ -1,5 +1,5 @@
 -- The table of marks, demand 3, acceptance, how long the outputs are at most, that as many templates are called as recorded, that the
--- page's own expressions are kept, and what 05 changes.
+-- page's own expressions are kept, and what 05 changes; 16 and 19 exactly where the page given has their cause.
 pub mod Marks
 pub mod Good
 pub mod Weight
@@ -31,6 +31,8 @@ pub mod TagLeft
 pub mod LongRun
 pub mod Accept
 pub mod Kept
+pub mod Flagged
+pub mod NestedCases
 pub mod KeptCases
 pub mod LostCases
 pub mod Cost
