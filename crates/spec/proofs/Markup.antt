@@ -106,7 +106,7 @@ pick-within os false h h′ = h′
 end-within : (how : Comparison) (os ns : List Bytes) (b : Bytes) → Within os (end-tag how ns b) (end-tag how (ns ++ os) b)
 unfolding end-tag
 end-within how os ns [] = open-within os ns []
-end-within how os ns (c ∷ cs) = pick-within os (eqb c 47) (close-within os ns (compared how (to-space cs))) (open-within os ns (compared how (to-space (c ∷ cs))))
+end-within how os ns (c ∷ cs) = pick-within os (eqb c 47) (close-within os ns _) (open-within os ns _)
 
 byte-within : (how : Comparison) (os : List Bytes) (m : Reading) (c : ℕ) → Within os (read-byte how m c) (read-byte how (with-open os m) c)
 unfolding read-byte with-open
