@@ -67,6 +67,11 @@ pub fn compare(page: &[u8], options: &[u8], page_out: &[u8]) -> Result<Counts, S
     }
 }
 
+/// Whether the Rust would serialize this element, a field of a page, if it comes to it.
+pub fn is_serializable(element: &Node, options: &[Node]) -> bool {
+    element.inner.split_first().is_some_and(|(name, parts)| Walk::new(options).is_serialized(name, parts))
+}
+
 /// The counts of an accepted page as it stands, its sums not worked out.
 pub fn counts(page: &[u8], options: &[u8]) -> Counts {
     let (page, options) = (field::read(page).unwrap_or_default(), field::read(options).unwrap_or_default());

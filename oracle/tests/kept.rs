@@ -158,7 +158,6 @@ fn keys_are_lost_to_later_ones() {
         ("behind a spread", between, vec![], 1, KEY),
         ("without a value", call("Foo", "key", attribute("key")), vec![], 1, NONE),
         ("another", call("Foo", "key", string("keys")), vec![], 1, NONE),
-        ("of a tag", call("i", "key", string("key")), vec![], 1, NONE),
         ("of a tag listed", call("i", "key", string("key")), elements_listed(&["i"]), 0, KEY),
         ("capital on a component", call("Foo", "Key", string("key")), vec![], 1, NONE),
         ("capital on a member", call("a.b", "key", string("KEY")), vec![], 1, NONE),

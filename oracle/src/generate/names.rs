@@ -124,6 +124,42 @@ pub fn attribute(rng: &mut Rng) -> String {
     }
 }
 
+/// The name as it is compared: normalised and in small letters; in small letters alone where the Rust is not there.
+pub fn normalised(name: &str) -> String {
+    let name = if crate::AVAILABLE { crate::private::normalize_dom_attr_name(name) } else { name.to_string() };
+    name.to_ascii_lowercase()
+}
+
+/// Names that are normalised alike, or compared alike, or only nearly so.
+const ALIKE: [&[&str]; 12] = [
+    &["class", "className", "Class", "CLASSNAME", "classname"],
+    &["for", "htmlFor", "htmlfor", "FOR"],
+    &["href", "xlinkHref", "xlink:href", "Href", "xlinkhref", "Xlink:href"],
+    &["viewBox", "viewbox", "VIEWBOX", "view-box"],
+    &["xml:lang", "xmlLang", "xmllang", "XML:lang", "xml:Lang", "xml-lang"],
+    &["xlink:title", "xlinkTitle", "xlinktitle", "title"],
+    &["stroke-width", "strokeWidth", "strokewidth", "STROKE-WIDTH"],
+    &["accept-charset", "acceptCharset", "acceptcharset"],
+    &["panose1", "panose-1", "Panose1"],
+    &["disabled", "DISABLED", "Disabled"],
+    &["key", "Key", "KEY"],
+    &["tabIndex", "tabindex", "tab-index"],
+];
+
+/// The name again: as written, in another case, or another one that goes with it.
+pub fn again(rng: &mut Rng, name: &str) -> String {
+    let same = |other: &str| normalised(other) == normalised(name);
+    match ALIKE.iter().find(|row| row.iter().any(|other| same(other))) {
+        Some(row) if rng.chance(60) => rng.pick(row).to_string(),
+        _ => match rng.below(4) {
+            0 => name.to_ascii_uppercase(),
+            1 => name.to_ascii_lowercase(),
+            2 => name.bytes().map(|c| char::from(if rng.chance(50) { c.to_ascii_uppercase() } else { c })).collect(),
+            _ => name.to_string(),
+        },
+    }
+}
+
 pub fn key(rng: &mut Rng) -> String {
     cased(rng, vec!["key"])
 }

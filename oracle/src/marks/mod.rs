@@ -1,10 +1,11 @@
 //! Cases with a name and an answer that the papers fix by hand: the marks of 01's table, its limits, the worked card,
 //! every reading of it that was settled (which field counts first, what a listed name catches, and so on), and 02's
-//! decimals and sums.
+//! decimals, sums and attributes that stand twice.
 
 mod decimals;
 mod limits;
 mod readings;
+mod repeats;
 mod sums;
 mod table;
 
@@ -22,7 +23,7 @@ pub struct Mark {
 }
 
 pub fn all() -> Vec<Mark> {
-    [table::marks(), limits::marks(), readings::marks(), decimals::marks(), sums::marks()].concat()
+    [table::marks(), limits::marks(), readings::marks(), decimals::marks(), sums::marks(), repeats::marks()].concat()
 }
 
 /// A page that is refused, or taken without its text being written down.
