@@ -3,7 +3,7 @@
 use crate::check::{Fault, Input, check};
 use crate::javascript::Printer;
 use crate::limits::{MAX_OPTIONS, MIN_SCRATCH};
-use crate::locate::locate;
+use crate::locate::{locate, repeated};
 use crate::options::Options;
 use crate::out::{PageOut, Templates};
 use crate::path::Path;
@@ -135,6 +135,13 @@ pub fn transform_into(
 /// assert_eq!(fault.refusal, Refusal::TagLeft);
 /// assert_eq!(fault.path.to_string(), "01 > 12[1] > 30 div > 30 Foo > 50 a > 52 > 31 > 31");
 ///
+/// // <p class="a" className="b"/>: a browser would take the first alone
+/// let tag = Element::new("p").attribute("class", "a").attribute("className", "b");
+/// let twice = Page::new([Item::statement([tag.into()])]).to_bytes()?;
+/// let fault = transform(&twice, &Options::new()).unwrap_err();
+/// assert_eq!(fault.refusal, Refusal::RepeatedAttribute);
+/// assert_eq!(fault.reason, "the attributes `class` and `className` are one in HTML");
+///
 /// let fault = transform(&page, &Options::new().import_source("")).unwrap_err();
 /// assert_eq!(fault.to_string(), "options, byte 3, 04: 4 (misplaced): 04 (import source) is empty");
 /// # Ok::<(), Box<dyn std::error::Error>>(())
@@ -220,7 +227,15 @@ impl Transformer {
             return fault;
         }
         let at = locate(page, options, &mut self.scratch, refusal);
-        let reason = refusal.explanation().to_string();
+        let names = match refusal {
+            Refusal::RepeatedAttribute => repeated(page, options, &mut self.scratch, at),
+            _ => None,
+        };
+        let reason = match names {
+            Some([one, other]) if one == other => format!("the attribute `{one}` stands twice"),
+            Some([one, other]) => format!("the attributes `{one}` and `{other}` are one in HTML"),
+            None => refusal.explanation().to_string(),
+        };
         Fault { input: Input::Page, at, path: Path::to(page, at), refusal, reason }
     }
 }

@@ -48,7 +48,8 @@ fn notes_are_the_tags_of_the_templates() {
         let mut written = opened(&output.templates);
         let mut names: Vec<Vec<u8>> =
             noted(&case.page, &case.options).into_iter().map(|element| element.name.into_bytes()).collect();
-        (written.sort(), names.sort());
+        written.sort();
+        names.sort();
         assert!(written == names, "{name}");
         (pages, tags) = (pages + 1, tags + names.len());
     }
