@@ -20,6 +20,7 @@ pub fn all() -> Vec<Example> {
         Example::new("blocks", blocks()),
         Example::new("module", module()),
         Example::new("no-tags", no_tags()),
+        Example::new("twice", twice()),
         damaged(),
     ]
 }
@@ -281,6 +282,11 @@ fn module() -> Page {
         Item::export(["export default function Page() {\n  return ".into(), page.into(), ";\n}".into()]),
         Item::declaration(["export { rows };".into()]),
     ])
+}
+
+/// `class` and `className`, of which a browser keeps the first.
+fn twice() -> Page {
+    const_a(Element::new("p").attribute("class", "tour").attribute("className", "sold-out").text("On tour"))
 }
 
 fn no_tags() -> Page {
