@@ -8,7 +8,7 @@ use crate::stand_ins::swc_ecma_ast::Module;
 use crate::sums;
 use crate::transform::{Copy, transform, transform_with};
 
-/// What page and options give before any lent byte is looked at: 2 to 11, 16, or both outputs.
+/// What page and options give before any lent byte is looked at: 2 to 11, 16, 19, or both outputs.
 pub type Outcome = Result<Output, Refusal>;
 
 pub fn outcome(page: &[u8], options: &[u8]) -> Outcome {

@@ -1,8 +1,9 @@
-//! 02, A4: the elements that the Rust serializes into the strings of a template, as the Rust itself tells. An element in a
-//! place that it never looks at is none.
+//! 02, A4 and A10: the elements that the Rust serializes into the strings of a template, as the Rust itself tells. An
+//! element in a place that it never looks at is none.
 
 use crate::answer::Refusal;
 use crate::decode::Options;
+use crate::private::is_void_element;
 use crate::stand_ins::swc_ecma_ast::Module;
 use crate::transform::{Copy, transform_with};
 use std::cell::RefCell;
@@ -33,9 +34,15 @@ pub fn elements(options: &Options, mut module: Module) -> Vec<Element> {
     NOTED.take()
 }
 
-/// What a page is refused for once it is known that no tag is left: 16, looked for over the whole page.
+/// What a page is refused for once it is known that no tag is left: 16, then 19, each looked for over the whole page.
 pub fn refusal(elements: &[Element]) -> Option<Refusal> {
-    elements.iter().any(Element::repeats).then_some(Refusal::RepeatedAttribute)
+    if elements.iter().any(Element::repeats) {
+        Some(Refusal::RepeatedAttribute)
+    } else if elements.iter().any(Element::is_mixed_case_void) {
+        Some(Refusal::MixedCaseVoid)
+    } else {
+        None
+    }
 }
 
 impl Element {
@@ -43,5 +50,10 @@ impl Element {
     pub fn repeats(&self) -> bool {
         let mut seen = HashSet::new();
         !self.attributes.iter().all(|name| seen.insert(name.to_ascii_lowercase()))
+    }
+
+    /// Whether its name is one of the 14 only after going to small letters.
+    pub fn is_mixed_case_void(&self) -> bool {
+        !is_void_element(&self.name) && is_void_element(&self.name.to_ascii_lowercase())
     }
 }

@@ -10,7 +10,7 @@ use crate::generate::rng::Rng;
 use crate::generate::{self, Case};
 use crate::judge::{outcome, outcome_and_copy, outcome_with, settle};
 use crate::kept::{self, PLACES};
-use crate::reached::{Decimals, Repeats, Sums};
+use crate::reached::{Decimals, MixedCase, Repeats, Sums};
 use crate::show::show;
 use crate::shrink::shrink;
 use crate::transform::Copy;
@@ -44,6 +44,7 @@ pub struct Report {
     pub decimals: Decimals,
     pub sums: Sums,
     pub repeats: Repeats,
+    pub mixed_case: MixedCase,
     /// Of demand 3, of A9 or of A2's writing.
     pub violations: u64,
     pub arms: bool,
@@ -66,6 +67,7 @@ impl Report {
             decimals: Decimals::new(),
             sums: Sums::new(),
             repeats: Repeats::new(),
+            mixed_case: MixedCase::default(),
             violations: 0,
             arms,
         }
@@ -98,6 +100,7 @@ impl Report {
         line(self.decimals.table().trim_end().to_string());
         line(self.sums.table().trim_end().to_string());
         line(self.repeats.table().trim_end().to_string());
+        line(self.mixed_case.table().trim_end().to_string());
         line(format!("violations of demand 3, A9 and A2: {}", self.violations));
         out
     }
@@ -112,7 +115,7 @@ impl Report {
     /// Where the seeds reached less than a generator must: in a million seeds every answer 100 times, 40 % accepted, 2 %
     /// accepted by the patched copy, 1 % over 16 KB, 1 % deeper than 40, in each of A9's places 1,000 expressions lost,
     /// in each place, of each kind and for each refusal 500 decimals, in each place and of each kind 300 sums, of each
-    /// kind 300 pages with an attribute twice, every live arm 1,000 times and no dead one; as much less for fewer seeds.
+    /// kind 300 pages with an attribute twice and 100 with a void name in mixed case, every live arm 1,000 times and no dead one; as much less for fewer seeds.
     pub fn shortfalls(&self) -> Vec<String> {
         let due = |in_a_million: u64| self.seeds * in_a_million / 1_000_000;
         let mut out = vec![];
@@ -136,6 +139,9 @@ impl Report {
         }
         for (what, reached) in self.sums.all().into_iter().chain(self.repeats.all()) {
             need(what, reached, due(300));
+        }
+        for (what, reached) in self.mixed_case.all() {
+            need(what, reached, due(100));
         }
         if self.arms {
             for (arm, (line, ..)) in arms::ARMS.iter().enumerate() {
@@ -210,6 +216,7 @@ fn one(seed: u64, settings: &Settings, report: &mut Report, lent: &mut Lent) {
     report.decimals.meet(&case.page, &case.options, &outcome);
     report.sums.meet(&case.page, &case.options, &outcome);
     report.repeats.meet(&case.page, &case.options, &outcome);
+    report.mixed_case.meet(&case.page, &case.options, &outcome);
     if let Ok(output) = &outcome {
         report.templates += output.count as u64;
         count_tags(&case.page, &mut report.tags_in);
@@ -285,6 +292,7 @@ pub struct Small {
     pub patched: u64,
     pub tag_left: u64,
     pub repeated: u64,
+    pub mixed_case: u64,
     pub kept: kept::Counts,
     pub violations: u64,
 }
@@ -311,6 +319,10 @@ pub fn small(fields: usize) -> Small {
                 }
                 Err(Refusal::RepeatedAttribute) => {
                     report.repeated += 1;
+                    continue;
+                }
+                Err(Refusal::MixedCaseVoid) => {
+                    report.mixed_case += 1;
                     continue;
                 }
                 Err(other) => panic!("{other:?}\n{}", show(page)),

@@ -111,7 +111,7 @@ fn children_are_lost_in_void_elements_and_spreads() {
         ("void", element("br", &[x()]), vec![], 0, VOID),
         ("void, deep", element("br", &[element("Foo", &[spread_child(code("x"))])]), vec![], 0, VOID),
         ("void, its attribute", element("br", &[attribute_with("a", x())]), vec![], 1, NONE),
-        ("void, in other case", element("bR", &[x()]), vec![], 1, NONE),
+        ("void, but a component", element("Br", &[x()]), vec![], 1, NONE),
         ("void, listed", element("br", &[x()]), listed("br"), 1, NONE),
         ("void, with a spread", element("br", &[spread(code("y")), x()]), vec![], 2, NONE),
         ("void, dangerous", element("br", &[attribute("dangerouslySetInnerHTML"), x()]), vec![], 1, NONE),

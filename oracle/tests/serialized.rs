@@ -97,7 +97,24 @@ fn repeated_names() {
         assert!(with(names).repeats(), "{names:?}");
     }
     assert_eq!(refusal(&[with(&["a"]), with(&["b", "B"])]), Some(Refusal::RepeatedAttribute));
-    assert_eq!(refusal(&[with(&["a"]), with(&["a"])]), None);
+}
+
+/// One 16 anywhere comes before every 19.
+#[test]
+#[cfg_attr(not(jsx_source), ignore = "jsx_precompile.rs is not there")]
+fn names_in_mixed_case() {
+    let named = |name: &str, attributes: &[&str]| Element {
+        name: name.into(),
+        attributes: attributes.iter().map(|n| n.to_string()).collect(),
+    };
+    for (name, mixed) in [("bR", true), ("iNPUT", true), ("BR", true), ("br", false), ("dIV", false), ("bRr", false)] {
+        assert_eq!(named(name, &[]).is_mixed_case_void(), mixed, "{name}");
+    }
+    assert_eq!(refusal(&[named("br", &["a"]), named("br", &["a"])]), None);
+    assert_eq!(refusal(&[named("bR", &["a"]), named("i", &[])]), Some(Refusal::MixedCaseVoid));
+    for two in [[named("bR", &[]), named("i", &["a", "A"])], [named("i", &["a", "A"]), named("bR", &[])]] {
+        assert_eq!(refusal(&two), Some(Refusal::RepeatedAttribute));
+    }
 }
 
 /// Without a serialized element that repeats, A4 changes nothing.

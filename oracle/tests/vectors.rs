@@ -69,12 +69,13 @@ fn the_patched_copy_has_its_share() {
 }
 
 /// Decimals and sums in every place where they may stand, of every kind; decimals refused for each reason; attributes
-/// that stand twice, refused and not.
+/// that stand twice and void names in mixed case, refused and not.
 #[test]
 #[cfg_attr(not(jsx_source), ignore = "jsx_precompile.rs is not there")]
 fn the_requests_have_their_share() {
     let mut reached = Reached::default();
     stored().iter().for_each(|vector| reached.meet(vector));
-    print!("{}{}{}", reached.decimals.table(), reached.sums.table(), reached.repeats.table());
+    print!("{}{}", reached.decimals.table(), reached.sums.table());
+    print!("{}{}", reached.repeats.table(), reached.mixed_case.table());
     assert_eq!(reached.missing(), Vec::<String>::new());
 }

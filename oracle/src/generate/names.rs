@@ -62,8 +62,8 @@ fn is_name(name: &str) -> bool {
 }
 
 const TAGS: [&str; 10] = ["div", "p", "span", "i", "a", "b", "li", "my-tag", "_x", "$y"];
-const ODD_TAGS: [&str; 6] = ["bR", "dIV", "iMg", "a-B-9", "h1", "__proto__"];
-const COMPONENTS: [&str; 6] = ["Foo", "Bar", "B", "BR", "My-Part", "F1"];
+const ODD_TAGS: [&str; 6] = ["dIV", "a-B-9", "h1", "__proto__", "bRr", "sPAN"];
+const COMPONENTS: [&str; 8] = ["Foo", "Bar", "B", "BR", "My-Part", "F1", "Br", "INPUT"];
 const ATTRIBUTES: [&str; 20] = [
     "class",
     "className",
@@ -97,6 +97,19 @@ pub fn tag(rng: &mut Rng) -> String {
         3 => any(rng).to_lowercase(),
         _ => long(rng),
     }
+}
+
+/// One of the void elements with a capital behind its first letter: void only in small letters (02, A10). Now and then
+/// with something more, and so no longer void.
+pub fn mixed_case_void(rng: &mut Rng) -> String {
+    let name = rng.pick(&LISTED.void);
+    let capital = rng.within(1, name.len() - 1);
+    let mixed: String = name
+        .bytes()
+        .enumerate()
+        .map(|(i, c)| char::from(if i == capital || i > 0 && rng.chance(30) { c.to_ascii_uppercase() } else { c }))
+        .collect();
+    if rng.chance(10) { mixed + rng.pick(&["s", "-", "1"]) } else { mixed }
 }
 
 pub fn component(rng: &mut Rng) -> String {

@@ -20,6 +20,8 @@ pub struct Shape {
     pub few_names: Option<Vec<String>>,
     /// Of a hundred elements with attributes, how many get one of them twice (02, A4).
     pub repeats: usize,
+    /// Of a hundred elements, how many are void only once their names are in small letters (02, A10).
+    pub mixed_case: usize,
 }
 
 pub fn page(rng: &mut Rng, shape: Shape) -> Vec<u8> {
@@ -176,6 +178,7 @@ impl Maker<'_> {
         match kind {
             0 => {
                 let name = match &self.shape.few_names {
+                    _ if self.rng.chance(self.shape.mixed_case) => names::mixed_case_void(self.rng),
                     Some(few) if self.rng.chance(60) => few[self.rng.below(few.len())].clone(),
                     _ => names::tag(self.rng),
                 };

@@ -196,13 +196,6 @@ fn keys() -> Vec<Mark> {
             "const $$_tpl_1 = [\"<i disabled></i>\"];\n_jsxTemplate($$_tpl_1)\n",
         ),
         taken(
-            "r6-void-in-capitals",
-            page_of(element("bR", &[])),
-            vec![],
-            2,
-            "const $$_tpl_1 = [\"<bR></bR>\"];\n_jsxTemplate($$_tpl_1)\n",
-        ),
-        taken(
             "r6-attribute-string-of-a-call",
             page_of(element("Foo", &[attribute_string("a", " x \n\n  y \r\n")])),
             vec![],
