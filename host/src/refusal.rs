@@ -4,7 +4,7 @@ use std::fmt;
 
 /// Why a call is refused; document 01's number and word are given by [`number`](Refusal::number) and
 /// [`word`](Refusal::word). 9 is reserved: it was given where the ported Rust stops, and no page is refused there now.
-/// The order is that of the numbers; a call is refused for the first in this order: 1 to 10, 16, 11, 12, 13.
+/// The order is that of the numbers; a call is refused for the first in this order: 1 to 10, 16, 19, 11, 12, 13.
 ///
 /// ```
 /// use jsx_precompile::{Options, Refusal, transform};
@@ -43,12 +43,15 @@ pub enum Refusal {
     /// Document 02, A4: an element that becomes HTML has two attributes of one name, which a browser would take the first
     /// of.
     RepeatedAttribute = 16,
+    /// Document 02, A10: an element that becomes HTML has the name of a void element, such as `br`, but with capitals in
+    /// it: it would be closed, and HTML, which compares names in any case, does not close it.
+    MixedCaseVoid = 19,
 }
 
 use Refusal::*;
 
 /// In the order of their numbers.
-const ALL: [Refusal; 13] = [
+const ALL: [Refusal; 14] = [
     ScratchTooSmall,
     InputTooLong,
     Truncated,
@@ -62,6 +65,7 @@ const ALL: [Refusal; 13] = [
     TemplatesTooSmall,
     PageTooSmall,
     RepeatedAttribute,
+    MixedCaseVoid,
 ];
 
 impl Refusal {
@@ -79,7 +83,7 @@ impl Refusal {
         ALL.into_iter().find(|refusal| refusal.number() == number)
     }
 
-    /// The number of document 01, 1 to 13 without 9, or of document 02, 16.
+    /// The number of document 01, 1 to 13 without 9, or of document 02, 16 and 19.
     ///
     /// ```
     /// assert_eq!(jsx_precompile::Refusal::TooDeep.number(), 8);
@@ -108,6 +112,7 @@ impl Refusal {
             TemplatesTooSmall => "small shelf",
             PageTooSmall => "small page",
             RepeatedAttribute => "attribute twice",
+            MixedCaseVoid => "mixed case",
         }
     }
 
@@ -137,6 +142,7 @@ impl Refusal {
             TemplatesTooSmall => "the templates do not fit the bytes lent for them",
             PageTooSmall => "page out does not fit the bytes lent for it",
             RepeatedAttribute => "an element that becomes HTML has one attribute twice, as `class` and `className` are",
+            MixedCaseVoid => "the name of a void element is not in small letters",
         }
     }
 }
@@ -156,7 +162,7 @@ mod tests {
     #[test]
     fn each_number_that_is_given_is_a_refusal() {
         let numbers: Vec<u32> = (0..=100).filter(|number| Refusal::from_number(*number).is_some()).collect();
-        assert_eq!(numbers, [1, 2, 3, 4, 5, 6, 7, 8, 10, 11, 12, 13, 16]);
+        assert_eq!(numbers, [1, 2, 3, 4, 5, 6, 7, 8, 10, 11, 12, 13, 16, 19]);
         assert_eq!(ALL.map(Refusal::number)[..], numbers);
     }
 }
