@@ -128,6 +128,30 @@ fn attributes_twice() {
     assert_eq!(fault.reason, "the attributes `class` and `className` are one in HTML");
 }
 
+/// 19: the element that is void only in small letters, behind those that are no matter; 16 comes first.
+#[test]
+fn names_in_mixed_case() {
+    let mixed = |name: &str| Element::new(name).attribute("a", "1");
+    let said = |tags: Vec<Element>| {
+        let pieces = tags.into_iter().map(Piece::from).collect::<Vec<_>>();
+        let fault = refused(&Page::new([Item::Empty, Item::statement(pieces)]), &Options::new());
+        format!("{}: {}: {}", fault.path, fault.refusal.number(), fault.reason)
+    };
+    let expected = "01 > 12[1] > 30 iNPUT: 19: `iNPUT` is a void element in HTML; write `input`";
+    assert_eq!(said(vec![mixed("iNPUT")]), expected);
+    let tag = Element::new("p")
+        .child(Element::new("Br"))
+        .child(Element::new("INPUT"))
+        .child(Element::new("br").child(mixed("bR")))
+        .child(mixed("bR").spread(Expression::Null))
+        .child(Element::new("dIV").child(mixed("hR")));
+    let expected = "01 > 12[1] > 30 p > 30 dIV > 30 hR: 19: `hR` is a void element in HTML; write `hr`";
+    assert_eq!(said(vec![tag]), expected);
+    let both = vec![mixed("bR"), Element::new("i").valueless("id").valueless("ID")];
+    let expected = "01 > 12[1] > 30 i: 16: the attributes `id` and `ID` are one in HTML";
+    assert_eq!(said(both), expected);
+}
+
 /// 11: the element whose output is too long, or the item where no element alone is.
 #[test]
 fn outputs_too_long() {
@@ -200,6 +224,9 @@ fn generated() {
         if fault.refusal == Refusal::RepeatedAttribute {
             assert!(fault.reason.starts_with("the attribute"), "seed {seed}: {fault}");
         }
+        if fault.refusal == Refusal::MixedCaseVoid {
+            assert!(fault.reason.contains("is a void element in HTML; write `"), "seed {seed}: {fault}");
+        }
         if fault.refusal == Refusal::TagLeft {
             match transformer.transform(&without(&case.page, &fault), &options) {
                 Err(next) if next.refusal == Refusal::TagLeft => {
@@ -209,7 +236,7 @@ fn generated() {
                 // With a tag that is longer and deeper than the one it stands for, it may be no page any more.
                 Err(Fault { refusal: Refusal::InputTooLong | Refusal::TooDeep | Refusal::OutputTooLong, .. }) => {}
                 // 10 came first.
-                Err(Fault { refusal: Refusal::RepeatedAttribute, .. }) => {}
+                Err(Fault { refusal: Refusal::RepeatedAttribute | Refusal::MixedCaseVoid, .. }) => {}
                 Err(next) => panic!("seed {seed}: {fault}, then {next}"),
                 Ok(_) => {}
             }
@@ -217,7 +244,7 @@ fn generated() {
         *places.entry(fault.refusal.number()).or_insert(0) += 1;
     }
     say(&format!("refusals: {count} seeds, with a place each: {places:?}; {later} with a second tag left"));
-    assert!((2..=8).chain([10, 11, 16]).all(|number| places.contains_key(&number)), "{places:?}");
+    assert!((2..=8).chain([10, 11, 16, 19]).all(|number| places.contains_key(&number)), "{places:?}");
 }
 
 #[test]

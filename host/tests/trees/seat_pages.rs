@@ -21,6 +21,7 @@ pub fn all() -> Vec<Example> {
         Example::new("module", module()),
         Example::new("no-tags", no_tags()),
         Example::new("twice", twice()),
+        Example::new("mixed-case", mixed_case()),
         damaged(),
     ]
 }
@@ -287,6 +288,11 @@ fn module() -> Page {
 /// `class` and `className`, of which a browser keeps the first.
 fn twice() -> Page {
     const_a(Element::new("p").attribute("class", "tour").attribute("className", "sold-out").text("On tour"))
+}
+
+/// `bR`, which HTML takes for `br`.
+fn mixed_case() -> Page {
+    const_a(Element::new("p").text("Row A").child(Element::new("bR")).text("Row B"))
 }
 
 fn no_tags() -> Page {
