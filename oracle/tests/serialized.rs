@@ -11,7 +11,7 @@ use oracle::judge::{outcome_and_copy, outcome_with};
 use oracle::make::*;
 use oracle::serialized::{Element, elements, refusal};
 use oracle::transform::Copy;
-use oracle::{Refusal, SOURCE, field, generate, marks, outcome, sums};
+use oracle::{Refusal, SOURCE, field, generate, kept, marks, outcome, private, sums};
 
 #[test]
 #[cfg_attr(not(jsx_source), ignore = "jsx_precompile.rs is not there")]
@@ -55,6 +55,44 @@ fn notes_are_the_tags_of_the_templates() {
     }
     println!("{pages} pages, {tags} serialized elements");
     assert!(pages > 10_000);
+}
+
+/// Of all pages in which no tag is left, refused for such an element or not: the elements that were noted are those that
+/// the walk of A9 finds by its own few lines, with the same names and attributes.
+#[test]
+#[cfg_attr(not(jsx_source), ignore = "jsx_precompile.rs is not there")]
+fn notes_are_the_elements_outside_lost_places() {
+    let seeds = (0..20_000).map(|seed| (format!("seed {seed}"), generate::case(seed)));
+    let marks = marks::all().into_iter().map(|mark| (mark.name, mark.case));
+    let (mut pages, mut tags, mut refused) = (0, 0, 0);
+    for (name, case) in marks.chain(seeds) {
+        let refusal = outcome(&case.page, &case.options).err();
+        if !matches!(refusal, None | Some(Refusal::RepeatedAttribute | Refusal::MixedCaseVoid | Refusal::OutputTooLong))
+        {
+            continue;
+        }
+        let page = field::read(&sums::given(&case.page, &case.options)).expect("a page");
+        let options = field::read(&case.options).expect("options");
+        let mut walked: Vec<(String, Vec<String>)> = kept::serialized(&page, &options).into_iter().map(parts).collect();
+        let noted = noted(&case.page, &case.options).into_iter();
+        let mut noted: Vec<(String, Vec<String>)> = noted.map(|element| (element.name, element.attributes)).collect();
+        walked.sort();
+        noted.sort();
+        assert!(walked == noted, "{name}");
+        (pages, tags, refused) = (pages + 1, tags + noted.len(), refused + usize::from(refusal.is_some()));
+    }
+    println!("{pages} pages, {refused} of them refused, {tags} serialized elements");
+    assert!(pages > 10_000 && refused > 500);
+}
+
+/// The name of an element, and its attributes' as they are normalised.
+fn parts(element: &field::Node) -> (String, Vec<String>) {
+    let text = |node: &field::Node| String::from_utf8(node.bytes.clone()).expect("ASCII");
+    let attributes = element.inner.iter().filter(|part| part.tag == 0x50).map(|attribute| match &attribute.inner[0] {
+        name if name.tag == 0x42 => format!("{}:{}", text(&name.inner[0]), text(&name.inner[1])),
+        name => text(name),
+    });
+    (text(&element.inner[0]), attributes.map(|name| private::normalize_dom_attr_name(&name)).collect())
 }
 
 /// The names of the opening tags in all static strings.
