@@ -22,7 +22,7 @@ uint32_t jsx_precompile_version(void);
 #define JSX_PRECOMPILE_MAX_DEPTH 48
 #define JSX_PRECOMPILE_MIN_SCRATCH 65536
 
-/* The numbers of an answer. 9 is reserved and never given. */
+/* The numbers of an answer. 9 is reserved and never given. 16 and 19 are given behind 10 and before 11. */
 enum jsx_precompile_number {
     JSX_PRECOMPILE_ACCEPTED = 0,
     JSX_PRECOMPILE_SCRATCH_TOO_SMALL = 1,
@@ -36,7 +36,9 @@ enum jsx_precompile_number {
     JSX_PRECOMPILE_TAG_LEFT = 10,
     JSX_PRECOMPILE_OUTPUT_TOO_LONG = 11,
     JSX_PRECOMPILE_TEMPLATES_TOO_SMALL = 12,
-    JSX_PRECOMPILE_PAGE_TOO_SMALL = 13
+    JSX_PRECOMPILE_PAGE_TOO_SMALL = 13,
+    JSX_PRECOMPILE_REPEATED_ATTRIBUTE = 16,
+    JSX_PRECOMPILE_MIXED_CASE_VOID = 19
 };
 
 /* A refusal has its number and zeros. */

@@ -84,7 +84,7 @@ fn constants() {
     assert_eq!(format!("{major}.{minor}.{patch}"), jsx_precompile::VERSION, "the library's own answer");
     let number = major * 10_000 + minor * 100 + patch;
     assert!(header.contains(&format!("#define JSX_PRECOMPILE_VERSION_NUMBER {number}\n")));
-    for refusal in (1..=13).filter_map(Refusal::from_number) {
+    for refusal in (1..=100).filter_map(Refusal::from_number) {
         // ScratchTooSmall: SCRATCH_TOO_SMALL
         let name = format!("{refusal:?}").chars().fold(String::new(), |name, letter| {
             let gap = if letter.is_uppercase() && !name.is_empty() { "_" } else { "" };
