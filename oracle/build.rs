@@ -1,10 +1,13 @@
 // Takes jsx_precompile.rs from where it is and puts it into OUT_DIR, never into the repository: once as it is (this
-// copy is the judge), once with its `todo!` filled in (this copy judges the pages on which the first stops), and once
-// with a counter in each arm of the second (this copy only shows how much of the Rust was reached).
+// copy is the judge), once with its `todo!` filled in (this copy judges the pages on which the first stops), and twice
+// more made from the second: with a note of each element that is serialized, and with a counter in each arm (this copy
+// only shows how much of the Rust was reached).
 #[path = "build/count_arms.rs"]
 mod count_arms;
 #[path = "build/fill_todo.rs"]
 mod fill_todo;
+#[path = "build/note_serialized.rs"]
+mod note_serialized;
 
 use std::path::{Path, PathBuf};
 use std::{env, fs};
@@ -18,6 +21,7 @@ fn main() {
     println!("cargo::rerun-if-changed=build.rs");
     println!("cargo::rerun-if-changed=build/count_arms.rs");
     println!("cargo::rerun-if-changed=build/fill_todo.rs");
+    println!("cargo::rerun-if-changed=build/note_serialized.rs");
     println!("cargo::rerun-if-env-changed={VARIABLE}");
     let places = places();
     // Only what is there is watched: cargo would build anew each time for the sake of a file that is not.
@@ -45,8 +49,10 @@ fn places() -> Vec<PathBuf> {
 fn take(place: &Path) {
     println!("cargo::rerun-if-changed={}", place.display());
     let source = fs::read_to_string(place).expect("jsx_precompile.rs is text");
-    let patched = match fill_todo::filled(&source) {
-        Ok(patched) => patched,
+    let made =
+        fill_todo::filled(&source).and_then(|patched| note_serialized::noting(&patched).map(|noted| (patched, noted)));
+    let (patched, noted) = match made {
+        Ok(both) => both,
         Err(words) => return println!("cargo::error={words}"),
     };
     let (counted, arms) = count_arms::with_counters(&patched);
@@ -54,6 +60,7 @@ fn take(place: &Path) {
     let copies = [
         ("jsx_precompile.rs", source),
         ("jsx_precompile_patched.rs", patched),
+        ("jsx_precompile_noted.rs", noted),
         ("jsx_precompile_counted.rs", counted),
         ("arms.rs", arms),
     ];

@@ -112,6 +112,32 @@ row("page out as long",page(el("br")),0,1,form(1,"<br>"),out(2,tpl(1)),sr=12,pr=
 row("<Foo a={1}/>",page(el("Foo",F(0x50,name("a"),F(0x52,F(0x71,N8(1)))))),0,0,'[]',out(1,F(0x94,name("Foo"),F(0x95,F(0x96,F(0x81,A("a")),F(0x71,N8(1))))),forms=False))
 row('<a b="<&"/>',page(el("a",F(0x50,name("b"),F(0x51,A("<&"))))),0,1,form(1,'<a b="&lt;&amp;"></a>'),out(2,tpl(1)))
 row("<i/> and <b/>, side by side",page(el("i"),el("b")),0,2,cat([form(1,"<i></i>"),form(2,"<b></b>")]),out(2,tpl(1),tpl(2)))
+# 02, A4: two attributes of one normalised name, compared in small letters
+attr=lambda n,v:F(0x50,name(n),F(0x51,A(v)))
+prop=lambda n,v:F(0x96,F(0x81,A(n)),F(0x70,A(v)))
+twice=el("p",attr("class","a"),attr("className","b"))
+row('<p class="a" className="b"/>',page(twice),16)
+row('<use xlinkHref="a" href="b"/>',page(el("use",attr("xlinkHref","a"),attr("href","b"))),16)
+row('<svg viewBox="a" viewbox="b"/>',page(el("svg",attr("viewBox","a"),attr("viewbox","b"))),16)
+row('<p class="a" id="b" className="c"/>: not side by side',page(el("p",attr("class","a"),attr("id","b"),attr("className","c"))),16)
+row('<p id="c" class="a" className="b"/>: not the first',page(el("p",attr("id","c"),attr("class","a"),attr("className","b"))),16)
+row('<div>a<p class="a" className="b"/></div>: not the outermost',page(el("div",F(0x60,A("a")),twice)),16)
+row('<p class={} className="b"/>: the first is dropped',page(el("p",F(0x50,name("class"),F(0x52)),attr("className","b"))),16)
+row('<p class="a" className="b"/>, class in 03',page(twice),16,opt=F(3,F(0x20,A("class"))))
+row('<p class="a" className="b" {...x}/>: a call',page(el("p",attr("class","a"),attr("className","b"),F(0x53,src("x")))),0,0,'[]',out(1,F(0x94,F(0x81,A("p")),F(0x95,prop("class","a"),prop("class","b"),F(0x53,src("x")))),forms=False))
+row('<Foo class="a" className="b"/>: a component',page(el("Foo",attr("class","a"),attr("className","b"))),0,0,'[]',out(1,F(0x94,name("Foo"),F(0x95,prop("class","a"),prop("className","b"))),forms=False))
+row('<br><p class="a" className="b"/></br>: lost',page(el("br",twice)),0,1,form(1,"<br>"),out(2,tpl(1)))
+row('<p class="a" className="b"/> beside <><></></>',page(twice,F(0x31,F(0x31))),10)
+row('<p class="a" className="b"/>, no room in templates out',page(twice),16,sr=0)
+# 02, A10: one of the 14 only in small letters
+row("<bR/>",page(el("bR")),19)
+row("<p>{x}<bR/></p>: behind a gap",page(el("p",F(0x52,src("x")),el("bR"))),19)
+row("<iNPUT/>",page(el("iNPUT")),19)
+row("<Br/>: a component",page(el("Br")),0,0,'[]',out(1,F(0x94,name("Br"),F(0x73)),forms=False))
+row("<dIV/>: none of the 14",page(el("dIV")),0,1,form(1,"<dIV></dIV>"),out(2,tpl(1)))
+row('<bR class="a" className="b"/>',page(el("bR",attr("class","a"),attr("className","b"))),16)
+row('<bR/> before <p class="a" className="b"/>',page(el("bR"),twice),16)
+row("<bR/>, no room in templates out",page(el("bR")),19,sr=0)
 row("a run over 65,535 that is merged again",page(F(0x30,name("Foo"),F(0x60,A("a")),F(0x52,F(0x70,'(replicate 13107 38)')),el("i"))),11)
 row("a body over 65,535",page(F(0x30,name("p"),F(0x60,'(replicate 13107 38)'))),11)
 
@@ -166,7 +192,8 @@ use Prim.Native.Nat.{ℕ}
 use mathlib.Core.Path.{_≡_, refl}
 use Rattle.field.specs.Bytes.{Bytes}
 use Rattle.spec.specs.Answer.{Outcome}
-use Rattle.spec.specs.Marks.{marks, AllHold, reply}
+use Rattle.spec.specs.Marks as K
+use Rattle.spec.specs.Marks.{AllHold, reply}
 %s
 
 -- all that an answer computes with
@@ -174,7 +201,7 @@ unfoldable pub computed : Bytes → Bytes → ℕ → ℕ → ℕ → Outcome
 unfolding %s
 computed p o d s q = outcome p o d s q
 
-pub k-table : AllHold marks
+pub k-table : AllHold K.marks
 unfolding AllHold computed reply
 k-table = %s
 """

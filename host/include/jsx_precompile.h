@@ -24,7 +24,7 @@ uint32_t jsx_precompile_version(void);
 #define JSX_PRECOMPILE_MAX_TAG 65538 /* the longest field of a tag */
 #define JSX_PRECOMPILE_MIN_SCRATCH 65536
 
-/* The numbers of an answer. 9 is reserved and never given. */
+/* The numbers of an answer. 9 is reserved and never given. 16 and 19 are given behind 10 and before 11. */
 enum jsx_precompile_number {
     JSX_PRECOMPILE_ACCEPTED = 0,
     JSX_PRECOMPILE_SCRATCH_TOO_SMALL = 1,
@@ -40,7 +40,9 @@ enum jsx_precompile_number {
     JSX_PRECOMPILE_TEMPLATES_TOO_SMALL = 12,
     JSX_PRECOMPILE_PAGE_TOO_SMALL = 13, /* of a tag: tag_out is too small */
     JSX_PRECOMPILE_NO_READING = 14,
-    JSX_PRECOMPILE_NAMES_DIFFER = 15
+    JSX_PRECOMPILE_NAMES_DIFFER = 15,
+    JSX_PRECOMPILE_REPEATED_ATTRIBUTE = 16,
+    JSX_PRECOMPILE_MIXED_CASE_VOID = 19
 };
 
 /* A refusal has its number and zeros. */

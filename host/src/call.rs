@@ -3,7 +3,7 @@
 use crate::check::{Fault, Input, check};
 use crate::javascript::Printer;
 use crate::limits::{MAX_OPTIONS, MIN_SCRATCH};
-use crate::locate::locate;
+use crate::locate::{locate, repeated};
 use crate::options::Options;
 use crate::out::{PageOut, Templates};
 use crate::path::Path;
@@ -135,6 +135,19 @@ pub fn transform_into(
 /// assert_eq!(fault.refusal, Refusal::TagLeft);
 /// assert_eq!(fault.path.to_string(), "01 > 12[1] > 30 div > 30 Foo > 50 a > 52 > 31 > 31");
 ///
+/// // <p class="a" className="b"/>: a browser would take the first alone
+/// let tag = Element::new("p").attribute("class", "a").attribute("className", "b");
+/// let twice = Page::new([Item::statement([tag.into()])]).to_bytes()?;
+/// let fault = transform(&twice, &Options::new()).unwrap_err();
+/// assert_eq!(fault.refusal, Refusal::RepeatedAttribute);
+/// assert_eq!(fault.reason, "the attributes `class` and `className` are one in HTML");
+///
+/// let page_of = |name: &str| Page::new([Item::statement([Element::new(name).into()])]).to_bytes();
+/// let fault = transform(&page_of("bR")?, &Options::new()).unwrap_err();
+/// assert_eq!((fault.refusal, &*fault.path.to_string()), (Refusal::MixedCaseVoid, "01 > 12[0] > 30 bR"));
+/// assert_eq!(fault.reason, "`bR` is a void element in HTML; write `br`");
+/// assert!(transform(&page_of("Br")?, &Options::new()).is_ok()); // a component
+///
 /// let fault = transform(&page, &Options::new().import_source("")).unwrap_err();
 /// assert_eq!(fault.to_string(), "options, byte 3, 04: 4 (misplaced): 04 (import source) is empty");
 /// # Ok::<(), Box<dyn std::error::Error>>(())
@@ -220,8 +233,26 @@ impl Transformer {
             return fault;
         }
         let at = locate(page, options, &mut self.scratch, refusal);
-        let reason = refusal.explanation().to_string();
-        Fault { input: Input::Page, at, path: Path::to(page, at), refusal, reason }
+        let path = Path::to(page, at);
+        let reason = self.reason(page, options, refusal, &path);
+        Fault { input: Input::Page, at, path, refusal, reason }
+    }
+
+    /// What the transform refuses at the end of the path, with the names that are meant.
+    fn reason(&mut self, page: &[u8], options: &[u8], refusal: Refusal, path: &Path) -> String {
+        let last = path.steps().last().filter(|step| step.tag == 0x30);
+        let said = last.and_then(|step| match refusal {
+            Refusal::RepeatedAttribute => match repeated(page, options, &mut self.scratch, step.at)? {
+                [one, other] if one == other => Some(format!("the attribute `{one}` stands twice")),
+                [one, other] => Some(format!("the attributes `{one}` and `{other}` are one in HTML")),
+            },
+            Refusal::MixedCaseVoid => {
+                let name = step.name.as_ref()?;
+                Some(format!("`{name}` is a void element in HTML; write `{}`", name.to_ascii_lowercase()))
+            }
+            _ => None,
+        });
+        said.unwrap_or_else(|| refusal.explanation().to_string())
     }
 }
 

@@ -4,6 +4,7 @@
 use crate::call::transform_into;
 use crate::field::{Field, Fields, around};
 use crate::page::write::{WriteError, Writer};
+use crate::path::label;
 use crate::refusal::Refusal;
 
 /// The place of the smallest tag that a page owes its refusal to. Where several tags are needed for it, the tag or item
@@ -27,6 +28,32 @@ pub(crate) fn locate(page: &[u8], options: &[u8], scratch: &mut [u8], refusal: R
         }
     }
     place
+}
+
+/// The first attribute of the element there that is an earlier one again, and that one, by their names; none where the
+/// library does not tell. An attribute counts whatever its value, so none is asked about with it.
+pub(crate) fn repeated(page: &[u8], options: &[u8], scratch: &mut [u8], at: usize) -> Option<[String; 2]> {
+    let element = Fields::new(page.get(at..)?).next()?;
+    let name = element.inner().next()?;
+    let attributes: Vec<Field> = element.inner().filter(|field| field.tag == 0x50).collect();
+    let mut search = Search { options, scratch, refusal: Refusal::RepeatedAttribute };
+    let mut refuses = |of: &[Field]| search.refuses(with_attributes(name, of)) == Some(true);
+    let again = (2..=attributes.len()).find(|count| refuses(&attributes[..*count]))? - 1;
+    let first = (0..again).find(|first| refuses(&[attributes[*first], attributes[again]]))?;
+    Some([label(&attributes[first])?, label(&attributes[again])?])
+}
+
+/// A page of an element with these attributes, without their values.
+fn with_attributes(name: Field, attributes: &[Field]) -> Option<Vec<u8>> {
+    page(|w| {
+        w.field(0x30, |w| {
+            w.leaf(name.tag, name.body)?;
+            attributes
+                .iter()
+                .filter_map(|attribute| attribute.inner().next())
+                .try_for_each(|name| w.field(0x50, |w| w.leaf(name.tag, name.body)))
+        })
+    })
 }
 
 struct Search<'a> {

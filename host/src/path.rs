@@ -113,7 +113,8 @@ impl fmt::Display for Path {
 /// Names may be of any bytes and length where they are what is refused.
 const MOST_LETTERS: usize = 40;
 
-fn label(field: &Field) -> Option<String> {
+/// The name of a field that has one, as it is shown.
+pub(crate) fn label(field: &Field) -> Option<String> {
     let name = match field.tag {
         0x30 | 0x50 | 0x91 | 0x94 | 0x96 => name(&field.inner().next()?)?,
         0x80 | 0x90 => field.number().to_string(),

@@ -4,6 +4,7 @@ use std::fmt;
 
 /// Why a call is refused; document 01's number and word are given by [`number`](Refusal::number) and
 /// [`word`](Refusal::word). 9 is reserved: it was given where the ported Rust stops, and no page is refused there now.
+/// The order is that of the numbers; a call is refused for the first in this order: 1 to 10, 16, 19, 11, 12, 13.
 ///
 /// ```
 /// use jsx_precompile::{Options, Refusal, transform};
@@ -39,12 +40,18 @@ pub enum Refusal {
     TemplatesTooSmall = 12,
     /// Small page: page out does not fit the bytes lent for it.
     PageTooSmall = 13,
+    /// Document 02, A4: an element that becomes HTML has two attributes of one name, which a browser would take the first
+    /// of.
+    RepeatedAttribute = 16,
+    /// Document 02, A10: an element that becomes HTML has the name of a void element, such as `br`, but with capitals in
+    /// it: it would be closed, and HTML, which compares names in any case, does not close it.
+    MixedCaseVoid = 19,
 }
 
 use Refusal::*;
 
 /// In the order of their numbers.
-const ALL: [Refusal; 12] = [
+const ALL: [Refusal; 14] = [
     ScratchTooSmall,
     InputTooLong,
     Truncated,
@@ -57,6 +64,8 @@ const ALL: [Refusal; 12] = [
     OutputTooLong,
     TemplatesTooSmall,
     PageTooSmall,
+    RepeatedAttribute,
+    MixedCaseVoid,
 ];
 
 impl Refusal {
@@ -74,7 +83,7 @@ impl Refusal {
         ALL.into_iter().find(|refusal| refusal.number() == number)
     }
 
-    /// Document 01's number, 1 to 13 without 9.
+    /// The number of document 01, 1 to 13 without 9, or of document 02, 16 and 19.
     ///
     /// ```
     /// assert_eq!(jsx_precompile::Refusal::TooDeep.number(), 8);
@@ -83,7 +92,7 @@ impl Refusal {
         self as u32
     }
 
-    /// Document 01's word.
+    /// Document 01's word; what document 02 adds has one in the same manner.
     ///
     /// ```
     /// assert_eq!(jsx_precompile::Refusal::TagLeft.word(), "bare tag");
@@ -102,6 +111,8 @@ impl Refusal {
             OutputTooLong => "long",
             TemplatesTooSmall => "small shelf",
             PageTooSmall => "small page",
+            RepeatedAttribute => "attribute twice",
+            MixedCaseVoid => "mixed case",
         }
     }
 
@@ -130,6 +141,8 @@ impl Refusal {
             OutputTooLong => "a merged run of text, or a body of the outputs, is over 65,535 bytes",
             TemplatesTooSmall => "the templates do not fit the bytes lent for them",
             PageTooSmall => "page out does not fit the bytes lent for it",
+            RepeatedAttribute => "an element that becomes HTML has one attribute twice, as `class` and `className` are",
+            MixedCaseVoid => "the name of a void element is not in small letters",
         }
     }
 }
@@ -147,9 +160,9 @@ mod tests {
     use super::*;
 
     #[test]
-    fn each_number_but_9_is_a_refusal() {
+    fn each_number_that_is_given_is_a_refusal() {
         let numbers: Vec<u32> = (0..=100).filter(|number| Refusal::from_number(*number).is_some()).collect();
-        assert_eq!(numbers, [1, 2, 3, 4, 5, 6, 7, 8, 10, 11, 12, 13]);
+        assert_eq!(numbers, [1, 2, 3, 4, 5, 6, 7, 8, 10, 11, 12, 13, 16, 19]);
         assert_eq!(ALL.map(Refusal::number)[..], numbers);
     }
 }

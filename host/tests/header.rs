@@ -97,7 +97,7 @@ fn constants() {
     let number = major * 10_000 + minor * 100 + patch;
     assert!(header.contains(&format!("#define JSX_PRECOMPILE_VERSION_NUMBER {number}\n")));
     let of_tags = [TagRefusal::NoReading, TagRefusal::NamesDiffer].map(|one| (format!("{one:?}"), one.number()));
-    let refusals = (1..=13).filter_map(Refusal::from_number).map(|one| (format!("{one:?}"), one.number()));
+    let refusals = (1..=100).filter_map(Refusal::from_number).map(|one| (format!("{one:?}"), one.number()));
     for (refusal, number) in refusals.chain(of_tags) {
         // ScratchTooSmall: SCRATCH_TOO_SMALL
         let name = refusal.chars().fold(String::new(), |name, letter| {

@@ -93,6 +93,65 @@ fn tags_left() {
     assert_eq!(place(Page::new([statement(tag)])), "01 > 12[0] > 30 p > 52[2] > 79 > 31 > 31");
 }
 
+/// 16: the element with an attribute twice, and which two are meant; none that is not serialized.
+#[test]
+fn attributes_twice() {
+    let twice = |one: &str, other: &str| Element::new("i").attribute(one, "1").valueless("b").attribute(other, "2");
+    let said = |tag: Element| {
+        let fault = refused(&Page::new([Item::Empty, statement(tag)]), &Options::new());
+        assert_eq!(fault.refusal, Refusal::RepeatedAttribute, "{fault}");
+        format!("{}: {}", fault.path, fault.reason)
+    };
+    for (one, other, words) in [
+        ("a", "a", "the attribute `a` stands twice"),
+        ("class", "className", "the attributes `class` and `className` are one in HTML"),
+        ("viewBox", "viewbox", "the attributes `viewBox` and `viewbox` are one in HTML"),
+        ("xlink:href", "xlinkHref", "the attributes `xlink:href` and `xlinkHref` are one in HTML"),
+        ("b", "c", "the attribute `b` stands twice"),
+    ] {
+        assert_eq!(said(twice(one, other)), format!("01 > 12[1] > 30 i: {words}"));
+    }
+    // behind those that are no matter: on a component, in a void element, in a spread child
+    let tag = Element::new("p")
+        .child(Element::new("Foo").attribute("a", "1").attribute("a", "2"))
+        .child(Element::new("br").child(twice("a", "a")))
+        .child(Child::Spread(twice("a", "a").into()))
+        .child(Expression::Other(vec!["f(".into(), twice("for", "htmlFor").into(), ")".into()]))
+        .child(twice("id", "ID"));
+    let expected = "01 > 12[1] > 30 p > 52 > 79 > 30 i: the attributes `for` and `htmlFor` are one in HTML";
+    assert_eq!(said(tag), expected);
+    // in an element that has one itself, the outer one
+    let tag = Element::new("p").attribute("a", twice("b", "b")).attribute("a", "1").child(twice("id", "id"));
+    assert_eq!(said(tag), "01 > 12[1] > 30 p: the attribute `a` stands twice");
+    let fault =
+        refused(&Page::new([statement(twice("class", "className"))]), &Options::new().skip_prop_serialize(["class"]));
+    assert_eq!(fault.reason, "the attributes `class` and `className` are one in HTML");
+}
+
+/// 19: the element that is void only in small letters, behind those that are no matter; 16 comes first.
+#[test]
+fn names_in_mixed_case() {
+    let mixed = |name: &str| Element::new(name).attribute("a", "1");
+    let said = |tags: Vec<Element>| {
+        let pieces = tags.into_iter().map(Piece::from).collect::<Vec<_>>();
+        let fault = refused(&Page::new([Item::Empty, Item::statement(pieces)]), &Options::new());
+        format!("{}: {}: {}", fault.path, fault.refusal.number(), fault.reason)
+    };
+    let expected = "01 > 12[1] > 30 iNPUT: 19: `iNPUT` is a void element in HTML; write `input`";
+    assert_eq!(said(vec![mixed("iNPUT")]), expected);
+    let tag = Element::new("p")
+        .child(Element::new("Br"))
+        .child(Element::new("INPUT"))
+        .child(Element::new("br").child(mixed("bR")))
+        .child(mixed("bR").spread(Expression::Null))
+        .child(Element::new("dIV").child(mixed("hR")));
+    let expected = "01 > 12[1] > 30 p > 30 dIV > 30 hR: 19: `hR` is a void element in HTML; write `hr`";
+    assert_eq!(said(vec![tag]), expected);
+    let both = vec![mixed("bR"), Element::new("i").valueless("id").valueless("ID")];
+    let expected = "01 > 12[1] > 30 i: 16: the attributes `id` and `ID` are one in HTML";
+    assert_eq!(said(both), expected);
+}
+
 /// 11: the element whose output is too long, or the item where no element alone is.
 #[test]
 fn outputs_too_long() {
@@ -162,6 +221,12 @@ fn generated() {
             assert!(matches!(last.tag, 0x10..=0x12 | 0x30 | 0x31), "seed {seed}: {fault}");
             assert_eq!(case.page[fault.at], last.tag, "seed {seed}: {fault}");
         }
+        if fault.refusal == Refusal::RepeatedAttribute {
+            assert!(fault.reason.starts_with("the attribute"), "seed {seed}: {fault}");
+        }
+        if fault.refusal == Refusal::MixedCaseVoid {
+            assert!(fault.reason.contains("is a void element in HTML; write `"), "seed {seed}: {fault}");
+        }
         if fault.refusal == Refusal::TagLeft {
             match transformer.transform(&without(&case.page, &fault), &options) {
                 Err(next) if next.refusal == Refusal::TagLeft => {
@@ -170,6 +235,8 @@ fn generated() {
                 }
                 // With a tag that is longer and deeper than the one it stands for, it may be no page any more.
                 Err(Fault { refusal: Refusal::InputTooLong | Refusal::TooDeep | Refusal::OutputTooLong, .. }) => {}
+                // 10 came first.
+                Err(Fault { refusal: Refusal::RepeatedAttribute | Refusal::MixedCaseVoid, .. }) => {}
                 Err(next) => panic!("seed {seed}: {fault}, then {next}"),
                 Ok(_) => {}
             }
@@ -177,7 +244,7 @@ fn generated() {
         *places.entry(fault.refusal.number()).or_insert(0) += 1;
     }
     say(&format!("refusals: {count} seeds, with a place each: {places:?}; {later} with a second tag left"));
-    assert!((2..=8).chain([10, 11]).all(|number| places.contains_key(&number)), "{places:?}");
+    assert!((2..=8).chain([10, 11, 16, 19]).all(|number| places.contains_key(&number)), "{places:?}");
 }
 
 #[test]

@@ -41,7 +41,7 @@ test("every example is printed as a module without JSX, or refused", withProgram
       refused.push(name);
     }
   }
-  assert.deepEqual(refused, ["k7-left"]);
+  assert.deepEqual(refused, ["k7-left", "mixed-case", "twice"]);
   t.diagnostic(`${names.length - refused.length} examples are printed and parse`);
 });
 
@@ -69,6 +69,9 @@ test("a refusal of the program is an error of its own", withProgram, () => {
     assert.match(error.message, /^3:[35]: .*\b10\b/);
     return true;
   });
+  const twice = /^2:3: .*\b16 \(attribute twice\): the attributes `class` and `className` are one in HTML$/;
+  assert.throws(() => build(`a;\n  <p class="a" className="b"/>;`), (error) => error instanceof RefusedError && twice.test(error.message));
+  assert.throws(() => build("<p><bR/></p>"), /\b19 \(mixed case\): `bR` is a void element in HTML; write `br`$/);
   assert.throws(() => build("<p/>", { program: "/nowhere/jsx-precompile" }), /no such program/);
 });
 

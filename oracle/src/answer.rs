@@ -28,13 +28,18 @@ pub enum Refusal {
     TemplatesTooSmall = 12,
     /// small page
     PageTooSmall = 13,
+    /// 02, A4: a serialized element with one attribute twice; given behind 10 and before 11
+    RepeatedAttribute = 16,
+    /// 02, A10: a serialized element that is void only once its name is in small letters; given behind 16 and before 11
+    MixedCaseVoid = 19,
 }
 
-/// 0, taken, and the refusals: how many numbers there are, the reserved one counted.
-pub const NUMBERS: usize = 14;
+/// 0, taken, and the refusals: how many numbers there are, those that no transform gives counted.
+pub const NUMBERS: usize = 20;
 
-/// 9, unfinished, was given where the Rust stops; since 02's A1 it never is.
-pub const RESERVED: usize = 9;
+/// 9, unfinished, was given where the Rust stops; since 02's A1 it never is. 14, 15, 17 and 18 are those of
+/// other calls.
+pub const NOT_GIVEN: [usize; 5] = [9, 14, 15, 17, 18];
 
 pub const MOST_PAGE: usize = 32_768;
 pub const MOST_OPTIONS: usize = 4_096;

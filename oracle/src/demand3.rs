@@ -105,12 +105,12 @@ fn child_filling(rng: &mut Rng, out: &mut Vec<u8>, depth: usize) {
     for _ in 0..rng.below(3) {
         match rng.below(if depth == 0 { 2 } else { 4 }) {
             0 => out.extend(rng.pick(&["", "text", "&lt;", " ", "/", "\u{1f600}"]).bytes()),
-            1 => out.extend(rng.pick(&["<br>", "<img src=\"a\">", "<param>"]).bytes()),
+            1 => out.extend(rng.pick(&["<br>", "<img src=\"a\">", "<param>", "<BR>", "<iMg a>"]).bytes()),
             _ => {
-                let name = rng.pick(&["p", "i", "x-y", "Div"]);
+                let (name, again) = rng.pick(&[&("p", "p"), &("i", "I"), &("x-y", "X-y"), &("Div", "dIV")]);
                 out.extend(format!("<{name} a=\"b\">").bytes());
                 child_filling(rng, out, depth - 1);
-                out.extend(format!("</{name}>").bytes());
+                out.extend(format!("</{again}>").bytes());
             }
         }
     }
@@ -119,7 +119,8 @@ fn child_filling(rng: &mut Rng, out: &mut Vec<u8>, depth: usize) {
 const VOID: [&str; 14] =
     ["area", "base", "br", "col", "embed", "hr", "img", "input", "link", "meta", "param", "source", "track", "wbr"];
 
-/// 01: `<` and `>` alternate, `<` first and `>` last; every open name but the 14 is closed, the last opened first.
+/// 01: `<` and `>` alternate, `<` first and `>` last; every open name but the 14 is closed, the last opened first. 02, A10:
+/// names are compared in small letters, with the 14 too.
 pub fn well_nested(text: &[u8]) -> bool {
     let mut open: Vec<&[u8]> = vec![];
     let mut rest = text;
@@ -133,10 +134,12 @@ pub fn well_nested(text: &[u8]) -> bool {
             return false;
         }
         match tag.strip_prefix(b"/") {
-            Some(closing) if open.pop() != Some(name(closing)) => return false,
+            Some(closing) if !open.pop().is_some_and(|name| name.eq_ignore_ascii_case(name_of(closing))) => {
+                return false;
+            }
             Some(_) => {}
-            None if VOID.iter().any(|v| v.as_bytes() == name(tag)) => {}
-            None => open.push(name(tag)),
+            None if VOID.iter().any(|v| v.as_bytes().eq_ignore_ascii_case(name_of(tag))) => {}
+            None => open.push(name_of(tag)),
         }
         rest = &rest[start + end + 1..];
     }
@@ -144,7 +147,7 @@ pub fn well_nested(text: &[u8]) -> bool {
 }
 
 /// A name runs to a space or the end of the tag.
-fn name(tag: &[u8]) -> &[u8] {
+fn name_of(tag: &[u8]) -> &[u8] {
     &tag[..tag.iter().position(|c| *c == b' ').unwrap_or(tag.len())]
 }
 

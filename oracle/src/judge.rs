@@ -3,11 +3,12 @@
 use crate::answer::{Answer, LEAST_SCRATCH, MOST_OPTIONS, MOST_PAGE, Refusal};
 use crate::decode::{Options, decode, read_page};
 use crate::encode::{Output, encode};
+use crate::serialized;
 use crate::stand_ins::swc_ecma_ast::Module;
 use crate::sums;
 use crate::transform::{Copy, transform, transform_with};
 
-/// What page and options give before any lent byte is looked at: 2 to 11, or both outputs.
+/// What page and options give before any lent byte is looked at: 2 to 11, 16, 19, or both outputs.
 pub type Outcome = Result<Output, Refusal>;
 
 pub fn outcome(page: &[u8], options: &[u8]) -> Outcome {
@@ -36,8 +37,16 @@ fn outcome_by(page: &[u8], options: &[u8], run: impl FnOnce(&Options, &mut Modul
         // 2 to 8 were given for the page as it came; what follows is for the worked one (02, A12).
         module = read_page(&sums::worked(page)).expect("a page stays one when its sums are worked out");
     }
+    let before = module.clone();
     run(&options, &mut module);
-    encode(&module)
+    match encode(&module) {
+        // 10 comes before what is said of serialized elements, 11 behind it.
+        Err(Refusal::TagLeft) => Err(Refusal::TagLeft),
+        encoded => match serialized::refusal(&serialized::elements(&options, before)) {
+            Some(refusal) => Err(refusal),
+            None => encoded,
+        },
+    }
 }
 
 /// The answer to a call, with the same effect on scratch (the desk), templates out (shelf out) and page out as 01 says.

@@ -67,6 +67,18 @@ pub fn compare(page: &[u8], options: &[u8], page_out: &[u8]) -> Result<Counts, S
     }
 }
 
+/// The elements of a page that are serialized as this walk has it: those outside the lost places that are no calls.
+pub fn serialized<'a>(page: &'a [Node], options: &'a [Node]) -> Vec<&'a Node> {
+    let mut walk = Walk::new(options);
+    walk.row(page, None);
+    walk.serialized
+}
+
+/// Whether the Rust would serialize this element, a field of a page, if it comes to it.
+pub fn is_serializable(element: &Node, options: &[Node]) -> bool {
+    element.inner.split_first().is_some_and(|(name, parts)| Walk::new(options).is_serialized(name, parts))
+}
+
 /// The counts of an accepted page as it stands, its sums not worked out.
 pub fn counts(page: &[u8], options: &[u8]) -> Counts {
     let (page, options) = (field::read(page).unwrap_or_default(), field::read(options).unwrap_or_default());
@@ -111,6 +123,8 @@ struct Walk<'a> {
     attributes_listed: Vec<&'a [u8]>,
     kept: Tally<'a>,
     counts: Counts,
+    /// Elements that are serialized.
+    serialized: Vec<&'a Node>,
 }
 
 impl<'a> Walk<'a> {
@@ -124,6 +138,7 @@ impl<'a> Walk<'a> {
             attributes_listed: listed(0x03),
             kept: Tally::new(),
             counts: Counts::default(),
+            serialized: vec![],
         }
     }
 
@@ -155,6 +170,7 @@ impl<'a> Walk<'a> {
         let (name, parts) = element.inner.split_first().expect("an element has a name");
         let serialized = self.is_serialized(name, parts);
         let void = serialized && is_void_element(text(name));
+        self.serialized.extend(serialized.then_some(element));
         for (i, part) in parts.iter().enumerate() {
             let lost = match part.tag {
                 0x50 => self.lost_value(part, name, serialized, &parts[i + 1..]),

@@ -21,6 +21,7 @@ pub mod kept;
 pub mod make;
 pub mod marks;
 pub mod reached;
+pub mod serialized;
 pub mod show;
 pub mod shrink;
 #[cfg_attr(not(jsx_source), allow(unused))]
@@ -43,9 +44,14 @@ mod precompile;
 mod precompile_counted;
 #[cfg(jsx_source)]
 #[allow(clippy::all, dead_code)]
+mod precompile_noted;
+#[cfg(jsx_source)]
+#[allow(clippy::all, dead_code)]
 mod precompile_patched;
 #[cfg(not(jsx_source))]
 use precompile as precompile_counted;
+#[cfg(not(jsx_source))]
+use precompile as precompile_noted;
 #[cfg(not(jsx_source))]
 use precompile as precompile_patched;
 

@@ -1,6 +1,6 @@
 //! Many seeds in a row: demand 3, A9 and A2's writing on every accepted page, and what the seeds reached.
 
-use crate::answer::{LEAST_SCRATCH, NUMBERS, RESERVED, Refusal};
+use crate::answer::{LEAST_SCRATCH, NOT_GIVEN, NUMBERS, Refusal};
 use crate::arms;
 use crate::demand3;
 use crate::encode::Output;
@@ -10,7 +10,7 @@ use crate::generate::rng::Rng;
 use crate::generate::{self, Case};
 use crate::judge::{outcome, outcome_and_copy, outcome_with, settle};
 use crate::kept::{self, PLACES};
-use crate::reached::{Decimals, Sums};
+use crate::reached::{Decimals, MixedCase, Repeats, Sums};
 use crate::show::show;
 use crate::shrink::shrink;
 use crate::transform::Copy;
@@ -21,7 +21,7 @@ use std::time::Instant;
 pub struct Settings {
     pub first: u64,
     pub count: u64,
-    /// Run the counting copy too, and compare it with the unchanged one.
+    /// Run the counting and the noting copy too, and compare them with the unchanged one.
     pub arms: bool,
     pub progress: bool,
 }
@@ -43,6 +43,8 @@ pub struct Report {
     pub kept: kept::Counts,
     pub decimals: Decimals,
     pub sums: Sums,
+    pub repeats: Repeats,
+    pub mixed_case: MixedCase,
     /// Of demand 3, of A9 or of A2's writing.
     pub violations: u64,
     pub arms: bool,
@@ -64,6 +66,8 @@ impl Report {
             kept: kept::Counts::default(),
             decimals: Decimals::new(),
             sums: Sums::new(),
+            repeats: Repeats::new(),
+            mixed_case: MixedCase::default(),
             violations: 0,
             arms,
         }
@@ -95,21 +99,23 @@ impl Report {
         line(format!("expressions kept {}; lost: {}", self.kept.kept, lost(&self.kept)));
         line(self.decimals.table().trim_end().to_string());
         line(self.sums.table().trim_end().to_string());
+        line(self.repeats.table().trim_end().to_string());
+        line(self.mixed_case.table().trim_end().to_string());
         line(format!("violations of demand 3, A9 and A2: {}", self.violations));
         out
     }
 
-    /// How often each number was given, the reserved one left out.
+    /// How often each number was given that a transform gives.
     fn given(&self) -> impl Iterator<Item = (usize, &u64)> {
-        self.answers.iter().enumerate().filter(|(number, _)| *number != RESERVED)
+        self.answers.iter().enumerate().filter(|(number, _)| !NOT_GIVEN.contains(number))
     }
 }
 
 impl Report {
     /// Where the seeds reached less than a generator must: in a million seeds every answer 100 times, 40 % accepted, 2 %
     /// accepted by the patched copy, 1 % over 16 KB, 1 % deeper than 40, in each of A9's places 1,000 expressions lost,
-    /// in each place, of each kind and for each refusal 500 decimals, in each place and of each kind 300 sums, every live
-    /// arm 1,000 times and no dead one; as much less for fewer seeds.
+    /// in each place, of each kind and for each refusal 500 decimals, in each place and of each kind 300 sums, of each
+    /// kind 300 pages with an attribute twice and 100 with a void name in mixed case, every live arm 1,000 times and no dead one; as much less for fewer seeds.
     pub fn shortfalls(&self) -> Vec<String> {
         let due = |in_a_million: u64| self.seeds * in_a_million / 1_000_000;
         let mut out = vec![];
@@ -131,8 +137,11 @@ impl Report {
         for (what, reached) in self.decimals.all() {
             need(what, reached, due(500));
         }
-        for (what, reached) in self.sums.all() {
+        for (what, reached) in self.sums.all().into_iter().chain(self.repeats.all()) {
             need(what, reached, due(300));
+        }
+        for (what, reached) in self.mixed_case.all() {
+            need(what, reached, due(100));
         }
         if self.arms {
             for (arm, (line, ..)) in arms::ARMS.iter().enumerate() {
@@ -184,8 +193,10 @@ fn one(seed: u64, settings: &Settings, report: &mut Report, lent: &mut Lent) {
     let case = generate::case(seed);
     let (outcome, copy) = outcome_and_copy(&case.page, &case.options);
     if settings.arms {
-        let counted = outcome_with(Copy::Counted, &case.page, &case.options);
-        assert!(counted == outcome, "seed {seed}: the counting copy answers something else");
+        for copy in [Copy::Counted, Copy::Noted] {
+            let other = outcome_with(copy, &case.page, &case.options);
+            assert!(other == outcome, "seed {seed}: the copy {copy:?} answers something else");
+        }
     }
     let (templates, page) = case.outs(&outcome);
     refill(&mut lent.scratch, case.scratch);
@@ -204,6 +215,8 @@ fn one(seed: u64, settings: &Settings, report: &mut Report, lent: &mut Lent) {
     report.deep += u64::from(field::depth(&case.page) > 40);
     report.decimals.meet(&case.page, &case.options, &outcome);
     report.sums.meet(&case.page, &case.options, &outcome);
+    report.repeats.meet(&case.page, &case.options, &outcome);
+    report.mixed_case.meet(&case.page, &case.options, &outcome);
     if let Ok(output) = &outcome {
         report.templates += output.count as u64;
         count_tags(&case.page, &mut report.tags_in);
@@ -278,6 +291,8 @@ pub struct Small {
     pub accepted: u64,
     pub patched: u64,
     pub tag_left: u64,
+    pub repeated: u64,
+    pub mixed_case: u64,
     pub kept: kept::Counts,
     pub violations: u64,
 }
@@ -300,6 +315,14 @@ pub fn small(fields: usize) -> Small {
                 Ok(output) => output,
                 Err(Refusal::TagLeft) => {
                     report.tag_left += 1;
+                    continue;
+                }
+                Err(Refusal::RepeatedAttribute) => {
+                    report.repeated += 1;
+                    continue;
+                }
+                Err(Refusal::MixedCaseVoid) => {
+                    report.mixed_case += 1;
                     continue;
                 }
                 Err(other) => panic!("{other:?}\n{}", show(page)),

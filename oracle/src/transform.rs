@@ -3,7 +3,7 @@
 
 use crate::decode::Options;
 use crate::stand_ins::swc_ecma_ast::Module;
-use crate::{precompile, precompile_counted, precompile_patched};
+use crate::{precompile, precompile_counted, precompile_noted, precompile_patched};
 use std::any::Any;
 use std::cell::Cell;
 use std::panic::{self, AssertUnwindSafe};
@@ -17,6 +17,8 @@ pub enum Copy {
     Unchanged,
     /// With its `todo!` filled in.
     Patched,
+    /// The patched one with a note of each element that it serializes.
+    Noted,
     /// The patched one with counters.
     Counted,
 }
@@ -43,6 +45,7 @@ pub fn transform_with(copy: Copy, options: &Options, module: &mut Module) {
     match copy {
         Copy::Unchanged => precompile::run(options, module),
         Copy::Patched => precompile_patched::run(options, module),
+        Copy::Noted => precompile_noted::run(options, module),
         Copy::Counted => precompile_counted::run(options, module),
     }
 }

@@ -6,7 +6,7 @@ use crate::field;
 use crate::generate::{self, Case};
 use crate::judge::{outcome, outcome_and_copy, settle};
 use crate::marks;
-use crate::reached::{Decimals, LONGER, Sums};
+use crate::reached::{Decimals, LONGER, MixedCase, Repeats, Sums};
 use crate::show::hex;
 use crate::sums::{Stays, asked, source_of, work};
 use crate::transform::Copy;
@@ -113,9 +113,10 @@ pub fn unhex(word: &str) -> Option<Vec<u8>> {
 const LONG_MARKS: [&str; 5] = ["page-32768", "page-32769", "static-string-65530", "static-string-65531", "item-65536"];
 const LONG_LINE: usize = 20_000;
 
-/// How many seeds of each answer are stored, and how long their lines may be. 2 and 11 need long inputs; 9 is reserved.
+/// How many seeds of each answer are stored, and how long their lines may be. 2 and 11 need long inputs; 9, 14, 15, 17 and
+/// 18 are not given.
 const QUOTAS: [(usize, usize); NUMBERS] = [
-    (550, 800),
+    (500, 800),
     (60, 600),
     (3, 9000),
     (150, 700),
@@ -129,6 +130,12 @@ const QUOTAS: [(usize, usize); NUMBERS] = [
     (3, 18_000),
     (120, 700),
     (120, 700),
+    (0, 0),
+    (0, 0),
+    (120, 700),
+    (0, 0),
+    (0, 0),
+    (80, 700),
 ];
 
 /// The same for seeds that are accepted by the patched copy, for accepted ones with sums to work out or that stay, and for
@@ -204,11 +211,18 @@ fn add_missing(sample: &mut Vec<Vector>) {
 pub struct Reached {
     pub decimals: Decimals,
     pub sums: Sums,
+    pub repeats: Repeats,
+    pub mixed_case: MixedCase,
 }
 
 impl Default for Reached {
     fn default() -> Self {
-        Reached { decimals: Decimals::new(), sums: Sums::new() }
+        Reached {
+            decimals: Decimals::new(),
+            sums: Sums::new(),
+            repeats: Repeats::new(),
+            mixed_case: MixedCase::default(),
+        }
     }
 }
 
@@ -217,11 +231,13 @@ impl Reached {
         let outcome = outcome(&vector.page, &vector.options);
         self.decimals.meet(&vector.page, &vector.options, &outcome);
         self.sums.meet(&vector.page, &vector.options, &outcome);
+        self.repeats.meet(&vector.page, &vector.options, &outcome);
+        self.mixed_case.meet(&vector.page, &vector.options, &outcome);
     }
 
     /// What no answer reached; a page that grows over its limit is too long to be stored.
     pub fn missing(&self) -> Vec<String> {
-        let all = [self.decimals.all(), self.sums.all()].concat();
+        let all = [self.decimals.all(), self.sums.all(), self.repeats.all(), self.mixed_case.all()].concat();
         let missing = all.into_iter().filter(|(what, n)| *n == 0 && what != LONGER);
         missing.map(|(what, _)| what).collect()
     }

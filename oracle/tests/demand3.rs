@@ -85,8 +85,25 @@ fn well_nested_texts() {
     for text in ["", "a", "<br>", "<p></p>", "<p a=\"b\">x<i></i></p>", "<a><br></a>", "<p >x</p>", "<p /></p>"] {
         assert!(well_nested(text.as_bytes()), "{text}");
     }
-    for text in ["<", ">", "<p>", "</p>", "<p></i>", "<p><i></p></i>", "<p<></p>", "a>", "<BR>", "</br>", "<p></p >x<"]
-    {
+    // In small letters (02, A10).
+    for text in ["<BR>", "<bR a>", "<p></P>", "<A><bR><i></I></a>", "<dIV></Div>"] {
+        assert!(well_nested(text.as_bytes()), "{text}");
+    }
+    for text in [
+        "<",
+        ">",
+        "<p>",
+        "</p>",
+        "<p></i>",
+        "<p><i></p></i>",
+        "<p<></p>",
+        "a>",
+        "</br>",
+        "</BR>",
+        "<bR></bR>",
+        "<P>",
+        "<p></p >x<",
+    ] {
         assert!(!well_nested(text.as_bytes()), "{text}");
     }
 }
@@ -99,7 +116,7 @@ fn the_shrinker_finds_a_small_page() {
     type Shows<'a> = &'a dyn Fn(&Case) -> bool;
     let small_pages: [(&str, usize, Shows); 3] = [
         ("a tag is left", 15, &|case| refused(case, Refusal::TagLeft)),
-        ("a listed container", 30, &patched),
+        ("a listed container", 45, &patched),
         ("a large number", 30, &|case| refused(case, Refusal::NumberTooLarge)),
     ];
     for (what, smallest, shows) in small_pages {

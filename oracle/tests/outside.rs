@@ -8,9 +8,9 @@ use oracle::{judge, outcome, sums};
 use std::fs;
 use std::path::Path;
 
-/// A1 and A2.
-const DECIMALS: &str = "../../shared/vectors/transform-a2.txt";
-/// These, A12, and three more that the judge does not have: A4, A10 and A6.
+/// A1, A2, A4 and A10.
+const MIXED_CASE: &str = "../../shared/vectors/transform-a10.txt";
+/// These, A12, and one more that the judge does not have: A6.
 const SUMS: &str = "../../shared/vectors/transform-a12.txt";
 
 /// A line begins with its seed, and goes on as the stored answers do.
@@ -29,7 +29,9 @@ fn vectors(file: &str) -> Option<Vec<Vector>> {
 #[test]
 #[cfg_attr(not(jsx_source), ignore = "jsx_precompile.rs is not there")]
 fn the_judge_answers_alike() {
-    let Some(vectors) = vectors(DECIMALS) else { return };
+    let Some(mut vectors) = vectors(MIXED_CASE) else { return };
+    // Without A12 a 05 was no option.
+    vectors.retain(|vector| !sums::asked(&vector.options));
     let mut differing = vec![];
     for vector in &vectors {
         let [mut scratch, mut templates, mut page] =
@@ -43,13 +45,19 @@ fn the_judge_answers_alike() {
     assert!(differing.is_empty(), "{differing:?}");
     let decimals: Vec<&Vector> = vectors.iter().filter(|vector| !bodies(&vector.page).is_empty()).collect();
     let taken = decimals.iter().filter(|vector| vector.answer.number == 0).count();
-    println!("{} answers, {} of them to pages with decimals, {taken} of these taken", vectors.len(), decimals.len());
-    assert!(taken > 0);
+    let [repeated, mixed_case] =
+        [16, 19].map(|number| vectors.iter().filter(|vector| vector.answer.number == number).count());
+    println!(
+        "{} answers, {repeated} of them 16, {mixed_case} of them 19; {} to pages with decimals, {taken} of these taken",
+        vectors.len(),
+        decimals.len()
+    );
+    assert!(taken > 0 && repeated > 0 && mixed_case > 0);
 }
 
 /// Of these answers number, templates and page out are compared, the latter two as they were before A6: without the
 /// kinds of the gaps, and with numbers of two bytes. What is lent was measured for A6, so that it is left out, and with
-/// it 1, 12 and 13; 16 (A4) and 19 (A10) are not given yet.
+/// it 1, 12 and 13.
 #[test]
 #[cfg_attr(not(jsx_source), ignore = "jsx_precompile.rs is not there")]
 fn sums_are_worked_out_alike() {
@@ -59,7 +67,7 @@ fn sums_are_worked_out_alike() {
     for vector in &vectors {
         let outcome = outcome(&vector.page, &vector.options);
         let same = match (vector.answer.number, &outcome) {
-            (1 | 12 | 13 | 16 | 19, _) => continue,
+            (1 | 12 | 13, _) => continue,
             (0, Ok(output)) => {
                 taken += 1;
                 let asked = sums::asked(&vector.options) && sums::worked(&vector.page) != vector.page;

@@ -6,6 +6,7 @@ pub mod ExprLaws
 pub mod ElementLaws
 pub mod Laws
 pub mod IndexLaws
+pub mod RepeatLaws
 pub mod LinkLaws
 pub mod BuildLaws
 pub mod ChildrenLaws

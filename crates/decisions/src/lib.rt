@@ -5,3 +5,4 @@ pub mod children;
 pub mod element;
 pub mod expr;
 pub mod index;
+pub mod repeats;

@@ -1,6 +1,8 @@
 // The void elements.
 ghost use mathlib.Core.Path.{_≡_};
-ghost use Rattle.names.specs.Names.{is-void-element};
+ghost use mathlib.Core.Bool.{_&&_, not};
+ghost use Rattle.names.specs.Names.{is-void-element, small-letters};
+ghost use Rattle.names.specs.Table.{read-as};
 use crate::table::find_in;
 use crate::table::fits;
 use crate::table::row_of;
@@ -18,8 +20,8 @@ const STARTS: [u16; 8] = [0, 0, 0, 6, 18, 38, 62, 69];
 // At each length, a bit for each first letter that a name of that length has.
 const FIRSTS: [u32; 7] = [0, 0, 0x104, 0x800208, 0x3006, 0x110220, 0x80000];
 
-pub fn is_void_element(name: &[u8]) -> bool
-    ensures { λ r. ⌜ r ≡ is-void-element (now (name .entry)) ⌝ }
+fn is_void(name: &[u8], small: bool) -> bool
+    ensures { λ r. ⌜ r ≡ is-void-element (read-as small (now (name .entry))) ⌝ }
 {
     if !fits(&FIRSTS, name) {
         return false;
@@ -27,5 +29,21 @@ pub fn is_void_element(name: &[u8]) -> bool
     let starts = STARTS;
     let names = NAMES;
     let row = row_of(&names, &starts, name.len());
-    find_in(row, name, false) != 0
+    find_in(row, name, small) != 0
+}
+
+pub fn is_void_element(name: &[u8]) -> bool
+    ensures { λ r. ⌜ r ≡ is-void-element (now (name .entry)) ⌝ }
+{
+    is_void(name, false)
+}
+
+// Only after going to small letters (document 02, A10).
+pub fn is_void_when_lowered(name: &[u8]) -> bool
+    ensures { λ r. ⌜ r ≡ (is-void-element (small-letters (now (name .entry))) && not (is-void-element (now (name .entry)))) ⌝ }
+{
+    if is_void(name, true) {
+        return !is_void(name, false);
+    }
+    false
 }

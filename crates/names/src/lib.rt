@@ -9,6 +9,8 @@ mod listed;
 mod table;
 
 pub use attributes::get_attr_name;
+pub use attributes::is_plain;
+pub use attributes::is_xlink_href;
 pub use attributes::namespaced_is;
 pub use attributes::normalize_dom_attr_name;
 pub use attributes::normalize_namespaced;
@@ -18,5 +20,7 @@ pub use booleans::is_boolean_attr;
 pub use booleans::normalizes_to_boolean;
 pub use compare::same_bytes;
 pub use elements::is_void_element;
+pub use elements::is_void_when_lowered;
 pub use escaped::put_attr_name;
 pub use escaped::put_namespaced;
+pub use listed::find_mark;

@@ -6,7 +6,7 @@ use Rattle.page.specs.declared.Refusal.the-variants as R
 use Rattle.page.specs.declared.Verdict.{Verdict}
 use Rattle.page.specs.declared.Verdict.the-variants.{Fine, Refused}
 
--- 01, Limits and the answer: the table's numbers. 9 is reserved: since 02's A1 nothing is refused under it
+-- 01, Limits and the answer: the table's numbers, and 02's 16 and 19. 9 is reserved: since 02's A1 nothing is refused under it
 unfoldable pub refusal-number : Refusal → ℕ
 refusal-number R.ScratchTooSmall = 1
 refusal-number R.InputTooLong = 2
@@ -17,6 +17,8 @@ refusal-number R.NotUtf8 = 6
 refusal-number R.NumberTooLarge = 7
 refusal-number R.TooDeep = 8
 refusal-number R.TagLeft = 10
+refusal-number R.RepeatedAttribute = 16
+refusal-number R.MixedCaseVoid = 19
 refusal-number R.OutputTooLong = 11
 refusal-number R.TemplatesTooSmall = 12
 refusal-number R.PageTooSmall = 13

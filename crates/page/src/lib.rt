@@ -29,6 +29,10 @@ pub enum Refusal {
     TooDeep,
     // 10, bare tag; 9, unfinished, is never given again
     TagLeft,
+    // 16: document 02, A4
+    RepeatedAttribute,
+    // 19: document 02, A10
+    MixedCaseVoid,
     // 11, long
     OutputTooLong,
     // 12, small shelf

@@ -1,32 +1,27 @@
 -- Laws of `keep`: passes in a row, passes that record nothing, and a template, which takes its number before its dynamic expressions and is
 -- recorded after them. Main statements: `keep-both`, `keep-pure`, `keep-template`, `parts`, `entered`. Assumes nothing.
-use mathlib.Core.Path.{_≡_, refl, sym, ap, _∙_, subst}
+use mathlib.Core.Path.{_≡_, refl, sym, ap, ap₂, _∙_, subst}
 use Prim.Native.Nat.{ℕ, _+_}
 use native.Mathlib.Omega.{arith}
 use mathlib.Core.List.{List, [], _∷_, _++_}
-use mathlib.Core.Bool.{Bool, true, false, _||_, or-false}
+use mathlib.Core.Bool.{Bool, true, false, _||_}
 use lib.ListN.{length, length-append}
 use Rattle.field.specs.Row.{bytes, long-body}
 use Rattle.field.specs.Put.{put}
 use Rattle.field.proofs.PutLaws.{put-put, put-nil, length-put}
 use Rattle.field.proofs.Actions.{Action, Lows}
-use Rattle.spec.specs.Pass.{Template, Done, Pass, pure, map, both, raise, join, long-if, Mid, none, _+++_, Part, chars, gap}
+use Rattle.spec.specs.Pass.{Template, Done, Pass, pure, map, both, raise, join, long-if, Mid, none, _+++_, Part, chars, gap, mark, marks}
 use Rattle.spec.specs.Output.{strings-after, kinds-of, dynamic-exprs, template-row, gen-template}
 use Rattle.spec.specs.Merge.{Entry}
 use Rattle.spec.specs.Children.{entry-pass, entries-pass}
 use Rattle.spec.specs.Transform.{templates-row}
+use Rattle.strings.specs.Due.{graver, long-due, grave}
+use Rattle.strings.proofs.DueLaws.{grave-join, long-grave, due-none, due-then, due-template}
 use Rattle.records.specs.Keep.{Kept, at, add, keep, write, bumped, Low}
 use Rattle.records.specs.declared.Records.{Records}
 use Rattle.records.proofs.Templates.{bytes-append, long-append}
 
 -- ---- passes in a row
-
-or-pairs : (l x y a b : Bool) → (l || ((x || y) || (a || b))) ≡ ((l || (x || a)) || (y || b))
-or-pairs true x y a b = refl
-or-pairs false true y a b = refl
-or-pairs false false true true b = refl
-or-pairs false false true false b = refl
-or-pairs false false false a b = refl
 
 add-join : (c d : Done Mid) (v : Mid) (w : Kept) → add (record { value = v; taken = c .taken + d .taken; templates = c .templates ++ d .templates; flags = join (c .flags) (d .flags) }) w ≡ add d (add c w)
 add-join c d v w =
@@ -36,8 +31,8 @@ add-join c d v w =
     let o : put (w .out) (w .st .place) (bytes (templates-row (c .templates ++ d .templates))) ≡ put (put (w .out) (w .st .place) x) (w .st .place + length x) y = ap (put (w .out) (w .st .place)) e ∙ sym (put-put (w .out) (w .st .place) x y) in
     let n : w .st .next + (c .taken + d .taken) ≡ w .st .next + c .taken + d .taken = omega arith in
     let p : w .st .place + length (bytes (templates-row (c .templates ++ d .templates))) ≡ w .st .place + length x + length y = omega (arith, ap length e, length-append x y) in
-    let b : (w .st .long || ((c .flags .long || d .flags .long) || long-body (templates-row (c .templates ++ d .templates)))) ≡ ((w .st .long || (c .flags .long || long-body (templates-row (c .templates)))) || (d .flags .long || long-body (templates-row (d .templates)))) = ap (λ (z : Bool). w .st .long || ((c .flags .long || d .flags .long) || z)) (long-append (c .templates) (d .templates)) ∙ or-pairs (w .st .long) (c .flags .long) (d .flags .long) (long-body (templates-row (c .templates))) (long-body (templates-row (d .templates))) in
-    λ i. at (o i) (record { next = n i; place = p i; long = b i })
+    let b = due-then (w .st .due) (c .flags) (d .flags) (long-body (templates-row (c .templates))) (long-body (templates-row (d .templates))) (long-append (c .templates) (d .templates)) in
+    λ i. at (o i) (record { next = n i; place = p i; due = b i })
 
 pub keep-both : (f : Mid → Mid → Mid) (p q : Pass Mid) (w : Kept) → keep (both f p q) w ≡ keep q (keep p w)
 unfolding keep both
@@ -50,7 +45,7 @@ unfolding keep pure templates-row bytes long-body
 keep-pure m w =
     let n : w .st .next + 0 ≡ w .st .next = omega arith in
     let p : w .st .place + 0 ≡ w .st .place = omega arith in
-    λ i. at (put-nil (w .out) (w .st .place) i) (record { next = n i; place = p i; long = or-false (w .st .long) i })
+    λ i. at (put-nil (w .out) (w .st .place) i) (record { next = n i; place = p i; due = due-none (w .st .due) i })
 
 pub keep-map : (f : Mid → Mid) (p : Pass Mid) (w : Kept) → keep (map f p) w ≡ keep p w
 unfolding keep map
@@ -62,17 +57,6 @@ unfolding keep raise
 quiet p w = refl
 
 -- ---- a template
-
-or-late : (l r x a b : Bool) → (l || ((r || x) || (a || b))) ≡ ((l || (x || a)) || (r || b))
-or-late true r x a b = refl
-or-late false true true a b = refl
-or-late false true false true b = refl
-or-late false true false false b = refl
-or-late false false x a b = sym (assoc x a b)
-  where
-    assoc : (x a b : Bool) → ((x || a) || b) ≡ (x || (a || b))
-    assoc true a b = refl
-    assoc false a b = refl
 
 module _ (run : Bool) (ps : List Part) (w : Kept) where
   -- its number first, then its dynamic expressions, and itself last
@@ -87,8 +71,13 @@ module _ (run : Bool) (ps : List Part) (w : Kept) where
       let o : put (w .out) (w .st .place) (bytes (templates-row (d .templates ++ u))) ≡ put (put (w .out) (w .st .place) x) (w .st .place + length x) y = ap (put (w .out) (w .st .place)) e ∙ sym (put-put (w .out) (w .st .place) x y) in
       let n : w .st .next + (1 + d .taken) ≡ w .st .next + 1 + d .taken = omega arith in
       let p : w .st .place + length (bytes (templates-row (d .templates ++ u))) ≡ w .st .place + length x + length y = omega (arith, ap length e, length-append x y) in
-      let b : (w .st .long || ((run || d .flags .long) || long-body (templates-row (d .templates ++ u)))) ≡ ((w .st .long || (d .flags .long || long-body (templates-row (d .templates)))) || (run || long-body (templates-row u))) = ap (λ (z : Bool). w .st .long || ((run || d .flags .long) || z)) (long-append (d .templates) u) ∙ or-late (w .st .long) run (d .flags .long) (long-body (templates-row (d .templates))) (long-body (templates-row u)) in
-      λ i. at (o i) (record { next = n i; place = p i; long = b i })
+      let l = long-body (templates-row (d .templates)) in
+      let m = long-body (templates-row u) in
+      let q : graver (w .st .due) (graver (grave (join (long-if run) (join (marks ps) (d .flags)))) (long-due (long-body (templates-row (d .templates ++ u))))) ≡ graver (graver (w .st .due) (graver (grave (d .flags)) (long-due l))) (graver (grave (marks ps)) (long-due (run || m))) =
+      ap₂ (λ (x : ℕ) (y : Bool). graver (w .st .due) (graver x (long-due y)))
+      (grave-join (long-if run) (join (marks ps) (d .flags)) ∙ ap₂ graver (long-grave run) (grave-join (marks ps) (d .flags))) (long-append (d .templates) u)
+      ∙ due-template (w .st .due) (grave (marks ps)) (grave (d .flags)) run l m in
+      λ i. at (o i) (record { next = n i; place = p i; due = q i })
 
 pub keep-gen : (ps : List Part) (w : Kept) → keep (gen-template ps) w ≡ write (w .st .next) false ps (keep (dynamic-exprs ps) (at (w .out) (bumped (w .st))))
 keep-gen ps w = quiet (gen-template ps) w ∙ keep-template false ps w
@@ -107,6 +96,7 @@ pub parts-append : (ps qs : List Part) (w : Kept) → keep (dynamic-exprs (ps ++
 unfolding dynamic-exprs
 parts-append [] qs w = ap (keep (dynamic-exprs qs)) (sym (keep-pure none w))
 parts-append (chars b ∷ ps) qs w = parts-append ps qs w
+parts-append (mark f ∷ ps) qs w = parts-append ps qs w
 parts-append (gap p ∷ ps) qs w = keep-gap p (ps ++ qs) w ∙ parts-append ps qs (keep p w) ∙ ap (keep (dynamic-exprs qs)) (sym (keep-gap p ps w))
 
 pub entries-append : (es fs : List Entry) (w : Kept) → keep (entries-pass (es ++ fs)) w ≡ keep (entries-pass fs) (keep (entries-pass es) w)

@@ -25,14 +25,15 @@ use names::is_void_element;
 use strings::Open;
 use strings::children_strings;
 use strings::cut;
+use strings::due::with_body;
 use strings::merged_children_strings;
 use strings::tag_strings;
 
-// The next number, the place behind what was written, and whether some body, or a run, was over 65,535 bytes.
+// The next number, the place behind what was written, and what is due.
 pub struct Records {
     pub next: usize,
     pub place: usize,
-    pub long: bool,
+    pub due: u8,
 }
 
 fn opened(out: &mut [u8], n: usize, st: Records) -> Open
@@ -43,7 +44,7 @@ fn opened(out: &mut [u8], n: usize, st: Records) -> Open
     Open {
         head: st.place + 5,
         len: 0,
-        long: st.long,
+        due: st.due,
     }
 }
 
@@ -55,17 +56,10 @@ fn closed(out: &mut [u8], st: Records, open: Open) -> Records
     let end = c.head;
     let len = end - (st.place + 3);
     put_head(out, st.place, 0x80, len);
-    if 65535 < len {
-        return Records {
-            next: st.next,
-            place: end,
-            long: true,
-        };
-    }
     Records {
         next: st.next,
         place: end,
-        long: c.long,
+        due: with_body(c.due, len),
     }
 }
 
@@ -126,7 +120,7 @@ fn taken(st: Records) -> Records
     Records {
         next: st.next + 1,
         place: st.place,
-        long: st.long,
+        due: st.due,
     }
 }
 

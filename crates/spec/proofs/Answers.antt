@@ -68,6 +68,8 @@ fine-inputs page options scratch i =
 
 pub record Outputs (templates-room page-room : ℕ) (f : Flags) (templates page : Row) : Type 0 where
   pub none-left : T (not (f .left))
+  pub none-repeated : T (not (f .repeated))
+  pub none-mixed : T (not (f .mixed))
   pub short : T (not (f .long || (long-body templates || long-body page)))
   pub templates-fit : length (bytes templates) ≤ templates-room
   pub page-fits : length (bytes page) ≤ page-room
@@ -78,20 +80,26 @@ outputs-fine tr pr f t p e =
     let a = after-fine _ _ e in
     let b = after-fine _ _ (a .1) in
     let c = after-fine _ _ (b .1) in
+    let g = after-fine _ _ (c .1) in
+    let h = after-fine _ _ (g .1) in
     record {
       none-left = unless-fine (not (f .left)) R.TagLeft (a .0);
-      short = unless-fine (not (f .long || (long-body t || long-body p))) R.OutputTooLong (b .0);
-      templates-fit = leb→le (length (bytes t)) tr (unless-fine (leb (length (bytes t)) tr) R.TemplatesTooSmall (c .0));
-      page-fits = leb→le (length (bytes p)) pr (unless-fine (leb (length (bytes p)) pr) R.PageTooSmall (c .1));
+      none-repeated = unless-fine (not (f .repeated)) R.RepeatedAttribute (b .0);
+      none-mixed = unless-fine (not (f .mixed)) R.MixedCaseVoid (c .0);
+      short = unless-fine (not (f .long || (long-body t || long-body p))) R.OutputTooLong (g .0);
+      templates-fit = leb→le (length (bytes t)) tr (unless-fine (leb (length (bytes t)) tr) R.TemplatesTooSmall (h .0));
+      page-fits = leb→le (length (bytes p)) pr (unless-fine (leb (length (bytes p)) pr) R.PageTooSmall (h .1));
     }
 
 pub fine-outputs : (tr pr : ℕ) (f : Flags) (t p : Row) → Outputs tr pr f t p → check-outputs tr pr f t p ≡ Fine
 unfolding check-outputs
 fine-outputs tr pr f t p h =
     fine-after _ _ (fine-unless (not (f .left)) R.TagLeft (h .none-left))
+    (fine-after _ _ (fine-unless (not (f .repeated)) R.RepeatedAttribute (h .none-repeated))
+    (fine-after _ _ (fine-unless (not (f .mixed)) R.MixedCaseVoid (h .none-mixed))
     (fine-after _ _ (fine-unless (not (f .long || (long-body t || long-body p))) R.OutputTooLong (h .short))
     (fine-after _ _ (fine-unless (leb (length (bytes t)) tr) R.TemplatesTooSmall (le→leb (length (bytes t)) tr (h .templates-fit)))
-    (fine-unless (leb (length (bytes p)) pr) R.PageTooSmall (le→leb (length (bytes p)) pr (h .page-fits)))))
+    (fine-unless (leb (length (bytes p)) pr) R.PageTooSmall (le→leb (length (bytes p)) pr (h .page-fits)))))))
 
 -- neither output has a long body
 pub short-outputs : (f : Flags) (t p : Row) → T (not (f .long || (long-body t || long-body p))) → T (not (long-body t)) × T (not (long-body p))

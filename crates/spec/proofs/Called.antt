@@ -20,7 +20,7 @@ use Rattle.spec.proofs.Good.{OneField}
 use Rattle.spec.proofs.Ledger as G
 use Rattle.spec.proofs.Ledger.{Test, recorded, called-row, numbered, span, neither, is-false, recorded-append, numbered-append, span-add, span-first, called-append, one-behind, then}
 use Rattle.spec.proofs.Invariant.{Split, Alone}
-use Rattle.spec.proofs.Counting.{None, Counting, every-page}
+use Rattle.spec.proofs.Counting.{None, nothing-marked, Counting, every-page}
 
 -- ---- numbers: as many templates as numbers taken, each number once
 
@@ -167,9 +167,9 @@ module _ (p : Test) where
       record { ledger = then-numbered (d .value +++ s .value) n d s (x .ledger) (y .ledger); held = holds-append (sym (recorded-append p (d .templates) (s .templates))) e (x .held) (y .held) }
 
   -- one more number, one more template, one more call
-  template-first : (ps : List Part) {w : ℕ} (n : ℕ) → First (n + 1) (dynamic-exprs ps (n + 1)) w → First n (gen-template ps n) w
+  template-first : (ps : List Part) {v w : ℕ} → v ≡ w → (n : ℕ) → First (n + 1) (dynamic-exprs ps (n + 1)) v → First n (gen-template ps n) w
   unfolding gen-template G.called Raws recorded numbered
-  template-first ps n x =
+  template-first ps e n x =
       let d = dynamic-exprs ps (n + 1) in
       let t : Template = record { number = n; strings = strings-after [] ps; kinds = kinds-of (d .value) } in
       record {
@@ -178,7 +178,7 @@ module _ (p : Test) where
               count = omega (arith, length-append (d .templates) (t ∷ []), x .ledger .count);
               each = λ m. omega (arith, numbered-append m (d .templates) (t ∷ []), span-first n (d .taken) m, x .ledger .each m);
             };
-        held = record { weightless = x .held .weightless; balance = omega (arith, recorded-append p (d .templates) (t ∷ []), x .held .balance); raws = (x .held .raws, tt) };
+        held = record { weightless = omega (arith, e, x .held .weightless); balance = omega (arith, recorded-append p (d .templates) (t ∷ []), x .held .balance); raws = (x .held .raws, tt) };
       }
 
   after : {q : Pass Mid} {w : ℕ} → ((n : ℕ) → First n (q n) w) → ((n : ℕ) → Alone (q n .value)) → (n : ℕ) → TagVisited n (visit-after q n)
@@ -203,6 +203,7 @@ module _ (p : Test) where
       record {
         literal = λ b. 0;
         other = λ bs. 0;
+        own = λ f. 0;
         MidOk = Holds;
         PassOk = λ q w. (n : ℕ) → First n (q n) w;
         VisitOk = λ q w. (w ≡ 0) × ((n : ℕ) → TagVisited n (q n));
@@ -219,8 +220,8 @@ module _ (p : Test) where
         pass-pure = pure-first;
         pass-both = λ {p = q} {q = r} e g h n. both-first q r e n (g n) (h (n + q n .taken));
         pass-map = λ {p = q} {v} {w} f a k e g. unfold map in λ n. record { ledger = record { count = g n .ledger .count; each = g n .ledger .each }; held = k (q n .value) (recorded p (q n .templates)) v w e (g n .held) };
-        pass-raise = λ f l g. unfold raise in λ n. record { ledger = record { count = g n .ledger .count; each = g n .ledger .each }; held = g n .held };
-        pass-template = λ ps g n. template-first ps n (g (n + 1));
+        pass-raise = λ b g. unfold raise in λ n. record { ledger = record { count = g n .ledger .count; each = g n .ledger .each }; held = g n .held };
+        pass-template = λ ps l e g n. template-first ps (omega (arith, e, nothing-marked ps)) n (g (n + 1));
         visit-done = λ g a. (g 0 .held .weightless, after g a);
         visit-left = unfold leave raise in (refl, λ n. let v = leaf-visited 0x30 refl tt n in record { visited = record { ledger = record { count = v .visited .ledger .count; each = v .visited .ledger .each }; balance = v .visited .balance }; one = v .one });
         visit-null = (refl, leaf-visited 0x73 refl tt);

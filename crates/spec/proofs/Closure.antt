@@ -12,13 +12,14 @@ use Rattle.field.specs.Bytes.{Bytes}
 use Rattle.field.specs.Number.{big-endian}
 use Rattle.field.specs.Row.{Row, end, field, Inside, only-bytes, fields-after, inside}
 use Rattle.field.proofs.RowLaws.{Shaped, FrontFits, front-full}
-use Rattle.spec.specs.Pass.{Template, Done, Pass, pure, both, bind, raise, Mid, none, node, raw, _⧺_, Part, chars, gap}
+use Rattle.spec.specs.declared.Flags.{Flags}
+use Rattle.spec.specs.Pass.{Template, Done, Pass, pure, both, bind, raise, Mid, none, node, raw, _⧺_, Part, chars, gap, mark, marks, join}
 use Rattle.spec.specs.Output.{gen-template, dynamic-exprs, strings-after, kinds-of}
 use Rattle.spec.specs.Visit.{visit-exprs, visit-inside, visit-after, leave}
 use Rattle.spec.specs.Transform.{stands}
 use Rattle.spec.proofs.Good.{Sound, AllSound, Kept, GoodVisit, Clean, GoodDone, GoodPass, GoodGap, GoodParts, FormedBy, no-tag, OneNode, OneField, Piece, literal, hole, piece-strings, piece-kinds}
 use Rattle.spec.proofs.Nested.{Neutral, sound-pieces}
-use Rattle.spec.proofs.Ledger.{neither, sound-append, kinds-append, stands-node, one-behind, then, kept-pure, kept-raised, kept-then}
+use Rattle.spec.proofs.Ledger.{or-either, neither, never, down-both, sound-append, kinds-append, stands-node, one-behind, then, kept-pure, kept-raised, kept-then}
 pub use Rattle.spec.proofs.Passes.{clean-weaken, still-weaken, still-none, still-node, still-raw, still-append, good-weaken, good-pure, good-both, good-raise}
 
 -- one expression: a field that is neither a jsxAttr call nor a choice, or a tag still to be visited
@@ -60,6 +61,7 @@ module _ (Fragments : Type 0) where
   parts-weaken (gap p ∷ ps) [] h g = absurd g
   parts-weaken (gap p ∷ ps) (literal c ∷ qs) h g = absurd g
   parts-weaken (gap p ∷ ps) (hole k ∷ qs) h g = (g .0, g .1, omega arith, g .3, g .4)
+  parts-weaken (mark f ∷ ps) qs h g = (g .0, parts-weaken ps qs h (g .1))
 
   pub parts-append : (ps ps′ : List Part) (qs qs′ : List Piece) (a b : ℕ) → GoodParts Fragments ps qs a → GoodParts Fragments ps′ qs′ b → GoodParts Fragments (ps ++ ps′) (qs ++ qs′) (a + b)
   unfolding GoodParts
@@ -71,6 +73,7 @@ module _ (Fragments : Type 0) where
   parts-append (gap p ∷ ps) ps′ [] qs′ a b g h = absurd g
   parts-append (gap p ∷ ps) ps′ (literal d ∷ qs) qs′ a b g h = absurd g
   parts-append (gap p ∷ ps) ps′ (hole k ∷ qs) qs′ a b g h = (g .0, g .1 + b, omega arith, g .3, parts-append ps ps′ qs qs′ (g .1) b (g .4) h)
+  parts-append (mark f ∷ ps) ps′ qs qs′ a b g h = (g .0, parts-append ps ps′ qs qs′ a b (g .1) h)
 
   -- ---- a template
 
@@ -79,15 +82,16 @@ module _ (Fragments : Type 0) where
     good : GoodPass Fragments w (dynamic-exprs ps)
     kinds : (n : ℕ) → piece-kinds qs ≡ kinds-of (dynamic-exprs ps n .value)
     strings : (last : Bytes) → piece-strings last qs ≡ strings-after last ps
+    none-left : T (not (marks ps .left))
 
   parts-give : (ps : List Part) (qs : List Piece) (w : ℕ) → GoodParts Fragments ps qs w → PartsGive ps qs w
-  unfolding GoodParts dynamic-exprs piece-kinds piece-strings strings-after kinds-of pure both
-  parts-give [] [] w g = record { good = good-pure Fragments (still-none Fragments w); kinds = λ n. refl; strings = λ last. refl }
+  unfolding GoodParts dynamic-exprs piece-kinds piece-strings strings-after kinds-of pure both marks
+  parts-give [] [] w g = record { good = good-pure Fragments (still-none Fragments w); kinds = λ n. refl; strings = λ last. refl; none-left = tt }
   parts-give [] (q ∷ qs) w g = absurd g
   parts-give (chars b ∷ ps) [] w g = absurd g
   parts-give (chars b ∷ ps) (literal c ∷ qs) w g =
       let r = parts-give ps qs w (g .1) in
-      record { good = r .good; kinds = r .kinds; strings = λ last. ap (λ (x : Bytes). piece-strings (last ++ x) qs) (sym (g .0)) ∙ r .strings (last ++ b) }
+      record { good = r .good; kinds = r .kinds; strings = λ last. ap (λ (x : Bytes). piece-strings (last ++ x) qs) (sym (g .0)) ∙ r .strings (last ++ b); none-left = r .none-left }
   parts-give (chars b ∷ ps) (hole k ∷ qs) w g = absurd g
   parts-give (gap p ∷ ps) [] w g = absurd g
   parts-give (gap p ∷ ps) (literal c ∷ qs) w g = absurd g
@@ -100,18 +104,22 @@ module _ (Fragments : Type 0) where
             let m = n + p n .taken in
             ap₂ (λ (x y : List Bool). x ++ y) (sym (one-kind k (p n .value) (g .3 .one n))) (r .kinds m) ∙ sym (kinds-append (p n .value) (dynamic-exprs ps m .value));
         strings = λ last. ap (λ (x : List Bytes). last ∷ x) (r .strings []);
+        none-left = r .none-left;
       }
+  parts-give (mark f ∷ ps) qs w g =
+      let r = parts-give ps qs w (g .1) in
+      record { good = r .good; kinds = r .kinds; strings = r .strings; none-left = down-both (f .left) (marks ps .left) (g .0) (r .none-left) }
 
-  -- the pass of a template, by that of its dynamic expressions
-  template-kept : (d : Done Mid) (t : Template) (v : Mid) → Sound t → Kept Fragments d → Kept Fragments (record { value = v; taken = 1 + d .taken; templates = d .templates ++ (t ∷ []); flags = d .flags })
+  -- the pass of a template, by that of its dynamic expressions and by its marks
+  template-kept : (d : Done Mid) (f : Flags) (t : Template) (v : Mid) → T (not (f .left)) → (T (not (f .mixed)) → Sound t) → Kept Fragments d → Kept Fragments (record { value = v; taken = 1 + d .taken; templates = d .templates ++ (t ∷ []); flags = join f (d .flags) })
   unfolding AllSound
-  template-kept d t v s k =
+  template-kept d f t v l s k =
       record {
-        sound = sound-append (d .templates) (t ∷ []) (k .sound) (s, tt);
-        fragments = k .fragments;
+        sound = λ m. let u = neither (f .mixed) (d .flags .mixed) m in sound-append (d .templates) (t ∷ []) (k .sound (u .1)) (s (u .0), tt);
+        fragments = or-either (f .left) (d .flags .left) (λ x. absurd (never (f .left) l x)) (k .fragments);
       }
 
-  pub good-template : (ps : List Part) (qs : List Piece) (w : ℕ) → GoodParts Fragments ps qs w → Neutral qs → GoodGap Fragments (suc w) false (gen-template ps)
+  pub good-template : (ps : List Part) (qs : List Piece) (w : ℕ) → GoodParts Fragments ps qs w → (T (not (marks ps .mixed)) → Neutral qs) → GoodGap Fragments (suc w) false (gen-template ps)
   unfolding gen-template OneNode Clean FormedBy inside big-endian
   good-template ps qs w g h =
       let all = parts-give ps qs w g in
@@ -121,9 +129,9 @@ module _ (Fragments : Type 0) where
             let r = dynamic-exprs ps (n + 1) in
             let d = all .good (n + 1) in
             let t : Template = record { number = n; strings = strings-after [] ps; kinds = kinds-of (r .value) } in
-            let s : Sound t = subst₂ (λ (x : List Bytes) (y : List Bool). Sound (record { number = n; strings = x; kinds = y })) (all .strings []) (all .kinds (n + 1)) (sound-pieces n qs h) in
+            let s : T (not (marks ps .mixed)) → Sound t = λ m. subst₂ (λ (x : List Bytes) (y : List Bool). Sound (record { number = n; strings = x; kinds = y })) (all .strings []) (all .kinds (n + 1)) (sound-pieces n qs (h m)) in
             record {
-              kept = template-kept r t (node 0x90 (big-endian 2 n []) (r .value) none) s (d .kept);
+              kept = template-kept r (marks ps) t (node 0x90 (big-endian 2 n []) (r .value) none) (all .none-left) s (d .kept);
               left-over = d .left-over;
               bound = omega arith;
               clean = (tt, tt, (d .left-over, 0, omega arith, d .clean, tt));
@@ -218,7 +226,7 @@ module _ (Fragments : Type 0) where
   good-leave f n =
       let none-taken = pure (field 0x30 [] end end) n in
       record {
-        kept = kept-raised Fragments (record { left = true; long = false }) none-taken (λ t. f) (kept-pure Fragments (field 0x30 [] end end) n);
+        kept = kept-raised Fragments (record { left = true; long = false; repeated = false; mixed = false }) none-taken (λ t. f) (kept-pure Fragments (field 0x30 [] end end) n);
         bound = omega arith;
         one = refl;
         shaped = (tt, tt, tt);

@@ -17,7 +17,7 @@ use Rattle.field.specs.Row.{Row, end, loose, field, bytes}
 use Rattle.field.proofs.NumberLaws.{length-big-endian}
 use Rattle.field.proofs.RowLaws.{length-bytes}
 use Rattle.spec.specs.declared.Flags.{Flags}
-use Rattle.spec.specs.Pass.{Template, Done, Pass, pure, map, bind, both, raise, Raw, Mid, none, node, raw, _+++_, _⧺_, Part, chars, gap}
+use Rattle.spec.specs.Pass.{Template, Done, Pass, pure, map, bind, both, raise, Raw, Mid, none, node, raw, _+++_, _⧺_, Part, chars, gap, mark}
 use Rattle.spec.specs.Output.{strings-after, dynamic-exprs, kinds-of, strings-row, template-row, gen-template}
 use Rattle.spec.specs.Visit.{visit-exprs, visit-inside, visit-after, leave}
 use Rattle.spec.specs.Transform.{templates-row}
@@ -59,6 +59,7 @@ pub data PartsCosts : List Part → ℕ → Type 0 where
   no-parts : {w : ℕ} → PartsCosts [] w
   chars-cost : {b : Bytes} {ps : List Part} {w : ℕ} (c : ℕ) → length b + c ≤ w → PartsCosts ps c → PartsCosts (chars b ∷ ps) w
   gap-costs : {p : Pass Mid} {ps : List Part} {w : ℕ} (a b : ℕ) → 3 + a + b ≤ w → PassCosts a p → PartsCosts ps b → PartsCosts (gap p ∷ ps) w
+  mark-costs : {f : Flags} {ps : List Part} {w : ℕ} → PartsCosts ps w → PartsCosts (mark f ∷ ps) w
 
 -- ---- expressions
 
@@ -150,15 +151,20 @@ parts-chars c h x = chars-cost c h x
 pub parts-gap : {p : Pass Mid} {ps : List Part} {w : ℕ} (a b : ℕ) → 3 + a + b ≤ w → PassCosts a p → PartsCosts ps b → PartsCosts (gap p ∷ ps) w
 parts-gap a b h x y = gap-costs a b h x y
 
+pub parts-mark : {f : Flags} {ps : List Part} {w : ℕ} → PartsCosts ps w → PartsCosts (mark f ∷ ps) w
+parts-mark x = mark-costs x
+
 pub parts-weaken : {ps : List Part} {v w : ℕ} → v ≤ w → PartsCosts ps v → PartsCosts ps w
 parts-weaken h no-parts = no-parts
 parts-weaken h (chars-cost c k x) = parts-chars c (omega arith) x
 parts-weaken h (gap-costs a b k x y) = parts-gap a b (omega arith) x y
+parts-weaken h (mark-costs x) = mark-costs (parts-weaken h x)
 
 pub parts-append : {ps qs : List Part} {a b w : ℕ} → a + b ≤ w → PartsCosts ps a → PartsCosts qs b → PartsCosts (ps ++ qs) w
 parts-append h no-parts y = parts-weaken (omega arith) y
 parts-append {b = b} h (chars-cost c k x) y = parts-chars (c + b) (omega arith) (parts-append (omega arith) x y)
 parts-append {b = b} h (gap-costs u v k p x) y = parts-gap u (v + b) (omega arith) p (parts-append (omega arith) x y)
+parts-append h (mark-costs x) y = mark-costs (parts-append h x y)
 
 -- what the dynamic expressions and the static strings cost between them
 record PartsGive (ps : List Part) (w : ℕ) : Type 0 where
@@ -183,6 +189,7 @@ parts-give (gap-costs {ps = ps} u v k p x) =
       dynamic = both-costs p (r .dynamic);
       static = λ last. omega (arith, r .static [], length-bytes 0x81 last end (strings-row (strings-after [] ps)));
     }
+parts-give (mark-costs x) = let r = parts-give x in record { exprs = r .exprs; texts = r .texts; within = r .within; dynamic = r .dynamic; static = r .static }
 
 -- the record has a header, a number and one string more than gaps; the call a header and a number; and one number is taken
 pub template-costs : {ps : List Part} {w : ℕ} → PartsCosts ps w → PassCosts (14 + w) (gen-template ps)

@@ -27,7 +27,7 @@ use Rattle.spec.specs.Attributes.{Value, Attribute, first-upper, is-seri
 use Rattle.spec.specs.Children.{maybe-wrap, merged-parts, children-to-string, serialize-jsx, stills, found-of, sole-mid, sole, flattened, spliced, entries, one-child, many-children, children-to-expr, entry-pass, entries-pass, found-pass, children-prop, props-node, members-row, name-expr, call-node, to-call-expr, open-close, element-to-string-vec}
 use Rattle.spec.specs.Visit.{visit-after, visit-found, visit-only-child, visit-fragment}
 use Rattle.spec.specs.Transform.{element-of, fragment-of, element-raw}
-use Rattle.spec.proofs.Cost.{written-size, RawCosts, Costs, none-costs, node-costs, raw-costs, PassCosts, PartsCosts, no-parts, costs-weaken, costs-node, costs-raw, costs-leaf, costs-alone, costs-nest, costs-append, pass-weaken, pure-costs, both-costs, raise-costs, map-costs, parts-weaken, parts-append, parts-chars, parts-gap, template-costs, leave-costs, null-costs, after-costs}
+use Rattle.spec.proofs.Cost.{written-size, RawCosts, Costs, none-costs, node-costs, raw-costs, PassCosts, PartsCosts, no-parts, costs-weaken, costs-node, costs-raw, costs-leaf, costs-alone, costs-nest, costs-append, pass-weaken, pure-costs, both-costs, raise-costs, map-costs, parts-weaken, parts-append, parts-chars, parts-gap, parts-mark, template-costs, leave-costs, null-costs, after-costs}
 
 -- ---- budgets of children and attributes
 
@@ -529,8 +529,9 @@ unfolding open-close
 open-close-costs o n {as′} {cs} a c h x y =
     let closing : PartsCosts (chars (60 ∷ 47 ∷ (n ++ (62 ∷ []))) ∷ []) (3 + length n) = text-parts (omega (arith, length-append n (62 ∷ []))) in
     let inner : PartsCosts (children-to-string true cs ++ (chars (60 ∷ 47 ∷ (n ++ (62 ∷ []))) ∷ [])) (3 + length n + c) = parts-append (omega arith) (string-costs true (once y)) closing in
-    parts-chars (a + (4 + length n + c)) (omega (arith, length-escape-html n))
-    (parts-append {b = 4 + length n + c} (omega arith) (attrs-costs o x) (parts-chars (3 + length n + c) (omega arith) (parts-pick (is-void-element n) no-parts inner)))
+    parts-mark
+    (parts-chars (a + (4 + length n + c)) (omega (arith, length-escape-html n))
+    (parts-append {b = 4 + length n + c} (omega arith) (attrs-costs o x) (parts-chars (3 + length n + c) (omega arith) (parts-pick (is-void-element n) no-parts inner))))
 
 call-parts : {p : Pass Mid} {a w : ℕ} → 3 + a ≤ w → PassCosts a p → PartsCosts (gap p ∷ []) w
 call-parts {a = a} h g = parts-gap a 0 (omega arith) g no-parts

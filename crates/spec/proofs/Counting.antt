@@ -10,12 +10,13 @@ use Rattle.field.specs.Bytes.{Bytes}
 use Rattle.field.specs.Row.{Row, end, field}
 use Rattle.page.specs.Page.{Options, Page}
 use Rattle.spec.specs.declared.Flags.{Flags}
-use Rattle.spec.specs.Pass.{Pass, pure, map, both, raise, Raw, Mid, none, node, raw, _+++_, Part, chars, gap}
+use Rattle.spec.specs.Pass.{Pass, pure, map, both, raise, long-if, Raw, Mid, none, node, raw, _+++_, Part, chars, gap, mark, marks}
 use Rattle.spec.specs.Output.{dynamic-exprs, gen-template}
+use Rattle.spec.specs.Attributes.{Attribute, tag-flags}
 use Rattle.spec.specs.Visit.{visit-after, leave}
 use Rattle.spec.specs.Transform.{module-items}
 use Rattle.spec.specs.Kept.{in-page}
-use Rattle.spec.proofs.Ledger.{neither}
+use Rattle.spec.proofs.Ledger.{neither, down-both}
 use Rattle.spec.proofs.Invariant.{Split, Alone, sources, Invariant}
 use Rattle.spec.proofs.Shapes.{field-alone}
 use Rattle.spec.proofs.EveryPage.{page-ok}
@@ -27,9 +28,24 @@ None w = w ≡ 0
 abbrev pub uncounted : ℕ → Bool
 uncounted t = not (eqb t 0x90 || (eqb t 0x74 || eqb t 0x79))
 
+-- what the marks among parts weigh
+unfoldable pub marked : (Flags → ℕ) → List Part → ℕ
+marked own [] = 0
+marked own (chars b ∷ ps) = marked own ps
+marked own (gap p ∷ ps) = marked own ps
+marked own (mark f ∷ ps) = own f + marked own ps
+
+pub nothing-marked : (ps : List Part) → marked (λ f. 0) ps ≡ 0
+unfolding marked
+nothing-marked [] = refl
+nothing-marked (chars b ∷ ps) = nothing-marked ps
+nothing-marked (gap p ∷ ps) = nothing-marked ps
+nothing-marked (mark f ∷ ps) = omega (arith, nothing-marked ps)
+
 pub record Counting : Type 1 where
   pub literal : Bytes → ℕ
   pub other : List Bytes → ℕ
+  pub own : Flags → ℕ
   pub MidOk : ℕ → Mid → ℕ → Type 0
   pub PassOk : Pass Mid → ℕ → Type 0
   pub VisitOk : Pass Row → ℕ → Type 0
@@ -48,24 +64,25 @@ pub record Counting : Type 1 where
   pub pass-pure : {m : Mid} {w : ℕ} → MidOk 0 m w → PassOk (pure m) w
   pub pass-both : {p q : Pass Mid} {a b w : ℕ} → a + b ≡ w → PassOk p a → PassOk q b → PassOk (both _+++_ p q) w
   pub pass-map : {p : Pass Mid} {v w : ℕ} (f : Mid → Mid) (a : ℕ) → ((m : Mid) (k b c : ℕ) → a + b ≡ c → MidOk k m b → MidOk k (f m) c) → a + v ≡ w → PassOk p v → PassOk (map f p) w
-  pub pass-raise : {p : Pass Mid} {w : ℕ} (f : Flags) → T (not (f .left)) → PassOk p w → PassOk (raise f p) w
-  pub pass-template : (ps : List Part) {w : ℕ} → PassOk (dynamic-exprs ps) w → PassOk (gen-template ps) w
+  pub pass-raise : {p : Pass Mid} {w : ℕ} (b : Bool) → PassOk p w → PassOk (raise (long-if b) p) w
+  pub pass-template : (ps : List Part) {v w : ℕ} → T (not (marks ps .left)) → marked own ps + v ≡ w → PassOk (dynamic-exprs ps) v → PassOk (gen-template ps) w
   pub visit-done : {p : Pass Mid} {w : ℕ} → PassOk p w → ((n : ℕ) → Alone (p n .value)) → VisitOk (visit-after p) w
   pub visit-left : VisitOk leave 0
   pub visit-null : VisitOk (pure (field 0x73 [] end end)) 0
 
 module _ (C : Counting) where
-  open Counting C using (literal, other, MidOk, PassOk, VisitOk, mid-none, mid-node, mid-literal, mid-other, mid-raw, mid-append, mid-nothing, mid-inner, mid-field, mid-tag, pass-pure, pass-both, pass-map, pass-raise, pass-template, visit-done, visit-left, visit-null)
+  open Counting C using (literal, other, own, MidOk, PassOk, VisitOk, mid-none, mid-node, mid-literal, mid-other, mid-raw, mid-append, mid-nothing, mid-inner, mid-field, mid-tag, pass-pure, pass-both, pass-map, pass-raise, pass-template, visit-done, visit-left, visit-null)
 
   -- with nothing to spare, a weight is another's
   exactly : (P : ℕ → Type 0) {a b w : ℕ} → a + b ≡ w → a ≡ 0 → P b → P w
   exactly P {a} {b} {w} e z x = subst P (let k : b ≡ w = omega (arith, e, z) in k) x
 
-  -- parts: only the passes of their gaps matter
+  -- parts: only the passes of their gaps and the flags of their marks matter
   unfoldable PartsOk : List Part → ℕ → Type 0
   PartsOk [] w = w ≡ 0
   PartsOk (chars b ∷ ps) w = PartsOk ps w
   PartsOk (gap p ∷ ps) w = Split None (PassOk p) (PartsOk ps) w
+  PartsOk (mark f ∷ ps) w = T (not (f .left)) × Split None (λ v. v ≡ own f) (PartsOk ps) w
 
   gap-parts : {p : Pass Mid} (ps : List Part) (a b w : ℕ) → a + b ≡ w → PassOk p a → PartsOk ps b → PartsOk (gap p ∷ ps) w
   unfolding PartsOk
@@ -76,12 +93,30 @@ module _ (C : Counting) where
   parts-append [] qs a b w e g h = exactly (PartsOk qs) e g h
   parts-append (chars c ∷ ps) qs a b w e g h = parts-append ps qs a b w e g h
   parts-append (gap p ∷ ps) qs a b w e g h = record { first = g .first; second = g .second + b; spared = g .spared; sum = omega (arith, g .sum, e); spare = g .spare; one = g .one; rest = parts-append ps qs (g .second) b _ refl (g .rest) h }
+  parts-append (mark f ∷ ps) qs a b w e g h = (g .0, record { first = g .1 .first; second = g .1 .second + b; spared = g .1 .spared; sum = omega (arith, g .1 .sum, e); spare = g .1 .spare; one = g .1 .one; rest = parts-append ps qs (g .1 .second) b _ refl (g .1 .rest) h })
 
-  exprs-ok : (ps : List Part) (w : ℕ) → PartsOk ps w → PassOk (dynamic-exprs ps) w
-  unfolding PartsOk dynamic-exprs
-  exprs-ok [] w g = subst (λ v. PassOk (pure none) v) (sym g) (pass-pure mid-none)
-  exprs-ok (chars b ∷ ps) w g = exprs-ok ps w g
-  exprs-ok (gap p ∷ ps) w g = pass-both (omega (arith, g .sum, g .spare)) (g .one) (exprs-ok ps (g .second) (g .rest))
+  -- what the parts weigh is shared between the marks and the dynamic expressions
+  record Shared (ps : List Part) (w : ℕ) : Type 0 where
+    rest : ℕ
+    sum : marked own ps + rest ≡ w
+    exprs : PassOk (dynamic-exprs ps) rest
+    none-left : T (not (marks ps .left))
+
+  shared : (ps : List Part) (w : ℕ) → PartsOk ps w → Shared ps w
+  unfolding PartsOk dynamic-exprs marked marks
+  shared [] w g = record { rest = 0; sum = sym g; exprs = pass-pure mid-none; none-left = tt }
+  shared (chars b ∷ ps) w g = let r = shared ps w g in record { rest = r .rest; sum = r .sum; exprs = r .exprs; none-left = r .none-left }
+  shared (gap p ∷ ps) w g =
+      let r = shared ps (g .second) (g .rest) in
+      record { rest = g .first + r .rest; sum = omega (arith, g .sum, g .spare, r .sum); exprs = pass-both refl (g .one) (r .exprs); none-left = r .none-left }
+  shared (mark f ∷ ps) w g =
+      let r = shared ps (g .1 .second) (g .1 .rest) in
+      record { rest = r .rest; sum = omega (arith, g .1 .sum, g .1 .spare, g .1 .one, r .sum); exprs = r .exprs; none-left = down-both (f .left) (marks ps .left) (g .0) (r .none-left) }
+
+  -- an element's parts behind its mark
+  mark-parts : (n : Bytes) (as′ : List Attribute) (ps : List Part) (v w : ℕ) → own (tag-flags n as′) + v ≡ w → PartsOk ps v → PartsOk (mark (tag-flags n as′) ∷ ps) w
+  unfolding PartsOk
+  mark-parts n as′ ps v w e x = (unfold tag-flags in tt, record { first = own (tag-flags n as′); second = v; spared = 0; sum = omega (arith, e); spare = refl; one = refl; rest = x })
 
   invariant : Invariant
   unfolding PartsOk
@@ -89,6 +124,7 @@ module _ (C : Counting) where
       record {
         literal = literal;
         other = other;
+        own = own;
         tag = 0;
         Spare = None;
         Left = Unit {0};
@@ -119,13 +155,13 @@ module _ (C : Counting) where
         pass-both = pass-both;
         pass-map = pass-map;
         pass-raise = pass-raise;
-        pass-template = λ ps {v} {w} e x. pass-template ps (exprs-ok ps w (exactly (PartsOk ps) e refl x));
+        pass-template = λ ps {v} {w} e x. let s = shared ps v x in pass-template ps (s .none-left) (omega (arith, s .sum, e)) (s .exprs);
         content-none = refl;
         content-text = λ t h x. x;
         content-gap = λ {p} {ps} {a} {b} {w} e x k y. gap-parts ps a b w e x y;
         content-append = λ {ps} {qs} {a} {b} {w} e x y. parts-append ps qs a b w e x y;
-        content-void = λ {ps} {w} n ok e x. parts-append ps (chars (62 ∷ []) ∷ []) w 0 w (omega arith) x refl;
-        content-element = λ {ps} {qs} {a} {b} {w} n ok e d x y. parts-append ps (chars (62 ∷ []) ∷ (qs ++ (chars (60 ∷ 47 ∷ (n ++ (62 ∷ []))) ∷ []))) a b w d x (parts-append qs (chars (60 ∷ 47 ∷ (n ++ (62 ∷ []))) ∷ []) b 0 b (omega arith) y refl);
+        content-void = λ {ps} {v} {w} n as′ ok e d x. mark-parts n as′ (ps ++ (chars (62 ∷ []) ∷ [])) v w d (parts-append ps (chars (62 ∷ []) ∷ []) v 0 v (omega arith) x refl);
+        content-element = λ {ps} {qs} {a} {b} {w} n as′ ok e d x y. let behind : List Part = chars (62 ∷ []) ∷ (qs ++ (chars (60 ∷ 47 ∷ (n ++ (62 ∷ []))) ∷ [])) in mark-parts n as′ (ps ++ behind) (a + b) w d (parts-append ps behind a b (a + b) refl x (parts-append qs (chars (60 ∷ 47 ∷ (n ++ (62 ∷ []))) ∷ []) b 0 b (omega arith) y refl));
         opening-none = λ s. s;
         opening-text = λ b s h. s;
         opening-gap = λ {p} {w} x k. gap-parts [] w 0 w (omega arith) x refl;
@@ -136,6 +172,6 @@ module _ (C : Counting) where
         visit-null = visit-null;
       }
 
-  pub every-page : (o : Options) (p : Page) → MidOk 0 (module-items o p) (in-page literal other o p)
+  pub every-page : (o : Options) (p : Page) → MidOk 0 (module-items o p) (in-page literal other own o p)
   unfolding invariant
   every-page o p = page-ok invariant refl (λ w e. e) tt (λ n. tt) o p

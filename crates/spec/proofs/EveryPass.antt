@@ -15,15 +15,15 @@ use Rattle.names.specs.Names.{get-attr-name, is-void-element, is-boolean-attr}
 use Rattle.page.specs.Tree.{choose}
 use Rattle.page.specs.Page as P
 use Rattle.page.specs.Page.{Name, identifier, member, namespaced, Options}
-use Rattle.spec.specs.Pass.{Pass, pure, map, raise, long-if, Mid, none, node, raw, _+++_, Part, chars, gap, over}
+use Rattle.spec.specs.Pass.{Pass, pure, map, raise, long-if, Mid, none, node, raw, _+++_, Part, chars, gap, mark, over}
 use Rattle.spec.specs.Output.{leaf, array-node, null-node, attr-node, gen-template}
 use Rattle.spec.specs.Merge.{Shape, string-shape, number-shape, boolean-shape, null-shape, literal-shape, minus-shape, other-shape, Entry, still, passed, Found, nothing-found, one-found, array-found, Element, Fragment, Child, text, empty, container, element, fragment, spread, flush, joined-text, merge, long-run, short-runs, becomes-template}
 use Rattle.spec.specs.Attributes as A
-use Rattle.spec.specs.Attributes.{Value, Attribute, first-upper, keeps-from-serializing, is-serializable, serialize-attr, attr-gap, listed-attr, dynamic-attr, container-attr, plain-attr, attr-parts, attrs-parts, is-component, prop-of, props-of, key-from, key-of}
+use Rattle.spec.specs.Attributes.{Value, Attribute, first-upper, keeps-from-serializing, is-serializable, serialize-attr, attr-gap, listed-attr, dynamic-attr, container-attr, plain-attr, attr-parts, attrs-parts, is-component, prop-of, props-of, key-from, key-of, tag-flags}
 use Rattle.spec.specs.Children.{maybe-wrap, merged-parts, children-to-string, serialize-jsx, stills, found-of, sole-mid, sole, flattened, spliced, entries, one-child, many-children, children-to-expr, entry-pass, entries-pass, found-pass, children-prop, props-node, members-row, name-expr, call-node, to-call-expr, open-close, element-to-string-vec}
 use Rattle.spec.specs.Visit.{visit-after, leave, visit-found, visit-only-child, visit-fragment}
 use Rattle.spec.specs.Transform.{element-of, fragment-of, element-raw, value, children, items}
-use Rattle.spec.specs.Kept.{is-tag, has-value, listed, reads-key, key-follows, is-void, in-opening, in-call}
+use Rattle.spec.specs.Kept.{is-tag, has-value, listed, reads-key, key-follows, is-void, own-flags, in-opening, in-call}
 use Rattle.spec.proofs.Nested.{escape-free, boolean-free, attr-free}
 use Rattle.spec.proofs.Good.{FormedBy, OneNode}
 use Rattle.spec.proofs.Ledger.{neither, or-either}
@@ -31,7 +31,7 @@ use Rattle.spec.proofs.Invariant.{Split, Alone, AloneField, plain, Inva
 use Rattle.spec.proofs.Shapes.{chosen, or-left, or-right, and-right, is-text, Items, is-bare, FreeTexts, free-nil, merge-free}
 
 module _ (I : Invariant) where
-  open Invariant I using (literal, other, tag, Spare, Left, NameOk, MidOk, PassOk, Content, Opening, VisitOk, spare-sum, spare-none, spare-tag, mid-spare, pass-spare, content-spare, visit-spare, mid-none, mid-node, mid-literal, mid-other, mid-raw, mid-append, mid-nothing, mid-inner, mid-field, mid-tag, pass-pure, pass-both, pass-map, pass-raise, pass-template, content-none, content-text, content-gap, content-append, content-void, content-element, opening-none, opening-text, opening-gap, opening-append, visit-done, visit-any, visit-left, visit-null)
+  open Invariant I using (literal, other, own, tag, Spare, Left, NameOk, MidOk, PassOk, Content, Opening, VisitOk, spare-sum, spare-none, spare-tag, mid-spare, pass-spare, content-spare, visit-spare, mid-none, mid-node, mid-literal, mid-other, mid-raw, mid-append, mid-nothing, mid-inner, mid-field, mid-tag, pass-pure, pass-both, pass-map, pass-raise, pass-template, content-none, content-text, content-gap, content-append, content-void, content-element, opening-none, opening-text, opening-gap, opening-append, visit-done, visit-any, visit-left, visit-null)
 
   -- ---- what holds of children and attributes
 
@@ -468,7 +468,7 @@ module _ (I : Invariant) where
     where
       on : (b : Bool) → ChildrenOk (merge false false [] cs) w →
           FoundOk (choose b (λ _. one-found (passed (raise (long-if (long-run (merge false false [] cs))) (gen-template (children-to-string false (short-runs (merge false false [] cs))))))) λ _. flattened (entries (merge false false [] cs))) (tag + w)
-      on true h = (pass-raise (long-if (long-run (merge false false [] cs))) tt (pass-template _ refl (string-ok false _ w (short-ok (merge false false [] cs) w h))), λ n. tt)
+      on true h = (pass-raise (long-run (merge false false [] cs)) (pass-template _ refl (string-ok false _ w (short-ok (merge false false [] cs) w h))), λ n. tt)
       on false h = found-spare (flattened (entries (merge false false [] cs))) tag w _ refl spare-tag (flattened-ok (entries (merge false false [] cs)) w (entries-ok (merge false false [] cs) w h))
 
   to-expr-ok : (cs : List Child) (w : ℕ) → ChildrenOk cs w → FoundOk (children-to-expr cs) (tag + w)
@@ -553,7 +553,7 @@ module _ (I : Invariant) where
   NamedOk (member ns) = Unit {0}
   NamedOk (namespaced n m) = Unit {0}
 
-  open-close-ok : (o : Options) (n : Bytes) → NameOk n → (norm : Bool) (as′ : List Attribute) (cs : List Child) (v a w : ℕ) → AttributesOk o norm as′ v a → T (not (keeps-from-serializing as′)) → ChildrenOk cs w → Content (open-close o n as′ cs) (v + pick (is-void-element n) 0 w)
+  open-close-ok : (o : Options) (n : Bytes) → NameOk n → (norm : Bool) (as′ : List Attribute) (cs : List Child) (v a w : ℕ) → AttributesOk o norm as′ v a → T (not (keeps-from-serializing as′)) → ChildrenOk cs w → Content (open-close o n as′ cs) (own (tag-flags n as′) + (v + pick (is-void-element n) 0 w))
   unfolding open-close
   open-close-ok o n ok norm as′ cs v a w g k h = on (is-void-element n) refl
     where
@@ -561,22 +561,22 @@ module _ (I : Invariant) where
       at = attrs-ok o norm as′ v a g k
 
       on : (b : Bool) → is-void-element n ≡ b →
-          Content (chars (60 ∷ escape-html n) ∷ (attrs-parts o as′ ++ (chars (62 ∷ []) ∷ pick b [] (children-to-string true cs ++ (chars (60 ∷ 47 ∷ (n ++ (62 ∷ []))) ∷ []))))) (v + pick b 0 w)
-      on true e = content-spare {a = 0} {b = v} (omega arith) spare-none (content-void n ok e at)
-      on false e = content-element n ok e refl at (string-ok true cs w h)
+          Content (mark (tag-flags n as′) ∷ chars (60 ∷ escape-html n) ∷ (attrs-parts o as′ ++ (chars (62 ∷ []) ∷ pick b [] (children-to-string true cs ++ (chars (60 ∷ 47 ∷ (n ++ (62 ∷ []))) ∷ []))))) (own (tag-flags n as′) + (v + pick b 0 w))
+      on true e = content-void n as′ ok e (omega arith) at
+      on false e = content-element n as′ ok e refl at (string-ok true cs w h)
 
   call-parts : {p : Pass Mid} {w : ℕ} → PassOk p w → ((n : ℕ) → AloneField (p n .value)) → Content (gap p ∷ []) w
   call-parts x a = content-gap {b = 0} (omega arith) x a content-none
 
   pub element-ok : (o : Options) (n : Name) → NamedOk n → (as′ : List Attribute) (cs : List Child) (v a w : ℕ) → AttributesOk o (not (is-component n)) as′ v a → ChildrenOk cs w →
-      ElementOk (element-of o n as′ cs) (tag + pick (is-serializable o n as′) (v + pick (is-void n) 0 w) (a + w))
+      ElementOk (element-of o n as′ cs) (tag + pick (is-serializable o n as′) (own (own-flags n as′) + (v + pick (is-void n) 0 w)) (a + w))
   unfolding element-of serialize-jsx element-to-string-vec is-serializable choose gen-template AloneField NamedOk
   element-ok o (identifier n) ok as′ cs v a w g h = on (is-serializable o (identifier n) as′) λ t. and-right (not (first-upper n) && not (among n (o .skip-serialize))) (not (keeps-from-serializing as′)) t
     where
       on : (b : Bool) → (T b → T (not (keeps-from-serializing as′))) →
           ElementOk
           (record { serializable = b; to-string-vec = choose b (λ _. open-close o n as′ cs) λ _. gap (to-call-expr (identifier n) as′ cs) ∷ []; to-call-expr = to-call-expr (identifier n) as′ cs })
-          (tag + pick b (v + pick (is-void-element n) 0 w) (a + w))
+          (tag + pick b (own (tag-flags n as′) + (v + pick (is-void-element n) 0 w)) (a + w))
       on true k =
           let parts = open-close-ok o n ok (not (is-component (identifier n))) as′ cs v a w g (k tt) h in
           record { parts = content-spare refl spare-tag parts; serialized = pass-template (open-close o n as′ cs) refl parts; alone = λ n. tt }

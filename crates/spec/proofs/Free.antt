@@ -1,25 +1,25 @@
 -- Texts with neither `<` nor `>`: what 000 writes into static strings beside its tags. Assumes nothing.
 use Prim.Native.Nat.{ℕ}
-use mathlib.Core.Path.{_≡_, refl, ap, subst}
-use mathlib.Core.Bool.{Bool, true, false, _&&_, _||_, false≢true}
+use mathlib.Core.Path.{_≡_, refl, sym, ap, _∙_, subst}
+use mathlib.Core.Bool.{Bool, true, false, _&&_, _||_, not, false≢true}
 use mathlib.Core.List.{List, [], _∷_, _++_}
 use lib.Dec.{T, eqb, eqb→eq}
 use native.Mathlib.Omega.{arith}
 use Rattle.field.specs.Bytes.{Bytes, same, among}
-use Rattle.names.specs.Names.{is-boolean-attr, boolean-names}
+use Rattle.names.specs.Names.{is-boolean-attr, boolean-names, is-void-element, void-names, small-letter, small-letters}
 use Rattle.text.specs.Escape.{escape-byte, escape-html}
 use Rattle.text.specs.Text.{escape-if, jsx-text-to-str}
 use Rattle.page.specs.Number.{Number, render}
 use Rattle.page.specs.Check.{name-part, name-parts, is-name}
 use Rattle.page.proofs.NumberLaws.{render-escaped}
-use Rattle.spec.specs.Attributes.{serialize-attr}
-use Rattle.spec.specs.Words.{WellNested, free}
+use Rattle.spec.specs.Attributes.{serialize-attr, void-when-lowered}
+use Rattle.spec.specs.Words.{Comparison, in-small-letters, by-bytes, compared, WellNestedBy, free}
 use Rattle.spec.proofs.Markup.{NameFront, read-free-outside, both-true, eqb-false, free-front, not-name-byte, name-has-parts, name-front}
 
 -- 01, Well nested: text with neither sign is well nested, the empty text too
-pub free-nested : (b : Bytes) → T (free b) → WellNested b
-unfolding WellNested
-free-nested b h = read-free-outside [] b h
+pub free-nested : (how : Comparison) (b : Bytes) → T (free b) → WellNestedBy how b
+unfolding WellNestedBy
+free-nested how b h = read-free-outside how [] b h
 
 pub free-append : (a b : Bytes) → T (free a) → T (free b) → T (free (a ++ b))
 unfolding free
@@ -99,6 +99,41 @@ among-free x (y ∷ ys) h e = let f = both-true (free y) (all-free ys) h in on (
 pub boolean-free : (n : Bytes) → is-boolean-attr n ≡ true → T (free n)
 unfolding is-boolean-attr boolean-names all-free free
 boolean-free n h = among-free n boolean-names tt h
+
+-- ---- the 14 are in small letters
+
+all-small : List Bytes → Bool
+all-small [] = true
+all-small (y ∷ ys) = same (small-letters y) y && all-small ys
+
+among-small : (x : Bytes) (ys : List Bytes) → T (all-small ys) → among x ys ≡ true → small-letters x ≡ x
+unfolding among all-small
+among-small x [] h e = absurd (false≢true e)
+among-small x (y ∷ ys) h e = let f = both-true (same (small-letters y) y) (all-small ys) h in on (same x y) (same-equal x y) (same-equal (small-letters y) y (f .0)) (among-small x ys (f .1)) e
+  where
+    on : (b : Bool) → (T b → x ≡ y) → small-letters y ≡ y → (among x ys ≡ true → small-letters x ≡ x) → (b || among x ys) ≡ true → small-letters x ≡ x
+    on true g first rest e = rw (g tt) first
+    on false g first rest e = rest e
+
+void-small : (n : Bytes) → is-void-element n ≡ true → small-letters n ≡ n
+unfolding is-void-element void-names all-small small-letters small-letter same
+void-small n h = among-small n void-names tt h
+
+pub void-compared : (n : Bytes) → is-void-element n ≡ true → (how : Comparison) → is-void-element (compared how n) ≡ true
+unfolding compared
+void-compared n h in-small-letters = ap is-void-element (void-small n h) ∙ h
+void-compared n h by-bytes = h
+
+-- what is not void stays so in small letters, unless it is marked
+pub unmixed-compared : (n : Bytes) → is-void-element n ≡ false → T (not (void-when-lowered n)) → (how : Comparison) → is-void-element (compared how n) ≡ false
+unfolding compared void-when-lowered
+unmixed-compared n e h by-bytes = e
+unmixed-compared n e h in-small-letters = on (is-void-element (small-letters n)) (is-void-element n) e h
+  where
+    on : (a b : Bool) → b ≡ false → T (not (a && not b)) → a ≡ false
+    on true true e h = absurd (false≢true (sym e))
+    on true false e h = absurd h
+    on false b e h = refl
 
 -- ---- an attribute with its value, behind the space
 

@@ -10,9 +10,9 @@ use lib.ListN.{length}
 use Rattle.field.specs.Bytes.{Bytes}
 use Rattle.field.specs.Row.{Row, end, loose, field, Inside, only-bytes, fields-after, inside}
 use Rattle.field.proofs.RowLaws.{Shaped}
-use Rattle.spec.specs.Pass.{Template, Done, Pass, Raw, Mid, none, node, raw, Part, chars, gap}
+use Rattle.spec.specs.Pass.{Template, Done, Pass, Raw, Mid, none, node, raw, Part, chars, gap, mark}
 use Rattle.spec.specs.Transform.{stands}
-use Rattle.spec.specs.Words.{WellNested, places, filled, AllFit}
+use Rattle.spec.specs.Words.{Comparison, WellNestedBy, places, filled, AllFit}
 
 -- ---- templates
 
@@ -20,7 +20,7 @@ use Rattle.spec.specs.Words.{WellNested, places, filled, AllFit}
 pub record Sound (t : Template) : Type 0 where
   pub one-more : length (t .strings) ≡ suc (length (t .kinds))
   pub placed : places (t .strings) ≡ t .kinds
-  pub nested : (fs : List Bytes) → AllFit (t .kinds) fs → WellNested (filled (t .strings) fs)
+  pub nested : (how : Comparison) (fs : List Bytes) → AllFit how (t .kinds) fs → WellNestedBy how (filled (t .strings) fs)
 
 unfoldable pub AllSound : List Template → Type 0
 AllSound [] = Unit {0}
@@ -61,9 +61,9 @@ OneField (field t f i (field u g j r)) = ⊥
 -- ---- passes. `Fragments`: some 31 stands in the page
 
 module _ (Fragments : Type 0) where
-  -- what holds of a pass, whatever its value
+  -- what holds of a pass, whatever its value; its templates are sound unless it found a name that is void only in small letters
   pub record Kept {A : Type 0} (d : Done A) : Type 0 where
-    pub sound : AllSound (d .templates)
+    pub sound : T (not (d .flags .mixed)) → AllSound (d .templates)
     pub fragments : T (d .flags .left) → Fragments
 
   -- the visit of a tag, which may take w numbers
@@ -120,7 +120,7 @@ piece-kinds (literal b ∷ ps) = piece-kinds ps
 piece-kinds (hole k ∷ ps) = k ∷ piece-kinds ps
 
 module _ (Fragments : Type 0) where
-  -- parts whose gaps are good, of the kinds that the pieces name
+  -- parts whose gaps are good, of the kinds that the pieces name, and whose marks leave no tag
   unfoldable pub GoodParts : List Part → List Piece → ℕ → Type 0
   GoodParts [] [] w = Unit {0}
   GoodParts [] (q ∷ qs) w = ⊥
@@ -130,3 +130,4 @@ module _ (Fragments : Type 0) where
   GoodParts (gap p ∷ ps) [] w = ⊥
   GoodParts (gap p ∷ ps) (literal c ∷ qs) w = ⊥
   GoodParts (gap p ∷ ps) (hole k ∷ qs) w = (a : ℕ) × (b : ℕ) × (a + b ≤ w) × GoodGap Fragments a k p × GoodParts ps qs b
+  GoodParts (mark f ∷ ps) qs w = T (not (f .left)) × GoodParts ps qs w

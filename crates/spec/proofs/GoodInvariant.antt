@@ -11,18 +11,14 @@ use Rattle.field.specs.Row.{Row, inside}
 use Rattle.text.specs.Escape.{escape-html}
 use Rattle.names.specs.Names.{is-void-element}
 use Rattle.page.specs.Check.{is-name}
-use Rattle.spec.specs.Pass.{Done, Pass, map, Raw, Mid, none, node, raw, Part, chars, gap}
+use Rattle.spec.specs.Pass.{Done, Pass, map, Raw, Mid, none, node, raw, Part, chars, gap, mark, marks, long-if}
+use Rattle.spec.specs.Attributes.{Attribute, void-when-lowered, tag-flags}
 use Rattle.spec.specs.Words.{free}
 use Rattle.spec.proofs.Good.{GoodVisit, Clean, Still, GoodPass, GoodGap, GoodParts, FormedBy, OneNode, Piece, literal, hole}
-use Rattle.spec.proofs.Ledger.{neither, is-false, kept-valued}
-use Rattle.spec.proofs.Nested.{Neutral, InTag, neutral-nil, neutral-append, neutral-text, neutral-hole, neutral-void, neutral-element, in-tag-nil, in-tag-append, in-tag-text, in-tag-hole, escape-name}
+use Rattle.spec.proofs.Ledger.{neither, down-both, is-false, kept-valued}
+use Rattle.spec.proofs.Nested.{Neutral, InTag, neutral-nil, neutral-append, neutral-text, neutral-hole, neutral-void, neutral-element, in-tag-nil, in-tag-append, in-tag-text, in-tag-hole, escape-name, void-compared, unmixed-compared}
 use Rattle.spec.proofs.Closure.{OneExpr, still-weaken, still-none, still-node, still-raw, still-append, good-weaken, good-pure, good-both, good-raise, good-template, parts-weaken, parts-append, good-after, good-after-any, good-leave, good-null}
 use Rattle.spec.proofs.Invariant.{Alone, AloneField, Invariant}
-
--- a flag that is down is not up
-pub never : (b : Bool) → T (not b) → T b → ⊥
-never true l t = l
-never false l t = t
 
 -- what stands alone is one expression
 pub field-node : (m : Mid) → AloneField m → OneNode false m
@@ -43,14 +39,28 @@ alone-expr (raw q none) h = tt
 alone-expr (raw q (node t f i r)) h = absurd h
 alone-expr (raw q (raw s r)) h = absurd h
 
+-- parts without a mixed mark, and both halves of them
+abbrev pub Unmixed : List Part → Type 0
+Unmixed ps = T (not (marks ps .mixed))
+
+unmixed-append : (ps qs : List Part) → Unmixed (ps ++ qs) → Unmixed ps × Unmixed qs
+unfolding marks
+unmixed-append [] qs m = (tt, m)
+unmixed-append (chars b ∷ ps) qs m = unmixed-append ps qs m
+unmixed-append (gap p ∷ ps) qs m = unmixed-append ps qs m
+unmixed-append (mark f ∷ ps) qs m =
+    let u = neither (f .mixed) (marks (ps ++ qs) .mixed) m in
+    let v = unmixed-append ps qs (u .1) in
+    (down-both (f .mixed) (marks ps .mixed) (u .0) (v .0), v .1)
+
 module _ (Fragments : Type 0) where
   -- ---- parts
 
-  -- parts that are content, however they are filled
+  -- parts that are content, however they are filled, unless one of their names is void only in small letters
   pub record Content (ps : List Part) (w : ℕ) : Type 0 where
     pub pieces : List Piece
     pub good : GoodParts Fragments ps pieces w
-    pub neutral : Neutral pieces
+    pub neutral : Unmixed ps → Neutral pieces
 
   -- parts that stand in an opening tag
   pub record Opening (ps : List Part) (w : ℕ) : Type 0 where
@@ -63,23 +73,23 @@ module _ (Fragments : Type 0) where
 
   pub content-nil : (w : ℕ) → Content [] w
   unfolding GoodParts
-  content-nil w = record { pieces = []; good = tt; neutral = neutral-nil }
+  content-nil w = record { pieces = []; good = tt; neutral = λ m. neutral-nil }
 
   pub content-append : {ps qs : List Part} {a b w : ℕ} → a + b ≤ w → Content ps a → Content qs b → Content (ps ++ qs) w
   content-append {ps} {qs} {a} {b} {w} h x y =
       record {
         pieces = x .pieces ++ y .pieces;
         good = parts-weaken Fragments (ps ++ qs) (x .pieces ++ y .pieces) h (parts-append Fragments ps qs (x .pieces) (y .pieces) a b (x .good) (y .good));
-        neutral = neutral-append (x .neutral) (y .neutral);
+        neutral = λ m. let u = unmixed-append ps qs m in neutral-append (x .neutral (u .0)) (y .neutral (u .1));
       }
 
   pub content-text : (t : Bytes) {ps : List Part} {w : ℕ} → T (free t) → Content ps w → Content (chars t ∷ ps) w
-  unfolding GoodParts
-  content-text t {ps} {w} h x = record { pieces = literal t ∷ x .pieces; good = (refl, x .good); neutral = neutral-append (neutral-text t h) (x .neutral) }
+  unfolding GoodParts marks
+  content-text t {ps} {w} h x = record { pieces = literal t ∷ x .pieces; good = (refl, x .good); neutral = λ m. neutral-append (neutral-text t h) (x .neutral m) }
 
   pub content-gap : {p : Pass Mid} {ps : List Part} {a b w : ℕ} → a + b ≤ w → GoodGap Fragments a false p → Content ps b → Content (gap p ∷ ps) w
-  unfolding GoodParts
-  content-gap {p} {ps} {a} {b} {w} h g x = record { pieces = hole false ∷ x .pieces; good = (a, b, h, g, x .good); neutral = neutral-append neutral-hole (x .neutral) }
+  unfolding GoodParts marks
+  content-gap {p} {ps} {a} {b} {w} h g x = record { pieces = hole false ∷ x .pieces; good = (a, b, h, g, x .good); neutral = λ m. neutral-append neutral-hole (x .neutral m) }
 
   pub opening-nil : (w : ℕ) → Opening [] w
   unfolding GoodParts
@@ -104,27 +114,31 @@ module _ (Fragments : Type 0) where
   opening-gap {p} {w} g = record { pieces = literal (32 ∷ []) ∷ hole true ∷ []; good = (refl, (w, 0, omega arith, g, tt)); in-tag = in-tag-hole }
 
   -- `<name`, the attributes, `>`
-  pub void-content : {ps : List Part} (n : Bytes) → T (is-name n) → is-void-element n ≡ true → {a : ℕ} → Opening ps a → (c : ℕ) → Content (chars (60 ∷ escape-html n) ∷ (ps ++ (chars (62 ∷ []) ∷ []))) (a + c)
-  unfolding GoodParts
-  void-content {ps} n ok e {a} x c =
+  pub void-content : {ps : List Part} (n : Bytes) (as′ : List Attribute) → T (is-name n) → is-void-element n ≡ true → {a : ℕ} → Opening ps a → (c : ℕ) → Content (mark (tag-flags n as′) ∷ chars (60 ∷ escape-html n) ∷ (ps ++ (chars (62 ∷ []) ∷ []))) (a + c)
+  unfolding GoodParts tag-flags
+  void-content {ps} n as′ ok e {a} x c =
       record {
         pieces = literal (60 ∷ n) ∷ (x .pieces ++ (literal (62 ∷ []) ∷ []));
-        good = (ap (λ (b : Bytes). 60 ∷ b) (escape-name n ok), parts-append Fragments ps (chars (62 ∷ []) ∷ []) (x .pieces) (literal (62 ∷ []) ∷ []) a c (x .good) (refl, tt));
-        neutral = neutral-void n ok e (x .in-tag);
+        good = (tt, (ap (λ (b : Bytes). 60 ∷ b) (escape-name n ok), parts-append Fragments ps (chars (62 ∷ []) ∷ []) (x .pieces) (literal (62 ∷ []) ∷ []) a c (x .good) (refl, tt)));
+        neutral = λ m. neutral-void n ok (void-compared n e) (x .in-tag);
       }
 
   -- and the children, and `</name>`
-  pub element-content : {ps qs : List Part} (n : Bytes) → T (is-name n) → is-void-element n ≡ false → {a c : ℕ} → Opening ps a → Content qs c →
-      Content (chars (60 ∷ escape-html n) ∷ (ps ++ (chars (62 ∷ []) ∷ (qs ++ (chars (60 ∷ 47 ∷ (n ++ (62 ∷ []))) ∷ []))))) (a + c)
-  unfolding GoodParts
-  element-content {ps} {qs} n ok e {a} {c} x y =
+  pub element-content : {ps qs : List Part} (n : Bytes) (as′ : List Attribute) → T (is-name n) → is-void-element n ≡ false → {a c : ℕ} → Opening ps a → Content qs c →
+      Content (mark (tag-flags n as′) ∷ chars (60 ∷ escape-html n) ∷ (ps ++ (chars (62 ∷ []) ∷ (qs ++ (chars (60 ∷ 47 ∷ (n ++ (62 ∷ []))) ∷ []))))) (a + c)
+  unfolding GoodParts tag-flags marks
+  element-content {ps} {qs} n as′ ok e {a} {c} x y =
       let close : List Part = chars (60 ∷ 47 ∷ (n ++ (62 ∷ []))) ∷ [] in
       let closed : List Piece = literal (60 ∷ 47 ∷ (n ++ (62 ∷ []))) ∷ [] in
       let back = parts-weaken Fragments (qs ++ close) (y .pieces ++ closed) {v = c + 0} {w = c} (omega arith) (parts-append Fragments qs close (y .pieces) closed c 0 (y .good) (refl, tt)) in
       record {
         pieces = literal (60 ∷ n) ∷ (x .pieces ++ (literal (62 ∷ []) ∷ (y .pieces ++ closed)));
-        good = (ap (λ (b : Bytes). 60 ∷ b) (escape-name n ok), parts-append Fragments ps (chars (62 ∷ []) ∷ (qs ++ close)) (x .pieces) (literal (62 ∷ []) ∷ (y .pieces ++ closed)) a c (x .good) (refl, back));
-        neutral = neutral-element n ok e (x .in-tag) (y .neutral);
+        good = (tt, (ap (λ (b : Bytes). 60 ∷ b) (escape-name n ok), parts-append Fragments ps (chars (62 ∷ []) ∷ (qs ++ close)) (x .pieces) (literal (62 ∷ []) ∷ (y .pieces ++ closed)) a c (x .good) (refl, back)));
+        neutral =
+            λ m.
+            let u = neither (void-when-lowered n) (marks (ps ++ (chars (62 ∷ []) ∷ (qs ++ close))) .mixed) m in
+            let v = unmixed-append qs close (unmixed-append ps (chars (62 ∷ []) ∷ (qs ++ close)) (u .1) .1) in
+            neutral-element n ok (unmixed-compared n e (u .0)) (x .in-tag) (y .neutral (v .0));
       }
 
   -- ---- expressions taken apart
@@ -180,6 +194,7 @@ module _ (Fragments : Type 0) where
       record {
         literal = λ b. 0;
         other = λ bs. 0;
+        own = λ f. 0;
         tag = 1;
         Spare = λ w. Unit {0};
         Left = Fragments;
@@ -209,14 +224,14 @@ module _ (Fragments : Type 0) where
         pass-pure = good-pure Fragments;
         pass-both = λ e g h. good-weaken Fragments (omega (arith, e)) (good-both Fragments g h);
         pass-map = good-map;
-        pass-raise = λ f l g. good-raise Fragments f (λ t. absurd (never (f .left) l t)) g;
+        pass-raise = λ b g. good-raise Fragments (long-if b) (λ t. absurd t) g;
         pass-template = λ ps {v} {w} e c. good-weaken Fragments (omega (arith, e)) (good-template Fragments ps (c .pieces) v (c .good) (c .neutral) .good);
         content-none = content-nil 0;
         content-text = content-text;
         content-gap = λ {p} e g a x. content-gap (omega (arith, e)) (record { good = g; one = λ n. field-node (p n .value) (a n) }) x;
         content-append = λ e x y. content-append (omega (arith, e)) x y;
-        content-void = λ n ok e x. content-weaken (omega arith) (void-content n ok e x 0);
-        content-element = λ n ok e d x y. content-weaken (omega (arith, d)) (element-content n ok e x y);
+        content-void = λ n as′ ok e d x. content-weaken (omega (arith, d)) (void-content n as′ ok e x 0);
+        content-element = λ n as′ ok e d x y. content-weaken (omega (arith, d)) (element-content n as′ ok e x y);
         opening-none = λ {w} s. opening-nil w;
         opening-text = λ b {w} s h. opening-text b w h;
         opening-gap = λ g a. opening-gap (record { good = g; one = a });

@@ -11,8 +11,9 @@ use Rattle.field.specs.Row.{Row, end, field, inside}
 use Rattle.text.specs.Escape.{escape-html}
 use Rattle.names.specs.Names.{is-void-element}
 use Rattle.spec.specs.declared.Flags.{Flags}
-use Rattle.spec.specs.Pass.{Pass, pure, map, both, raise, Raw, Mid, none, node, raw, _+++_, Part, chars, gap}
+use Rattle.spec.specs.Pass.{Pass, pure, map, both, raise, long-if, Raw, Mid, none, node, raw, _+++_, Part, chars, gap, mark}
 use Rattle.spec.specs.Output.{gen-template}
+use Rattle.spec.specs.Attributes.{Attribute, tag-flags}
 use Rattle.spec.specs.Visit.{visit-after, leave}
 use Rattle.spec.specs.Words.{free}
 use Rattle.spec.proofs.Good.{FormedBy, OneNode}
@@ -59,9 +60,10 @@ abbrev pub plain : ℕ → Bool
 plain t = not ((eqb t 0x30 || eqb t 0x31) || (eqb t 0x90 || (eqb t 0x74 || eqb t 0x79)))
 
 pub record Invariant : Type 1 where
-  -- what a 74 weighs by its body, a 79 by its own source pieces, and a tag; what may be spared
+  -- what a 74 weighs by its body, a 79 by its own source pieces, a serialized element by its flags, and a tag; what may be spared
   pub literal : Bytes → ℕ
   pub other : List Bytes → ℕ
+  pub own : Flags → ℕ
   pub tag : ℕ
   pub Spare : ℕ → Type 0
   -- a tag may be left, and what names of serialized elements are
@@ -96,16 +98,16 @@ pub record Invariant : Type 1 where
   pub pass-pure : {m : Mid} {w : ℕ} → MidOk 0 m w → PassOk (pure m) w
   pub pass-both : {p q : Pass Mid} {a b w : ℕ} → a + b ≡ w → PassOk p a → PassOk q b → PassOk (both _+++_ p q) w
   pub pass-map : {p : Pass Mid} {v w : ℕ} (f : Mid → Mid) (a : ℕ) → ((m : Mid) (k b c : ℕ) → a + b ≡ c → MidOk k m b → MidOk k (f m) c) → a + v ≡ w → PassOk p v → PassOk (map f p) w
-  pub pass-raise : {p : Pass Mid} {w : ℕ} (f : Flags) → T (not (f .left)) → PassOk p w → PassOk (raise f p) w
+  pub pass-raise : {p : Pass Mid} {w : ℕ} (b : Bool) → PassOk p w → PassOk (raise (long-if b) p) w
   pub pass-template : (ps : List Part) {v w : ℕ} → tag + v ≡ w → Content ps v → PassOk (gen-template ps) w
   -- parts
   pub content-none : Content [] 0
   pub content-text : (t : Bytes) {ps : List Part} {w : ℕ} → T (free t) → Content ps w → Content (chars t ∷ ps) w
   pub content-gap : {p : Pass Mid} {ps : List Part} {a b w : ℕ} → a + b ≡ w → PassOk p a → ((n : ℕ) → AloneField (p n .value)) → Content ps b → Content (gap p ∷ ps) w
   pub content-append : {ps qs : List Part} {a b w : ℕ} → a + b ≡ w → Content ps a → Content qs b → Content (ps ++ qs) w
-  pub content-void : {ps : List Part} {w : ℕ} (n : Bytes) → NameOk n → is-void-element n ≡ true → Opening ps w → Content (chars (60 ∷ escape-html n) ∷ (ps ++ (chars (62 ∷ []) ∷ []))) w
-  pub content-element : {ps qs : List Part} {a b w : ℕ} (n : Bytes) → NameOk n → is-void-element n ≡ false → a + b ≡ w → Opening ps a → Content qs b →
-      Content (chars (60 ∷ escape-html n) ∷ (ps ++ (chars (62 ∷ []) ∷ (qs ++ (chars (60 ∷ 47 ∷ (n ++ (62 ∷ []))) ∷ []))))) w
+  pub content-void : {ps : List Part} {v w : ℕ} (n : Bytes) (as′ : List Attribute) → NameOk n → is-void-element n ≡ true → own (tag-flags n as′) + v ≡ w → Opening ps v → Content (mark (tag-flags n as′) ∷ chars (60 ∷ escape-html n) ∷ (ps ++ (chars (62 ∷ []) ∷ []))) w
+  pub content-element : {ps qs : List Part} {a b w : ℕ} (n : Bytes) (as′ : List Attribute) → NameOk n → is-void-element n ≡ false → own (tag-flags n as′) + (a + b) ≡ w → Opening ps a → Content qs b →
+      Content (mark (tag-flags n as′) ∷ chars (60 ∷ escape-html n) ∷ (ps ++ (chars (62 ∷ []) ∷ (qs ++ (chars (60 ∷ 47 ∷ (n ++ (62 ∷ []))) ∷ []))))) w
   pub opening-none : {w : ℕ} → Spare w → Opening [] w
   pub opening-text : (b : Bytes) {w : ℕ} → Spare w → T (free b) → Opening (chars (32 ∷ b) ∷ []) w
   pub opening-gap : {p : Pass Mid} {w : ℕ} → PassOk p w → ((n : ℕ) → OneNode true (p n .value)) → Opening (chars (32 ∷ []) ∷ gap p ∷ []) w

@@ -11,8 +11,8 @@ use Rattle.field.specs.Row.{Row, end, loose, field, read}
 use Rattle.page.specs.Page.{Options, Page}
 use Rattle.page.specs.Tree.{texts-in, choose, options-in}
 use Rattle.spec.specs.declared.Flags.{Flags}
-use Rattle.spec.specs.Pass.{Done, Pass, pure, map, bind, both, raise, join, Raw, Mid, none, node, raw, _+++_, _⧺_}
-use Rattle.spec.specs.Output.{gen-template}
+use Rattle.spec.specs.Pass.{Done, Pass, pure, map, bind, both, raise, join, Raw, Mid, none, node, raw, _+++_, _⧺_, marks}
+use Rattle.spec.specs.Output.{dynamic-exprs, gen-template}
 use Rattle.spec.specs.Visit.{visit-exprs, visit-inside, visit-after, leave}
 use Rattle.spec.specs.Transform.{transform, bit, helper-sum, with-templates, page-out-row}
 use Rattle.spec.specs.Answer.{Written, accepted, page-given, outcome}
@@ -22,17 +22,17 @@ use Rattle.spec.proofs.Answers.{accepted-says}
 use Rattle.spec.proofs.Lent.{page-read}
 use Rattle.spec.proofs.Ledger.{neither}
 use Rattle.spec.proofs.Invariant.{Split, Alone, sources}
-use Rattle.spec.proofs.Counting.{None, uncounted, Counting, every-page}
+use Rattle.spec.proofs.Counting.{None, uncounted, nothing-marked, Counting, every-page}
 
 -- ---- pages in which no tag is left
 
-abbrev Unflagged : Flags → Type 0
+abbrev pub Unflagged : Flags → Type 0
 Unflagged f = T (not (f .left))
 
-unflagged-left : (f g : Flags) → Unflagged (join f g) → Unflagged f
+pub unflagged-left : (f g : Flags) → Unflagged (join f g) → Unflagged f
 unflagged-left f g c = neither (f .left) (g .left) c .0
 
-unflagged-right : (f g : Flags) → Unflagged (join f g) → Unflagged g
+pub unflagged-right : (f g : Flags) → Unflagged (join f g) → Unflagged g
 unflagged-right f g c = neither (f .left) (g .left) c .1
 
 -- ---- source pieces of a row
@@ -161,6 +161,7 @@ module _ (literal : Bytes → ℕ) (other : List Bytes → ℕ) where
       record {
         literal = literal;
         other = other;
+        own = λ f. 0;
         MidOk = λ k m w. Holds m w;
         PassOk = λ p w. (n : ℕ) → Unflagged (p n .flags) → Holds (p n .value) w;
         VisitOk = λ p w. (n : ℕ) → Unflagged (p n .flags) → Visited w (p n);
@@ -177,8 +178,8 @@ module _ (literal : Bytes → ℕ) (other : List Bytes → ℕ) where
         pass-pure = λ x. unfold pure in λ n c. x;
         pass-both = λ {p} {q} e g h. unfold both in λ n c. let d = p n in let s = q (n + d .taken) in holds-append e (g n (unflagged-left (d .flags) (s .flags) c)) (h (n + d .taken) (unflagged-right (d .flags) (s .flags) c));
         pass-map = λ {p} {v} {w} f a k e g. unfold map in λ n c. k (p n .value) 0 v w e (g n c);
-        pass-raise = λ {p} f l g. unfold raise in λ n c. g n (unflagged-right f (p n .flags) c);
-        pass-template = λ ps {w} g. unfold gen-template in λ n c. holds-node w 0 (omega arith) (g (n + 1) c) (none-holds refl);
+        pass-raise = λ b g. unfold raise in λ n c. g n c;
+        pass-template = λ ps {v} l e g. unfold gen-template in λ n c. holds-node v 0 (omega (arith, e, nothing-marked ps)) (g (n + 1) (unflagged-right (marks ps) (dynamic-exprs ps (n + 1) .flags) c)) (none-holds refl);
         visit-done = λ {p} g a. unfold visit-after bind in λ n c. let d = p n in let s = visit-inside (d .value) (n + d .taken) in let v = inside (d .value) (g n (unflagged-left (d .flags) (s .flags) c)) (a n) (n + d .taken) (unflagged-right (d .flags) (s .flags) c) in record { count = v .count; no-pieces = v .no-pieces };
         visit-left = unfold leave raise in λ n c. absurd c;
         visit-null = unfold pure in-row texts-in choose in λ n c. record { count = refl; no-pieces = refl };
@@ -202,7 +203,7 @@ module _ (literal : Bytes → ℕ) (other : List Bytes → ℕ) where
       behind : (t : ℕ) (f : Bytes) (i r s : Row) → in-row literal other s ≡ in-row literal other r → in-row literal other (field t f i s) ≡ in-row literal other (field t f i r)
       behind t f i r s e = unfold in-row in omega (arith, e)
 
-  pub kept : (o : Options) (p : Page) → Unflagged (transform o p .flags) → in-row literal other (page-out-row o (transform o p)) ≡ in-page literal other o p
+  pub kept : (o : Options) (p : Page) → Unflagged (transform o p .flags) → in-row literal other (page-out-row o (transform o p)) ≡ in-page literal other (λ f. 0) o p
   unfolding transform counting
   kept o p c = page-out-counts o (transform o p) ∙ visits (every-page counting o p) 1 c .count
 
@@ -215,5 +216,5 @@ kept-bytes page options scratch tr pr w all e =
     let p = page-given page options in
     let says = accepted-says page options scratch tr pr w e in
     let out = sym (page-read page options scratch tr pr w all e) in
-    let both-ways : (l : Bytes → ℕ) (x : List Bytes → ℕ) → in-row l x (read (w .page-out)) ≡ in-page l x o p = λ l x. subst (λ (r : Row). in-row l x r ≡ in-page l x o p) out (kept l x o p (says .outputs .none-left)) in
+    let both-ways : (l : Bytes → ℕ) (x : List Bytes → ℕ) → in-row l x (read (w .page-out)) ≡ in-page l x (λ f. 0) o p = λ l x. subst (λ (r : Row). in-row l x r ≡ in-page l x (λ f. 0) o p) out (kept l x o p (says .outputs .none-left)) in
     record { literals = λ b. both-ways (λ c. bit (same b c) 1) (λ cs. 0); others = λ bs. both-ways (λ c. 0) (λ cs. bit (same-pieces bs cs) 1) }

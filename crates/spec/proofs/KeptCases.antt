@@ -24,7 +24,7 @@ key v as′ = attribute (ident (ascii "key")) v as′
 
 counted : Tag → ℕ
 unfolding in-tag same among get-attr-name normalize-dom-attr-name renamed rename-in hyphenated-names kept-names small-letter small-letters parted is-void-element void-names keeps-from-serializing is-serializable is-component child key-follows
-counted t = in-tag (λ b. 1) (λ bs. 0) (record { skip-serialize = []; skip-prop-serialize = ascii "b" ∷ []; import-source = [] }) t
+counted t = in-tag (λ b. 1) (λ bs. 0) (λ f. 0) (record { skip-serialize = []; skip-prop-serialize = ascii "b" ∷ []; import-source = [] }) t
 
 record Cases : Type 0 where
   child-kept : counted inner ≡ 1

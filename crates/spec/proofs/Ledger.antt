@@ -32,6 +32,15 @@ pub neither : (a b : Bool) → T (not (a || b)) → T (not a) × T (not b)
 neither true b t = absurd t
 neither false b t = (tt, t)
 
+-- a flag that is down is not up, and two that are down are down together
+pub never : (b : Bool) → T (not b) → T b → ⊥
+never true l t = l
+never false l t = t
+
+pub down-both : (a b : Bool) → T (not a) → T (not b) → T (not (a || b))
+down-both true b x y = absurd x
+down-both false b x y = y
+
 pub is-false : (a : Bool) → T (not a) → a ≡ false
 is-false true t = absurd t
 is-false false t = refl
@@ -164,17 +173,17 @@ raised f d = record { value = d .value; taken = d .taken; templates = d .templat
 module _ (Fragments : Type 0) where
   pub kept-pure : {A : Type 0} (v : A) (n : ℕ) → Kept Fragments (pure v n)
   unfolding pure AllSound
-  kept-pure v n = record { sound = tt; fragments = λ t. absurd t }
+  kept-pure v n = record { sound = λ m. tt; fragments = λ t. absurd t }
 
   pub kept-valued : {A B : Type 0} (v : B) (d : Done A) → Kept Fragments d → Kept Fragments (valued v d)
   kept-valued v d k = record { sound = k .sound; fragments = k .fragments }
 
   pub kept-raised : {A : Type 0} (f : Flags) (d : Done A) → (T (f .left) → Fragments) → Kept Fragments d → Kept Fragments (raised f d)
-  kept-raised f d r k = record { sound = k .sound; fragments = or-either (f .left) (d .flags .left) r (k .fragments) }
+  kept-raised f d r k = record { sound = λ m. k .sound (neither (f .mixed) (d .flags .mixed) m .1); fragments = or-either (f .left) (d .flags .left) r (k .fragments) }
 
   pub kept-then : {A B C : Type 0} (v : C) (d : Done A) (e : Done B) → Kept Fragments d → Kept Fragments e → Kept Fragments (then v d e)
   kept-then v d e k l =
       record {
-        sound = sound-append (d .templates) (e .templates) (k .sound) (l .sound);
+        sound = λ m. let u = neither (d .flags .mixed) (e .flags .mixed) m in sound-append (d .templates) (e .templates) (k .sound (u .0)) (l .sound (u .1));
         fragments = or-either (d .flags .left) (e .flags .left) (k .fragments) (l .fragments);
       }

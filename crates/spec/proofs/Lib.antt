@@ -1,6 +1,7 @@
 -- The table of marks, demand 3, acceptance, how long the outputs are at most, that as many templates are called as recorded, that the
--- page's own expressions are kept, and what 05 changes.
+-- page's own expressions are kept, and what 05 changes; 16 and 19 exactly where the page given has their cause.
 pub mod Marks
+pub mod NestedCases
 pub mod Good
 pub mod Weight
 pub mod Markup
@@ -31,6 +32,7 @@ pub mod TagLeft
 pub mod LongRun
 pub mod Accept
 pub mod Kept
+pub mod Flagged
 pub mod KeptCases
 pub mod LostCases
 pub mod Cost

@@ -11,7 +11,7 @@ use lib.ListN.{length, length-append}
 use Rattle.field.specs.Bytes.{Bytes}
 use Rattle.field.specs.Number.{big-endian}
 use Rattle.field.specs.Row.{Row, end, loose, field, bytes, long-body}
-use Rattle.spec.specs.Pass.{Template, Done, Pass, pure, map, both, Mid, none, node, raw, _+++_, _⧺_, Part, chars, gap, over}
+use Rattle.spec.specs.Pass.{Template, Done, Pass, pure, map, both, Mid, none, node, raw, _+++_, _⧺_, Part, chars, gap, mark, over}
 use Rattle.spec.specs.Output.{string-node, strings-after, dynamic-exprs, strings-row, template-row, gen-template}
 use Rattle.spec.specs.Merge.{Child, text, empty, container, element, fragment, spread, long-run}
 use Rattle.spec.specs.Children.{merged-parts, serialize-jsx, spliced, entries, entry-pass, entries-pass}
@@ -40,6 +40,7 @@ unfolding strings-after some-over
 open-over [] last h = or-left (over last) false h
 open-over (chars b ∷ ps) last h = open-over ps (last ++ b) (longer last b h)
 open-over (gap p ∷ ps) last h = or-left (over last) (some-over (strings-after [] ps)) h
+open-over (mark f ∷ ps) last h = open-over ps last h
 
 -- and what stands behind other parts is not looked at differently
 past : (ps qs : List Part) → ((last : Bytes) → T (some-over (strings-after last qs))) → (last : Bytes) → T (some-over (strings-after last (ps ++ qs)))
@@ -47,6 +48,7 @@ unfolding strings-after some-over
 past [] qs h last = h last
 past (chars b ∷ ps) qs h last = past ps qs h (last ++ b)
 past (gap p ∷ ps) qs h last = or-right (over last) (some-over (strings-after [] (ps ++ qs))) (past ps qs h [])
+past (mark f ∷ ps) qs h last = past ps qs h last
 
 append-parts : (ps qs rs : List Part) → (ps ++ qs) ++ rs ≡ ps ++ (qs ++ rs)
 append-parts [] qs rs = refl

@@ -11,12 +11,12 @@ use native.Mathlib.Omega.{arith}
 use Rattle.field.specs.Bytes.{Bytes, pick, same}
 use Rattle.names.specs.Names.{is-void-element}
 use Rattle.page.specs.Check.{name-start, name-part, name-parts, is-name}
-use Rattle.spec.specs.Words.{Reading, outside, inside-tag, ill, to-space, close-tag, open-tag, end-tag, read-byte, read-markup, WellNested, free}
+use Rattle.spec.specs.Words.{Reading, outside, inside-tag, ill, Comparison, compared, to-space, close-tag, open-tag, end-tag, read-byte, read-markup, WellNestedBy, free}
 
-pub read-append : (m : Reading) (x y : Bytes) → read-markup m (x ++ y) ≡ read-markup (read-markup m x) y
+pub read-append : (how : Comparison) (m : Reading) (x y : Bytes) → read-markup how m (x ++ y) ≡ read-markup how (read-markup how m x) y
 unfolding read-markup
-read-append m [] y = refl
-read-append m (c ∷ x) y = read-append (read-byte m c) x y
+read-append how m [] y = refl
+read-append how m (c ∷ x) y = read-append how (read-byte how m c) x y
 
 -- ---- tests
 
@@ -58,17 +58,17 @@ free-front c x h =
     let g = both-true (not (eqb c 62)) (free x) (f .1) in
     record { not-less = is-false (eqb c 60) (f .0); not-greater = is-false (eqb c 62) (g .0); rest = g .1 }
 
-pub read-free-outside : (ns : List Bytes) (x : Bytes) → T (free x) → read-markup (outside ns) x ≡ outside ns
+pub read-free-outside : (how : Comparison) (ns : List Bytes) (x : Bytes) → T (free x) → read-markup how (outside ns) x ≡ outside ns
 unfolding read-markup read-byte
-read-free-outside ns [] h = refl
-read-free-outside ns (c ∷ x) h = let f = free-front c x h in rw (f .not-less, f .not-greater) (read-free-outside ns x (f .rest))
+read-free-outside how ns [] h = refl
+read-free-outside how ns (c ∷ x) h = let f = free-front c x h in rw (f .not-less, f .not-greater) (read-free-outside how ns x (f .rest))
 
-pub read-free-inside : (ns : List Bytes) (b x : Bytes) → T (free x) → read-markup (inside-tag ns b) x ≡ inside-tag ns (b ++ x)
+pub read-free-inside : (how : Comparison) (ns : List Bytes) (b x : Bytes) → T (free x) → read-markup how (inside-tag ns b) x ≡ inside-tag ns (b ++ x)
 unfolding read-markup read-byte
-read-free-inside ns b [] h = rw append-nil
-read-free-inside ns b (c ∷ x) h =
+read-free-inside how ns b [] h = rw append-nil
+read-free-inside how ns b (c ∷ x) h =
     let f = free-front c x h in
-    rw (f .not-less, f .not-greater) (read-free-inside ns (b ++ (c ∷ [])) x (f .rest) ∙ ap (inside-tag ns) (append-assoc b (c ∷ []) x))
+    rw (f .not-less, f .not-greater) (read-free-inside how ns (b ++ (c ∷ [])) x (f .rest) ∙ ap (inside-tag ns) (append-assoc b (c ∷ []) x))
 
 -- ---- markup within open names: what is well nested by itself is so within any open names, which it leaves open
 
@@ -103,38 +103,38 @@ pick-within : (os : List Bytes) (b : Bool) {m m′ k k′ : Reading} → Within 
 pick-within os true h h′ = h
 pick-within os false h h′ = h′
 
-end-within : (os ns : List Bytes) (b : Bytes) → Within os (end-tag ns b) (end-tag (ns ++ os) b)
+end-within : (how : Comparison) (os ns : List Bytes) (b : Bytes) → Within os (end-tag how ns b) (end-tag how (ns ++ os) b)
 unfolding end-tag
-end-within os ns [] = open-within os ns []
-end-within os ns (c ∷ cs) = pick-within os (eqb c 47) (close-within os ns (to-space cs)) (open-within os ns (to-space (c ∷ cs)))
+end-within how os ns [] = open-within os ns []
+end-within how os ns (c ∷ cs) = pick-within os (eqb c 47) (close-within os ns _) (open-within os ns _)
 
-byte-within : (os : List Bytes) (m : Reading) (c : ℕ) → Within os (read-byte m c) (read-byte (with-open os m) c)
+byte-within : (how : Comparison) (os : List Bytes) (m : Reading) (c : ℕ) → Within os (read-byte how m c) (read-byte how (with-open os m) c)
 unfolding read-byte with-open
-byte-within os (outside ns) c = pick-within os (eqb c 60) (inr refl) (pick-within os (eqb c 62) (inl refl) (inr refl))
-byte-within os (inside-tag ns b) c = pick-within os (eqb c 60) (inl refl) (pick-within os (eqb c 62) (end-within os ns b) (inr refl))
-byte-within os ill c = inl refl
+byte-within how os (outside ns) c = pick-within os (eqb c 60) (inr refl) (pick-within os (eqb c 62) (inl refl) (inr refl))
+byte-within how os (inside-tag ns b) c = pick-within os (eqb c 60) (inl refl) (pick-within os (eqb c 62) (end-within how os ns b) (inr refl))
+byte-within how os ill c = inl refl
 
-read-ill : (w : Bytes) → read-markup ill w ≡ ill
+read-ill : (how : Comparison) (w : Bytes) → read-markup how ill w ≡ ill
 unfolding read-markup read-byte
-read-ill [] = refl
-read-ill (c ∷ w) = read-ill w
+read-ill how [] = refl
+read-ill how (c ∷ w) = read-ill how w
 
-read-within : (os : List Bytes) (w : Bytes) (m : Reading) → Within os (read-markup m w) (read-markup (with-open os m) w)
+read-within : (how : Comparison) (os : List Bytes) (w : Bytes) (m : Reading) → Within os (read-markup how m w) (read-markup how (with-open os m) w)
 unfolding read-markup
-read-within os [] m = inr refl
-read-within os (c ∷ w) m = on (byte-within os m c) (read-within os w (read-byte m c))
+read-within how os [] m = inr refl
+read-within how os (c ∷ w) m = on (byte-within how os m c) (read-within how os w (read-byte how m c))
   where
-    on : Within os (read-byte m c) (read-byte (with-open os m) c) →
-        Within os (read-markup (read-byte m c) w) (read-markup (with-open os (read-byte m c)) w) →
-        Within os (read-markup (read-byte m c) w) (read-markup (read-byte (with-open os m) c) w)
-    on (inl e) h = inl (ap (λ (k : Reading). read-markup k w) e ∙ read-ill w)
+    on : Within os (read-byte how m c) (read-byte how (with-open os m) c) →
+        Within os (read-markup how (read-byte how m c) w) (read-markup how (with-open os (read-byte how m c)) w) →
+        Within os (read-markup how (read-byte how m c) w) (read-markup how (read-byte how (with-open os m) c) w)
+    on (inl e) h = inl (ap (λ (k : Reading). read-markup how k w) e ∙ read-ill how w)
     on (inr e) h = rw e h
 
-pub read-nested : (ns : List Bytes) (w : Bytes) → WellNested w → read-markup (outside ns) w ≡ outside ns
-unfolding WellNested with-open
-read-nested ns w h = on (read-within ns w (outside []))
+pub read-nested : (how : Comparison) (ns : List Bytes) (w : Bytes) → WellNestedBy how w → read-markup how (outside ns) w ≡ outside ns
+unfolding WellNestedBy with-open
+read-nested how ns w h = on (read-within how ns w (outside []))
   where
-    on : Within ns (read-markup (outside []) w) (read-markup (outside ns) w) → read-markup (outside ns) w ≡ outside ns
+    on : Within ns (read-markup how (outside []) w) (read-markup how (outside ns) w) → read-markup how (outside ns) w ≡ outside ns
     on (inl e) = let z : _≡_ {A = ℕ} 0 1 = cc in absurd (omega arith)
     on (inr e) = e ∙ ap (with-open ns) h
 
@@ -187,18 +187,18 @@ name-to-space (c ∷ n) t h k =
     rw (not-name-byte 32 (λ x. x) c (f .part)) (ap (λ (l : Bytes). c ∷ l) (name-to-space n t (f .rest) k))
 
 -- the text of an opening tag: a name, and what stands behind it
-pub end-named-tag : (ns : List Bytes) (n t : Bytes) → T (is-name n) → T (space-first t) → end-tag ns (n ++ t) ≡ open-tag ns n
+pub end-named-tag : (how : Comparison) (ns : List Bytes) (n t : Bytes) → T (is-name n) → T (space-first t) → end-tag how ns (n ++ t) ≡ open-tag ns (compared how n)
 unfolding end-tag is-name
-end-named-tag ns [] t h k = absurd h
-end-named-tag ns (c ∷ n) t h k =
+end-named-tag how ns [] t h k = absurd h
+end-named-tag how ns (c ∷ n) t h k =
     let p = name-has-parts (c ∷ n) h in
     rw (not-name-byte 47 (λ x. x) c (name-front c n p .part), name-to-space (c ∷ n) t p k)
 
-pub read-closing-tag : (ns : List Bytes) (n : Bytes) → T (is-name n) → read-markup (outside (n ∷ ns)) (60 ∷ 47 ∷ (n ++ (62 ∷ []))) ≡ outside ns
+pub read-closing-tag : (how : Comparison) (ns : List Bytes) (n : Bytes) → T (is-name n) → read-markup how (outside (compared how n ∷ ns)) (60 ∷ 47 ∷ (n ++ (62 ∷ []))) ≡ outside ns
 unfolding read-markup read-byte end-tag close-tag space-first
-read-closing-tag ns n h =
-    read-append (inside-tag (n ∷ ns) (47 ∷ [])) n (62 ∷ []) ∙
-    ap (λ (m : Reading). read-markup m (62 ∷ [])) (read-free-inside (n ∷ ns) (47 ∷ []) n (name-free n p)) ∙
+read-closing-tag how ns n h =
+    read-append how (inside-tag (compared how n ∷ ns) (47 ∷ [])) n (62 ∷ []) ∙
+    ap (λ (m : Reading). read-markup how m (62 ∷ [])) (read-free-inside how (compared how n ∷ ns) (47 ∷ []) n (name-free n p)) ∙
     closing
   where
     p : T (name-parts n)
@@ -207,5 +207,5 @@ read-closing-tag ns n h =
     named : to-space n ≡ n
     named = ap to-space (sym (append-nil n)) ∙ name-to-space n [] p tt
 
-    closing : read-markup (inside-tag (n ∷ ns) (47 ∷ n)) (62 ∷ []) ≡ outside ns
+    closing : read-markup how (inside-tag (compared how n ∷ ns) (47 ∷ n)) (62 ∷ []) ≡ outside ns
     closing = rw (named, same-refl)

@@ -60,7 +60,7 @@ module _ (Fragments : Type 0) (o : Options) where
   unlost true x y = omega arith
   unlost false x y = omega arith
 
-  either-way : (s v : Bool) (a c : ℕ) → 1 + pick s (a + pick v 0 c) (a + c) ≤ suc (a + c)
+  either-way : (s v : Bool) (a c : ℕ) → 1 + pick s (0 + (a + pick v 0 c)) (a + c) ≤ suc (a + c)
   either-way true true a c = omega arith
   either-way true false a c = omega arith
   either-way false v a c = omega arith
@@ -72,7 +72,7 @@ module _ (Fragments : Type 0) (o : Options) where
       let a = attributes-weight as′ in
       let c = children-weight cs in
       let s = is-serializable o n (attributes o as′) in
-      let used = 1 + pick s (a + pick (is-void n) 0 c) (a + c) in
+      let used = 1 + pick s (0 + (a + pick (is-void n) 0 c)) (a + c) in
       W.child-spare I (M.element (element-of o n (attributes o as′) (children o cs))) (suc (a + c) - used) used (suc (a + c)) (omega (arith, either-way s (is-void n) a c)) tt
       (W.element-ok I o n ok (attributes o as′) (children o cs) a a c g h)
 

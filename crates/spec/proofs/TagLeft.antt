@@ -9,21 +9,17 @@ use Rattle.field.specs.Bytes.{Bytes}
 use Rattle.field.specs.Row.{Row, end, loose, field}
 use Rattle.page.specs.Page.{Options, Page}
 use Rattle.spec.specs.declared.Flags.{Flags}
-use Rattle.spec.specs.Pass.{Done, Pass, pure, map, bind, both, raise, join, Raw, Mid, none, node, raw, _+++_, _⧺_}
-use Rattle.spec.specs.Output.{gen-template}
+use Rattle.spec.specs.Pass.{Done, Pass, pure, map, bind, both, raise, join, Raw, Mid, none, node, raw, _+++_, _⧺_, marks}
+use Rattle.spec.specs.Output.{dynamic-exprs, gen-template}
 use Rattle.spec.specs.Visit.{visit-exprs, visit-inside, visit-after, leave}
 use Rattle.spec.specs.Transform.{transform, stands, page-out-row, module-items}
 use Rattle.spec.proofs.PageOut.{page-stands}
-use Rattle.spec.proofs.Ledger.{or-either}
+use Rattle.spec.proofs.Ledger.{or-either, down-both}
 use Rattle.spec.proofs.Shapes.{or-left, or-right}
 use Rattle.spec.proofs.Invariant.{Split, Alone}
-use Rattle.spec.proofs.Counting.{None, Counting, every-page}
+use Rattle.spec.proofs.Counting.{None, nothing-marked, Counting, every-page}
 
 -- ---- flags and rows
-
-down-both : (a b : Bool) → T (not a) → T (not b) → T (not (a || b))
-down-both true b x y = absurd x
-down-both false b x y = y
 
 -- of a flag that is up one part is up, and it is not the one that is down
 up-right : (a b : Bool) → T (not a) → T (a || b) → T b
@@ -115,6 +111,7 @@ counting =
     record {
       literal = λ b. 0;
       other = λ bs. 0;
+      own = λ f. 0;
       MidOk = λ k m w. Holds m w;
       PassOk = λ p w. (w ≡ 0) × ((n : ℕ) → First (p n));
       VisitOk = λ p w. (w ≡ 0) × ((n : ℕ) → Left (p n));
@@ -131,8 +128,8 @@ counting =
       pass-pure = λ x. unfold pure in (x .weightless, λ n. record { down = tt; raws = x .raws });
       pass-both = λ {p} {q} e g h. unfold both in (omega (arith, e, g .0, h .0), λ n. let d = p n in let s = q (n + d .taken) in record { down = down-both (d .flags .left) (s .flags .left) (g .1 n .down) (h .1 (n + d .taken) .down); raws = raws-append (d .value) (s .value) (g .1 n .raws) (h .1 (n + d .taken) .raws) });
       pass-map = λ {p} {v} {w} f a k e g. unfold map in (k (p 0 .value) 0 v w e (record { weightless = g .0; raws = g .1 0 .raws }) .weightless, λ n. record { down = g .1 n .down; raws = k (p n .value) 0 v w e (record { weightless = g .0; raws = g .1 n .raws }) .raws });
-      pass-raise = λ {p} f l g. unfold raise in (g .0, λ n. record { down = down-both (f .left) (p n .flags .left) l (g .1 n .down); raws = g .1 n .raws });
-      pass-template = λ ps g. unfold gen-template in (g .0, λ n. record { down = g .1 (n + 1) .down; raws = (g .1 (n + 1) .raws, tt) });
+      pass-raise = λ b g. unfold raise in (g .0, λ n. record { down = g .1 n .down; raws = g .1 n .raws });
+      pass-template = λ ps l e g. unfold gen-template in (omega (arith, e, g .0, nothing-marked ps), λ n. record { down = down-both (marks ps .left) (dynamic-exprs ps (n + 1) .flags .left) l (g .1 (n + 1) .down); raws = (g .1 (n + 1) .raws, tt) });
       visit-done = λ g a. (g .0, after (g .1));
       visit-left = unfold leave raise pure stands in (refl, λ n h. tt);
       visit-null = unfold pure in (refl, λ n h. absurd h);

@@ -30,10 +30,12 @@ pub data Outcome : Type 0 where
   refused : Refusal → Outcome
   accepted : Written → Outcome
 
--- 10 and 11, over the whole; then 12 and 13
+-- 10, 16, 19 and 11, each over the whole; then 12 and 13
 unfoldable pub check-outputs : (templates-room page-room : ℕ) → Flags → (templates page : Row) → Verdict
 check-outputs tr pr f t p =
     after (unless (not (f .left)) R.TagLeft) λ _.
+    after (unless (not (f .repeated)) R.RepeatedAttribute) λ _.
+    after (unless (not (f .mixed)) R.MixedCaseVoid) λ _.
     after (unless (not (f .long || (long-body t || long-body p))) R.OutputTooLong) λ _.
     after (unless (leb (length (bytes t)) tr) R.TemplatesTooSmall) λ _.
     unless (leb (length (bytes p)) pr) R.PageTooSmall
@@ -110,6 +112,8 @@ scratch-left (refused R.NotUtf8) b = zeros b
 scratch-left (refused R.NumberTooLarge) b = zeros b
 scratch-left (refused R.TooDeep) b = zeros b
 scratch-left (refused R.TagLeft) b = zeros b
+scratch-left (refused R.RepeatedAttribute) b = zeros b
+scratch-left (refused R.MixedCaseVoid) b = zeros b
 scratch-left (refused R.OutputTooLong) b = zeros b
 scratch-left (refused R.TemplatesTooSmall) b = zeros b
 scratch-left (refused R.PageTooSmall) b = zeros b

@@ -5,9 +5,10 @@ use lib.Dec.{leb}
 use Rattle.field.specs.Bytes.{Bytes, ascii, pick, same, among}
 use Rattle.text.specs.Escape.{escape-html}
 use Rattle.text.specs.Text.{normalize-lit-str}
-use Rattle.names.specs.Names.{AttrName, get-attr-name, is-boolean-attr}
+use Rattle.names.specs.Names.{AttrName, get-attr-name, is-boolean-attr, is-void-element, small-letters}
 use Rattle.page.specs.Number.{render}
 use Rattle.page.specs.Page.{Name, identifier, member, namespaced, Options}
+use Rattle.spec.specs.declared.Flags.{Flags}
 use Rattle.spec.specs.Pass.{Pass, pure, Raw, Mid, none, node, raw, _+++_, Part, chars, gap}
 use Rattle.spec.specs.Output.{leaf, string-node, true-node, null-node, attr-node, choice-node, prop-node}
 use Rattle.spec.specs.Merge.{Shape, string-shape, number-shape, boolean-shape, null-shape, literal-shape, minus-shape, other-shape}
@@ -87,6 +88,26 @@ attr-parts o (spread m) = []
 unfoldable pub attrs-parts : Options → List Attribute → List Part
 attrs-parts o [] = []
 attrs-parts o (a ∷ as′) = attr-parts o a ++ attrs-parts o as′
+
+-- ---- 02, A4 and A10: what is found of an element that is serialized
+
+-- the names that its attributes have in HTML, in small letters, whatever their values and whether they are listed
+unfoldable pub html-names : List Attribute → List Bytes
+html-names [] = []
+html-names (attribute n v ∷ as′) = small-letters (get-attr-name n true) ∷ html-names as′
+html-names (spread m ∷ as′) = html-names as′
+
+-- one of them twice
+unfoldable pub repeats : List Bytes → Bool
+repeats [] = false
+repeats (n ∷ ns) = among n ns || repeats ns
+
+-- one of the 14 only after going to small letters
+unfoldable pub void-when-lowered : Bytes → Bool
+void-when-lowered n = is-void-element (small-letters n) && not (is-void-element n)
+
+unfoldable pub tag-flags : Bytes → List Attribute → Flags
+tag-flags n as′ = record { left = false; long = false; repeated = repeats (html-names as′); mixed = void-when-lowered n }
 
 -- ---- in a jsx call: serialize_jsx_to_call_expr, its loop over the attributes
 

@@ -8,10 +8,10 @@ use Rattle.text.specs.Text.{jsx-text-to-str}
 use Rattle.names.specs.Names.{is-void-element}
 use Rattle.page.specs.Page.{Name, identifier, member, namespaced, Options}
 use Rattle.page.specs.Tree.{choose}
-use Rattle.spec.specs.Pass.{Pass, pure, map, both, raise, long-if, Mid, none, node, raw, _+++_, Part, chars, gap}
+use Rattle.spec.specs.Pass.{Pass, pure, map, both, raise, long-if, Mid, none, node, raw, _+++_, Part, chars, gap, mark}
 use Rattle.spec.specs.Output.{leaf, string-node, null-node, escape-node, prop-node, array-node, gen-template}
 use Rattle.spec.specs.Merge.{Shape, string-shape, number-shape, boolean-shape, null-shape, literal-shape, minus-shape, other-shape, Entry, still, passed, Found, nothing-found, one-found, array-found, Element, Fragment, Child, text, empty, container, element, fragment, spread, merge, long-run, short-runs, becomes-template}
-use Rattle.spec.specs.Attributes.{Attribute, is-serializable, attrs-parts, is-component, props-of, key-of, first-upper}
+use Rattle.spec.specs.Attributes.{Attribute, is-serializable, attrs-parts, is-component, props-of, key-of, first-upper, tag-flags}
 
 -- ---- in a template
 
@@ -158,9 +158,10 @@ to-call-expr n as′ cs = map (call-node n as′) (found-pass (children-to-expr 
 
 -- ---- serialize_jsx_element_to_string_vec
 
--- a serializable element of that name
+-- a serializable element of that name, with what is found of it
 unfoldable pub open-close : Options → Bytes → List Attribute → List Child → List Part
 open-close o n as′ cs =
+    mark (tag-flags n as′) ∷
     chars (60 ∷ escape-html n) ∷
     (attrs-parts o as′ ++ (chars (62 ∷ []) ∷
     pick (is-void-element n) [] (children-to-string true cs ++ (chars (60 ∷ 47 ∷ (n ++ (62 ∷ []))) ∷ []))))

@@ -10,7 +10,7 @@ use Rattle.field.specs.Bytes.{Bytes}
 use Rattle.field.specs.Number.{number-of}
 use Rattle.field.specs.Row.{Row, end, loose, field, read}
 use Rattle.spec.specs.Transform.{stands, bit}
-use Rattle.spec.specs.Words.{WellNested, places, filled, AllFit}
+use Rattle.spec.specs.Words.{Comparison, WellNestedBy, places, filled, AllFit}
 
 -- a front that begins with the number m: two bytes
 unfoldable pub begins : ℕ → Bytes → Bool
@@ -101,10 +101,10 @@ imported-in h (field t f i r) = (eqb t 0x82 && counts h (sum-in i)) || imported-
 
 -- ---- the statement
 
--- a template by itself: strings and nothing else, and every fitting filling is well nested
+-- a template by itself: strings and nothing else, and every fitting filling is well nested, in small letters (02, A10) and by bytes as well
 pub record SoundTemplate (strings : Row) : Type 0 where
   pub only-strings : AllTags 0x81 strings
-  pub nested : (fs : List Bytes) → AllFit (places (strings-in strings)) fs → WellNested (filled (strings-in strings) fs)
+  pub nested : (how : Comparison) (fs : List Bytes) → AllFit how (places (strings-in strings)) fs → WellNestedBy how (filled (strings-in strings) fs)
 
 -- a template and the dynamic expressions of its call
 pub record Suits (strings gaps : Row) : Type 0 where

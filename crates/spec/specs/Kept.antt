@@ -5,7 +5,7 @@ use Prim.Native.Nat.{ℕ, _+_}
 use mathlib.Core.Path.{_≡_}
 use mathlib.Core.Bool.{Bool, true, false, _&&_, _||_, not}
 use mathlib.Core.List.{List, [], _∷_}
-use lib.Dec.{eqb}
+use lib.Dec.{T, eqb, ltb}
 use Rattle.field.specs.Bytes.{Bytes, ascii, pick, same, among}
 use Rattle.field.specs.Row.{Row, end, loose, field, read}
 use Rattle.names.specs.Names.{AttrName, get-attr-name, is-void-element}
@@ -13,7 +13,9 @@ use Rattle.page.specs.Page as P
 use Rattle.page.specs.Page.{Name, identifier, member, namespaced, Options, Page}
 use Rattle.page.specs.Tree.{texts-in, options-in}
 use Rattle.spec.specs.Attributes as A
-use Rattle.spec.specs.Attributes.{Value, Attribute, is-serializable, is-component}
+use Rattle.spec.specs.declared.Flags.{Flags}
+use Rattle.spec.specs.Pass.{no-flags}
+use Rattle.spec.specs.Attributes.{Value, Attribute, is-serializable, is-component, tag-flags}
 use Rattle.spec.specs.Transform as F
 use Rattle.spec.specs.Answer.{page-given}
 
@@ -57,6 +59,12 @@ own-pieces P.no-pieces = []
 own-pieces (P.source-piece b ps) = b ∷ own-pieces ps
 own-pieces (P.tag-piece t ps) = own-pieces ps
 
+-- what is found of an element by itself, where it is serialized
+abbrev pub own-flags : Name → List Attribute → Flags
+own-flags (identifier n) as′ = tag-flags n as′
+own-flags (member ns) as′ = no-flags
+own-flags (namespaced n m) as′ = no-flags
+
 module _ (literal : Bytes → ℕ) (other : List Bytes → ℕ) where
   -- ---- in page out, at any depth
 
@@ -68,13 +76,15 @@ module _ (literal : Bytes → ℕ) (other : List Bytes → ℕ) where
   in-row (loose b) = 0
   in-row (field t f i r) = at-field t f (texts-in 0x20 i) + (in-row i + in-row r)
 
+-- how much an element counts by itself where it is serialized is one more parameter; A9 counts none (02, A4 and A10 do)
+module _ (literal : Bytes → ℕ) (other : List Bytes → ℕ) (own : Flags → ℕ) where
   -- ---- in the page, outside those places
 
   unfoldable mutual
     -- first place: the children of a serialized void element are lost
     pub in-tag : Options → P.Tag → ℕ
     in-tag o (P.element n as′ cs) =
-        pick (is-serializable o n (F.attributes o as′)) (in-opening o as′ + pick (is-void n) 0 (in-children o cs)) (in-call o (not (is-component n)) as′ + in-children o cs)
+        pick (is-serializable o n (F.attributes o as′)) (own (own-flags n (F.attributes o as′)) + (in-opening o as′ + pick (is-void n) 0 (in-children o cs))) (in-call o (not (is-component n)) as′ + in-children o cs)
     in-tag o (P.fragment cs) = in-children o cs
 
     -- second place, in a serialized element: a value that is a tag without a container is lost, unless the name is listed
@@ -144,8 +154,15 @@ same-pieces (c ∷ cs) (d ∷ ds) = same c d && same-pieces cs ds
 
 -- 02, A9, the last sentence, of what page out reads as
 pub record KeptIn (o : Options) (p : Page) (out : Row) : Type 0 where
-  pub literals : (b : Bytes) → in-row (λ c. F.bit (same b c) 1) (λ cs. 0) out ≡ in-page (λ c. F.bit (same b c) 1) (λ cs. 0) o p
-  pub others : (bs : List Bytes) → in-row (λ c. 0) (λ cs. F.bit (same-pieces bs cs) 1) out ≡ in-page (λ c. 0) (λ cs. F.bit (same-pieces bs cs) 1) o p
+  pub literals : (b : Bytes) → in-row (λ c. F.bit (same b c) 1) (λ cs. 0) out ≡ in-page (λ c. F.bit (same b c) 1) (λ cs. 0) (λ f. 0) o p
+  pub others : (bs : List Bytes) → in-row (λ c. 0) (λ cs. F.bit (same-pieces bs cs) 1) out ≡ in-page (λ c. 0) (λ cs. F.bit (same-pieces bs cs) 1) (λ f. 0) o p
+
+-- 02, A4: an element that 000 serializes, outside those places, has two attributes of one name; A10: one is void only in small letters
+abbrev pub Repeated : Options → Page → Type 0
+Repeated o p = T (ltb 0 (in-page (λ c. 0) (λ cs. 0) (λ f. F.bit (f .repeated) 1) o p))
+
+abbrev pub Mixed : Options → Page → Type 0
+Mixed o p = T (ltb 0 (in-page (λ c. 0) (λ cs. 0) (λ f. F.bit (f .mixed) 1) o p))
 
 -- and of the bytes: the page, its options, and page out up to its written end. 02, A12: counted in the page that is given
 unfoldable pub KeptBytes : (page options out : Bytes) → Type 0

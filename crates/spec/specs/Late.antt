@@ -6,6 +6,7 @@ use lib.ListN.{length}
 use Rattle.field.specs.Row.{Row, bytes, long-body}
 use Rattle.page.specs.Page.{Options}
 use Rattle.page.specs.declared.Refusal.the-variants as R
+use Rattle.spec.specs.declared.Flags.{Flags}
 use Rattle.spec.specs.Pass.{Done}
 use Rattle.spec.specs.Transform.{templates-row, page-out-row}
 use Rattle.spec.specs.Answer.{Written, Outcome, refused, accepted}
@@ -24,10 +25,18 @@ page-need o d = length (bytes (page-out-row o d))
 abbrev pub over-long : Options → Done Row → Bool
 over-long o d = d .flags .long || (long-body (templates-row (d .templates)) || long-body (page-out-row o d))
 
--- 01, Limits: 10 to 13 over the whole, the lower number first; taken where none is given
+-- none of 10, 16 and 19
+pub record Unmarked (f : Flags) : Type 0 where
+  pub not-left : T (not (f .left))
+  pub not-repeated : T (not (f .repeated))
+  pub not-mixed : T (not (f .mixed))
+
+-- 10, 16 (02, A4), 19 (A10), 11, 12 and 13, each over the whole, in this order; taken where none is given
 pub data Late (templates-room page-room : ℕ) (o : Options) (d : Done Row) : Outcome → Type 0 where
   tag-left : T (d .flags .left) → Late templates-room page-room o d (refused R.TagLeft)
-  too-long : T (not (d .flags .left)) → T (over-long o d) → Late templates-room page-room o d (refused R.OutputTooLong)
-  templates-small : T (not (d .flags .left)) → T (not (over-long o d)) → templates-room < templates-need d → Late templates-room page-room o d (refused R.TemplatesTooSmall)
-  page-small : T (not (d .flags .left)) → T (not (over-long o d)) → templates-need d ≤ templates-room → page-room < page-need o d → Late templates-room page-room o d (refused R.PageTooSmall)
-  taken : T (not (d .flags .left)) → T (not (over-long o d)) → templates-need d ≤ templates-room → page-need o d ≤ page-room → Late templates-room page-room o d (accepted (written o d))
+  repeated : T (not (d .flags .left)) → T (d .flags .repeated) → Late templates-room page-room o d (refused R.RepeatedAttribute)
+  mixed : T (not (d .flags .left)) → T (not (d .flags .repeated)) → T (d .flags .mixed) → Late templates-room page-room o d (refused R.MixedCaseVoid)
+  too-long : Unmarked (d .flags) → T (over-long o d) → Late templates-room page-room o d (refused R.OutputTooLong)
+  templates-small : Unmarked (d .flags) → T (not (over-long o d)) → templates-room < templates-need d → Late templates-room page-room o d (refused R.TemplatesTooSmall)
+  page-small : Unmarked (d .flags) → T (not (over-long o d)) → templates-need d ≤ templates-room → page-room < page-need o d → Late templates-room page-room o d (refused R.PageTooSmall)
+  taken : Unmarked (d .flags) → T (not (over-long o d)) → templates-need d ≤ templates-room → page-need o d ≤ page-room → Late templates-room page-room o d (accepted (written o d))

@@ -175,6 +175,48 @@ marks =
     mark (fld 0x01 (fld 0x12 (fld 0x30 ((fld 0x40 (ascii "a")) ++ (fld 0x50 ((fld 0x40 (ascii "b")) ++ (fld 0x51 (ascii "<&")))))))) [] 65536 65536 65536 0 1 (fld 0x80 ((0 ∷ 1 ∷ []) ++ (fld 0x81 (ascii "<a b=\"&lt;&amp;\"></a>")))) ((fld 0x82 ((fld 0x81 (ascii "react/jsx-runtime")) ++ (2 ∷ []))) ++ ((fld 0x83 []) ++ (fld 0x12 (fld 0x90 (0 ∷ 1 ∷ []))))) ∷
     -- <i/> and <b/>, side by side
     mark (fld 0x01 (fld 0x12 ((fld 0x30 (fld 0x40 (ascii "i"))) ++ (fld 0x30 (fld 0x40 (ascii "b")))))) [] 65536 65536 65536 0 2 ((fld 0x80 ((0 ∷ 1 ∷ []) ++ (fld 0x81 (ascii "<i></i>")))) ++ (fld 0x80 ((0 ∷ 2 ∷ []) ++ (fld 0x81 (ascii "<b></b>"))))) ((fld 0x82 ((fld 0x81 (ascii "react/jsx-runtime")) ++ (2 ∷ []))) ++ ((fld 0x83 []) ++ (fld 0x12 ((fld 0x90 (0 ∷ 1 ∷ [])) ++ (fld 0x90 (0 ∷ 2 ∷ [])))))) ∷
+    -- <p class="a" className="b"/>
+    mark (fld 0x01 (fld 0x12 (fld 0x30 ((fld 0x40 (ascii "p")) ++ ((fld 0x50 ((fld 0x40 (ascii "class")) ++ (fld 0x51 (ascii "a")))) ++ (fld 0x50 ((fld 0x40 (ascii "className")) ++ (fld 0x51 (ascii "b"))))))))) [] 65536 65536 65536 16 0 [] [] ∷
+    -- <use xlinkHref="a" href="b"/>
+    mark (fld 0x01 (fld 0x12 (fld 0x30 ((fld 0x40 (ascii "use")) ++ ((fld 0x50 ((fld 0x40 (ascii "xlinkHref")) ++ (fld 0x51 (ascii "a")))) ++ (fld 0x50 ((fld 0x40 (ascii "href")) ++ (fld 0x51 (ascii "b"))))))))) [] 65536 65536 65536 16 0 [] [] ∷
+    -- <svg viewBox="a" viewbox="b"/>
+    mark (fld 0x01 (fld 0x12 (fld 0x30 ((fld 0x40 (ascii "svg")) ++ ((fld 0x50 ((fld 0x40 (ascii "viewBox")) ++ (fld 0x51 (ascii "a")))) ++ (fld 0x50 ((fld 0x40 (ascii "viewbox")) ++ (fld 0x51 (ascii "b"))))))))) [] 65536 65536 65536 16 0 [] [] ∷
+    -- <p class="a" id="b" className="c"/>: not side by side
+    mark (fld 0x01 (fld 0x12 (fld 0x30 ((fld 0x40 (ascii "p")) ++ ((fld 0x50 ((fld 0x40 (ascii "class")) ++ (fld 0x51 (ascii "a")))) ++ ((fld 0x50 ((fld 0x40 (ascii "id")) ++ (fld 0x51 (ascii "b")))) ++ (fld 0x50 ((fld 0x40 (ascii "className")) ++ (fld 0x51 (ascii "c")))))))))) [] 65536 65536 65536 16 0 [] [] ∷
+    -- <p id="c" class="a" className="b"/>: not the first
+    mark (fld 0x01 (fld 0x12 (fld 0x30 ((fld 0x40 (ascii "p")) ++ ((fld 0x50 ((fld 0x40 (ascii "id")) ++ (fld 0x51 (ascii "c")))) ++ ((fld 0x50 ((fld 0x40 (ascii "class")) ++ (fld 0x51 (ascii "a")))) ++ (fld 0x50 ((fld 0x40 (ascii "className")) ++ (fld 0x51 (ascii "b")))))))))) [] 65536 65536 65536 16 0 [] [] ∷
+    -- <div>a<p class="a" className="b"/></div>: not the outermost
+    mark (fld 0x01 (fld 0x12 (fld 0x30 ((fld 0x40 (ascii "div")) ++ ((fld 0x60 (ascii "a")) ++ (fld 0x30 ((fld 0x40 (ascii "p")) ++ ((fld 0x50 ((fld 0x40 (ascii "class")) ++ (fld 0x51 (ascii "a")))) ++ (fld 0x50 ((fld 0x40 (ascii "className")) ++ (fld 0x51 (ascii "b")))))))))))) [] 65536 65536 65536 16 0 [] [] ∷
+    -- <p class={} className="b"/>: the first is dropped
+    mark (fld 0x01 (fld 0x12 (fld 0x30 ((fld 0x40 (ascii "p")) ++ ((fld 0x50 ((fld 0x40 (ascii "class")) ++ (fld 0x52 []))) ++ (fld 0x50 ((fld 0x40 (ascii "className")) ++ (fld 0x51 (ascii "b"))))))))) [] 65536 65536 65536 16 0 [] [] ∷
+    -- <p class="a" className="b"/>, class in 03
+    mark (fld 0x01 (fld 0x12 (fld 0x30 ((fld 0x40 (ascii "p")) ++ ((fld 0x50 ((fld 0x40 (ascii "class")) ++ (fld 0x51 (ascii "a")))) ++ (fld 0x50 ((fld 0x40 (ascii "className")) ++ (fld 0x51 (ascii "b"))))))))) (fld 0x03 (fld 0x20 (ascii "class"))) 65536 65536 65536 16 0 [] [] ∷
+    -- <p class="a" className="b" {...x}/>: a call
+    mark (fld 0x01 (fld 0x12 (fld 0x30 ((fld 0x40 (ascii "p")) ++ ((fld 0x50 ((fld 0x40 (ascii "class")) ++ (fld 0x51 (ascii "a")))) ++ ((fld 0x50 ((fld 0x40 (ascii "className")) ++ (fld 0x51 (ascii "b")))) ++ (fld 0x53 (fld 0x79 (fld 0x20 (ascii "x")))))))))) [] 65536 65536 65536 0 0 [] ((fld 0x82 ((fld 0x81 (ascii "react/jsx-runtime")) ++ (1 ∷ []))) ++ (fld 0x12 (fld 0x94 ((fld 0x81 (ascii "p")) ++ (fld 0x95 ((fld 0x96 ((fld 0x81 (ascii "class")) ++ (fld 0x70 (ascii "a")))) ++ ((fld 0x96 ((fld 0x81 (ascii "class")) ++ (fld 0x70 (ascii "b")))) ++ (fld 0x53 (fld 0x79 (fld 0x20 (ascii "x"))))))))))) ∷
+    -- <Foo class="a" className="b"/>: a component
+    mark (fld 0x01 (fld 0x12 (fld 0x30 ((fld 0x40 (ascii "Foo")) ++ ((fld 0x50 ((fld 0x40 (ascii "class")) ++ (fld 0x51 (ascii "a")))) ++ (fld 0x50 ((fld 0x40 (ascii "className")) ++ (fld 0x51 (ascii "b"))))))))) [] 65536 65536 65536 0 0 [] ((fld 0x82 ((fld 0x81 (ascii "react/jsx-runtime")) ++ (1 ∷ []))) ++ (fld 0x12 (fld 0x94 ((fld 0x40 (ascii "Foo")) ++ (fld 0x95 ((fld 0x96 ((fld 0x81 (ascii "class")) ++ (fld 0x70 (ascii "a")))) ++ (fld 0x96 ((fld 0x81 (ascii "className")) ++ (fld 0x70 (ascii "b")))))))))) ∷
+    -- <br><p class="a" className="b"/></br>: lost
+    mark (fld 0x01 (fld 0x12 (fld 0x30 ((fld 0x40 (ascii "br")) ++ (fld 0x30 ((fld 0x40 (ascii "p")) ++ ((fld 0x50 ((fld 0x40 (ascii "class")) ++ (fld 0x51 (ascii "a")))) ++ (fld 0x50 ((fld 0x40 (ascii "className")) ++ (fld 0x51 (ascii "b"))))))))))) [] 65536 65536 65536 0 1 (fld 0x80 ((0 ∷ 1 ∷ []) ++ (fld 0x81 (ascii "<br>")))) ((fld 0x82 ((fld 0x81 (ascii "react/jsx-runtime")) ++ (2 ∷ []))) ++ ((fld 0x83 []) ++ (fld 0x12 (fld 0x90 (0 ∷ 1 ∷ []))))) ∷
+    -- <p class="a" className="b"/> beside <><></></>
+    mark (fld 0x01 (fld 0x12 ((fld 0x30 ((fld 0x40 (ascii "p")) ++ ((fld 0x50 ((fld 0x40 (ascii "class")) ++ (fld 0x51 (ascii "a")))) ++ (fld 0x50 ((fld 0x40 (ascii "className")) ++ (fld 0x51 (ascii "b"))))))) ++ (fld 0x31 (fld 0x31 []))))) [] 65536 65536 65536 10 0 [] [] ∷
+    -- <p class="a" className="b"/>, no room in templates out
+    mark (fld 0x01 (fld 0x12 (fld 0x30 ((fld 0x40 (ascii "p")) ++ ((fld 0x50 ((fld 0x40 (ascii "class")) ++ (fld 0x51 (ascii "a")))) ++ (fld 0x50 ((fld 0x40 (ascii "className")) ++ (fld 0x51 (ascii "b"))))))))) [] 65536 0 65536 16 0 [] [] ∷
+    -- <bR/>
+    mark (fld 0x01 (fld 0x12 (fld 0x30 (fld 0x40 (ascii "bR"))))) [] 65536 65536 65536 19 0 [] [] ∷
+    -- <p>{x}<bR/></p>: behind a gap
+    mark (fld 0x01 (fld 0x12 (fld 0x30 ((fld 0x40 (ascii "p")) ++ ((fld 0x52 (fld 0x79 (fld 0x20 (ascii "x")))) ++ (fld 0x30 (fld 0x40 (ascii "bR")))))))) [] 65536 65536 65536 19 0 [] [] ∷
+    -- <iNPUT/>
+    mark (fld 0x01 (fld 0x12 (fld 0x30 (fld 0x40 (ascii "iNPUT"))))) [] 65536 65536 65536 19 0 [] [] ∷
+    -- <Br/>: a component
+    mark (fld 0x01 (fld 0x12 (fld 0x30 (fld 0x40 (ascii "Br"))))) [] 65536 65536 65536 0 0 [] ((fld 0x82 ((fld 0x81 (ascii "react/jsx-runtime")) ++ (1 ∷ []))) ++ (fld 0x12 (fld 0x94 ((fld 0x40 (ascii "Br")) ++ (fld 0x73 []))))) ∷
+    -- <dIV/>: none of the 14
+    mark (fld 0x01 (fld 0x12 (fld 0x30 (fld 0x40 (ascii "dIV"))))) [] 65536 65536 65536 0 1 (fld 0x80 ((0 ∷ 1 ∷ []) ++ (fld 0x81 (ascii "<dIV></dIV>")))) ((fld 0x82 ((fld 0x81 (ascii "react/jsx-runtime")) ++ (2 ∷ []))) ++ ((fld 0x83 []) ++ (fld 0x12 (fld 0x90 (0 ∷ 1 ∷ []))))) ∷
+    -- <bR class="a" className="b"/>
+    mark (fld 0x01 (fld 0x12 (fld 0x30 ((fld 0x40 (ascii "bR")) ++ ((fld 0x50 ((fld 0x40 (ascii "class")) ++ (fld 0x51 (ascii "a")))) ++ (fld 0x50 ((fld 0x40 (ascii "className")) ++ (fld 0x51 (ascii "b"))))))))) [] 65536 65536 65536 16 0 [] [] ∷
+    -- <bR/> before <p class="a" className="b"/>
+    mark (fld 0x01 (fld 0x12 ((fld 0x30 (fld 0x40 (ascii "bR"))) ++ (fld 0x30 ((fld 0x40 (ascii "p")) ++ ((fld 0x50 ((fld 0x40 (ascii "class")) ++ (fld 0x51 (ascii "a")))) ++ (fld 0x50 ((fld 0x40 (ascii "className")) ++ (fld 0x51 (ascii "b")))))))))) [] 65536 65536 65536 16 0 [] [] ∷
+    -- <bR/>, no room in templates out
+    mark (fld 0x01 (fld 0x12 (fld 0x30 (fld 0x40 (ascii "bR"))))) [] 65536 0 65536 19 0 [] [] ∷
     -- a run over 65,535 that is merged again
     mark (fld 0x01 (fld 0x12 (fld 0x30 ((fld 0x40 (ascii "Foo")) ++ ((fld 0x60 (ascii "a")) ++ ((fld 0x52 (fld 0x70 (replicate 13107 38))) ++ (fld 0x30 (fld 0x40 (ascii "i"))))))))) [] 65536 65536 65536 11 0 [] [] ∷
     -- a body over 65,535

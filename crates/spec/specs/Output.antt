@@ -7,7 +7,7 @@ use Rattle.field.specs.Bytes.{Bytes, ascii}
 use Rattle.field.specs.Number.{big-endian}
 use Rattle.field.specs.Row.{Row, end, loose, field}
 use Rattle.page.specs.Number.{Number, number-bytes}
-use Rattle.spec.specs.Pass.{Template, Done, Pass, pure, both, Mid, none, node, raw, _+++_, Part, chars, gap}
+use Rattle.spec.specs.Pass.{join, Template, Done, Pass, pure, both, Mid, none, node, raw, _+++_, Part, chars, gap, mark, marks}
 
 -- ---- 01, Form and call: the calls and literals, each in front of nothing
 
@@ -50,12 +50,14 @@ unfoldable pub strings-after : Bytes → List Part → List Bytes
 strings-after last [] = last ∷ []
 strings-after last (chars b ∷ ps) = strings-after (last ++ b) ps
 strings-after last (gap p ∷ ps) = last ∷ strings-after [] ps
+strings-after last (mark f ∷ ps) = strings-after last ps
 
 -- the dynamic expressions, one pass after the other
 unfoldable pub dynamic-exprs : List Part → Pass Mid
 dynamic-exprs [] = pure none
 dynamic-exprs (chars b ∷ ps) = dynamic-exprs ps
 dynamic-exprs (gap p ∷ ps) = both _+++_ p (dynamic-exprs ps)
+dynamic-exprs (mark f ∷ ps) = dynamic-exprs ps
 
 -- whether each field of a row is a jsxAttr call or a choice
 unfoldable pub kinds-of : Mid → List Bool
@@ -79,5 +81,5 @@ gen-template ps n =
       value = node 0x90 (big-endian 2 n []) (r .value) none;
       taken = 1 + r .taken;
       templates = r .templates ++ (record { number = n; strings = strings-after [] ps; kinds = kinds-of (r .value) } ∷ []);
-      flags = r .flags;
+      flags = join (marks ps) (r .flags);
     }

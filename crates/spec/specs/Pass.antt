@@ -10,10 +10,10 @@ use Rattle.field.specs.Row.{Row, end, loose, field}
 use Rattle.spec.specs.declared.Flags.{Flags}
 
 abbrev pub no-flags : Flags
-no-flags = record { left = false; long = false }
+no-flags = record { left = false; long = false; repeated = false; mixed = false }
 
 abbrev pub join : Flags → Flags → Flags
-join f g = record { left = f .left || g .left; long = f .long || g .long }
+join f g = record { left = f .left || g .left; long = f .long || g .long; repeated = f .repeated || g .repeated; mixed = f .mixed || g .mixed }
 
 -- 01, Form: its number and its static strings; for each dynamic expression whether it is a jsxAttr call or a choice, which no 80 holds
 pub record Template : Type 0 where
@@ -56,7 +56,7 @@ unfoldable pub raise : {A : Type 0} → Flags → Pass A → Pass A
 raise f p n = let r = p n in record { value = r .value; taken = r .taken; templates = r .templates; flags = join f (r .flags) }
 
 abbrev pub long-if : Bool → Flags
-long-if b = record { left = false; long = b }
+long-if b = record { left = false; long = b; repeated = false; mixed = false }
 
 -- a tag that stands as an expression: its visit
 abbrev pub Raw : Type 0
@@ -82,10 +82,19 @@ end ⧺ y = y
 (field t f i r) ⧺ y = field t f i (r ⧺ y)
 
 -- what a template is made of: `strings.last_mut().push_str(..)`, and `strings.push("")` with `dynamic_exprs.push(..)`. A gap holds a pass
--- and not its result, so that the strings depend on no number
+-- and not its result, so that the strings depend on no number. A mark is no part of the strings: its flags are raised where the template is
+-- made
 pub data Part : Type 0 where
   chars : Bytes → Part
   gap : Pass Mid → Part
+  mark : Flags → Part
+
+-- the flags of all marks
+unfoldable pub marks : List Part → Flags
+marks [] = no-flags
+marks (chars b ∷ ps) = marks ps
+marks (gap p ∷ ps) = marks ps
+marks (mark f ∷ ps) = join f (marks ps)
 
 -- 01, 11: a body or a merged run over 65,535. Only a run that is merged a second time is looked at by itself: one of the last merge stands
 -- whole in a static string or in a 70, so that a body is too long as well (`run-in-template`, `run-in-call`)

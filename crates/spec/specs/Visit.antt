@@ -17,7 +17,7 @@ visit-exprs (raw t r) = both _⧺_ t (visit-exprs r)
 
 -- a tag that is left: a 30 stands in the result, and the answer is 10
 unfoldable pub leave : Pass Row
-leave = raise (record { left = true; long = false }) (pure (field 0x30 [] end end))
+leave = raise (record { left = true; long = false; repeated = false; mixed = false }) (pure (field 0x30 [] end end))
 
 -- visit_mut_children_with on an expression that was just put in place: it is not visited itself, so that a tag there is left
 unfoldable pub visit-inside : Mid → Pass Row

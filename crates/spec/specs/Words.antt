@@ -7,7 +7,7 @@ use mathlib.Core.List.{List, [], _∷_, _++_}
 use mathlib.Core.Option.{Option, none, some}
 use lib.Dec.{T, eqb}
 use Rattle.field.specs.Bytes.{Bytes, pick, same}
-use Rattle.names.specs.Names.{is-void-element}
+use Rattle.names.specs.Names.{is-void-element, small-letters}
 
 -- ---- well nested: read byte by byte
 
@@ -16,12 +16,21 @@ pub data Reading : Type 0 where
   inside-tag : List Bytes → Bytes → Reading  -- behind a `<`; what stands behind it so far
   ill : Reading
 
+-- 02, A10: names are compared in small letters, the 14 too. What is nested by bytes as well is said beside it
+pub data Comparison : Type 0 where
+  in-small-letters : Comparison
+  by-bytes : Comparison
+
+unfoldable pub compared : Comparison → Bytes → Bytes
+compared in-small-letters n = small-letters n
+compared by-bytes n = n
+
 -- a tag's name runs to a space or to the end
 unfoldable pub to-space : Bytes → Bytes
 to-space [] = []
 to-space (c ∷ cs) = pick (eqb c 32) [] (c ∷ to-space cs)
 
--- a closing tag closes the last opened name, compared by bytes
+-- a closing tag closes the last opened name
 unfoldable pub close-tag : List Bytes → Bytes → Reading
 close-tag [] n = ill
 close-tag (m ∷ open-names) n = pick (same m n) (outside open-names) ill
@@ -31,22 +40,25 @@ unfoldable pub open-tag : List Bytes → Bytes → Reading
 open-tag open-names n = pick (is-void-element n) (outside open-names) (outside (n ∷ open-names))
 
 -- the tag whose text between `<` and `>` is given
-unfoldable pub end-tag : List Bytes → Bytes → Reading
-end-tag open-names [] = open-tag open-names []
-end-tag open-names (c ∷ cs) = pick (eqb c 47) (close-tag open-names (to-space cs)) (open-tag open-names (to-space (c ∷ cs)))
+unfoldable pub end-tag : Comparison → List Bytes → Bytes → Reading
+end-tag how open-names [] = open-tag open-names []
+end-tag how open-names (c ∷ cs) = pick (eqb c 47) (close-tag open-names (compared how (to-space cs))) (open-tag open-names (compared how (to-space (c ∷ cs))))
 
-unfoldable pub read-byte : Reading → ℕ → Reading
-read-byte (outside ns) c = pick (eqb c 60) (inside-tag ns []) (pick (eqb c 62) ill (outside ns))
-read-byte (inside-tag ns b) c = pick (eqb c 60) ill (pick (eqb c 62) (end-tag ns b) (inside-tag ns (b ++ (c ∷ []))))
-read-byte ill c = ill
+unfoldable pub read-byte : Comparison → Reading → ℕ → Reading
+read-byte how (outside ns) c = pick (eqb c 60) (inside-tag ns []) (pick (eqb c 62) ill (outside ns))
+read-byte how (inside-tag ns b) c = pick (eqb c 60) ill (pick (eqb c 62) (end-tag how ns b) (inside-tag ns (b ++ (c ∷ []))))
+read-byte how ill c = ill
 
-unfoldable pub read-markup : Reading → Bytes → Reading
-read-markup m [] = m
-read-markup m (c ∷ cs) = read-markup (read-byte m c) cs
+unfoldable pub read-markup : Comparison → Reading → Bytes → Reading
+read-markup how m [] = m
+read-markup how m (c ∷ cs) = read-markup how (read-byte how m c) cs
 
 -- all that is opened is closed at the end
-unfoldable pub WellNested : Bytes → Type 0
-WellNested w = read-markup (outside []) w ≡ outside []
+unfoldable pub WellNestedBy : Comparison → Bytes → Type 0
+WellNestedBy how w = read-markup how (outside []) w ≡ outside []
+
+abbrev pub WellNested : Bytes → Type 0
+WellNested w = WellNestedBy in-small-letters w
 
 -- neither `<` nor `>`
 unfoldable pub free : Bytes → Bool
@@ -93,12 +105,12 @@ filled (s ∷ ss) [] = s ++ filled ss []
 filled (s ∷ ss) (f ∷ fs) = s ++ (f ++ filled ss fs)
 
 -- inside opening tags a text free of both signs, elsewhere well-nested markup
-unfoldable pub Fits : Bool → Bytes → Type 0
-Fits true x = T (free x)
-Fits false x = WellNested x
+unfoldable pub Fits : Comparison → Bool → Bytes → Type 0
+Fits how true x = T (free x)
+Fits how false x = WellNestedBy how x
 
-unfoldable pub AllFit : List Bool → List Bytes → Type 0
-AllFit [] [] = Unit {0}
-AllFit [] (f ∷ fs) = ⊥
-AllFit (b ∷ bs) [] = ⊥
-AllFit (b ∷ bs) (f ∷ fs) = Fits b f × AllFit bs fs
+unfoldable pub AllFit : Comparison → List Bool → List Bytes → Type 0
+AllFit how [] [] = Unit {0}
+AllFit how [] (f ∷ fs) = ⊥
+AllFit how (b ∷ bs) [] = ⊥
+AllFit how (b ∷ bs) (f ∷ fs) = Fits how b f × AllFit how bs fs

@@ -27,7 +27,7 @@ use Rattle.spec.specs.Children.{children-to-string}
 use Rattle.decisions.specs.At.{opts, element-name, identifier-bytes, element-at, serializable, is-none, FirstChild, shape-of-contained, number-text}
 use Rattle.decisions.specs.declared.expr.Shape.the-variants as Form
 use Rattle.strings.specs.declared.writer.Open.{Open}
-use Rattle.strings.specs.Carve.{Carved, at, close, carve, contained-parts, Low}
+use Rattle.strings.specs.Carve.{Carved, at, close, carve, contained-parts, opening, Low}
 use Rattle.strings.proofs.CarveLaws.{carving, lows, size, same-size, put-low}
 use Rattle.strings.proofs.MergeLaws.{to-string-direct}
 use Rattle.strings.proofs.ShapeLaws.{child-string, child-number}
@@ -148,15 +148,15 @@ module _ (skip props b : Bytes) (w : Carved) {l : Bool} (e : l ≡ serializable 
 
   -- n is its name, and r what lies behind it
   module _ (h : l ≡ true) {n r : Bytes} (p : n ≡ identifier-bytes (element-name (read b))) (q : r ≡ behind-of b) where
-    at-name : carve (chars (60 ∷ escape-html n) ∷ (attrs-at skip props r ++ (chars (62 ∷ []) ∷ pick (is-void-element n) [] (inner skip props n r)))) w ≡ whole
+    at-name : carve (opening n r ++ (attrs-at skip props r ++ (chars (62 ∷ []) ∷ pick (is-void-element n) [] (inner skip props n r)))) w ≡ whole
     at-name = ap (λ (x : List Part). carve x w) (sym (element-open skip props b e h p q))
 
-    pub open-room : Low whole → Low (carve (chars (60 ∷ escape-html n) ∷ []) w)
-    open-room z = room carving lows (chars (60 ∷ escape-html n) ∷ []) at-name z
+    pub open-room : Low whole → Low (carve (opening n r) w)
+    open-room z = room carving lows (opening n r) at-name z
 
-    module _ {w₁ : Carved} (e₁ : w₁ ≡ carve (chars (60 ∷ escape-html n) ∷ []) w) where
+    module _ {w₁ : Carved} (e₁ : w₁ ≡ carve (opening n r) w) where
       at-attrs : carve (attrs-at skip props r ++ (chars (62 ∷ []) ∷ pick (is-void-element n) [] (inner skip props n r))) w₁ ≡ whole
-      at-attrs = on carving (chars (60 ∷ escape-html n) ∷ []) at-name e₁
+      at-attrs = on carving (opening n r) at-name e₁
 
       pub attrs-room : Low whole → Low (carve (attrs-at skip props r) w₁)
       attrs-room z = room carving lows (attrs-at skip props r) at-attrs z

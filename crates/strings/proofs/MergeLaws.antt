@@ -15,7 +15,9 @@ use Rattle.text.specs.Text.{jsx-text-to-str, joined, kept, trimmed-lines, escap
 use Rattle.spec.specs.Pass.{Part, chars, gap, pure, Mid, over}
 use Rattle.spec.specs.Merge.{Shape, Child, Element, Fragment, text, empty, container, element, fragment, spread, is-last, flush, joined-text, merge, long-run, short-runs}
 use Rattle.spec.specs.Children.{maybe-wrap, merged-parts, children-to-string}
+use Rattle.strings.specs.Due.{long-due}
 use Rattle.strings.specs.Carve.{Carved, put-on, close, carve, flagged, child-parts, put-again, Low}
+use Rattle.strings.proofs.DueLaws.{due-or}
 use Rattle.strings.proofs.CarveLaws.{carving, lows, put-on-nil, put-on-append, flagged-none, flagged-twice, carve-flagged}
 
 -- the parts of a child that more or no children follow
@@ -73,16 +75,16 @@ to-string-direct par cs w = merge-direct par [] cs w ∙ ap (carve (direct par c
 
 -- what the second merge makes of the children that the first has left
 unfoldable pub again : List Child → Carved → Carved
-again cs w = flagged (long-run cs) (carve (direct false (short-runs cs)) w)
+again cs w = flagged (long-due (long-run cs)) (carve (direct false (short-runs cs)) w)
 
 -- the children that are left to the first, with the run so far
 abbrev pub twice : Bytes → List Child → Carved → Carved
 twice buf cs w = again (merge false false buf cs) w
 
 pub twice-is : (cs : List Child) (w : Carved) →
-    flagged (long-run (merge false false [] cs)) (carve (children-to-string false (short-runs (merge false false [] cs))) w) ≡ twice [] cs w
+    flagged (long-due (long-run (merge false false [] cs))) (carve (children-to-string false (short-runs (merge false false [] cs))) w) ≡ twice [] cs w
 unfolding again
-twice-is cs w = ap (flagged (long-run (merge false false [] cs))) (to-string-direct false (short-runs (merge false false [] cs)) w)
+twice-is cs w = ap (flagged (long-due (long-run (merge false false [] cs)))) (to-string-direct false (short-runs (merge false false [] cs)) w)
 
 -- a run of the first merge ends
 abbrev pub run : Bytes → Carved → Carved
@@ -93,11 +95,13 @@ unfolding put-again jsx-text-to-str joined kept trimmed-lines lines escape-if es
 run-none w = put-on-nil w
 
 flush-by : (t : Bytes) (cs : List Child) (w : Carved) (l : Bool) →
-    flagged (l || long-run cs) (carve (direct false (pick l (short-runs cs) (text t ∷ short-runs cs))) w)
-    ≡ again cs (pick l (flagged true w) (put-on (jsx-text-to-str t true false) w))
+    flagged (long-due (l || long-run cs)) (carve (direct false (pick l (short-runs cs) (text t ∷ short-runs cs))) w)
+    ≡ again cs (pick l (flagged (long-due true) w) (put-on (jsx-text-to-str t true false) w))
 unfolding again carve direct child-direct
 flush-by t cs w true =
-    sym (ap (flagged (long-run cs)) (carve-flagged true (direct false (short-runs cs)) w) ∙ flagged-twice true (long-run cs) (carve (direct false (short-runs cs)) w))
+    let v = carve (direct false (short-runs cs)) w in
+    let l = long-due (long-run cs) in
+    sym (ap (flagged l) (carve-flagged (long-due true) (direct false (short-runs cs)) w) ∙ flagged-twice (long-due true) l v ∙ ap (λ (d : ℕ). flagged d v) (sym (due-or 1 true (long-run cs))))
 flush-by t cs w false = refl
 
 again-flush : (buf : Bytes) (cs : List Child) (w : Carved) → again (flush buf cs) w ≡ again cs (run buf w)
@@ -114,7 +118,7 @@ twice-none buf w = again-flush buf [] w ∙ flagged-none (run buf w)
 again-container : (s : Shape) (m : Mid) (cs : List Child) (w : Carved) → joined-text s ≡ none → again (container s m ∷ cs) w ≡ again cs (close w)
 unfolding again short-runs long-run direct child-direct child-parts carve
 again-container s m cs w e =
-    ap (λ (j : Option Bytes). flagged (long-run cs) (carve ((elim j [ some b ↦ chars b ∷ [] | none ↦ gap (pure (maybe-wrap s m)) ∷ [] ]) ++ direct false (short-runs cs)) w)) e
+    ap (λ (j : Option Bytes). flagged (long-due (long-run cs)) (carve ((elim j [ some b ↦ chars b ∷ [] | none ↦ gap (pure (maybe-wrap s m)) ∷ [] ]) ++ direct false (short-runs cs)) w)) e
 
 module _ (buf : Bytes) (cs : List Child) (w : Carved) where
   pub twice-text : (t : Bytes) → twice buf (text t ∷ cs) w ≡ twice (buf ++ jsx-text-to-str t false false) cs w
@@ -143,13 +147,13 @@ module _ (buf : Bytes) (cs : List Child) (w : Carved) where
   unfolding merge again short-runs long-run direct child-direct
   twice-element e =
       again-flush buf (element e ∷ merge false false [] cs) w
-      ∙ ap (flagged (long-run (merge false false [] cs))) (carving .append (e .to-string-vec) (direct false (short-runs (merge false false [] cs))) (run buf w))
+      ∙ ap (flagged (long-due (long-run (merge false false [] cs)))) (carving .append (e .to-string-vec) (direct false (short-runs (merge false false [] cs))) (run buf w))
 
   pub twice-fragment : (f : Fragment) → twice buf (fragment f ∷ cs) w ≡ twice [] cs (carve (f .to-string) (run buf w))
   unfolding merge again short-runs long-run direct child-direct
   twice-fragment f =
       again-flush buf (fragment f ∷ merge false false [] cs) w
-      ∙ ap (flagged (long-run (merge false false [] cs))) (carving .append (f .to-string) (direct false (short-runs (merge false false [] cs))) (run buf w))
+      ∙ ap (flagged (long-due (long-run (merge false false [] cs)))) (carving .append (f .to-string) (direct false (short-runs (merge false false [] cs))) (run buf w))
 
 -- room now, where there is room in the end
 pub twice-low : (buf : Bytes) (cs : List Child) (w : Carved) → Low (twice buf cs w) → Low w

@@ -27,8 +27,9 @@ use Rattle.spec.specs.Children.{children-to-string}
 use Rattle.spec.specs.Transform.{shape-of, fragment-of, expr}
 use Rattle.decisions.specs.At.{opts, element-at}
 use Rattle.strings.specs.declared.writer.Open.{Open}
+use Rattle.strings.specs.Due.{graver, long-due}
 use Rattle.strings.specs.Carve.{Carved, at, carve, close, put-on, flagged, put-again, is-some, option-bytes, is-joined, joined-by, Low}
-use Rattle.strings.proofs.CarveLaws.{lows, long-true, size, same-size}
+use Rattle.strings.proofs.CarveLaws.{lows, size, same-size}
 use Rattle.strings.proofs.FrontSizes.{behind-le}
 use Rattle.strings.proofs.MergeLaws.{again, twice, twice-is, run, twice-none, twice-text, twice-empty, twice-spread, twice-joined, twice-container, twice-element, twice-fragment, twice-low}
 use Rattle.strings.proofs.ShapeLaws.{joined-length}
@@ -37,9 +38,9 @@ use Rattle.strings.proofs.TreeLaws.{kids, held, kids-60, kids-52, kids-
 -- ---- put_run
 
 module _ (o : Bytes) (st : Open) (n : ℕ) (t : Bytes) where
-  pub run-long : 65535 < n → at o (record { head = st .head; len = st .len; long = true }) ≡ put-again n t (at o st)
+  pub run-long : 65535 < n → {d : ℕ} → d ≡ graver (st .due) 1 → at o (record { head = st .head; len = st .len; due = d }) ≡ put-again n t (at o st)
   unfolding put-again
-  run-long h = rw (lt-ltb 65535 n h) (long-true (at o st))
+  run-long h e = rw (lt-ltb 65535 n h) (λ i. at o (record { head = st .head; len = st .len; due = e i }))
 
   pub run-short : n ≤ 65535 → put-again n t (at o st) ≡ carve (chars (jsx-text-to-str t true false) ∷ []) (at o st)
   unfolding put-again carve
@@ -250,7 +251,7 @@ module _ (skip props s : Bytes) (start : Carved) (big : ℕ) where
       last-room = (still-large, subst Low (sym (m .left) ∙ last-run ∙ sym flushed) all-low)
 
       module _ {w₁ : Carved} (u : w₁ ≡ put-again n (take n scratch) w) where
-        pub merging-end : w₁ ≡ flagged (long-run (merge false false [] (kids skip props s))) (carve (children-to-string false (short-runs (merge false false [] (kids skip props s)))) start)
+        pub merging-end : w₁ ≡ flagged (long-due (long-run (merge false false [] (kids skip props s)))) (carve (children-to-string false (short-runs (merge false false [] (kids skip props s)))) start)
         merging-end = u ∙ flushed ∙ sym last-run ∙ m .left ∙ sym (twice-is (kids skip props s) start)
 
         pub same-out : length (w₁ .out) ≡ length (start .out)

@@ -18,19 +18,21 @@ use Rattle.page.specs.Page.{Options, Name, identifier, member, namespaced}
 use Rattle.page.specs.Tree.{choose, texts-in, first-in, second-in, attr-name-in, value-in, attributes-in, children-in, element-in, fragment-in, contained-in, Contained, nothing-contained, contained, contained-child}
 use Rattle.page.proofs.Tags.{ChildTag, text-tag, container-tag, element-child-tag, fragment-child-tag, spread-child-tag, child-tag}
 use Rattle.spec.specs.Pass as S
-use Rattle.spec.specs.Pass.{Part, chars, gap, Mid}
+use Rattle.spec.specs.Pass.{Part, chars, gap, mark, Mid}
+use Rattle.spec.specs.declared.Flags.{Flags}
 use Rattle.spec.specs.Merge as M
 use Rattle.spec.specs.Merge.{Child, is-last}
 use Rattle.spec.specs.Attributes as A
-use Rattle.spec.specs.Attributes.{attr-parts, attrs-parts}
+use Rattle.spec.specs.Attributes.{attr-parts, attrs-parts, tag-flags}
 use Rattle.spec.specs.Children.{children-to-string, open-close, element-to-string-vec, to-call-expr}
 use Rattle.spec.specs.Transform.{value, attributes, children, child, expr, shape-of, element-of, fragment-of}
 use Rattle.decisions.specs.Index.{names-of}
 use Rattle.decisions.specs.At.{opts, element-name, behind-name, identifier-bytes, children-at, attributes-at, element-at, forbids, serializable-by, serializable, is-none, FirstChild}
 use Rattle.decisions.proofs.Series.{tested, behind-name-at, attr-name-40, attr-name-42, attr-name-other, attributes-50, attributes-53, attributes-other, children-60, children-52, children-30, children-31, children-61, children-other, children-none}
 use Rattle.decisions.proofs.Laws.{child-element, child-fragment, serializable-is}
-use Rattle.strings.specs.Carve.{Carved, close, carve, name-at, contained-parts, child-parts}
+use Rattle.strings.specs.Carve.{Carved, close, carve, name-at, contained-parts, child-parts, flags-at}
 use Rattle.strings.proofs.CarveLaws.{carving}
+use Rattle.strings.proofs.TagLaws.{flags-same}
 use Rattle.strings.proofs.MergeLaws.{direct, child-direct}
 
 -- ---- names
@@ -226,7 +228,10 @@ module _ (skip props : Bytes) where
 
     pub element-open : l ≡ true → {n r : Bytes} → n ≡ identifier-bytes (element-name (read b)) → r ≡ behind-of b →
         element-at skip props b .to-string-vec
-        ≡ chars (60 ∷ escape-html n) ∷ (attrs-at skip props r ++ (chars (62 ∷ []) ∷
+        ≡ mark (flags-at n r) ∷ chars (60 ∷ escape-html n) ∷ (attrs-at skip props r ++ (chars (62 ∷ []) ∷
         pick (is-void-element n) [] (inner n r)))
     unfolding open-close choose
-    element-open h p q = vec true h ∙ rw (p, q, behind-name-at b)
+    element-open h {n} {r} p q =
+        let made : Flags → List Part = λ f. mark f ∷ chars (60 ∷ escape-html n) ∷ (attrs-at skip props r ++ (chars (62 ∷ []) ∷ pick (is-void-element n) [] (inner n r))) in
+        let g : element-at skip props b .to-string-vec ≡ made (tag-flags n (attributes (opts skip props) (attributes-in (read r)))) = vec true h ∙ rw (p, q, behind-name-at b) in
+        g ∙ ap made (flags-same (opts skip props) (opts [] []) n (attributes-in (read r)))

@@ -1,2 +1,3 @@
--- What the contracts of `strings` cite: the open static string, and what the parts of a template do to it.
+-- What the contracts of `strings` cite: the open static string, what the parts of a template do to it, and what is due.
+pub mod Due
 pub mod Carve

@@ -12,8 +12,12 @@ ghost use Rattle.page.specs.Tree.{children-in, contained-in};
 ghost use Rattle.spec.specs.Pass.{chars};
 ghost use Rattle.spec.specs.Children.{children-to-string};
 ghost use Rattle.decisions.specs.At.{opts, children-at, element-at, serializable, is-none};
-ghost use Rattle.strings.specs.Carve.{at, carve, contained-parts, Low};
+ghost use Rattle.strings.specs.Due.{graver, grave};
+ghost use Rattle.strings.specs.Carve.{at, carve, contained-parts, flags-at, opening, Low};
 use crate::attributes::attributes_strings;
+use crate::due::MIXED;
+use crate::due::REPEATED;
+use crate::due::graver;
 use crate::writer::Open;
 use crate::writer::cut;
 use crate::writer::ended;
@@ -25,12 +29,14 @@ use decisions::element::is_serializable;
 use decisions::expr::Shape;
 use decisions::expr::put_number_at;
 use decisions::expr::shape_at;
+use decisions::repeats::repeats;
 use field::reader::behind;
 use field::reader::body;
 use field::reader::tag_at;
 use field::writer::put_byte;
 use field::writer::put_bytes;
 use names::is_void_element;
+use names::is_void_when_lowered;
 use text::escape::put_escaped;
 use text::escape::put_short_escaped;
 
@@ -42,6 +48,31 @@ fn put_open(out: &mut [u8], st: Open, n: &[u8]) -> Open
     let p = put_byte(out, st.head + 3 + st.len, b'<');
     let q = put_short_escaped(out, p, n);
     ended(st, q)
+}
+
+// What is found of an element that is serialized.
+fn tag_due<'a>(due: u8, n: &'a [u8], rest: &'a [u8]) -> u8
+    ensures { λ r. ⌜ r ≡ graver due (grave (flags-at (now (n .entry)) (now (rest .entry)))) ⌝ }
+{
+    if repeats(rest) {
+        return graver(due, REPEATED);
+    }
+    if is_void_when_lowered(n) {
+        return graver(due, MIXED);
+    }
+    due
+}
+
+fn open_tag<'a>(out: &mut [u8], st: Open, n: &'a [u8], rest: &'a [u8]) -> Open
+    requires { ⌜ Low (carve (opening (now n) (now rest)) (at (now out) st)) ⌝ }
+    ensures { λ r. ⌜ at (now (out .exit)) r ≡ carve (opening (now (n .entry)) (now (rest .entry))) (at (now (out .entry)) st) ⌝ }
+{
+    let p = put_open(out, st, n);
+    Open {
+        head: p.head,
+        len: p.len,
+        due: tag_due(p.due, n, rest),
+    }
 }
 
 // A name, which mostly has a few bytes: byte by byte that costs less.
@@ -130,7 +161,7 @@ pub fn tag_strings<'a>(skip: &[u8], props: &'a [u8], b: &'a [u8], out: &mut [u8]
 {
     let n = identifier(b);
     let rest = behind(b);
-    let p = put_open(out, st, n);
+    let p = open_tag(out, st, n, rest);
     let a = attributes_strings(skip, props, rest, out, p);
     let c = put_chars(out, a, b">");
     if is_void_element(n) {

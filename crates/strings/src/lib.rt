@@ -2,6 +2,7 @@
 // call that are merged twice, become what their parts do to the open string: `carve` of specs/Carve.antt. Nothing is buffered but the
 // runs of a first merge. Which tags become a template, and the field around the strings, are left to the crates above.
 mod attributes;
+pub mod due;
 mod elements;
 mod merged;
 mod writer;

@@ -10,7 +10,10 @@ ghost use Rattle.page.specs.Tree.{contained-in};
 ghost use Rattle.spec.specs.Children.{children-to-string};
 ghost use Rattle.spec.specs.Merge.{merge, long-run, short-runs};
 ghost use Rattle.decisions.specs.At.{opts, children-at};
+ghost use Rattle.strings.specs.Due.{long-due};
 ghost use Rattle.strings.specs.Carve.{at, carve, flagged, put-again, is-joined, joined-by, Low};
+use crate::due::LONG;
+use crate::due::graver;
 use crate::elements::children_strings;
 use crate::elements::element_strings;
 use crate::writer::Open;
@@ -35,7 +38,7 @@ fn put_run(out: &mut [u8], st: Open, scratch: &[u8], n: usize) -> Open
         return Open {
             head: st.head,
             len: st.len,
-            long: true,
+            due: graver(st.due, LONG),
         };
     }
     put_text(out, st, &scratch[..n], false)
@@ -83,7 +86,7 @@ pub fn merged_children_strings<'a>(
 ) -> Open
     requires { ⌜ (65536 ≤ length (now scratch)) × (length (now s) < 2 ^ 32) ⌝ }
     requires { ⌜ Low (carve (children-to-string false (short-runs (merge false false [] (children-at (now skip) (now props) (read (now s)))))) (at (now out) st)) ⌝ }
-    ensures { λ r. ⌜ at (now (out .exit)) r ≡ flagged (long-run (merge false false [] (children-at (now (skip .entry)) (now (props .entry)) (read (now (s .entry)))))) (carve (children-to-string false (short-runs (merge false false [] (children-at (now (skip .entry)) (now (props .entry)) (read (now (s .entry))))))) (at (now (out .entry)) st)) ⌝ }
+    ensures { λ r. ⌜ at (now (out .exit)) r ≡ flagged (long-due (long-run (merge false false [] (children-at (now (skip .entry)) (now (props .entry)) (read (now (s .entry))))))) (carve (children-to-string false (short-runs (merge false false [] (children-at (now (skip .entry)) (now (props .entry)) (read (now (s .entry))))))) (at (now (out .entry)) st)) ⌝ }
 {
     let mut t = s;
     let mut cur = st;

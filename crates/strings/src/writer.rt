@@ -6,15 +6,16 @@ ghost use mathlib.Core.List.{_∷_, []};
 ghost use Rattle.spec.specs.Pass.{chars};
 ghost use Rattle.text.specs.Text.{jsx-text-to-str};
 ghost use Rattle.strings.specs.Carve.{at, carve, close, put-on, ended-at, Low};
+use crate::due::with_body;
 use field::writer::put_bytes;
 use field::writer::put_head;
 use text::jsx_text::jsx_text_to_str;
 
-// Where its head stands, how long it is, and whether a closed one, or a run, was over 65,535 bytes.
+// Where its head stands, how long it is, and what is due.
 pub struct Open {
     pub head: usize,
     pub len: usize,
-    pub long: bool,
+    pub due: u8,
 }
 
 // The open string when its last byte stands before end.
@@ -25,7 +26,7 @@ pub fn ended(st: Open, end: usize) -> Open
     Open {
         head: st.head,
         len: end - (st.head + 3),
-        long: st.long,
+        due: st.due,
     }
 }
 
@@ -44,17 +45,10 @@ pub fn cut(out: &mut [u8], st: Open) -> Open
 {
     let len = st.len;
     put_head(out, st.head, 0x81, len);
-    if 65535 < len {
-        return Open {
-            head: st.head + 3 + len,
-            len: 0,
-            long: true,
-        };
-    }
     Open {
         head: st.head + 3 + len,
         len: 0,
-        long: st.long,
+        due: with_body(st.due, len),
     }
 }
 

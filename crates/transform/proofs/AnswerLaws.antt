@@ -4,7 +4,7 @@ use mathlib.Core.Path.{_≡_, refl, sym, ap, ap₂, _∙_, subst}
 use mathlib.Core.Bool.{Bool, true, false, not}
 use Prim.Native.Nat.{ℕ, _-_, _≤_}
 use native.Mathlib.Omega.{arith}
-use lib.Dec.{leb}
+use lib.Dec.{eqb, leb}
 use lib.ListN.{length, replicate}
 use Rattle.field.specs.Bytes.{Bytes}
 use Rattle.field.specs.Row.{Row, read, bytes}
@@ -66,9 +66,11 @@ module _ (w : Walk) (tr pr : ℕ) (b : Bytes) where
   cleared : {r : Refusal} → verdict-of w tr pr ≡ Refused r → Cleared r
   unfolding scratch-left
   cleared {r} h =
-      after-one Cleared _ _ (checked (not (w .seen .left)) R.TagLeft refl)
-      (after-one Cleared _ _ (checked (not (w .seen .long)) R.OutputTooLong refl)
-      (after-one Cleared _ _ (checked (leb (w .templates) tr) R.TemplatesTooSmall refl) (unless-one Cleared (leb (w .page) pr) R.PageTooSmall refl)))
+      after-one Cleared _ _ (checked (not (eqb (w .seen .due) 4)) R.TagLeft refl)
+      (after-one Cleared _ _ (checked (not (eqb (w .seen .due) 3)) R.RepeatedAttribute refl)
+      (after-one Cleared _ _ (checked (not (eqb (w .seen .due) 2)) R.MixedCaseVoid refl)
+      (after-one Cleared _ _ (checked (not (eqb (w .seen .due) 1)) R.OutputTooLong refl)
+      (after-one Cleared _ _ (checked (leb (w .templates) tr) R.TemplatesTooSmall refl) (unless-one Cleared (leb (w .page) pr) R.PageTooSmall refl)))))
       h
 
 -- zeros go by the length alone

@@ -4,6 +4,7 @@ use mathlib.Core.Path.{_≡_, refl, sym, ap, _∙_}
 use mathlib.Core.Bool.{Bool, true, false, _||_}
 use Prim.Native.Nat.{ℕ, _≤_, _<_}
 use mathlib.Core.List.{[], _∷_}
+use lib.Dec.{leb}
 use lib.ListN.{length}
 use borrow.Author.Tests.{le-leb, lt-leb, eq-eqb, ne-eqb}
 use denote.Enum.Declared.{tagOf}
@@ -16,7 +17,7 @@ use Rattle.field.proofs.FrontLaws.{read-nest, leaf-at, nest-at}
 use Rattle.page.specs.Page as P
 use Rattle.page.specs.Tree.{choose, texts-in, element-in, attributes-in, children-in, pieces-in, module-item-by, module-items-in, listed-in, source-in, works-sums}
 use Rattle.page.specs.Check.{check-page, check-options}
-use Rattle.page.specs.Refusal.{after}
+use Rattle.page.specs.Refusal.{unless, after}
 use Rattle.page.specs.declared.Refusal.{Refusal}
 use Rattle.page.specs.declared.Refusal.the-variants as R
 use Rattle.page.proofs.Refusal.{the-type}
@@ -59,28 +60,42 @@ module _ (page options : Bytes) (n : ℕ) where
 -- ---- 10 to 13
 
 module _ (w : Walk) (tr pr : ℕ) where
-  pub outputs-left : w .seen .left ≡ true → Refused R.TagLeft ≡ verdict-of w tr pr
+  pub outputs-left : w .seen .due ≡ 4 → Refused R.TagLeft ≡ verdict-of w tr pr
   unfolding after
-  outputs-left b = rw b
+  outputs-left b = rw (eq-eqb (w .seen .due) 4 b)
 
-  module _ (b : w .seen .left ≡ false) where
-    pub outputs-long : w .seen .long ≡ true → Refused R.OutputTooLong ≡ verdict-of w tr pr
+  module _ (b : w .seen .due ≡ 4 → ⊥) where
+    pub outputs-repeated : w .seen .due ≡ 3 → Refused R.RepeatedAttribute ≡ verdict-of w tr pr
     unfolding after
-    outputs-long c = rw (b, c)
+    outputs-repeated c = rw (ne-eqb (w .seen .due) 4 b, eq-eqb (w .seen .due) 3 c)
 
-    module _ (c : w .seen .long ≡ false) where
-      pub outputs-templates : tr < w .templates → Refused R.TemplatesTooSmall ≡ verdict-of w tr pr
+    module _ (c : w .seen .due ≡ 3 → ⊥) where
+      pub outputs-mixed : w .seen .due ≡ 2 → Refused R.MixedCaseVoid ≡ verdict-of w tr pr
       unfolding after
-      outputs-templates d = rw (b, c, lt-leb (w .templates) tr d)
+      outputs-mixed d = rw (ne-eqb (w .seen .due) 4 b, ne-eqb (w .seen .due) 3 c, eq-eqb (w .seen .due) 2 d)
 
-      module _ (d : w .templates ≤ tr) where
-        pub outputs-page : pr < w .page → Refused R.PageTooSmall ≡ verdict-of w tr pr
+      module _ (d : w .seen .due ≡ 2 → ⊥) where
+        pub outputs-long : w .seen .due ≡ 1 → Refused R.OutputTooLong ≡ verdict-of w tr pr
         unfolding after
-        outputs-page e = rw (b, c, le-leb (w .templates) tr d, lt-leb (w .page) pr e)
+        outputs-long e = rw (ne-eqb (w .seen .due) 4 b, ne-eqb (w .seen .due) 3 c, ne-eqb (w .seen .due) 2 d, eq-eqb (w .seen .due) 1 e)
 
-        pub outputs-fine : w .page ≤ pr → Fine ≡ verdict-of w tr pr
-        unfolding after
-        outputs-fine e = rw (b, c, le-leb (w .templates) tr d, le-leb (w .page) pr e)
+        module _ (e : w .seen .due ≡ 1 → ⊥) where
+          room-left : after (unless (leb (w .templates) tr) R.TemplatesTooSmall) (λ _. unless (leb (w .page) pr) R.PageTooSmall) ≡ verdict-of w tr pr
+          unfolding after
+          room-left = rw (ne-eqb (w .seen .due) 4 b, ne-eqb (w .seen .due) 3 c, ne-eqb (w .seen .due) 2 d, ne-eqb (w .seen .due) 1 e)
+
+          pub outputs-templates : tr < w .templates → Refused R.TemplatesTooSmall ≡ verdict-of w tr pr
+          unfolding after
+          outputs-templates f = (let z : Refused R.TemplatesTooSmall ≡ after (unless (leb (w .templates) tr) R.TemplatesTooSmall) (λ _. unless (leb (w .page) pr) R.PageTooSmall) = rw (lt-leb (w .templates) tr f) in z) ∙ room-left
+
+          module _ (f : w .templates ≤ tr) where
+            pub outputs-page : pr < w .page → Refused R.PageTooSmall ≡ verdict-of w tr pr
+            unfolding after
+            outputs-page g = (let z : Refused R.PageTooSmall ≡ after (unless (leb (w .templates) tr) R.TemplatesTooSmall) (λ _. unless (leb (w .page) pr) R.PageTooSmall) = rw (le-leb (w .templates) tr f, lt-leb (w .page) pr g) in z) ∙ room-left
+
+            pub outputs-fine : w .page ≤ pr → Fine ≡ verdict-of w tr pr
+            unfolding after
+            outputs-fine g = (let z : Fine ≡ after (unless (leb (w .templates) tr) R.TemplatesTooSmall) (λ _. unless (leb (w .page) pr) R.PageTooSmall) = rw (le-leb (w .templates) tr f, le-leb (w .page) pr g) in z) ∙ room-left
 
 -- ---- what is left of scratch
 
@@ -89,9 +104,9 @@ unfolding scratch-left
 cleared-not b e = sym (ap (λ (x : Refusal). scratch-left (refused x) b) e)
 
 -- every other refusal clears it
-pub cleared-all : (b : Bytes) (r : Refusal) → OneOf (1 ∷ 2 ∷ 3 ∷ 4 ∷ 5 ∷ 6 ∷ 7 ∷ 8 ∷ 9 ∷ 10 ∷ 11 ∷ []) (tagOf the-type r) → {b′ : Bytes} → b′ ≡ zeros b → b′ ≡ scratch-left (refused r) b
+pub cleared-all : (b : Bytes) (r : Refusal) → OneOf (1 ∷ 2 ∷ 3 ∷ 4 ∷ 5 ∷ 6 ∷ 7 ∷ 8 ∷ 9 ∷ 10 ∷ 11 ∷ 12 ∷ 13 ∷ []) (tagOf the-type r) → {b′ : Bytes} → b′ ≡ zeros b → b′ ≡ scratch-left (refused r) b
 unfolding scratch-left
-cleared-all b R.ScratchTooSmall h d = absurd (miss (1 ∷ 2 ∷ 3 ∷ 4 ∷ 5 ∷ 6 ∷ 7 ∷ 8 ∷ 9 ∷ 10 ∷ 11 ∷ []) 0 tt h)
+cleared-all b R.ScratchTooSmall h d = absurd (miss (1 ∷ 2 ∷ 3 ∷ 4 ∷ 5 ∷ 6 ∷ 7 ∷ 8 ∷ 9 ∷ 10 ∷ 11 ∷ 12 ∷ 13 ∷ []) 0 tt h)
 cleared-all b R.InputTooLong h d = d
 cleared-all b R.Truncated h d = d
 cleared-all b R.Misplaced h d = d
@@ -100,6 +115,8 @@ cleared-all b R.NotUtf8 h d = d
 cleared-all b R.NumberTooLarge h d = d
 cleared-all b R.TooDeep h d = d
 cleared-all b R.TagLeft h d = d
+cleared-all b R.RepeatedAttribute h d = d
+cleared-all b R.MixedCaseVoid h d = d
 cleared-all b R.OutputTooLong h d = d
 cleared-all b R.TemplatesTooSmall h d = d
 cleared-all b R.PageTooSmall h d = d

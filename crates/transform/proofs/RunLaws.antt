@@ -19,11 +19,11 @@ use Rattle.text.specs.Escape.{escape-html}
 use Rattle.page.specs.Page as P
 use Rattle.page.specs.Page.{Options, Page, Name, identifier, member, namespaced}
 use Rattle.page.specs.Tree.{choose, listed-in, options-in}
-use Rattle.spec.specs.Pass.{Template, Done, pure, bind, both, Mid, none, node, raw, Part, chars, gap}
+use Rattle.spec.specs.Pass.{Template, Done, pure, bind, both, Mid, none, node, raw, Part, chars, gap, mark}
 use Rattle.spec.specs.Output.{gen-template}
 use Rattle.spec.specs.Merge as M
 use Rattle.spec.specs.Attributes as A
-use Rattle.spec.specs.Attributes.{first-upper, keeps-from-serializing, is-serializable, listed-attr, plain-attr, attr-parts, attrs-parts}
+use Rattle.spec.specs.Attributes.{first-upper, keeps-from-serializing, is-serializable, listed-attr, plain-attr, attr-parts, attrs-parts, tag-flags}
 use Rattle.spec.specs.Children.{children-to-string, to-call-expr, open-close, element-to-string-vec, serialize-jsx}
 use Rattle.spec.specs.Visit.{visit-exprs, visit-after, visit-fragment}
 use Rattle.spec.specs.Transform as Row
@@ -32,6 +32,8 @@ use Rattle.spec.proofs.Ledger.{or-either, then, valued}
 use Rattle.spec.proofs.PageOut.{templates-related}
 use Rattle.decisions.specs.At.{opts}
 use Rattle.decisions.specs.Index.{names-of}
+use Rattle.strings.specs.Due.{graver, long-due, grave}
+use Rattle.strings.proofs.DueLaws.{none-graver}
 use Rattle.walk.specs.declared.state.Walk.{Walk}
 use Rattle.walk.specs.See.{World, at, see, wrote}
 use Rattle.transform.specs.Run.{placed-before, module-mid, has-statement, items-mid, tag-html, piece-html, has-html, started, sum-of, import-bytes}
@@ -59,7 +61,7 @@ module _ (o o′ : Options) (e : (n : Bytes) → among n (o .skip-serialize) ≡
   unfolding open-close
   open-same n as′ cs =
       ap
-      (λ (ps : List Part). chars (60 ∷ escape-html n) ∷ (ps ++ (chars (62 ∷ []) ∷ pick (is-void-element n) [] (children-to-string true cs ++ (chars (60 ∷ 47 ∷ (n ++ (62 ∷ []))) ∷ [])))))
+      (λ (ps : List Part). mark (tag-flags n as′) ∷ chars (60 ∷ escape-html n) ∷ (ps ++ (chars (62 ∷ []) ∷ pick (is-void-element n) [] (children-to-string true cs ++ (chars (60 ∷ 47 ∷ (n ++ (62 ∷ []))) ∷ [])))))
       (attrs-same as′)
 
   parts-same : (n : Name) (as′ : List A.Attribute) (cs : List M.Child) → element-to-string-vec o n as′ cs ≡ element-to-string-vec o′ n as′ cs
@@ -286,6 +288,10 @@ place-alike ts r = record { jsx-alike = place-stands 0x94 refl ts r; attr-alike 
 
 -- ---- the state behind the walk
 
+-- what is due by the flags of a result and by the bodies of that row
+abbrev due-of : Done Row → Row → ℕ
+due-of d r = graver (grave (d .flags)) (long-due (long-body (templates-row (d .templates)) || long-body r))
+
 -- from q on, over a result of that row
 abbrev pub walked : Done Row → Row → ℕ → Walk
 walked d r q =
@@ -299,8 +305,7 @@ walked d r q =
             jsx = stands 0x94 (d .value);
             attr = stands 0x91 (d .value);
             escape = stands 0x92 (d .value);
-            long = d .flags .long || (long-body (templates-row (d .templates)) || long-body (d .value));
-            left = d .flags .left;
+            due = due-of d (d .value);
           };
     }
 
@@ -309,22 +314,22 @@ world d r q t p = at (put t 0 (bytes (templates-row (d .templates)))) (put p q (
 
 wrote-walked : (d : Done Row) (r : Row) (q : ℕ) (t p : Bytes) → Alike r (d .value) → wrote (valued r d) (at t p (started q)) ≡ world d r q t p
 wrote-walked d r q t p a =
-    ap (λ (k : ℕ). noted k (stands 0x94 r) (stands 0x91 r) (stands 0x92 r) (long-body r)) (zero-add (length (bytes (templates-row (d .templates)))))
-    ∙ ap₂ (λ (x y : Bool). noted size x y (stands 0x92 r) (long-body r)) (a .jsx-alike) (a .attr-alike)
-    ∙ ap₂ (λ (x y : Bool). noted size (stands 0x94 (d .value)) (stands 0x91 (d .value)) x y) (a .escape-alike) (a .long-alike)
+    ap₂ (λ (k n : ℕ). noted k (stands 0x94 r) (stands 0x91 r) (stands 0x92 r) n) (zero-add (length (bytes (templates-row (d .templates))))) (none-graver (due-of d r))
+    ∙ ap₂ (λ (x y : Bool). noted size x y (stands 0x92 r) (due-of d r)) (a .jsx-alike) (a .attr-alike)
+    ∙ ap₂ (λ (x l : Bool). noted size (stands 0x94 (d .value)) (stands 0x91 (d .value)) x (graver (grave (d .flags)) (long-due (long-body (templates-row (d .templates)) || l)))) (a .escape-alike) (a .long-alike)
   where
     size : ℕ
     size = length (bytes (templates-row (d .templates)))
 
-    noted : ℕ → (x y z l : Bool) → World
-    noted k x y z l =
+    noted : ℕ → (x y z : Bool) → ℕ → World
+    noted k x y z n =
         at (put t 0 (bytes (templates-row (d .templates)))) (put p q (bytes r))
         (record {
           first = 1;
           later = 1 + d .taken;
           templates = k;
           page = q + length (bytes r);
-          seen = record { jsx = x; attr = y; escape = z; long = d .flags .long || (long-body (templates-row (d .templates)) || l); left = d .flags .left };
+          seen = record { jsx = x; attr = y; escape = z; due = n };
         })
 
 -- the items with the place, and without

@@ -15,6 +15,7 @@ use Rattle.field.proofs.RowLaws.{length-bytes}
 use Rattle.page.specs.Page.{Options, Page}
 use Rattle.page.specs.Refusal.{unless, after}
 use Rattle.page.specs.declared.Refusal.the-variants as R
+use Rattle.page.specs.declared.Verdict.{Verdict}
 use Rattle.page.specs.Tree.{listed-in, source-in, options-in}
 use Rattle.spec.specs.Pass.{Done}
 use Rattle.spec.specs.Transform.{stands, helper-sum, with-import, with-templates, templates-row, page-out-row, transform}
@@ -22,6 +23,8 @@ use Rattle.spec.specs.Answer.{check-outputs}
 use Rattle.spec.proofs.PageOut.{import-row, import-related}
 use Rattle.decisions.specs.At.{opts}
 use Rattle.decisions.specs.Index.{names-of}
+use Rattle.strings.specs.Due.{graver, due-if, long-due, grave}
+use Rattle.strings.proofs.DueLaws.{graver-left, none-graver, graver-assoc, long-then}
 use Rattle.walk.specs.declared.state.Walk.{Walk}
 use Rattle.walk.specs.See.{World, at, see, to-page}
 use Rattle.transform.specs.Run.{module-mid, has-statement, items-mid, started, sum-of, import-bytes, headed, Headed, written-page, verdict-of}
@@ -125,13 +128,60 @@ pub page-long : (o : Options) (d : Done Row) → length (o .import-source) ≤ 6
 unfolding page-out-row
 page-long o d h = import-short (o .import-source) (helper-sum (d .value)) (placed-row d) h ∙ place-long (d .templates) (d .value)
 
+-- what is due, the gravest first: the first flag that is raised
+above : (k : ℕ) (x : Bool) (n : ℕ) → n ≤ k → graver (due-if k x) n ≡ pick x k n
+above k true n h = graver-left k n h
+above k false n h = none-graver n
+
+within : (x : Bool) (j n : ℕ) {k : ℕ} → j ≤ k → n ≤ k → pick x j n ≤ k
+within true j n p q = p
+within false j n p q = q
+
+module _ (x r m l : Bool) where
+  abbrev gravest : ℕ
+  gravest = pick x 4 (pick r 3 (pick m 2 (long-due l)))
+
+  gravest-is : graver (due-if 4 x) (graver (due-if 3 r) (graver (due-if 2 m) (long-due l))) ≡ gravest
+  gravest-is =
+      ap (λ (n : ℕ). graver (due-if 4 x) (graver (due-if 3 r) n)) (above 2 m (long-due l) (within l 1 0 (omega arith) (omega arith)))
+      ∙ ap (graver (due-if 4 x)) (above 3 r (pick m 2 (long-due l)) (within m 2 (long-due l) (omega arith) (within l 1 0 (omega arith) (omega arith))))
+      ∙ above 4 x (pick r 3 (pick m 2 (long-due l))) (within r 3 (pick m 2 (long-due l)) (omega arith) (within m 2 (long-due l) (omega arith) (within l 1 0 (omega arith) (omega arith))))
+
+-- the checks by what is due are the checks by the flags
+abbrev by-due : Verdict → ℕ → Verdict
+by-due v n =
+    after (unless (not (eqb n 4)) R.TagLeft) λ _.
+    after (unless (not (eqb n 3)) R.RepeatedAttribute) λ _.
+    after (unless (not (eqb n 2)) R.MixedCaseVoid) λ _.
+    after (unless (not (eqb n 1)) R.OutputTooLong) λ _. v
+
+abbrev by-flags : Verdict → (x r m l : Bool) → Verdict
+by-flags v x r m l =
+    after (unless (not x) R.TagLeft) λ _.
+    after (unless (not r) R.RepeatedAttribute) λ _.
+    after (unless (not m) R.MixedCaseVoid) λ _.
+    after (unless (not l) R.OutputTooLong) λ _. v
+
+due-told : (v : Verdict) (x r m l : Bool) → by-due v (gravest x r m l) ≡ by-flags v x r m l
+unfolding after
+due-told v true r m l = refl
+due-told v false true m l = refl
+due-told v false false true l = refl
+due-told v false false false true = refl
+due-told v false false false false = refl
+
 pub verdict-is : (o : Options) (d : Done Row) (t p : Bytes) (tr pr : ℕ) → length (o .import-source) ≤ 65000 → verdict-of (written-page o d t p .st) tr pr ≡ check-outputs tr pr (d .flags) (templates-row (d .templates)) (page-out-row o d)
 unfolding check-outputs
 verdict-is o d t p tr pr h =
-    ap
-    (λ (b : Bool).
-    after (unless (not (d .flags .left)) R.TagLeft) λ _.
-    after (unless (not (d .flags .long || (long-body (templates-row (d .templates)) || b))) R.OutputTooLong) λ _.
-    after (unless (leb (length (bytes (templates-row (d .templates)))) tr) R.TemplatesTooSmall) λ _.
-    unless (leb (length (bytes (page-out-row o d))) pr) R.PageTooSmall)
-    (sym (page-long o d h))
+    let f = d .flags in
+    let l = long-body (templates-row (d .templates)) in
+    let v = after (unless (leb (length (bytes (templates-row (d .templates)))) tr) R.TemplatesTooSmall) (λ _. unless (leb (length (bytes (page-out-row o d))) pr) R.PageTooSmall) in
+    let z = l || long-body (d .value) in
+    let c = due-if 2 (f .mixed) in
+    let b = due-if 3 (f .repeated) in
+    let e : graver (grave f) (long-due z) ≡ gravest (f .left) (f .repeated) (f .mixed) (f .long || z) =
+    graver-assoc (due-if 4 (f .left)) (graver b (graver c (long-due (f .long)))) (long-due z)
+    ∙ ap (graver (due-if 4 (f .left))) (graver-assoc b (graver c (long-due (f .long))) (long-due z) ∙ ap (graver b) (long-then c (f .long) z))
+    ∙ gravest-is (f .left) (f .repeated) (f .mixed) (f .long || z) in
+    ap (by-due v) e ∙ due-told v (f .left) (f .repeated) (f .mixed) (f .long || z)
+    ∙ ap (λ (x : Bool). by-flags v (f .left) (f .repeated) (f .mixed) (f .long || (l || x))) (sym (page-long o d h))

@@ -19,6 +19,7 @@ use Rattle.spec.specs.Output.{leaf}
 use Rattle.spec.specs.Transform as T
 use Rattle.spec.specs.Transform.{pieces, templates-row, page-out-row, stands}
 use Rattle.spec.specs.Answer.{Outcome, number, templates-bytes, page-bytes, templates, templates-left, page-left, scratch-left}
+use Rattle.strings.specs.Due.{graver, long-due, grave}
 use Rattle.walk.specs.declared.state.Walk.{Walk}
 use Rattle.walk.specs.See.{World, at, to-page}
 use Rattle.transform.specs.declared.Answer.{Answer}
@@ -94,7 +95,7 @@ has-html o (P.empty-item ∷ is) = has-html o is
 -- ---- the walk over the page
 
 abbrev pub started : ℕ → Walk
-started p = record { first = 1; later = 1; templates = 0; page = p; seen = record { jsx = false; attr = false; escape = false; long = false; left = false } }
+started p = record { first = 1; later = 1; templates = 0; page = p; seen = record { jsx = false; attr = false; escape = false; due = 0 } }
 
 -- the sum of the helpers called; a template was called where a number was taken
 abbrev pub sum-of : Walk → ℕ
@@ -128,8 +129,7 @@ written-page o d t p =
             jsx = stands 0x94 (d .value);
             attr = stands 0x91 (d .value);
             escape = stands 0x92 (d .value);
-            long = d .flags .long || (long-body (templates-row (d .templates)) || long-body (d .value));
-            left = d .flags .left;
+            due = graver (grave (d .flags)) (long-due (long-body (templates-row (d .templates)) || long-body (d .value)));
           };
     })
 
@@ -146,11 +146,13 @@ pub record Ready (page options : Bytes) (scratch : ℕ) : Type 0 where
   pub page-fronted : fronted (read page) ≡ true
   pub options-short : length options ≤ 4096
 
--- 10 to 13 by the state
+-- 10, 16, 19, 11, 12 and 13 by the state
 abbrev pub verdict-of : Walk → (templates-room page-room : ℕ) → Verdict
 verdict-of w tr pr =
-    after (unless (not (w .seen .left)) R.TagLeft) λ _.
-    after (unless (not (w .seen .long)) R.OutputTooLong) λ _.
+    after (unless (not (eqb (w .seen .due) 4)) R.TagLeft) λ _.
+    after (unless (not (eqb (w .seen .due) 3)) R.RepeatedAttribute) λ _.
+    after (unless (not (eqb (w .seen .due) 2)) R.MixedCaseVoid) λ _.
+    after (unless (not (eqb (w .seen .due) 1)) R.OutputTooLong) λ _.
     after (unless (leb (w .templates) tr) R.TemplatesTooSmall) λ _.
     unless (leb (w .page) pr) R.PageTooSmall
 

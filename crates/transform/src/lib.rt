@@ -17,6 +17,10 @@ use page::Refusal;
 use page::Verdict;
 use page::whole::check_options;
 use page::whole::check_page;
+use strings::due::LEFT;
+use strings::due::LONG;
+use strings::due::MIXED;
+use strings::due::REPEATED;
 use walk::state::Walk;
 
 #[repr(C)]
@@ -40,6 +44,8 @@ fn number_of(r: Refusal) -> u32
         Refusal::NumberTooLarge => 7,
         Refusal::TooDeep => 8,
         Refusal::TagLeft => 10,
+        Refusal::RepeatedAttribute => 16,
+        Refusal::MixedCaseVoid => 19,
         Refusal::OutputTooLong => 11,
         Refusal::TemplatesTooSmall => 12,
         Refusal::PageTooSmall => 13,
@@ -75,15 +81,21 @@ fn check_inputs<'a>(page: &'a [u8], options: &'a [u8], scratch: usize) -> Verdic
     }
 }
 
-// 10 to 13, by what the walk came upon.
+// 10, 16, 19 and 11, by what is due; then 12 and 13.
 fn check_outputs(w: Walk, templates_room: usize, page_room: usize) -> Verdict
     ensures { λ r. ⌜ r ≡ verdict-of w «templates_room» «page_room» ⌝ }
 {
-    let seen = w.seen;
-    if seen.left {
+    let due = w.seen.due;
+    if due == LEFT {
         return Verdict::Refused(Refusal::TagLeft);
     }
-    if seen.long {
+    if due == REPEATED {
+        return Verdict::Refused(Refusal::RepeatedAttribute);
+    }
+    if due == MIXED {
+        return Verdict::Refused(Refusal::MixedCaseVoid);
+    }
+    if due == LONG {
         return Verdict::Refused(Refusal::OutputTooLong);
     }
     if templates_room < w.templates {

@@ -291,8 +291,7 @@ fn start(p: usize) -> Walk
         jsx: false,
         attr: false,
         escape: false,
-        long: false,
-        left: false,
+        due: 0,
     };
     Walk {
         first: 1,

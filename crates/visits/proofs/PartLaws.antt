@@ -5,7 +5,7 @@
 use mathlib.Core.Path.{_≡_, refl, sym, ap, _∙_, subst}
 use Prim.Native.Nat.{ℕ, _+_, _≤_}
 use native.Mathlib.Omega.{arith}
-use mathlib.Core.Bool.{Bool, true, false, or-false}
+use mathlib.Core.Bool.{Bool, true, false}
 use mathlib.Core.List.{List, [], _∷_, _++_}
 use mathlib.Core.Option.{Option, none, some}
 use lib.ListN.{length}
@@ -14,6 +14,7 @@ use Rattle.field.specs.Row.{Row, read, Ended}
 use Rattle.field.specs.Front.{tag-of, body-of, behind-of}
 use Rattle.field.proofs.RowLaws.{read-nil}
 use Rattle.field.proofs.Actions.{Action, Lows, by, on, room, finish, low-now}
+use Rattle.text.specs.Escape.{escape-html}
 use Rattle.names.specs.Names.{AttrName, is-void-element}
 use Rattle.page.specs.Page.{Name, identifier, member, namespaced, Options}
 use Rattle.page.specs.Tree.{choose, attributes-in, attr-name-in, value-in, contained-in, Contained}
@@ -39,7 +40,7 @@ use Rattle.walk.specs.declared.state.Walk.{Walk}
 use Rattle.walk.specs.See.{World, at, see, act, passed, begun, numbered, wrap, wrap-if, begun-if, to-page, Low}
 use Rattle.walk.specs.Plan.{Plan, plan-by, plan-front, plan-back, attr-plan, attr-gap, gap-wraps, gap-held}
 use Rattle.walk.proofs.SeeLaws.{see-node, Grows, see-grows, low-back, low-is, grows-same, grows-then, wrap-grows, at-see, lift-world}
-use Rattle.walk.proofs.ActLaws.{see-append, act-pure, act-gen-template, act-no-parts, act-chars, act-gap, act-dynamic-append, act-grows, act-templates-length, act-page-length, passed-see}
+use Rattle.walk.proofs.ActLaws.{see-append, act-pure, act-gen-template, act-no-parts, act-chars, act-mark, act-gap, act-dynamic-append, act-grows, act-templates-length, act-page-length, passed-see}
 use Rattle.walk.proofs.GapLaws.{plan-mid, plan-done, attr-parts-plan, plan-front-same, plan-back-same, gap-mid, contained-gap}
 
 -- ---- gaps, one after the other
@@ -189,6 +190,7 @@ module _ (skip props b : Bytes) {z : Bool} (e : z ≡ serializable skip b) (w : 
         let ps = pick (is-void-element n) [] (inner skip props n r) in
         sym
         (ap (λ (ps : List Part). act (dynamic-exprs ps) w) (element-open skip props b e h refl q)
+        ∙ act-mark _ (chars (60 ∷ escape-html n) ∷ (attrs-at skip props r ++ (chars (62 ∷ []) ∷ ps))) w
         ∙ act-chars _ (attrs-at skip props r ++ (chars (62 ∷ []) ∷ ps)) w
         ∙ act-dynamic-append (attrs-at skip props r) (chars (62 ∷ []) ∷ ps) w
         ∙ act-chars (62 ∷ []) ps x
@@ -308,14 +310,7 @@ module _ (skip props s : Bytes) (n : ℕ) (e : n ≡ tag-of s) (w : World) {tota
 pub passed-plan : (m : Mid) (x : World) → passed (record { value = m; taken = 0; templates = []; flags = no-flags }) x ≡ x
 passed-plan m x =
     let k : x .st .first + 0 ≡ x .st .first = omega arith in
-    λ i. at (x .templates) (x .page)
-    (record {
-      first = k i;
-      later = x .st .later;
-      templates = x .st .templates;
-      page = x .st .page;
-      seen = record { jsx = x .st .seen .jsx; attr = x .st .seen .attr; escape = x .st .seen .escape; long = x .st .seen .long; left = or-false (x .st .seen .left) i };
-    })
+    λ i. at (x .templates) (x .page) (record { first = k i; later = x .st .later; templates = x .st .templates; page = x .st .page; seen = x .st .seen })
 
 -- the field of it
 module _ (t : ℕ) (f h z : Mid) (w : World) where

@@ -41,6 +41,7 @@ use Rattle.found.specs.declared.Kind.the-variants as F
 use Rattle.found.proofs.Kind.{the-type}
 use Rattle.walk.specs.declared.state.Walk.{Walk}
 use Rattle.walk.specs.Plan.{contained-mid}
+use Rattle.strings.specs.Due.{graver, long-due, grave}
 use Rattle.walk.specs.See.{World, at, wrote, see, passed, act, numbered, wrap, left, Low}
 use Rattle.walk.proofs.SeeLaws.{Split, wrote-then, lift, lift-left, low-is}
 use Rattle.walk.proofs.ActLaws.{see-raw, after-fields, passed-see, act-gen-template, act-grows, act-first}
@@ -98,8 +99,7 @@ module _ (p : Pass Mid) (w : World) where
                     jsx = or-false (s .jsx) i;
                     attr = or-false (s .attr) i;
                     escape = or-false (s .escape) i;
-                    long = s .long || (r .flags .long || or-false (long-body (templates-row (r .templates))) i);
-                    left = s .left || r .flags .left;
+                    due = graver (s .due) (graver (grave (r .flags)) (long-due (or-false (long-body (templates-row (r .templates))) i)));
                   };
             };
       }

@@ -98,7 +98,7 @@ untagged-kind F.Hole b = Unit {0}
 
 -- it begins with the record walk
 abbrev pub recording : Walk → Records
-recording s = record { next = s .later; place = s .templates; long = s .seen .long }
+recording s = record { next = s .later; place = s .templates; due = s .seen .due }
 
 -- and its first pass takes the later numbers
 abbrev pub entered : Records → Walk → Walk
@@ -108,7 +108,7 @@ entered k s =
       later = k .next;
       templates = k .place;
       page = s .page;
-      seen = record { jsx = s .seen .jsx; attr = s .seen .attr; escape = s .seen .escape; long = k .long; left = s .seen .left };
+      seen = record { jsx = s .seen .jsx; attr = s .seen .attr; escape = s .seen .escape; due = k .due };
     }
 
 abbrev pub enter : K.Kept → World → World

@@ -10,7 +10,6 @@ use field::reader::tag_at;
 use found::Found;
 use found::Kind;
 use records::Records;
-use walk::state::Seen;
 use walk::state::Walk;
 
 pub fn records_of(st: Walk) -> Records
@@ -20,41 +19,27 @@ pub fn records_of(st: Walk) -> Records
     Records {
         next: st.later,
         place: st.templates,
-        long: s.long,
+        due: s.due,
     }
 }
 
 pub fn recorded(st: Walk, k: Records) -> Walk
     ensures { λ r. ⌜ r ≡ entered k st ⌝ }
 {
-    let s = st.seen;
-    let seen = Seen {
-        jsx: s.jsx,
-        attr: s.attr,
-        escape: s.escape,
-        long: k.long,
-        left: s.left,
-    };
-    Walk {
-        first: st.later,
-        later: k.next,
-        templates: k.place,
-        page: st.page,
-        seen,
-    }
+    let mut w = st;
+    w.first = st.later;
+    w.later = k.next;
+    w.templates = k.place;
+    w.seen.due = k.due;
+    w
 }
 
 pub fn returned(st: Walk, first: usize) -> Walk
     ensures { λ r. ⌜ r ≡ with-first first st ⌝ }
 {
-    let seen = st.seen;
-    Walk {
-        first,
-        later: st.later,
-        templates: st.templates,
-        page: st.page,
-        seen,
-    }
+    let mut w = st;
+    w.first = first;
+    w
 }
 
 // Whether a tag stands in front.

@@ -6,7 +6,7 @@ use mathlib.Core.Path.{_≡_, refl, sym, ap, _∙_}
 use Prim.Native.Nat.{ℕ, _+_}
 use native.Mathlib.Omega.{arith}
 use mathlib.Core.List.{List, [], _∷_, _++_, append-assoc}
-use mathlib.Core.Bool.{Bool, true, false, _||_, not, or-assoc, or-false, false≢true}
+use mathlib.Core.Bool.{Bool, true, false, _||_, not, false≢true}
 use lib.Dec.{eqb, ltb}
 use borrow.Author.Tests.{eq-eqb, ne-eqb}
 use lib.ListN.{length}
@@ -19,7 +19,8 @@ use Rattle.names.specs.Names.{get-attr-name}
 use Rattle.page.specs.Number.{whole, scaled, number-tag, minus-tag}
 use Rattle.page.specs.Page as P
 use Rattle.page.specs.Page.{Name, Options}
-use Rattle.spec.specs.Pass.{Done, Pass, pure, map, both, bind, raise, join, long-if, Raw, Mid, none, node, raw, _+++_, _⧺_, Part, chars, gap}
+use Rattle.spec.specs.Pass.{Done, Pass, pure, map, both, bind, raise, join, long-if, Raw, Mid, none, node, raw, _+++_, _⧺_, Part, chars, gap, mark}
+use Rattle.spec.specs.declared.Flags.{Flags}
 use Rattle.spec.specs.Output.{leaf, string-node, null-node, prop-node, dynamic-exprs, gen-template}
 use Rattle.spec.specs.Merge.{Entry, still, Found, nothing-found, one-found, array-found, Child, text, empty, container, element, fragment, spread}
 use Rattle.spec.specs.Attributes as Held
@@ -130,31 +131,14 @@ fragment-fields (c ∷ c′ ∷ cs) n = after-fields _ n
 
 -- ---- what a first pass leaves goes through what is written
 
-or-swap : (s a b : Bool) → ((s || a) || b) ≡ ((s || b) || a)
-or-swap true a b = refl
-or-swap false true true = refl
-or-swap false true false = refl
-or-swap false false true = refl
-or-swap false false false = refl
-
--- the state with another first number and another flag
-abbrev reset : World → ℕ → Bool → World
-reset w n b =
-    at (w .templates) (w .page)
-    (record {
-      first = n;
-      later = w .st .later;
-      templates = w .st .templates;
-      page = w .st .page;
-      seen = record { jsx = w .st .seen .jsx; attr = w .st .seen .attr; escape = w .st .seen .escape; long = w .st .seen .long; left = b };
-    })
+-- the state with another first number
+abbrev reset : World → ℕ → World
+reset w n = at (w .templates) (w .page) (record { first = n; later = w .st .later; templates = w .st .templates; page = w .st .page; seen = w .st .seen })
 
 module _ (d : Done Mid) where
   pub passed-see : (m : Mid) (w : World) → passed d (see m w) ≡ see m (passed d w)
   unfolding see
-  passed-see m w =
-      let f = visit-exprs m (w .st .later) .flags in
-      λ i. reset (see m w) (w .st .first + d .taken) (or-swap (w .st .seen .left) (f .left) (d .flags .left) i)
+  passed-see m w = refl
 
   pub passed-wrap : (t p : ℕ) (w : World) → passed d (wrap t p w) ≡ wrap t p (passed d w)
   passed-wrap t p w = refl
@@ -177,7 +161,7 @@ passed-none : (m : Mid) (n : ℕ) (w : World) → passed (pure m n) w ≡ w
 unfolding pure
 passed-none m n w =
     let k : w .st .first + 0 ≡ w .st .first = omega arith in
-    λ i. reset w (k i) (or-false (w .st .seen .left) i)
+    λ i. reset w (k i)
 
 -- ---- passes
 
@@ -198,7 +182,7 @@ passed-join : (c d : Done Mid) (v : Mid) (w : World) →
     passed (record { value = v; taken = c .taken + d .taken; templates = c .templates ++ d .templates; flags = join (c .flags) (d .flags) }) w ≡ passed d (passed c w)
 passed-join c d v w =
     let n : w .st .first + (c .taken + d .taken) ≡ w .st .first + c .taken + d .taken = omega arith in
-    λ i. reset w (n i) (sym (or-assoc (w .st .seen .left) (c .flags .left) (d .flags .left)) i)
+    λ i. reset w (n i)
 
 pub act-both : (p q : Pass Mid) (w : World) → act (both _+++_ p q) w ≡ act q (act p w)
 unfolding act both see
@@ -235,7 +219,7 @@ module _ (ps : List Part) (w : World) where
       let x = wrap 0x90 (w .st .page) (see (d .value) (fronted b w)) in
       let n : w .st .first + (1 + d .taken) ≡ w .st .first + 1 + d .taken = omega arith in
       ap (passed (gen-template ps (w .st .first))) (see-front 0x90 b (d .value) w)
-      ∙ (λ i. reset x (n i) (x .st .seen .left || d .flags .left))
+      ∙ (λ i. reset x (n i))
       ∙ ap (λ (y : World). wrap 0x90 (w .st .page) (passed d (see (d .value) y))) numbered-is
 
 pub act-no-parts : (w : World) → act (dynamic-exprs []) w ≡ w
@@ -246,6 +230,10 @@ pub act-chars : (b : Bytes) (ps : List Part) (w : World) → act (dynamic-exprs 
 unfolding dynamic-exprs
 act-chars b ps w = refl
 
+pub act-mark : (f : Flags) (ps : List Part) (w : World) → act (dynamic-exprs (mark f ∷ ps)) w ≡ act (dynamic-exprs ps) w
+unfolding dynamic-exprs
+act-mark f ps w = refl
+
 pub act-gap : (p : Pass Mid) (ps : List Part) (w : World) → act (dynamic-exprs (gap p ∷ ps)) w ≡ act (dynamic-exprs ps) (act p w)
 unfolding dynamic-exprs
 act-gap p ps w = act-both p (dynamic-exprs ps) w
@@ -253,6 +241,7 @@ act-gap p ps w = act-both p (dynamic-exprs ps) w
 pub act-dynamic-append : (a b : List Part) (w : World) → act (dynamic-exprs (a ++ b)) w ≡ act (dynamic-exprs b) (act (dynamic-exprs a) w)
 act-dynamic-append [] b w = ap (act (dynamic-exprs b)) (sym (act-no-parts w))
 act-dynamic-append (chars c ∷ a) b w = act-chars c (a ++ b) w ∙ act-dynamic-append a b w ∙ ap (act (dynamic-exprs b)) (sym (act-chars c a w))
+act-dynamic-append (mark f ∷ a) b w = act-mark f (a ++ b) w ∙ act-dynamic-append a b w ∙ ap (act (dynamic-exprs b)) (sym (act-mark f a w))
 act-dynamic-append (gap p ∷ a) b w = act-gap p (a ++ b) w ∙ act-dynamic-append a b (act p w) ∙ ap (act (dynamic-exprs b)) (sym (act-gap p a w))
 
 -- ---- arrays

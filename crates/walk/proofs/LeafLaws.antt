@@ -14,6 +14,7 @@ use Rattle.field.specs.Number.{big-endian}
 use Rattle.field.specs.Put.{head, Wrote}
 use Rattle.spec.specs.Pass.{Mid, none, node}
 use Rattle.spec.specs.Output.{leaf}
+use Rattle.strings.specs.Due.{graver, long-due}
 use Rattle.walk.specs.declared.state.Seen.{Seen}
 use Rattle.walk.specs.declared.state.Walk.{Walk}
 use Rattle.walk.specs.See.{World, at, see, to-page, along, begun, numbered, marked, wrap, begun-if, wrap-if, left, flushed, Low}
@@ -27,9 +28,9 @@ or-taken b {a} {t} h e = e ∙ h ∙ sym (ap (λ (x : Bool). x || b) h)
 pub or-left : (b : Bool) {a t : Bool} → a ≡ false → t ≡ b → t ≡ (a || b)
 or-left b {a} {t} h e = e ∙ sym (ap (λ (x : Bool). x || b) h)
 
-pub mark-is : (t n : ℕ) (s : Seen) {a b c d : Bool} → a ≡ (s .jsx || eqb t 0x94) → b ≡ (s .attr || eqb t 0x91) → c ≡ (s .escape || eqb t 0x92) → d ≡ (s .long || ltb 65535 n) →
-    _≡_ {A = Seen} (record { jsx = a; attr = b; escape = c; long = d; left = s .left }) (marked t n s)
-mark-is t n s ea eb ec ed = λ i. record { jsx = ea i; attr = eb i; escape = ec i; long = ed i; left = s .left }
+pub mark-is : (t n : ℕ) (s : Seen) {a b c : Bool} {d : ℕ} → a ≡ (s .jsx || eqb t 0x94) → b ≡ (s .attr || eqb t 0x91) → c ≡ (s .escape || eqb t 0x92) → d ≡ graver (s .due) (long-due (ltb 65535 n)) →
+    _≡_ {A = Seen} (record { jsx = a; attr = b; escape = c; due = d }) (marked t n s)
+mark-is t n s ea eb ec ed = λ i. record { jsx = ea i; attr = eb i; escape = ec i; due = ed i }
 
 -- ---- a world by another name, and a state with other flags
 
@@ -188,12 +189,20 @@ module _ (o : Bytes) (st : Walk) where
   pub left-low : Low (left (at [] o st) .st) → Low (see (leaf 0x30 []) (at [] o st) .st)
   left-low l = low-seen (low-world (left-is (at [] o st)) l)
 
-  pub left-done : {o₁ : Bytes} {r : Walk} → at [] o₁ r ≡ see (leaf 0x30 []) (at [] o st) →
+  pub left-done : {o₁ : Bytes} {r : Walk} → at [] o₁ r ≡ see (leaf 0x30 []) (at [] o st) → {d : ℕ} → d ≡ graver (r .seen .due) 4 →
       at [] o₁ (record {
         first = r .first;
         later = r .later;
         templates = r .templates;
         page = r .page;
-        seen = record { jsx = r .seen .jsx; attr = r .seen .attr; escape = r .seen .escape; long = r .seen .long; left = true };
+        seen = record { jsx = r .seen .jsx; attr = r .seen .attr; escape = r .seen .escape; due = d };
       }) ≡ left (at [] o st)
-  left-done g = ap left-noted g ∙ sym (left-is (at [] o st))
+  left-done {o₁} {r} g e =
+      (λ i. at [] o₁ (record {
+        first = r .first;
+        later = r .later;
+        templates = r .templates;
+        page = r .page;
+        seen = record { jsx = r .seen .jsx; attr = r .seen .attr; escape = r .seen .escape; due = e i };
+      }))
+      ∙ ap left-noted g ∙ sym (left-is (at [] o st))

@@ -20,6 +20,8 @@ use Rattle.spec.specs.Visit as W
 use Rattle.spec.specs.Visit.{visit-exprs}
 use Rattle.spec.specs.Transform.{templates-row, stands}
 use Rattle.spec.specs.declared.Flags.{Flags}
+use Rattle.strings.specs.Due.{graver, long-due, grave}
+use Rattle.strings.proofs.DueLaws.{due-none, due-then, due-more, due-raised, left-grave, none-grave}
 use Rattle.walk.specs.declared.state.Walk.{Walk}
 use Rattle.walk.specs.See.{World, at, wrote, see, to-page, along, begun, numbered, wrap, begun-if, wrap-if, left, flushed, props-closed, Low}
 
@@ -38,22 +40,10 @@ or-front true i r = refl
 or-front false true r = refl
 or-front false false r = refl
 
-or-long : (s f a l i : Bool) → (s || (f || (a || (l || (i || false))))) ≡ ((s || (f || (a || i))) || l)
-or-long true f a l i = refl
-or-long false true a l i = refl
-or-long false false true l i = refl
-or-long false false false true true = refl
-or-long false false false true false = refl
-or-long false false false false true = refl
-or-long false false false false false = refl
-
-or-triples : (s f g a b x y : Bool) → (s || ((f || g) || ((a || b) || (x || y)))) ≡ ((s || (f || (a || x))) || (g || (b || y)))
-or-triples true f g a b x y = refl
-or-triples false true g a b x y = refl
-or-triples false false true a b x y = sym (or-true (a || x))
-or-triples false false false true b x y = refl
-or-triples false false false false true x y = sym (or-true x)
-or-triples false false false false false x y = refl
+or-cross : (a b x y : Bool) → ((a || b) || (x || y)) ≡ ((a || x) || (b || y))
+or-cross true b x y = refl
+or-cross false true x y = sym (or-true x)
+or-cross false false x y = refl
 
 -- ---- templates, one behind the other
 
@@ -105,9 +95,10 @@ module _ (c d : Done Row) (v : Row) (s : Split v (c .value) (d .value)) (w : Wor
       let np : w .st .page + length (bytes v) ≡ w .st .page + length a + length b = omega (arith, ap length (s .split-bytes), length-append a b) in
       let nl : w .st .later + (c .taken + d .taken) ≡ w .st .later + c .taken + d .taken = omega arith in
       let mark : (m : Bool) (u : ℕ) → (m || stands u v) ≡ ((m || stands u (c .value)) || stands u (d .value)) = λ m u. ap (λ (z : Bool). m || z) (s .split-stands u) ∙ sym (or-assoc m (stands u (c .value)) (stands u (d .value))) in
-      let long : (w .st .seen .long || ((c .flags .long || d .flags .long) || (long-body (templates-row (c .templates ++ d .templates)) || long-body v))) ≡ ((w .st .seen .long || (c .flags .long || (long-body (templates-row (c .templates)) || long-body (c .value)))) || (d .flags .long || (long-body (templates-row (d .templates)) || long-body (d .value)))) =
-      ap₂ (λ (p q : Bool). w .st .seen .long || ((c .flags .long || d .flags .long) || (p || q))) (long-templates (c .templates) (d .templates)) (s .split-long)
-      ∙ or-triples (w .st .seen .long) (c .flags .long) (d .flags .long) (long-body (templates-row (c .templates))) (long-body (templates-row (d .templates))) (long-body (c .value)) (long-body (d .value)) in
+      let long : (long-body (templates-row (c .templates ++ d .templates)) || long-body v) ≡ ((long-body (templates-row (c .templates)) || long-body (c .value)) || (long-body (templates-row (d .templates)) || long-body (d .value))) =
+      ap₂ (λ (p q : Bool). p || q) (long-templates (c .templates) (d .templates)) (s .split-long)
+      ∙ or-cross (long-body (templates-row (c .templates))) (long-body (templates-row (d .templates))) (long-body (c .value)) (long-body (d .value)) in
+      let due = due-then (w .st .seen .due) (c .flags) (d .flags) (long-body (templates-row (c .templates)) || long-body (c .value)) (long-body (templates-row (d .templates)) || long-body (d .value)) long in
       λ i. record {
         templates = ot i;
         page = op i;
@@ -122,8 +113,7 @@ module _ (c d : Done Row) (v : Row) (s : Split v (c .value) (d .value)) (w : Wor
                     jsx = mark (w .st .seen .jsx) 0x94 i;
                     attr = mark (w .st .seen .attr) 0x91 i;
                     escape = mark (w .st .seen .escape) 0x92 i;
-                    long = long i;
-                    left = sym (or-assoc (w .st .seen .left) (c .flags .left) (d .flags .left)) i;
+                    due = due i;
                   };
             };
       }
@@ -133,7 +123,7 @@ pub wrote-last : (v : Row) (k : ℕ) (ts : List Template) (f : Flags) (w : World
     wrote (record { value = v; taken = k + 0; templates = ts ++ []; flags = join f no-flags }) w ≡ wrote (record { value = v; taken = k; templates = ts; flags = f }) w
 wrote-last v k ts f w =
     let n : k + 0 ≡ k = omega arith in
-    λ i. wrote (record { value = v; taken = n i; templates = append-nil ts i; flags = record { left = or-false (f .left) i; long = or-false (f .long) i } }) w
+    λ i. wrote (record { value = v; taken = n i; templates = append-nil ts i; flags = record { left = or-false (f .left) i; long = or-false (f .long) i; repeated = or-false (f .repeated) i; mixed = or-false (f .mixed) i } }) w
 
 pub see-none : (w : World) → see none w ≡ w
 unfolding see visit-exprs pure templates-row bytes long-body stands
@@ -151,7 +141,7 @@ see-none w =
             later = n i;
             templates = t i;
             page = p i;
-            seen = record { jsx = or-false (s .jsx) i; attr = or-false (s .attr) i; escape = or-false (s .escape) i; long = or-false (s .long) i; left = or-false (s .left) i };
+            seen = record { jsx = or-false (s .jsx) i; attr = or-false (s .attr) i; escape = or-false (s .escape) i; due = due-none (s .due) i };
           };
     }
 
@@ -186,9 +176,12 @@ module _ (t : ℕ) (f : Bytes) (d : Done Row) (w : World) where
       ∙ ap (λ (x : ℕ). put (put (put (w .page) (p + 3) f) (p + 3 + length f) b) p (head t x)) n in
       let e : p + length (field-bytes t (f ++ b) ++ []) ≡ p + 3 + length f + length b = omega (arith, ap length (append-nil (field-bytes t (f ++ b))), length-field-bytes t (f ++ b), length-append f b) in
       let mark : (m : Bool) (u : ℕ) → (m || (eqb t u || (stands u (d .value) || false))) ≡ ((m || stands u (d .value)) || eqb t u) = λ m u. or-field m (eqb t u) (stands u (d .value)) in
-      let long : (s .long || (d .flags .long || (long-body (templates-row (d .templates)) || (ltb 65535 (length (f ++ b)) || (long-body (d .value) || false))))) ≡ ((s .long || (d .flags .long || (long-body (templates-row (d .templates)) || long-body (d .value)))) || ltb 65535 h) =
-      or-long (s .long) (d .flags .long) (long-body (templates-row (d .templates))) (ltb 65535 (length (f ++ b))) (long-body (d .value))
-      ∙ ap (λ (x : ℕ). (s .long || (d .flags .long || (long-body (templates-row (d .templates)) || long-body (d .value)))) || ltb 65535 x) n in
+      let l = long-body (templates-row (d .templates)) in
+      let v = long-body (d .value) in
+      let due : graver (s .due) (graver (grave (d .flags)) (long-due (l || (ltb 65535 (length (f ++ b)) || (v || false))))) ≡ graver (graver (s .due) (graver (grave (d .flags)) (long-due (l || v)))) (long-due (ltb 65535 h)) =
+      ap (λ (x : Bool). graver (s .due) (graver (grave (d .flags)) (long-due x))) (or-field l (ltb 65535 (length (f ++ b))) v)
+      ∙ due-more (s .due) (grave (d .flags)) (l || v) (ltb 65535 (length (f ++ b)))
+      ∙ ap (λ (x : ℕ). graver (graver (s .due) (graver (grave (d .flags)) (long-due (l || v)))) (long-due (ltb 65535 x))) n in
       λ i. record {
         templates = put (w .templates) (w .st .templates) (bytes (templates-row (d .templates)));
         page = o i;
@@ -203,8 +196,7 @@ module _ (t : ℕ) (f : Bytes) (d : Done Row) (w : World) where
                     jsx = mark (s .jsx) 0x94 i;
                     attr = mark (s .attr) 0x91 i;
                     escape = mark (s .escape) 0x92 i;
-                    long = long i;
-                    left = s .left || d .flags .left;
+                    due = due i;
                   };
             };
       }
@@ -287,7 +279,7 @@ left-noted w =
       templates = w .st .templates;
       page = w .st .page;
       seen =
-          record { jsx = w .st .seen .jsx; attr = w .st .seen .attr; escape = w .st .seen .escape; long = w .st .seen .long; left = true };
+          record { jsx = w .st .seen .jsx; attr = w .st .seen .attr; escape = w .st .seen .escape; due = graver (w .st .seen .due) 4 };
     })
 
 pub left-is : (w : World) → left w ≡ left-noted (see (leaf 0x30 []) w)
@@ -307,8 +299,7 @@ left-is w =
                   jsx = see (leaf 0x30 []) w .st .seen .jsx;
                   attr = see (leaf 0x30 []) w .st .seen .attr;
                   escape = see (leaf 0x30 []) w .st .seen .escape;
-                  long = see (leaf 0x30 []) w .st .seen .long;
-                  left = or-true (w .st .seen .left) i;
+                  due = due-raised (w .st .seen .due) left-grave none-grave (long-due (long-body (templates-row []) || long-body (field 0x30 [] end end))) i;
                 };
           };
     }

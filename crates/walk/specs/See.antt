@@ -17,6 +17,7 @@ use Rattle.spec.specs.Output.{leaf, null-node}
 use Rattle.spec.specs.Visit as W
 use Rattle.spec.specs.Visit.{visit-exprs}
 use Rattle.spec.specs.Transform.{templates-row, stands}
+use Rattle.strings.specs.Due.{graver, long-due, grave}
 use Rattle.walk.specs.declared.state.Walk.{Walk}
 use Rattle.walk.specs.declared.state.Seen.{Seen}
 
@@ -30,15 +31,14 @@ at t p s = record { templates = t; page = p; st = s }
 
 -- ---- what the passes do
 
--- what a visit comes upon: the helpers it calls, bodies that are too long, and its flags
+-- what a visit comes upon: the helpers it calls, and what is due by its flags and by bodies that are too long
 abbrev pub noted : Done Row → Seen → Seen
 noted d s =
     record {
       jsx = s .jsx || stands 0x94 (d .value);
       attr = s .attr || stands 0x91 (d .value);
       escape = s .escape || stands 0x92 (d .value);
-      long = s .long || (d .flags .long || (long-body (templates-row (d .templates)) || long-body (d .value)));
-      left = s .left || d .flags .left;
+      due = graver (s .due) (graver (grave (d .flags)) (long-due (long-body (templates-row (d .templates)) || long-body (d .value))));
     }
 
 -- the templates and the row of a visit, written
@@ -61,27 +61,13 @@ wrote d w =
 unfoldable pub see : Mid → World → World
 see m w = wrote (visit-exprs m (w .st .later)) w
 
--- numbers of a first pass, and flags raised in it; its templates are the record walk's, and so is whether they are too long
+-- numbers of a first pass; its templates are the record walk's, and so is what is due by them and by its flags
 abbrev pub passed : Done Mid → World → World
 passed d w =
     record {
       templates = w .templates;
       page = w .page;
-      st =
-          record {
-            first = w .st .first + d .taken;
-            later = w .st .later;
-            templates = w .st .templates;
-            page = w .st .page;
-            seen =
-                record {
-                  jsx = w .st .seen .jsx;
-                  attr = w .st .seen .attr;
-                  escape = w .st .seen .escape;
-                  long = w .st .seen .long;
-                  left = w .st .seen .left || d .flags .left;
-                };
-          };
+      st = record { first = w .st .first + d .taken; later = w .st .later; templates = w .st .templates; page = w .st .page; seen = w .st .seen };
     }
 
 -- a first pass with numbers from `first` on, and the second over what it leaves
@@ -117,8 +103,7 @@ marked t n s =
       jsx = s .jsx || eqb t 0x94;
       attr = s .attr || eqb t 0x91;
       escape = s .escape || eqb t 0x92;
-      long = s .long || ltb 65535 n;
-      left = s .left;
+      due = graver (s .due) (long-due (ltb 65535 n));
     }
 
 -- the head at p of a field that ends here

@@ -22,17 +22,19 @@ use field::reader::tag_at;
 use field::writer::put_bytes;
 use field::writer::put_head;
 use field::writer::put_two;
+use strings::due::LEFT;
+use strings::due::graver;
+use strings::due::with_body;
 use strings::put_joined;
 use text::jsx_text::jsx_text_to_str;
 use text::jsx_text::normalize_lit_str;
 
-// What was called, and what was come upon.
+// What was called, and what is due.
 pub struct Seen {
     pub jsx: bool,
     pub attr: bool,
     pub escape: bool,
-    pub long: bool,
-    pub left: bool,
+    pub due: u8,
 }
 
 // The next numbers of the first pass and of the second, the places behind what was written.
@@ -47,14 +49,9 @@ pub struct Walk {
 pub fn at_page(st: Walk, p: usize) -> Walk
     ensures { λ r. ⌜ r ≡ to-page p st ⌝ }
 {
-    let seen = st.seen;
-    Walk {
-        first: st.first,
-        later: st.later,
-        templates: st.templates,
-        page: p,
-        seen,
-    }
+    let mut w = st;
+    w.page = p;
+    w
 }
 
 fn mark(seen: Seen, tag: u8, len: usize) -> Seen
@@ -64,8 +61,7 @@ fn mark(seen: Seen, tag: u8, len: usize) -> Seen
         jsx: seen.jsx || tag == 0x94,
         attr: seen.attr || tag == 0x91,
         escape: seen.escape || tag == 0x92,
-        long: seen.long || 65535 < len,
-        left: seen.left,
+        due: with_body(seen.due, len),
     }
 }
 
@@ -96,14 +92,10 @@ pub fn close(page: &mut [u8], st: Walk, p: usize, tag: u8) -> Walk
     let end = st.page;
     let len = end - (p + 3);
     put_head(page, p, tag, len);
+    let mut w = st;
     let seen = mark(st.seen, tag, len);
-    Walk {
-        first: st.first,
-        later: st.later,
-        templates: st.templates,
-        page: end,
-        seen,
-    }
+    w.seen = seen;
+    w
 }
 
 pub fn close_if(page: &mut [u8], st: Walk, p: usize, tag: u8, b: bool) -> Walk
@@ -211,15 +203,10 @@ pub fn begin_template(page: &mut [u8], st: Walk) -> Walk
     ensures { λ r. ⌜ at [] (now (page .exit)) r ≡ numbered (at [] (now (page .entry)) st) ⌝ }
 {
     let n = st.first;
-    let e = put_two(page, st.page + 3, n);
-    let seen = st.seen;
-    Walk {
-        first: n + 1,
-        later: st.later,
-        templates: st.templates,
-        page: e,
-        seen,
-    }
+    let mut w = st;
+    w.page = put_two(page, st.page + 3, n);
+    w.first = n + 1;
+    w
 }
 
 // A tag is left: a 30 stands in the result.
@@ -227,20 +214,8 @@ pub fn leave(page: &mut [u8], st: Walk) -> Walk
     requires { ⌜ Low (left (at [] (now page) st) .st) ⌝ }
     ensures { λ r. ⌜ at [] (now (page .exit)) r ≡ left (at [] (now (page .entry)) st) ⌝ }
 {
-    let a = leaf(page, st, 0x30, b"");
-    let s = a.seen;
-    let seen = Seen {
-        jsx: s.jsx,
-        attr: s.attr,
-        escape: s.escape,
-        long: s.long,
-        left: true,
-    };
-    Walk {
-        first: a.first,
-        later: a.later,
-        templates: a.templates,
-        page: a.page,
-        seen,
-    }
+    let mut w = leaf(page, st, 0x30, b"");
+    let due = graver(w.seen.due, LEFT);
+    w.seen.due = due;
+    w
 }

@@ -20,6 +20,8 @@ pub fn all() -> Vec<Example> {
         Example::new("blocks", blocks()),
         Example::new("module", module()),
         Example::new("no-tags", no_tags()),
+        Example::new("twice", twice()),
+        Example::new("mixed-case", mixed_case()),
         damaged(),
     ]
 }
@@ -281,6 +283,16 @@ fn module() -> Page {
         Item::export(["export default function Page() {\n  return ".into(), page.into(), ";\n}".into()]),
         Item::declaration(["export { rows };".into()]),
     ])
+}
+
+/// `class` and `className`, of which a browser keeps the first.
+fn twice() -> Page {
+    const_a(Element::new("p").attribute("class", "tour").attribute("className", "sold-out").text("On tour"))
+}
+
+/// `bR`, which HTML takes for `br`.
+fn mixed_case() -> Page {
+    const_a(Element::new("p").text("Row A").child(Element::new("bR")).text("Row B"))
 }
 
 fn no_tags() -> Page {

@@ -71,19 +71,19 @@ fn inputs(rng: &mut Rng) -> (Vec<u8>, Vec<u8>) {
         1 => long::inputs(rng),
         2 => {
             let depth = if rng.chance(85) { rng.within(39, MOST_DEPTH) } else { MOST_DEPTH + 1 };
-            let shape = Shape { bytes: 1400, depth, chain: true, few_names: None };
+            let shape = Shape { bytes: 1400, depth, chain: true, few_names: None, repeats: 0, mixed_case: 0 };
             usual(rng, shape)
         }
         3 => {
             let bytes = rng.within(16_000, 32_000);
             let depth = rng.within(6, 20);
-            usual(rng, Shape { bytes, depth, chain: false, few_names: None })
+            usual(rng, Shape { bytes, depth, chain: false, few_names: None, repeats: 0, mixed_case: 0 })
         }
         4 => (tiny(rng), if rng.chance(50) { vec![] } else { tiny(rng) }),
         _ => {
             let bytes = [60, 150, 400, 1200, 4000][rng.weighted(&[30, 35, 25, 9, 1])];
             let depth = rng.within(4, 18);
-            usual(rng, Shape { bytes, depth, chain: false, few_names: None })
+            usual(rng, Shape { bytes, depth, chain: false, few_names: None, repeats: 0, mixed_case: 0 })
         }
     }
 }
@@ -93,10 +93,17 @@ fn usual(rng: &mut Rng, mut shape: Shape) -> (Vec<u8>, Vec<u8>) {
     if rng.chance(48) {
         shape.few_names = Some((0..rng.within(1, 4)).map(|_| few(rng)).collect());
     }
+    if rng.chance(22) {
+        // In a large page even a few would leave hardly one without.
+        shape.repeats = if shape.bytes > 1000 { 1 } else { 45 };
+    }
+    if rng.chance(9) {
+        shape.mixed_case = if shape.bytes > 1000 { 1 } else { 30 };
+    }
     let listed = shape.few_names.clone();
     let mut page = page::page(rng, shape);
     let mut options = options::options(rng, listed.as_deref());
-    match rng.weighted(&[70, 23, 2, 5]) {
+    match rng.weighted(&[69, 23, 3, 5]) {
         0 => {}
         1 => page = damage::damaged(rng, &page),
         2 => page = damage::with_number(rng, &page),
@@ -106,12 +113,17 @@ fn usual(rng: &mut Rng, mut shape: Shape) -> (Vec<u8>, Vec<u8>) {
 }
 
 fn few(rng: &mut Rng) -> String {
-    if rng.chance(30) { names::tag(rng) } else { names::attribute(rng) }
+    match rng.weighted(&[290, 10, 700]) {
+        0 => names::tag(rng),
+        1 => names::mixed_case_void(rng),
+        _ => names::attribute(rng),
+    }
 }
 
 /// Lengths within two of the limits of page and options.
 fn at_limits(rng: &mut Rng) -> (Vec<u8>, Vec<u8>) {
-    let shape = Shape { bytes: rng.within(100, 3000), depth: 10, chain: false, few_names: None };
+    let shape =
+        Shape { bytes: rng.within(100, 3000), depth: 10, chain: false, few_names: None, repeats: 0, mixed_case: 0 };
     let mut page = page::page(rng, shape);
     let mut given = vec![];
     if rng.chance(50) {

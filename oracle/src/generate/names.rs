@@ -62,8 +62,8 @@ fn is_name(name: &str) -> bool {
 }
 
 const TAGS: [&str; 10] = ["div", "p", "span", "i", "a", "b", "li", "my-tag", "_x", "$y"];
-const ODD_TAGS: [&str; 6] = ["bR", "dIV", "iMg", "a-B-9", "h1", "__proto__"];
-const COMPONENTS: [&str; 6] = ["Foo", "Bar", "B", "BR", "My-Part", "F1"];
+const ODD_TAGS: [&str; 6] = ["dIV", "a-B-9", "h1", "__proto__", "bRr", "sPAN"];
+const COMPONENTS: [&str; 8] = ["Foo", "Bar", "B", "BR", "My-Part", "F1", "Br", "INPUT"];
 const ATTRIBUTES: [&str; 20] = [
     "class",
     "className",
@@ -99,6 +99,19 @@ pub fn tag(rng: &mut Rng) -> String {
     }
 }
 
+/// One of the void elements with a capital behind its first letter: void only in small letters (02, A10). Now and then
+/// with something more, and so no longer void.
+pub fn mixed_case_void(rng: &mut Rng) -> String {
+    let name = rng.pick(&LISTED.void);
+    let capital = rng.within(1, name.len() - 1);
+    let mixed: String = name
+        .bytes()
+        .enumerate()
+        .map(|(i, c)| char::from(if i == capital || i > 0 && rng.chance(30) { c.to_ascii_uppercase() } else { c }))
+        .collect();
+    if rng.chance(10) { mixed + rng.pick(&["s", "-", "1"]) } else { mixed }
+}
+
 pub fn component(rng: &mut Rng) -> String {
     rng.pick(&COMPONENTS).to_string()
 }
@@ -121,6 +134,42 @@ pub fn attribute(rng: &mut Rng) -> String {
         4 => "dangerouslySetInnerHTML".to_string(),
         5 => any(rng),
         _ => long(rng),
+    }
+}
+
+/// The name as it is compared: normalised and in small letters; in small letters alone where the Rust is not there.
+pub fn normalised(name: &str) -> String {
+    let name = if crate::AVAILABLE { crate::private::normalize_dom_attr_name(name) } else { name.to_string() };
+    name.to_ascii_lowercase()
+}
+
+/// Names that are normalised alike, or compared alike, or only nearly so.
+const ALIKE: [&[&str]; 12] = [
+    &["class", "className", "Class", "CLASSNAME", "classname"],
+    &["for", "htmlFor", "htmlfor", "FOR"],
+    &["href", "xlinkHref", "xlink:href", "Href", "xlinkhref", "Xlink:href"],
+    &["viewBox", "viewbox", "VIEWBOX", "view-box"],
+    &["xml:lang", "xmlLang", "xmllang", "XML:lang", "xml:Lang", "xml-lang"],
+    &["xlink:title", "xlinkTitle", "xlinktitle", "title"],
+    &["stroke-width", "strokeWidth", "strokewidth", "STROKE-WIDTH"],
+    &["accept-charset", "acceptCharset", "acceptcharset"],
+    &["panose1", "panose-1", "Panose1"],
+    &["disabled", "DISABLED", "Disabled"],
+    &["key", "Key", "KEY"],
+    &["tabIndex", "tabindex", "tab-index"],
+];
+
+/// The name again: as written, in another case, or another one that goes with it.
+pub fn again(rng: &mut Rng, name: &str) -> String {
+    let same = |other: &str| normalised(other) == normalised(name);
+    match ALIKE.iter().find(|row| row.iter().any(|other| same(other))) {
+        Some(row) if rng.chance(60) => rng.pick(row).to_string(),
+        _ => match rng.below(4) {
+            0 => name.to_ascii_uppercase(),
+            1 => name.to_ascii_lowercase(),
+            2 => name.bytes().map(|c| char::from(if rng.chance(50) { c.to_ascii_uppercase() } else { c })).collect(),
+            _ => name.to_string(),
+        },
     }
 }
 

@@ -18,6 +18,10 @@ pub struct Shape {
     pub chain: bool,
     /// Few names, so that options and attributes meet often.
     pub few_names: Option<Vec<String>>,
+    /// Of a hundred elements with attributes, how many get one of them twice (02, A4).
+    pub repeats: usize,
+    /// Of a hundred elements, how many are void only once their names are in small letters (02, A10).
+    pub mixed_case: usize,
 }
 
 pub fn page(rng: &mut Rng, shape: Shape) -> Vec<u8> {
@@ -39,6 +43,35 @@ pub fn padded(mut page: Vec<u8>, length: usize) -> Vec<u8> {
         finish(&mut page, 0);
     }
     page
+}
+
+/// The names of an element's attributes so far.
+#[derive(Default)]
+struct Seen {
+    written: Vec<String>,
+    normalised: Vec<String>,
+}
+
+impl Seen {
+    /// Whether no attribute has the name yet, normalised and in small letters.
+    fn is_new(&mut self, name: &str) -> bool {
+        let normalised = names::normalised(name);
+        let new = !self.normalised.contains(&normalised);
+        if new {
+            self.written.push(name.to_string());
+            self.normalised.push(normalised);
+        }
+        new
+    }
+
+    /// A name that is normalised as one of these, or nearly so.
+    fn again(&self, rng: &mut Rng) -> Option<String> {
+        let written: Vec<&str> = self.written.iter().map(String::as_str).collect();
+        (!written.is_empty()).then(|| {
+            let one = rng.pick(&written);
+            names::again(rng, one)
+        })
+    }
 }
 
 struct Maker<'r> {
@@ -116,26 +149,36 @@ impl Maker<'_> {
 
     /// The body of a 30 that lies at `depth`.
     fn element(&mut self, depth: usize) {
-        self.element_name();
+        let called = self.element_name();
         if !self.can_hold(depth) {
             return;
         }
+        let mut names = Seen::default();
         for _ in 0..self.rng.weighted(&[40, 32, 16, 8, 4]) {
             if self.full() {
                 break;
             }
-            self.attribute(depth + 1);
+            self.attribute(depth + 1, &mut names);
         }
-        if self.rng.chance(4) {
+        if self.rng.chance(self.shape.repeats)
+            && let Some(name) = names.again(self.rng)
+        {
+            self.attribute_named(depth + 1, &name);
+        }
+        // On an element that is serialized they would be refused.
+        if called && self.rng.chance(12) {
             self.keys(depth + 1);
         }
         self.children(depth + 1);
     }
 
-    fn element_name(&mut self) {
-        match self.rng.weighted(&[68, 20, 6, 6]) {
+    /// The name of an element; whether it is never serialized.
+    fn element_name(&mut self) -> bool {
+        let kind = self.rng.weighted(&[68, 20, 6, 6]);
+        match kind {
             0 => {
                 let name = match &self.shape.few_names {
+                    _ if self.rng.chance(self.shape.mixed_case) => names::mixed_case_void(self.rng),
                     Some(few) if self.rng.chance(60) => few[self.rng.below(few.len())].clone(),
                     _ => names::tag(self.rng),
                 };
@@ -150,21 +193,41 @@ impl Maker<'_> {
                 let parts = names::member(self.rng, parts);
                 self.field(0x41, |m| parts.iter().for_each(|p| m.leaf(0x40, p.as_bytes())));
             }
-            _ => self.namespaced(),
+            _ => {
+                let name = names::namespaced(self.rng).join(":");
+                self.name(&name);
+            }
+        }
+        kind > 0
+    }
+
+    /// A 40, or a 42 where the name has a colon.
+    fn name(&mut self, name: &str) {
+        match name.split_once(':') {
+            None => self.leaf(0x40, name.as_bytes()),
+            Some((space, name)) => self.field(0x42, |m| {
+                m.leaf(0x40, space.as_bytes());
+                m.leaf(0x40, name.as_bytes());
+            }),
         }
     }
 
-    fn namespaced(&mut self) {
-        let parts = names::namespaced(self.rng);
-        self.field(0x42, |m| parts.iter().for_each(|p| m.leaf(0x40, p.as_bytes())));
-    }
-
-    fn attribute(&mut self, depth: usize) {
+    fn attribute(&mut self, depth: usize, names: &mut Seen) {
         if self.rng.chance(7) {
             return self.field(0x53, |m| m.expression(depth + 1));
         }
+        // A name that another attribute has is drawn again, as often as is worth while.
+        for _ in 0..5 {
+            let name = self.attribute_name();
+            if names.is_new(&name) {
+                return self.attribute_named(depth, &name);
+            }
+        }
+    }
+
+    fn attribute_named(&mut self, depth: usize, name: &str) {
         self.field(0x50, |m| {
-            m.attribute_name();
+            m.name(name);
             m.attribute_value(depth);
         });
     }
@@ -194,15 +257,14 @@ impl Maker<'_> {
         }
     }
 
-    fn attribute_name(&mut self) {
+    fn attribute_name(&mut self) -> String {
         if self.rng.chance(8) {
-            return self.namespaced();
+            return names::namespaced(self.rng).join(":");
         }
-        let name = match &self.shape.few_names {
+        match &self.shape.few_names {
             Some(few) if self.rng.chance(60) => few[self.rng.below(few.len())].clone(),
             _ => names::attribute(self.rng),
-        };
-        self.leaf(0x40, name.as_bytes());
+        }
     }
 
     /// A 52 at `depth`.

@@ -1,10 +1,12 @@
 //! Cases with a name and an answer that the papers fix by hand: the marks of 01's table, its limits, the worked card,
 //! every reading of it that was settled (which field counts first, what a listed name catches, and so on), and 02's
-//! decimals and sums.
+//! decimals, sums, attributes that stand twice and names in mixed case.
 
 mod decimals;
 mod limits;
+mod mixed_case;
 mod readings;
+mod repeats;
 mod sums;
 mod table;
 
@@ -22,7 +24,8 @@ pub struct Mark {
 }
 
 pub fn all() -> Vec<Mark> {
-    [table::marks(), limits::marks(), readings::marks(), decimals::marks(), sums::marks()].concat()
+    let of_document_02 = [decimals::marks(), sums::marks(), repeats::marks(), mixed_case::marks()];
+    [table::marks(), limits::marks(), readings::marks()].into_iter().chain(of_document_02).flatten().collect()
 }
 
 /// A page that is refused, or taken without its text being written down.

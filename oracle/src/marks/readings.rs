@@ -196,13 +196,6 @@ fn keys() -> Vec<Mark> {
             "const $$_tpl_1 = [\"<i disabled></i>\"];\n_jsxTemplate($$_tpl_1)\n",
         ),
         taken(
-            "r6-void-in-capitals",
-            page_of(element("bR", &[])),
-            vec![],
-            2,
-            "const $$_tpl_1 = [\"<bR></bR>\"];\n_jsxTemplate($$_tpl_1)\n",
-        ),
-        taken(
             "r6-attribute-string-of-a-call",
             page_of(element("Foo", &[attribute_string("a", " x \n\n  y \r\n")])),
             vec![],
@@ -371,7 +364,9 @@ fn everything() -> Vec<Mark> {
         element("b", &[]),
         fragment(&[element("u", &[])]),
     ];
-    let attributes: Vec<Vec<u8>> = values.iter().map(|v| attribute_with("a", braces(v.clone()))).collect();
+    // Each with a name of its own (02, A4).
+    let named = |(i, value): (usize, &Vec<u8>)| attribute_with(&format!("a{i}"), braces(value.clone()));
+    let attributes: Vec<Vec<u8>> = values.iter().enumerate().map(named).collect();
     let children: Vec<Vec<u8>> = values.iter().map(|v| braces(v.clone())).collect();
     let parts = [attributes, children].concat();
     let spreads: Vec<Vec<u8>> = values.iter().map(|v| spread_child(v.clone())).collect();

@@ -1,7 +1,7 @@
 use mathlib.Core.Path.{ap}
 use native.Mathlib.Omega.{arith}
 use Rattle.strings.specs.Carve as C
-use Rattle.records.proofs.Templates.{end-long, end-short}
+use Rattle.records.proofs.Templates.{end-is}
 use borrow.Author.Needs.{needs}
 use Rattle.records.proofs.closed.Statement.{statement}
 use Rattle.records.proofs.closed.Tie as tie
@@ -18,21 +18,16 @@ sub-len c = omega (arith, ap (λ (x : C.Carved). x .st .head) (c .before .before
 put-head-requires : tie.Need-put-head-requires
 put-head-requires c κs = search needs
 
+with-body-requires : tie.Need-with-body-requires
+with-body-requires c κs = search needs
+
 same-length : tie.Need-same-length
 same-length c = search needs
 
 returns : tie.Need-returns
 returns c =
     let a = c .before .before .before .before .before .before .before .before .before .before .before .args in
-    end-long (a .st) (C.at (a .out .now) (a .«open»)) (c .before .before .before .before .before .before .before .before .cut .ensures) (c .before .before .before .put-head .ensures .out-is) (c .if1 .taken)
-
-same-length-2 : tie.Need-same-length-2
-same-length-2 c = search needs
-
-returns-2 : tie.Need-returns-2
-returns-2 c =
-    let a = c .before .before .before .before .before .before .before .before .before .before .before .args in
-    end-short (a .st) (C.at (a .out .now) (a .«open»)) (c .before .before .before .before .before .before .before .before .cut .ensures) (c .before .before .before .put-head .ensures .out-is) (c .if1 .left)
+    end-is (a .st) (C.at (a .out .now) (a .«open»)) (c .before .before .before .before .before .before .before .before .cut .ensures) (c .before .before .before .put-head .ensures .out-is) (c .with-body .ensures)
 
 pub closed-spec : {M : Type 1} → statement M
 closed-spec =
@@ -42,7 +37,6 @@ closed-spec =
     add-len
     sub-len
     put-head-requires
+    with-body-requires
     same-length
-    returns
-    same-length-2
-    returns-2)
+    returns)

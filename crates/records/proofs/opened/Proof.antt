@@ -21,7 +21,7 @@ same-length c = search needs
 returns : tie.Need-returns
 returns c =
     let st = c .before .before .before .before .before .before .before .args .st in
-    ap (λ (x : Bytes). C.at x (record { head = st .place + 5; len = 0; long = st .long })) (c .before .before .before .put-two .ensures .out-is)
+    ap (λ (x : Bytes). C.at x (record { head = st .place + 5; len = 0; due = st .due })) (c .before .before .before .put-two .ensures .out-is)
 
 pub opened-spec : {M : Type 1} → statement M
 opened-spec = tie.close (tie.spec add-put-two put-two-requires add-t4 same-length returns)

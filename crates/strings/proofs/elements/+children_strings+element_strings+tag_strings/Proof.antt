@@ -34,7 +34,7 @@ use Rattle.strings.proofs.attributes.attributes_strings.Reads as attrib
 use Rattle.strings.proofs.elements.container_child.Reads as container-child-reads
 use Rattle.strings.proofs.elements.is_last.Reads as is-last-reads
 use Rattle.strings.proofs.elements.put_close.Reads as put-close-reads
-use Rattle.strings.proofs.elements.put_open.Reads as put-open-reads
+use Rattle.strings.proofs.elements.open_tag.Reads as open-tag-reads
 use Rattle.strings.proofs.writer.cut.Reads as cut-reads
 use Rattle.strings.proofs.writer.put_chars.Reads as put-chars-reads
 use Rattle.strings.proofs.writer.put_text.Reads as put-text-reads
@@ -259,7 +259,7 @@ element-strings-returns-2 : (t : ℕ) → element-strings-lts.Need-returns-2 (el
 element-strings-returns-2 t c = c .before .before .tag-strings .ensures
 
 abbrev tag-strings-calls : ℕ → tag-strings-lts.Claims
-tag-strings-calls t = (identifier-reads.Asked, identifier-reads.Learnt, behind-reads.Asked, behind-reads.Learnt, put-open-reads.Asked, put-open-reads.Learnt, attributes-strings-reads.Asked, attributes-strings-reads.Learnt, put-chars-reads.Asked, put-chars-reads.Learnt, is-void-element-reads.Asked, is-void-element-reads.Learnt, children-strings-below t, children-strings.Post, put-close-reads.Asked, put-close-reads.Learnt)
+tag-strings-calls t = (identifier-reads.Asked, identifier-reads.Learnt, behind-reads.Asked, behind-reads.Learnt, open-tag-reads.Asked, open-tag-reads.Learnt, attributes-strings-reads.Asked, attributes-strings-reads.Learnt, put-chars-reads.Asked, put-chars-reads.Learnt, is-void-element-reads.Asked, is-void-element-reads.Learnt, children-strings-below t, children-strings.Post, put-close-reads.Asked, put-close-reads.Learnt)
 
 tag-strings-identifier-requires : (t : ℕ) → tag-strings-lts.Need-identifier-requires (tag-strings-calls t) (tag-strings-at t) tag-strings.Post
 tag-strings-identifier-requires t c κs = tt
@@ -267,8 +267,8 @@ tag-strings-identifier-requires t c κs = tt
 tag-strings-behind-requires : (t : ℕ) → tag-strings-lts.Need-behind-requires (tag-strings-calls t) (tag-strings-at t) tag-strings.Post
 tag-strings-behind-requires t c κs = tt
 
-tag-strings-put-open-requires : (t : ℕ) → tag-strings-lts.Need-put-open-requires (tag-strings-calls t) (tag-strings-at t) tag-strings.Post
-tag-strings-put-open-requires t c κs =
+tag-strings-open-tag-requires : (t : ℕ) → tag-strings-lts.Need-open-tag-requires (tag-strings-calls t) (tag-strings-at t) tag-strings.Post
+tag-strings-open-tag-requires t c κs =
     let start = c .before .before .before .before .before .before .before in
     let a = start .args in
     open-room (a .skip .now) (a .props .now) (a .b .now) (at (a .out .now) (a .st)) refl (start .pre .1 .0) (c .before .before .identifier .ensures) (c .before .behind .ensures) (start .pre .1 .1)
@@ -279,7 +279,7 @@ tag-strings-attributes-strings-requires t c κs =
     let p₂ = p₁ .before .before .before in
     let start = p₂ .before .before .before .before .before in
     let a = start .args in
-    attrs-room (a .skip .now) (a .props .now) (a .b .now) (at (a .out .now) (a .st)) refl (start .pre .1 .0) (p₂ .identifier .ensures) (p₁ .before .before .behind .ensures) (p₁ .put-open .ensures) (start .pre .1 .1)
+    attrs-room (a .skip .now) (a .props .now) (a .b .now) (at (a .out .now) (a .st)) refl (start .pre .1 .0) (p₂ .identifier .ensures) (p₁ .before .before .behind .ensures) (p₁ .open-tag .ensures) (start .pre .1 .1)
 
 tag-strings-slice-aggregate-put-chars : (t : ℕ) → tag-strings-lts.Need-slice-aggregate-put-chars (tag-strings-calls t) (tag-strings-at t) tag-strings.Post
 tag-strings-slice-aggregate-put-chars t c = search needs
@@ -291,7 +291,7 @@ tag-strings-put-chars-requires t c κs =
     let p₃ = p₂ .before .before .before in
     let start = p₃ .before .before .before .before .before in
     let a = start .args in
-    end-room (a .skip .now) (a .props .now) (a .b .now) (at (a .out .now) (a .st)) refl (start .pre .1 .0) (p₃ .identifier .ensures) (p₂ .before .before .behind .ensures) (p₂ .put-open .ensures) (p₁ .attributes-strings .ensures) (start .pre .1 .1)
+    end-room (a .skip .now) (a .props .now) (a .b .now) (at (a .out .now) (a .st)) refl (start .pre .1 .0) (p₃ .identifier .ensures) (p₂ .before .before .behind .ensures) (p₂ .open-tag .ensures) (p₁ .attributes-strings .ensures) (start .pre .1 .1)
 
 tag-strings-is-void-element-requires : (t : ℕ) → tag-strings-lts.Need-is-void-element-requires (tag-strings-calls t) (tag-strings-at t) tag-strings.Post
 tag-strings-is-void-element-requires t c κs = tt
@@ -304,7 +304,7 @@ tag-strings-same-length t c =
     let p₄ = p₃ .before .before .before in
     let start = p₄ .before .before .before .before .before in
     let a = start .args in
-    kept same-size (void-end (a .skip .now) (a .props .now) (a .b .now) (at (a .out .now) (a .st)) refl (start .pre .1 .0) (p₄ .identifier .ensures) (p₃ .before .before .behind .ensures) (p₃ .put-open .ensures) (p₂ .attributes-strings .ensures) (p₁ .put-chars .ensures) (c .before .is-void-element .ensures) (c .if1 .taken))
+    kept same-size (void-end (a .skip .now) (a .props .now) (a .b .now) (at (a .out .now) (a .st)) refl (start .pre .1 .0) (p₄ .identifier .ensures) (p₃ .before .before .behind .ensures) (p₃ .open-tag .ensures) (p₂ .attributes-strings .ensures) (p₁ .put-chars .ensures) (c .before .is-void-element .ensures) (c .if1 .taken))
 
 tag-strings-returns : (t : ℕ) → tag-strings-lts.Need-returns (tag-strings-calls t) (tag-strings-at t) tag-strings.Post
 tag-strings-returns t c =
@@ -314,7 +314,7 @@ tag-strings-returns t c =
     let p₄ = p₃ .before .before .before in
     let start = p₄ .before .before .before .before .before in
     let a = start .args in
-    void-end (a .skip .now) (a .props .now) (a .b .now) (at (a .out .now) (a .st)) refl (start .pre .1 .0) (p₄ .identifier .ensures) (p₃ .before .before .behind .ensures) (p₃ .put-open .ensures) (p₂ .attributes-strings .ensures) (p₁ .put-chars .ensures) (c .before .is-void-element .ensures) (c .if1 .taken)
+    void-end (a .skip .now) (a .props .now) (a .b .now) (at (a .out .now) (a .st)) refl (start .pre .1 .0) (p₄ .identifier .ensures) (p₃ .before .before .behind .ensures) (p₃ .open-tag .ensures) (p₂ .attributes-strings .ensures) (p₁ .put-chars .ensures) (c .before .is-void-element .ensures) (c .if1 .taken)
 
 tag-strings-children-strings-requires : (t : ℕ) → tag-strings-lts.Need-children-strings-requires (tag-strings-calls t) (tag-strings-at t) tag-strings.Post
 tag-strings-children-strings-requires t c κs =
@@ -324,7 +324,7 @@ tag-strings-children-strings-requires t c κs =
     let p₄ = p₃ .before .before .before in
     let start = p₄ .before .before .before .before .before in
     let a = start .args in
-    (omega (arith, behind-le (a .b .now) (p₃ .before .before .behind .ensures), start .pre .0), kids-room (a .skip .now) (a .props .now) (a .b .now) (at (a .out .now) (a .st)) refl (start .pre .1 .0) (p₄ .identifier .ensures) (p₃ .before .before .behind .ensures) (p₃ .put-open .ensures) (p₂ .attributes-strings .ensures) (p₁ .put-chars .ensures) (c .before .before .is-void-element .ensures) (c .before .if1 .left) (start .pre .1 .1))
+    (omega (arith, behind-le (a .b .now) (p₃ .before .before .behind .ensures), start .pre .0), kids-room (a .skip .now) (a .props .now) (a .b .now) (at (a .out .now) (a .st)) refl (start .pre .1 .0) (p₄ .identifier .ensures) (p₃ .before .before .behind .ensures) (p₃ .open-tag .ensures) (p₂ .attributes-strings .ensures) (p₁ .put-chars .ensures) (c .before .before .is-void-element .ensures) (c .before .if1 .left) (start .pre .1 .1))
 
 tag-strings-put-close-requires : (t : ℕ) → tag-strings-lts.Need-put-close-requires (tag-strings-calls t) (tag-strings-at t) tag-strings.Post
 tag-strings-put-close-requires t c κs =
@@ -336,7 +336,7 @@ tag-strings-put-close-requires t c κs =
     let p₆ = p₅ .before .before .before in
     let start = p₆ .before .before .before .before .before in
     let a = start .args in
-    close-room (a .skip .now) (a .props .now) (a .b .now) (at (a .out .now) (a .st)) refl (start .pre .1 .0) (p₆ .identifier .ensures) (p₅ .before .before .behind .ensures) (p₅ .put-open .ensures) (p₄ .attributes-strings .ensures) (p₃ .put-chars .ensures) (p₂ .is-void-element .ensures) (p₁ .before .before .if1 .left) (p₁ .children-strings .ensures) (start .pre .1 .1)
+    close-room (a .skip .now) (a .props .now) (a .b .now) (at (a .out .now) (a .st)) refl (start .pre .1 .0) (p₆ .identifier .ensures) (p₅ .before .before .behind .ensures) (p₅ .open-tag .ensures) (p₄ .attributes-strings .ensures) (p₃ .put-chars .ensures) (p₂ .is-void-element .ensures) (p₁ .before .before .if1 .left) (p₁ .children-strings .ensures) (start .pre .1 .1)
 
 tag-strings-same-length-2 : (t : ℕ) → tag-strings-lts.Need-same-length-2 (tag-strings-calls t) (tag-strings-at t) tag-strings.Post
 tag-strings-same-length-2 t c =
@@ -348,7 +348,7 @@ tag-strings-same-length-2 t c =
     let p₆ = p₅ .before .before .before in
     let start = p₆ .before .before .before .before .before in
     let a = start .args in
-    kept same-size (close-end (a .skip .now) (a .props .now) (a .b .now) (at (a .out .now) (a .st)) refl (start .pre .1 .0) (p₆ .identifier .ensures) (p₅ .before .before .behind .ensures) (p₅ .put-open .ensures) (p₄ .attributes-strings .ensures) (p₃ .put-chars .ensures) (p₂ .is-void-element .ensures) (p₁ .before .before .if1 .left) (p₁ .children-strings .ensures) (c .before .before .put-close .ensures))
+    kept same-size (close-end (a .skip .now) (a .props .now) (a .b .now) (at (a .out .now) (a .st)) refl (start .pre .1 .0) (p₆ .identifier .ensures) (p₅ .before .before .behind .ensures) (p₅ .open-tag .ensures) (p₄ .attributes-strings .ensures) (p₃ .put-chars .ensures) (p₂ .is-void-element .ensures) (p₁ .before .before .if1 .left) (p₁ .children-strings .ensures) (c .before .before .put-close .ensures))
 
 tag-strings-returns-2 : (t : ℕ) → tag-strings-lts.Need-returns-2 (tag-strings-calls t) (tag-strings-at t) tag-strings.Post
 tag-strings-returns-2 t c =
@@ -360,7 +360,7 @@ tag-strings-returns-2 t c =
     let p₆ = p₅ .before .before .before in
     let start = p₆ .before .before .before .before .before in
     let a = start .args in
-    close-end (a .skip .now) (a .props .now) (a .b .now) (at (a .out .now) (a .st)) refl (start .pre .1 .0) (p₆ .identifier .ensures) (p₅ .before .before .behind .ensures) (p₅ .put-open .ensures) (p₄ .attributes-strings .ensures) (p₃ .put-chars .ensures) (p₂ .is-void-element .ensures) (p₁ .before .before .if1 .left) (p₁ .children-strings .ensures) (c .before .before .put-close .ensures)
+    close-end (a .skip .now) (a .props .now) (a .b .now) (at (a .out .now) (a .st)) refl (start .pre .1 .0) (p₆ .identifier .ensures) (p₅ .before .before .behind .ensures) (p₅ .open-tag .ensures) (p₄ .attributes-strings .ensures) (p₃ .put-chars .ensures) (p₂ .is-void-element .ensures) (p₁ .before .before .if1 .left) (p₁ .children-strings .ensures) (c .before .before .put-close .ensures)
 
 pub +children-strings+element-strings+tag-strings-spec : {M : Type 1} → statement M
 +children-strings+element-strings+tag-strings-spec =
@@ -412,7 +412,7 @@ pub +children-strings+element-strings+tag-strings-spec : {M : Type 1} → statem
     tag-strings.Post
     (tag-strings-identifier-requires t)
     (tag-strings-behind-requires t)
-    (tag-strings-put-open-requires t)
+    (tag-strings-open-tag-requires t)
     (tag-strings-attributes-strings-requires t)
     (tag-strings-slice-aggregate-put-chars t)
     (tag-strings-put-chars-requires t)

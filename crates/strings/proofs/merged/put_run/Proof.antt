@@ -9,10 +9,13 @@ use borrow.Author.Needs.{needs}
 use Rattle.strings.proofs.merged.put_run.Statement.{statement}
 use Rattle.strings.proofs.merged.put_run.Tie as tie
 
+graver-requires : tie.Need-graver-requires
+graver-requires c κs = search needs
+
 returns : tie.Need-returns
 returns c =
-    let a = c .before .before .before .args in
-    run-long (a .out .now) (a .st) (a .n) (take (a .n) (a .scratch .now)) (c .if1 .taken)
+    let a = c .before .before .before .before .args in
+    run-long (a .out .now) (a .st) (a .n) (take (a .n) (a .scratch .now)) (c .before .if1 .taken) (c .graver .ensures)
 
 slice-aggregate-put-text : tie.Need-slice-aggregate-put-text
 slice-aggregate-put-text c =
@@ -35,4 +38,4 @@ returns-2 c =
 
 pub put-run-spec : {M : Type 1} → statement M
 put-run-spec =
-    tie.close (tie.spec returns slice-aggregate-put-text put-text-requires same-length returns-2)
+    tie.close (tie.spec graver-requires returns slice-aggregate-put-text put-text-requires same-length returns-2)

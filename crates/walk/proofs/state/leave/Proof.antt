@@ -12,13 +12,16 @@ leaf-requires c κs =
     let a = start .args in
     left-low (a .page .now) (a .st) (start .pre)
 
+graver-requires : tie.Need-graver-requires
+graver-requires c κs = search needs
+
 same-length : tie.Need-same-length
 same-length c = search needs
 
 returns : tie.Need-returns
 returns c =
-    let a = c .before .before .before .before .before .before .before .args in
-    left-done (a .page .now) (a .st) (c .before .before .before .leaf .ensures)
+    let a = c .before .before .before .before .before .before .before .before .args in
+    left-done (a .page .now) (a .st) (c .before .before .before .before .leaf .ensures) (c .before .graver .ensures)
 
 pub leave-spec : {M : Type 1} → statement M
-leave-spec = tie.close (tie.spec slice-aggregate-leaf leaf-requires same-length returns)
+leave-spec = tie.close (tie.spec slice-aggregate-leaf leaf-requires graver-requires same-length returns)

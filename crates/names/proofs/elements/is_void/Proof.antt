@@ -1,4 +1,4 @@
--- `is_void_element` meets its contract: its table has the void names and no others, by tests that antt computes over the whole table.
+-- `is_void` meets its contract: its table has the void names and no others, by tests that antt computes over the whole table.
 use mathlib.Core.Path.{refl, sym, _∙_}
 use Prim.Native.Nat.{_<_}
 use lib.ListN.{length}
@@ -6,11 +6,12 @@ use borrow.Author.Needs.{needs}
 use borrow.Author.Tests.{not-true, not-false}
 use Rattle.field.specs.Bytes.{same, among}
 use Rattle.names.specs.Names.{void-names, is-void-element}
-use Rattle.names.specs.Table.{fits-in, mark-from}
-use Rattle.names.proofs.FitsLaws.{fits-length}
+use Rattle.names.specs.Table.{read-as, fits-in, mark-from}
+use Rattle.names.proofs.CompareLaws.{length-read-as}
+use Rattle.names.proofs.FitsLaws.{fits-length, fits-read-as}
 use Rattle.names.proofs.TableLaws.{entries, table-has, table-lacks, table-row}
-use Rattle.names.proofs.elements.is_void_element.Statement.{statement}
-use Rattle.names.proofs.elements.is_void_element.Tie as tie
+use Rattle.names.proofs.elements.is_void.Statement.{statement}
+use Rattle.names.proofs.elements.is_void.Tie as tie
 
 slice-aggregate-fits : tie.Need-slice-aggregate-fits
 slice-aggregate-fits c = search needs
@@ -22,8 +23,9 @@ fits-requires c κs = search needs
 returns : tie.Need-returns
 unfolding is-void-element void-names fits-in
 returns c =
-    let n = c .before .before .before .before .args .name .now in
-    let h = sym (c .before .fits2 .ensures) ∙ not-true (c .before .fits2 .result) (c .if1 .taken) in
+    let a = c .before .before .before .before .args in
+    let n = read-as (a .small) (a .name .now) in
+    let h = fits-read-as _ (a .small) (a .name .now) ∙ sym (c .before .fits2 .ensures) ∙ not-true (c .before .fits2 .result) (c .if1 .taken) in
     sym (table-lacks _ void-names n h refl)
 
 -- the name's length is one that the table has
@@ -47,12 +49,13 @@ find-in-requires c κs = length-within (c .before .before .before) .0
 returns-2 : tie.Need-returns-2
 unfolding is-void-element void-names entries mark-from among same
 returns-2 c =
-    let n = c .before .before .before .before .before .before .before .before .args .name .now in
-    let h = sym (c .before .before .before .before .before .fits2 .ensures) ∙ not-false (c .before .before .before .before .before .fits2 .result) (c .before .before .before .before .if1 .left) in
-    table-has _ _ _ void-names n (c .find-in .ensures) refl (c .before .row-of .ensures) h refl refl
+    let a = c .before .before .before .before .before .before .before .before .args in
+    let n = read-as (a .small) (a .name .now) in
+    let h = fits-read-as _ (a .small) (a .name .now) ∙ sym (c .before .before .before .before .before .fits2 .ensures) ∙ not-false (c .before .before .before .before .before .fits2 .result) (c .before .before .before .before .if1 .left) in
+    table-has _ _ _ void-names n (c .find-in .ensures) (length-read-as (a .small) (a .name .now)) (c .before .row-of .ensures) h refl refl
 
-pub is-void-element-spec : {M : Type 1} → statement M
-is-void-element-spec =
+pub is-void-spec : {M : Type 1} → statement M
+is-void-spec =
     tie.close
     (tie.spec
     slice-aggregate-fits

@@ -1,0 +1,265 @@
+// Document 02, A4: whether two attributes of an element have one name in HTML, compared in small letters. Nowhere is such a name written
+// out: it is read letter by letter, with the signs that normalising puts in, and two names are compared as they are read.
+ghost use mathlib.Core.Path.{_≡_};
+ghost use mathlib.Core.Bool.{true, false};
+ghost use mathlib.Core.List.{[]};
+ghost use Prim.Native.Nat.{_+_, _<_, _^_};
+ghost use Rattle.field.specs.Bytes.{same, among};
+ghost use Rattle.field.specs.Row.{read};
+ghost use Rattle.names.specs.Names.{ident, namespaced, small-letter, small-letters};
+ghost use lib.ListN.{take};
+ghost use Rattle.page.specs.Tree.{attributes-in, attr-name-in};
+ghost use Rattle.decisions.specs.Repeats.{joined, signed-letter, code-at, past, html-name, html-names, repeats};
+use crate::attribute::first_name;
+use crate::attribute::second_name;
+use field::reader::behind;
+use field::reader::body;
+use field::reader::tag_at;
+use names::find_mark;
+use names::is_xlink_href;
+
+// A place in a name: a letter, and whether the sign before it has been read.
+pub struct Place {
+    pub letter: usize,
+    pub behind_sign: bool,
+}
+
+fn small(c: u8) -> u8
+    ensures { λ r. ⌜ r ≡ small-letter c ⌝ }
+{
+    if c < b'A' {
+        return c;
+    }
+    if c > b'Z' {
+        return c;
+    }
+    c + 32
+}
+
+// Whether the sign s is read next, before the letter c.
+fn is_signed(s: u8, c: u8, behind_sign: bool) -> bool
+    ensures { λ r. ⌜ r ≡ signed-letter s c «behind_sign» ⌝ }
+{
+    if s == 0 {
+        return false;
+    }
+    if behind_sign {
+        return false;
+    }
+    (b'A' <= c) & (c <= b'Z')
+}
+
+// The byte that is read at x, by one more; 0 behind the last.
+fn code_at<'a>(s: u8, p: &'a [u8], two: bool, q: &'a [u8], x: Place) -> usize
+    ensures { λ r. ⌜ r ≡ code-at s (now (p .entry)) two (now (q .entry)) x ⌝ }
+{
+    let i = x.letter;
+    if i < p.len() {
+        let c = p[i];
+        if is_signed(s, c, x.behind_sign) {
+            return small(s) as usize + 1;
+        }
+        return small(c) as usize + 1;
+    }
+    if !two {
+        return 0;
+    }
+    let k = i - p.len();
+    if k == 0 {
+        return 59;
+    }
+    if k <= q.len() {
+        return small(q[k - 1]) as usize + 1;
+    }
+    0
+}
+
+// The place behind it.
+fn next_place(s: u8, p: &[u8], x: Place) -> Place
+    requires { ⌜ x .letter + 1 < 2 ^ 64 ⌝ }
+    ensures { λ r. ⌜ r ≡ past s (now (p .entry)) x ⌝ }
+{
+    let i = x.letter;
+    if p.len() <= i {
+        return Place {
+            letter: i + 1,
+            behind_sign: false,
+        };
+    }
+    let c = p[i];
+    if is_signed(s, c, x.behind_sign) {
+        return Place {
+            letter: i,
+            behind_sign: true,
+        };
+    }
+    Place {
+        letter: i + 1,
+        behind_sign: false,
+    }
+}
+
+// Two names as they are read: one part or two, with a sign before capitals or without.
+fn same_joined<'a>(
+    s: u8,
+    p: &'a [u8],
+    two: bool,
+    q: &'a [u8],
+    s2: u8,
+    p2: &'a [u8],
+    two2: bool,
+    q2: &'a [u8],
+) -> bool
+    ensures { λ r. ⌜ r ≡ same (small-letters (joined s (now (p .entry)) two (now (q .entry)))) (small-letters (joined s2 (now (p2 .entry)) two2 (now (q2 .entry)))) ⌝ }
+{
+    let mut x = Place {
+        letter: 0,
+        behind_sign: false,
+    };
+    let mut y = Place {
+        letter: 0,
+        behind_sign: false,
+    };
+    loop {
+        let a = code_at(s, p, two, q, x);
+        let b = code_at(s2, p2, two2, q2, y);
+        if a != b {
+            return false;
+        }
+        if a == 0 {
+            return true;
+        }
+        x = next_place(s, p, x);
+        y = next_place(s2, p2, y);
+    }
+}
+
+// Whether a name as it is read is the one that the identifier n has in HTML.
+fn ident_is<'a>(s: u8, p: &'a [u8], two: bool, q: &'a [u8], n: &'a [u8]) -> bool
+    ensures { λ r. ⌜ r ≡ same (small-letters (joined s (now (p .entry)) two (now (q .entry)))) (html-name (ident (now (n .entry)))) ⌝ }
+{
+    match find_mark(n) {
+        b'=' => same_joined(s, p, two, q, 0, n, false, b""),
+        b'c' => same_joined(s, p, two, q, 0, b"class", false, b""),
+        b'f' => same_joined(s, p, two, q, 0, b"for", false, b""),
+        b'h' => same_joined(s, p, two, q, 0, b"href", false, b""),
+        b'p' => same_joined(s, p, two, q, 0, b"panose-1", false, b""),
+        m => same_joined(s, p, two, q, m, n, false, b""),
+    }
+}
+
+// The same of ns:name.
+fn pair_is<'a>(s: u8, p: &'a [u8], two: bool, q: &'a [u8], ns: &'a [u8], name: &'a [u8]) -> bool
+    ensures { λ r. ⌜ r ≡ same (small-letters (joined s (now (p .entry)) two (now (q .entry)))) (html-name (namespaced (now (ns .entry)) (now (name .entry)))) ⌝ }
+{
+    if is_xlink_href(ns, name) {
+        return same_joined(s, p, two, q, 0, b"href", false, b"");
+    }
+    same_joined(s, p, two, q, 0, ns, true, name)
+}
+
+// Of the attribute with the fields a.
+fn attr_is<'a>(s: u8, p: &'a [u8], two: bool, q: &'a [u8], a: &'a [u8]) -> bool
+    ensures { λ r. ⌜ r ≡ same (small-letters (joined s (now (p .entry)) two (now (q .entry)))) (html-name (attr-name-in (read (now (a .entry))))) ⌝ }
+{
+    match tag_at(a) {
+        0x40 => ident_is(s, p, two, q, body(a)),
+        0x42 => {
+            let b = body(a);
+            pair_is(s, p, two, q, first_name(b), second_name(b))
+        }
+        _ => ident_is(s, p, two, q, &a[..0]),
+    }
+}
+
+// Whether the identifier n and the attribute with the fields a have one name in HTML.
+fn ident_same<'a>(n: &'a [u8], a: &'a [u8]) -> bool
+    ensures { λ r. ⌜ r ≡ same (html-name (ident (now (n .entry)))) (html-name (attr-name-in (read (now (a .entry))))) ⌝ }
+{
+    match find_mark(n) {
+        b'=' => attr_is(0, n, false, b"", a),
+        b'c' => attr_is(0, b"class", false, b"", a),
+        b'f' => attr_is(0, b"for", false, b"", a),
+        b'h' => attr_is(0, b"href", false, b"", a),
+        b'p' => attr_is(0, b"panose-1", false, b"", a),
+        m => attr_is(m, n, false, b"", a),
+    }
+}
+
+fn pair_same<'a>(ns: &'a [u8], name: &'a [u8], a: &'a [u8]) -> bool
+    ensures { λ r. ⌜ r ≡ same (html-name (namespaced (now (ns .entry)) (now (name .entry)))) (html-name (attr-name-in (read (now (a .entry))))) ⌝ }
+{
+    if is_xlink_href(ns, name) {
+        return attr_is(0, b"href", false, b"", a);
+    }
+    attr_is(0, ns, true, name, a)
+}
+
+// Whether two attributes have.
+fn same_html<'a>(a: &'a [u8], b: &'a [u8]) -> bool
+    ensures { λ r. ⌜ r ≡ same (html-name (attr-name-in (read (now (a .entry))))) (html-name (attr-name-in (read (now (b .entry))))) ⌝ }
+{
+    match tag_at(a) {
+        0x40 => ident_same(body(a), b),
+        0x42 => {
+            let c = body(a);
+            pair_same(first_name(c), second_name(c), b)
+        }
+        _ => ident_same(&a[..0], b),
+    }
+}
+
+// Whether one of the first k attributes of s has the name of a.
+fn earlier_has<'a>(s: &'a [u8], k: usize, a: &'a [u8]) -> bool
+    ensures { λ r. ⌜ r ≡ among (html-name (attr-name-in (read (now (a .entry))))) (take k (html-names (attributes-in (read (now (s .entry)))))) ⌝ }
+{
+    let mut t = s;
+    let mut i: usize = 0;
+    while i < k {
+        match tag_at(t) {
+            0x50 => {
+                if same_html(a, body(t)) {
+                    return true;
+                }
+                let r = behind(t);
+                t = r;
+                i += 1;
+            }
+            0x53 => {
+                let r = behind(t);
+                t = r;
+            }
+            _ => {
+                return false;
+            }
+        }
+    }
+    false
+}
+
+// Whether two attributes in front of s have one name.
+pub fn repeats(s: &[u8]) -> bool
+    ensures { λ r. ⌜ r ≡ repeats (html-names (attributes-in (read (now (s .entry))))) ⌝ }
+{
+    let mut t = s;
+    let mut k: usize = 0;
+    loop {
+        match tag_at(t) {
+            0x50 => {
+                if earlier_has(s, k, body(t)) {
+                    return true;
+                }
+                let r = behind(t);
+                t = r;
+                k += 1;
+            }
+            0x53 => {
+                let r = behind(t);
+                t = r;
+            }
+            _ => {
+                return false;
+            }
+        }
+    }
+}

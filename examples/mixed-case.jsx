@@ -1,0 +1,1 @@
+const a = <p>Row A<bR/>Row B</p>;

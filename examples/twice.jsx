@@ -1,0 +1,1 @@
+const a = <p class="tour" className="sold-out">On tour</p>;
