@@ -1,27 +1,30 @@
 -- Names as they are read for HTML, byte by byte. Main statements: `left-starts`, `left-goes-on`, `left-ends`. Assumes nothing.
-use mathlib.Core.Path.{_≡_, refl, sym, ap, _∙_}
-use mathlib.Core.Bool.{Bool, true, false, _&&_, _||_, not, and-false, and-eq-true-iff, false≢true}
-use Prim.Native.Nat.{ℕ, zero, suc, _+_, _-_, _≤_, _<_}
+use mathlib.Core.Path.{_≡_, refl, sym, ap, subst, _∙_}
+use mathlib.Core.Bool.{Bool, true, false, _&&_, _||_, not, and-false, and-eq-true-iff, or-false, false≢true}
+use Prim.Native.Nat.{ℕ, zero, suc, _+_, _-_, _*_, _%_, _≤_, _<_}
 use native.Mathlib.Numerals.{add-one}
 use native.Mathlib.Omega.{arith}
 use mathlib.Core.List.{List, [], _∷_, _++_, append-nil, cons≢nil}
 use lib.Dec.{eqb, leb, ltb}
-use lib.ListN.{length, getD, take, drop, drop-of-length-le, take-append-drop}
-use lib.Seq.{drop-cons, take-suc, take-nil}
+use lib.ListN.{length, length-set, length-replicate, replicate, getD, set, take, drop, drop-of-length-le, take-append-drop}
+use lib.Seq.{drop-cons, take-suc, take-nil, getD-set-same, getD-set-other}
 use borrow.Author.Tests.{eqb-true, eqb-false, leb-true, leb-false, ltb-true, ltb-false, eq-eqb, ne-eqb, lt-ltb, le-ltb, le-leb, lt-leb}
 use Rattle.field.specs.Bytes.{Bytes, ascii, pick, same, among}
 use Rattle.field.specs.Row.{read}
 use Rattle.field.specs.Front.{tag-of, body-of, behind-of}
-use Rattle.names.specs.Names.{AttrName, ident, namespaced, get-attr-name, normalize-dom-attr-name, capital, small-letter, small-letters}
+use Rattle.names.specs.Names.{AttrName, ident, namespaced, get-attr-name, normalize-dom-attr-name, rename-in, renamed, hyphenated-names, kept-names, parted, capital, small-letter, small-letters}
 use Rattle.names.specs.Table.{spelled-letter, spelled, by-mark}
 use Rattle.names.proofs.MarkLaws.{spelled-none, mark-other}
-use Rattle.names.proofs.CompareLaws.{capital-below, capital-above, capital-within}
-use Rattle.decisions.specs.Repeats.{joined, signed-letter, left-in, left, code, tail, code-at, past, html-name, html-names, repeats}
+use Rattle.names.proofs.NormalizeLaws.{over-lists, normalize-ind}
+use Rattle.names.proofs.CompareLaws.{same-eq, capital-below, capital-above, capital-within}
+use Rattle.decisions.specs.Repeats.{joined, signed-letter, left-in, left, code, tail, code-at, past, html-name, html-names, repeats, hash-on, name-hash, low-half, high-half, last-letter, letter-key, Keyed, untold, told, noted-at, Told}
 use Rattle.names.proofs.NamespacedLaws.{namespaced-xlink, namespaced-other, small-append}
 use Rattle.page.specs.Tree.{texts-in, first-in, second-in, attributes-in, attr-name-in}
 use Rattle.decisions.proofs.IndexLaws.{among-append}
 use Rattle.decisions.proofs.Series.{attr-name-40, attr-name-42, attr-name-other, attributes-50, attributes-53, attributes-other}
 use Rattle.decisions.specs.declared.repeats.Place.{Place}
+use Rattle.decisions.specs.declared.repeats.Few.{Few}
+use Rattle.decisions.specs.declared.repeats.Few.the-variants as F
 
 -- ---- is_signed
 
@@ -484,6 +487,9 @@ module _ (N : List Bytes) (k : ℕ) (x : Bytes) (r : List Bytes) (e : drop k N �
   pub list-behind : drop (k + 1) N ≡ r
   list-behind = rw add-one (ap (λ (l : List Bytes). drop 1 l) (sym (drop-cons N k [] inside-list) ∙ e))
 
+  pub list-front : take (k + 1) N ≡ take k N ++ (x ∷ [])
+  list-front = rw (add-one, take-suc N k [] inside-list, head-is)
+
   pub none-repeats : {b : Bool} → b ≡ among x (take k N) → b ≡ false → repeats (take k N) ≡ false → repeats (take (k + 1) N) ≡ false
   none-repeats h f g = rw (add-one, take-suc N k [] inside-list, head-is, repeats-more (take k N) x, ← h, f, g)
 
@@ -514,3 +520,257 @@ module _ (x : Bytes) (N : List Bytes) where
   pub earlier-end : (k i : ℕ) → k ≤ i → false ≡ among x (take (k - i) N)
   unfolding among
   earlier-end k i h = rw (let z : k - i ≡ 0 = omega (arith, h) in z)
+
+-- ---- hashes
+
+pub hash-end : (h : ℕ) (a : Bytes) → code a ≡ 0 → h ≡ hash-on h a
+unfolding code hash-on
+hash-end h [] e = refl
+hash-end h (c ∷ a) e = absurd (omega (arith, e))
+
+pub hash-code : (h : ℕ) (a : Bytes) → (code a ≡ 0 → ⊥) → hash-on ((h * 31 + code a % 65536) % 4294967296) (tail a) ≡ hash-on h a
+unfolding code hash-on tail
+hash-code h [] n = absurd (n refl)
+hash-code h (c ∷ a) n = refl
+
+module _ (s : ℕ) (p : Bytes) (two : Bool) (q : Bytes) where
+  pub hash-starts : hash-on 0 (left s p two q (place 0 false)) ≡ hash-on 0 (small-letters (joined s p two q))
+  hash-starts = rw (left-within s p two q 0 (omega arith))
+
+  module _ (x : Place) {a : ℕ} (e : a ≡ code-at s p two q x) (h : ℕ) where
+    pub hash-ends : a ≡ 0 → h ≡ hash-on h (left s p two q x)
+    hash-ends z = hash-end h _ (sym (e ∙ code-is s p two q (x .letter) (x .«behind_sign»)) ∙ z)
+
+    pub hash-goes : (a ≡ 0 → ⊥) → {x′ : Place} → x′ ≡ past s p x → hash-on ((h * 31 + a % 65536) % 4294967296) (left s p two q x′) ≡ hash-on h (left s p two q x)
+    hash-goes n u = rw (u, rest-is s p two q (x .letter) (x .«behind_sign»), one) (hash-code h _ (λ z. n (one ∙ z)))
+      where
+        one : a ≡ code (left s p two q x)
+        one = e ∙ code-is s p two q (x .letter) (x .«behind_sign»)
+
+-- a number of the name of an identifier, by what its mark says
+module _ (f : Bytes → ℕ) (n : Bytes) (m : ℕ) (e : by-mark m n ≡ normalize-dom-attr-name n) {r : ℕ} where
+  pub of-stays : m ≡ 61 → r ≡ f (small-letters (joined 0 n false [])) → r ≡ f (html-name (ident n))
+  unfolding by-mark
+  of-stays k h = h ∙ ap f (ident-as n m e n [] (rw k))
+
+  pub of-class : m ≡ 99 → r ≡ f (small-letters (joined 0 (ascii "class") false [])) → r ≡ f (html-name (ident n))
+  unfolding by-mark
+  of-class k h = h ∙ ap f (ident-as n m e (ascii "class") [] (rw k))
+
+  pub of-for : m ≡ 102 → r ≡ f (small-letters (joined 0 (ascii "for") false [])) → r ≡ f (html-name (ident n))
+  unfolding by-mark
+  of-for k h = h ∙ ap f (ident-as n m e (ascii "for") [] (rw k))
+
+  pub of-href : m ≡ 104 → r ≡ f (small-letters (joined 0 (ascii "href") false [])) → r ≡ f (html-name (ident n))
+  unfolding by-mark
+  of-href k h = h ∙ ap f (ident-as n m e (ascii "href") [] (rw k))
+
+  pub of-panose : m ≡ 112 → r ≡ f (small-letters (joined 0 (ascii "panose-1") false [])) → r ≡ f (html-name (ident n))
+  unfolding by-mark
+  of-panose k h = h ∙ ap f (ident-as n m e (ascii "panose-1") [] (rw k))
+
+  pub of-other : (m ≡ 61 → ⊥) → (m ≡ 99 → ⊥) → (m ≡ 102 → ⊥) → (m ≡ 104 → ⊥) → (m ≡ 112 → ⊥) → r ≡ f (small-letters (joined m n false [])) → r ≡ f (html-name (ident n))
+  of-other a b c d e′ h = h ∙ ap f (ident-spelled n m e [] (mark-other m n a b c d e′))
+
+module _ (f : Bytes → ℕ) (ns n : Bytes) {v : Bool} {r : ℕ} (e : v ≡ (same ns (ascii "xlink") && same n (ascii "href"))) where
+  pub of-xlink : v ≡ true → r ≡ f (small-letters (joined 0 (ascii "href") false [])) → r ≡ f (html-name (namespaced ns n))
+  of-xlink t h = h ∙ ap f (pair-xlink ns n [] (sym e ∙ t))
+
+  pub of-pair : v ≡ false → r ≡ f (small-letters (joined 0 ns true n)) → r ≡ f (html-name (namespaced ns n))
+  of-pair t h = h ∙ ap f (pair-other ns n [] (sym e ∙ t))
+
+module _ (a : Bytes) (t : ℕ) (e : t ≡ tag-of a) (f : Bytes → ℕ) where
+  pub of-40 : t ≡ 0x40 → {b : Bytes} → b ≡ body-of a → {r : ℕ} → r ≡ f (html-name (ident b)) → r ≡ f (html-name (attr-name-in (read a)))
+  of-40 k q h = h ∙ ap (λ (n : AttrName). f (html-name n)) (ap ident q ∙ sym (attr-name-40 a t e k))
+
+  pub of-42 : t ≡ 0x42 → {b : Bytes} → b ≡ body-of a → {v w : Bytes} → v ≡ first-in (texts-in 0x40 (read b)) → w ≡ second-in (texts-in 0x40 (read b)) → {r : ℕ} → r ≡ f (html-name (namespaced v w)) → r ≡ f (html-name (attr-name-in (read a)))
+  of-42 k q x y h = h ∙ rw (x, y, q, attr-name-42 a t e k)
+
+  pub of-none : (t ≡ 0x40 → ⊥) → (t ≡ 0x42 → ⊥) → {r : ℕ} → r ≡ f (html-name (ident [])) → r ≡ f (html-name (attr-name-in (read a)))
+  of-none k l h = h ∙ rw (attr-name-other a t e k l)
+
+-- ---- names that are noted
+
+-- each of ns is noted in a table under its key
+abbrev pub Noted : (Bytes → ℕ) → List ℕ → List Bytes → Type 0
+Noted key seen ns = (x : Bytes) → among x ns ≡ true → getD seen (key x) 0 ≡ 1
+
+pub noted-none : (key : Bytes → ℕ) (seen : List ℕ) → Noted key seen []
+unfolding among
+noted-none key seen x h = absurd (false≢true h)
+
+pub noted-more : (key : Bytes → ℕ) (seen : List ℕ) (ns : List Bytes) (y : Bytes) (i : ℕ) → i ≡ key y → i < length seen → Noted key seen ns → Noted key (set seen i 1) (ns ++ (y ∷ []))
+unfolding among
+noted-more key seen ns y i e l k x h = on (eqb (key x) i) refl
+  where
+    kept-name : eqb (key x) i ≡ false → (b : Bool) → same x y ≡ b → (among x ns || (b || false)) ≡ true → among x ns ≡ true
+    kept-name f true g m = absurd (eqb-false (key x) i f (ap key (same-eq x y g) ∙ sym e))
+    kept-name f false g m = sym (or-false (among x ns)) ∙ m
+
+    on : (b : Bool) → eqb (key x) i ≡ b → getD (set seen i 1) (key x) 0 ≡ 1
+    on true f = rw (eqb-true (key x) i f) (getD-set-same seen i 1 0 l)
+    on false f = getD-set-other seen i (key x) 1 0 (eqb-false (key x) i f) ∙ k x (kept-name f (same x y) refl (sym (among-append x ns (y ∷ [])) ∙ h))
+
+pub not-noted : (key : Bytes → ℕ) (seen : List ℕ) (ns : List Bytes) (y : Bytes) (i : ℕ) → i ≡ key y → eqb (getD seen i 0) 1 ≡ false → Noted key seen ns → among y ns ≡ false
+not-noted key seen ns y i e f k = on (among y ns) refl
+  where
+    on : (b : Bool) → among y ns ≡ b → b ≡ false
+    on false g = refl
+    on true g = absurd (eqb-false (getD seen i 0) 1 f (rw e (k y g)))
+
+-- under both halves of its hash
+abbrev pub low-key : Bytes → ℕ
+low-key x = low-half (name-hash x)
+
+abbrev pub high-key : Bytes → ℕ
+high-key x = high-half (name-hash x)
+
+pub may-not : (low high : List ℕ) (ns : List Bytes) (y : Bytes) (h : ℕ) {r : Bool} → Noted low-key low ns → Noted high-key high ns → h ≡ name-hash y → r ≡ (eqb (getD low (low-half h) 0) 1 && eqb (getD high (high-half h) 0) 1) → r ≡ false → among y ns ≡ false
+may-not low high ns y h {r} a b e f g = on (eqb (getD low (low-half h) 0) 1) refl (eqb (getD high (high-half h) 0) 1) refl (sym f ∙ g)
+  where
+    on : (u : Bool) → eqb (getD low (low-half h) 0) 1 ≡ u → (v : Bool) → eqb (getD high (high-half h) 0) 1 ≡ v → (u && v) ≡ false → among y ns ≡ false
+    on true p true q z = absurd (false≢true (sym z))
+    on true p false q z = not-noted high-key high ns y (high-half h) (ap high-half e) q b
+    on false p v q z = not-noted low-key low ns y (low-half h) (ap low-half e) p a
+
+pub noted-next : (key : Bytes → ℕ) (seen seen′ : List ℕ) (N : List Bytes) (k : ℕ) (x : Bytes) (r : List Bytes) (i : ℕ) → drop k N ≡ x ∷ r → i ≡ key x → i < length seen → seen′ ≡ set seen i 1 → Noted key seen (take k N) → Noted key seen′ (take (k + 1) N)
+noted-next key seen seen′ N k x r i e f l g n =
+    let m : Noted key (set seen i 1) (take k N ++ (x ∷ [])) = noted-more key seen (take k N) x i f l n in
+    subst (λ (s : List ℕ). Noted key s (take (k + 1) N)) (sym g) (subst (λ (ns : List Bytes). Noted key (set seen i 1) ns) (sym (list-front N k x r e)) m)
+
+pub noted-length : (seen seen′ : List ℕ) (i : ℕ) → seen′ ≡ set seen i 1 → length seen ≡ 65536 → length seen′ ≡ 65536
+noted-length seen seen′ i e h = rw (e, length-set seen i 1, h)
+
+pub half-low : (h : ℕ) → low-half h < 65536
+half-low h = omega arith
+
+pub half-high : (h : ℕ) → high-half h < 65536
+half-high h = omega arith
+
+pub none-noted : (seen : List ℕ) → seen ≡ replicate 65536 0 → length seen ≡ 65536
+none-noted seen e = rw e (length-replicate {A = ℕ} 65536 0)
+
+-- ---- keys
+
+small-mod : (c : ℕ) → small-letter c % 32 ≡ c % 32
+unfolding small-letter
+small-mod c = on (capital c)
+  where
+    on : (b : Bool) → pick b (c + 32) c % 32 ≡ c % 32
+    on true = omega arith
+    on false = refl
+
+small-even : (c : ℕ) → small-letter c % 2 ≡ c % 2
+unfolding small-letter
+small-even c = on (capital c)
+  where
+    on : (b : Bool) → pick b (c + 32) c % 2 ≡ c % 2
+    on true = omega arith
+    on false = refl
+
+last-small : (c : ℕ) (cs : Bytes) → last-letter (small-letter c) (small-letters cs) % 32 ≡ last-letter c cs % 32
+unfolding last-letter small-letters
+last-small c [] = small-mod c
+last-small c (d ∷ ds) = last-small d ds
+
+letter-key-small : (n : Bytes) → letter-key (small-letters n) ≡ letter-key n
+unfolding letter-key small-letters
+letter-key-small [] = refl
+letter-key-small (c ∷ cs) = rw (last-small c cs, small-even c)
+
+key-listed : over-lists (λ w v. same w (ascii "className") || eqb (letter-key v) (letter-key w)) ≡ true
+unfolding letter-key last-letter same renamed hyphenated-names kept-names parted
+key-listed = refl
+
+key-normal : (n : Bytes) → same n (ascii "className") ≡ false → letter-key (html-name (ident n)) ≡ letter-key n
+unfolding html-name get-attr-name
+key-normal n h = letter-key-small (normalize-dom-attr-name n) ∙ on
+  where
+    f : Bytes → Bytes → Bool
+    f w v = same w (ascii "className") || eqb (letter-key v) (letter-key w)
+
+    other : f n (small-letters n) ≡ true
+    other = ap (λ (b : Bool). b || eqb (letter-key (small-letters n)) (letter-key n)) h ∙ eq-eqb (letter-key (small-letters n)) (letter-key n) (letter-key-small n)
+
+    on : letter-key (normalize-dom-attr-name n) ≡ letter-key n
+    on = eqb-true (letter-key (normalize-dom-attr-name n)) (letter-key n) (ap (λ (b : Bool). b || eqb (letter-key (normalize-dom-attr-name n)) (letter-key n)) (sym h) ∙ normalize-ind f key-listed n (λ l. other))
+
+class-key : (n : Bytes) → same n (ascii "className") ≡ true → letter-key (html-name (ident n)) ≡ 39
+unfolding html-name get-attr-name letter-key last-letter same normalize-dom-attr-name rename-in renamed small-letters small-letter
+class-key n h = ap (λ (m : Bytes). letter-key (html-name (ident m))) (same-eq n (ascii "className") h)
+
+last-at : (c : ℕ) (cs : Bytes) → last-letter c cs ≡ getD (c ∷ cs) (length cs) 0
+unfolding last-letter
+last-at c [] = refl
+last-at c (d ∷ ds) = last-at d ds
+
+key-letters : (n : Bytes) → (length n ≡ 0 → ⊥) → letter-key n ≡ getD n (length n - 1) 0 % 32 * 2 + getD n 0 0 % 2
+unfolding letter-key
+key-letters [] h = absurd (h refl)
+key-letters (c ∷ cs) h = rw (last-at c cs, let e : length (c ∷ cs) - 1 ≡ length cs = omega arith in e)
+
+module _ (a b : Bytes) (t : ℕ) (e : t ≡ tag-of a) (k : t ≡ 0x40) (q : b ≡ body-of a) {v : Bool} (w : v ≡ same b (ascii "className")) where
+  pub keyed-class : v ≡ true → Keyed (html-name (attr-name-in (read a))) 39
+  keyed-class t′ = told {k = 39} (omega arith) (of-40 a t e letter-key k q (sym (class-key b (sym w ∙ t′))))
+
+  pub keyed-letters : v ≡ false → (length b ≡ 0 → ⊥) → (m : ℕ) → m ≡ getD b (length b - 1) 0 % 32 * 2 + getD b 0 0 % 2 → Keyed (html-name (attr-name-in (read a))) m
+  keyed-letters f n m h = told {k = m} (omega (arith, h)) (of-40 a t e letter-key k q (h ∙ sym (key-letters b n) ∙ sym (key-normal b (sym w ∙ f))))
+
+pub noted-in : (seen : List ℕ) (k : ℕ) → k < 64 → set seen k 1 ≡ noted-at seen k
+unfolding noted-at
+noted-in seen k h = rw (lt-ltb k 64 h)
+
+pub noted-out : (seen : List ℕ) (k : ℕ) → 64 ≤ k → seen ≡ noted-at seen k
+unfolding noted-at
+noted-out seen k h = rw (le-ltb k 64 h)
+
+-- ---- many_repeat calls itself once
+
+pub falls-once : (b : Bool) {n : ℕ} → pick b 1 0 ≡ n → b ≡ true → pick false 1 0 < n
+falls-once true e h = omega (arith, e)
+falls-once false e h = absurd (false≢true h)
+
+-- ---- by_keys
+
+pub keys-none : (seen : List ℕ) → seen ≡ replicate 64 0 → length seen ≡ 64
+keys-none seen e = rw e (length-replicate {A = ℕ} 64 0)
+
+pub keys-length : (seen seen′ : List ℕ) (k : ℕ) → seen′ ≡ noted-at seen k → length seen ≡ 64 → length seen′ ≡ 64
+unfolding noted-at
+keys-length seen seen′ k e h = e-length (ltb k 64) ∙ h
+  where
+    on : (b : Bool) → length (pick b (set seen k 1) seen) ≡ length seen
+    on true = length-set seen k 1
+    on false = refl
+
+    e-length : (b : Bool) → length seen′ ≡ length seen
+    e-length b = ap length e ∙ on (ltb k 64)
+
+-- a key that is not noted, where all names before it are
+pub key-may-not : (seen : List ℕ) (ns : List Bytes) (y : Bytes) (k : ℕ) {u r : Bool} → (u ≡ false → Noted letter-key seen ns) → Keyed y k → (r ≡ false → (u ≡ false) × (k < 64) × (eqb (getD seen k 0) 1 ≡ false)) → r ≡ false → among y ns ≡ false
+key-may-not seen ns y k {u} {r} n untold g f = absurd (let l : 64 < 64 = g f .1 in omega (arith, l))
+key-may-not seen ns y k {u} {r} n (told l e) g f = not-noted letter-key seen ns y k e (g f .2) (n (g f .0))
+
+pub keys-next : (seen seen′ : List ℕ) (N : List Bytes) (k : ℕ) (x : Bytes) (r : List Bytes) (i : ℕ) (u : Bool) → drop k N ≡ x ∷ r → Keyed x i → length seen ≡ 64 → seen′ ≡ noted-at seen i → (u ≡ false → Noted letter-key seen (take k N)) → (u || eqb i 64) ≡ false → Noted letter-key seen′ (take (k + 1) N)
+unfolding noted-at
+keys-next seen seen′ N k x r i true d untold s g n f = absurd (false≢true (sym f))
+keys-next seen seen′ N k x r i true d (told l e) s g n f = absurd (false≢true (sym f))
+keys-next seen seen′ N k x r i false d untold s g n f = absurd (false≢true (sym f))
+keys-next seen seen′ N k x r i false d (told l e) s g n f = noted-next letter-key seen seen′ N k x r i d e (omega (arith, l, s)) (g ∙ rw (lt-ltb i 64 l)) (n refl)
+
+-- ---- repeats: no attribute, or one
+
+module _ (s : Bytes) (t : ℕ) (e : t ≡ tag-of s) where
+  pub none-twice : (t ≡ 0x53 → ⊥) → (t ≡ 0x50 → ⊥) → false ≡ repeats (html-names (attributes-in (read s)))
+  unfolding repeats
+  none-twice a b = sym (ap repeats (names-none s t e b a))
+
+  pub one-once : t ≡ 0x50 → (r : Bytes) (u : ℕ) → r ≡ behind-of s → u ≡ tag-of r → (u ≡ 0x53 → ⊥) → (u ≡ 0x50 → ⊥) → false ≡ repeats (html-names (attributes-in (read s)))
+  unfolding repeats among
+  one-once k r u q f a b = sym (ap repeats (names-at-50 s t e k {b = body-of s} refl q ∙ ap (λ (l : List Bytes). html-name (attr-name-in (read (body-of s))) ∷ l) (names-none r u f b a)))
+
+pub told-no : (b : Bool) (r : Few) → r ≡ F.No → Told b r → false ≡ b
+told-no b r e t = sym (subst (λ (x : Few). Told b x) e t)
+
+pub told-yes : (b : Bool) (r : Few) → r ≡ F.Yes → Told b r → true ≡ b
+told-yes b r e t = sym (subst (λ (x : Few). Told b x) e t)

@@ -1,15 +1,18 @@
 -- 02, A4: the names that attributes have in HTML, and whether one stands twice; and how the code reads such a name. Main definitions:
 -- `html-names`, `repeats`. Assumes nothing: these are definitions.
-use Prim.Native.Nat.{ℕ, suc, _+_, _-_}
+use Prim.Native.Nat.{ℕ, suc, _+_, _-_, _*_, _/_, _%_, _<_}
 use mathlib.Core.Bool.{Bool, true, false, _||_, _&&_, not}
+use mathlib.Core.Path.{_≡_}
 use mathlib.Core.List.{List, [], _∷_, _++_}
 use lib.Dec.{eqb, leb, ltb}
-use lib.ListN.{length, drop, getD}
+use lib.ListN.{length, drop, getD, set}
 use Rattle.field.specs.Bytes.{Bytes, pick, among}
 use Rattle.names.specs.Names.{AttrName, get-attr-name, capital, small-letter, small-letters}
 use Rattle.names.specs.Table.{spelled}
 use Rattle.page.specs.Page as P
 use Rattle.decisions.specs.declared.repeats.Place.{Place}
+use Rattle.decisions.specs.declared.repeats.Few.{Few}
+use Rattle.decisions.specs.declared.repeats.Few.the-variants as F
 
 -- normalised, in small letters
 unfoldable pub html-name : AttrName → Bytes
@@ -63,3 +66,44 @@ code-at s p two q x =
 -- the place behind that byte
 unfoldable pub past : (s : ℕ) (p : Bytes) → Place → Place
 past s p x = pick (ltb (x .letter) (length p) && signed-letter s (getD p (x .letter) 0) (x .«behind_sign»)) (record { letter = x .letter; «behind_sign» = true }) (record { letter = x .letter + 1; «behind_sign» = false })
+
+-- ---- hashes, by the codes of a name's bytes
+
+unfoldable pub hash-on : ℕ → Bytes → ℕ
+hash-on h [] = h
+hash-on h (c ∷ cs) = hash-on ((h * 31 + suc c % 65536) % 4294967296) cs
+
+abbrev pub name-hash : Bytes → ℕ
+name-hash n = hash-on 0 n
+
+-- the two places under which a hash is noted
+abbrev pub low-half : ℕ → ℕ
+low-half h = h % 65536
+
+abbrev pub high-half : ℕ → ℕ
+high-half h = h / 65536 % 65536
+
+-- ---- keys, by the first letter and the last: normalising changes neither but by 32, `className` apart, and but for `htmlFor`, `xlinkHref` and
+-- `xlink:href`, whose first letters are even as those of `for` and `href` are
+
+unfoldable pub last-letter : ℕ → Bytes → ℕ
+last-letter c [] = c
+last-letter c (d ∷ ds) = last-letter d ds
+
+unfoldable pub letter-key : Bytes → ℕ
+letter-key [] = 0
+letter-key (c ∷ cs) = last-letter c cs % 32 * 2 + c % 2
+
+-- a key of a name, or 64
+pub data Keyed (n : Bytes) : ℕ → Type 0 where
+  untold : Keyed n 64
+  told : {k : ℕ} → k < 64 → k ≡ letter-key n → Keyed n k
+
+unfoldable pub noted-at : List ℕ → ℕ → List ℕ
+noted-at seen k = pick (ltb k 64) (set seen k 1) seen
+
+-- what the code says of few attributes
+abbrev pub Told : Bool → Few → Type 0
+Told b F.No = b ≡ false
+Told b F.Yes = b ≡ true
+Told b F.Untold = Unit {0}

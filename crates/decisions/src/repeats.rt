@@ -1,15 +1,16 @@
 // Document 02, A4: whether two attributes of an element have one name in HTML, compared in small letters. Nowhere is such a name written
 // out: it is read letter by letter, with the signs that normalising puts in, and two names are compared as they are read.
 ghost use mathlib.Core.Path.{_≡_};
-ghost use mathlib.Core.Bool.{true, false};
+ghost use mathlib.Core.Bool.{true, false, _&&_};
 ghost use mathlib.Core.List.{[]};
 ghost use Prim.Native.Nat.{_+_, _<_, _^_};
 ghost use Rattle.field.specs.Bytes.{same, among};
 ghost use Rattle.field.specs.Row.{read};
 ghost use Rattle.names.specs.Names.{ident, namespaced, small-letter, small-letters};
-ghost use lib.ListN.{take};
+ghost use lib.ListN.{length, getD, set, take, replicate};
+ghost use lib.Dec.{eqb};
 ghost use Rattle.page.specs.Tree.{attributes-in, attr-name-in};
-ghost use Rattle.decisions.specs.Repeats.{joined, signed-letter, code-at, past, html-name, html-names, repeats};
+ghost use Rattle.decisions.specs.Repeats.{joined, signed-letter, code-at, past, html-name, html-names, repeats, name-hash, low-half, high-half, Keyed, noted-at, Told};
 use crate::attribute::first_name;
 use crate::attribute::second_name;
 use field::reader::behind;
@@ -17,6 +18,7 @@ use field::reader::body;
 use field::reader::tag_at;
 use names::find_mark;
 use names::is_xlink_href;
+use names::same_bytes;
 
 // A place in a name: a letter, and whether the sign before it has been read.
 pub struct Place {
@@ -237,8 +239,93 @@ fn earlier_has<'a>(s: &'a [u8], k: usize, a: &'a [u8]) -> bool
     false
 }
 
-// Whether two attributes in front of s have one name.
-pub fn repeats(s: &[u8]) -> bool
+// The hash of a name as it is read: of two names that are one, one number below 2^32.
+fn hash_joined<'a>(s: u8, p: &'a [u8], two: bool, q: &'a [u8]) -> usize
+    ensures { λ r. ⌜ r ≡ name-hash (small-letters (joined s (now (p .entry)) two (now (q .entry)))) ⌝ }
+{
+    let mut x = Place {
+        letter: 0,
+        behind_sign: false,
+    };
+    let mut h: usize = 0;
+    loop {
+        let a = code_at(s, p, two, q, x);
+        if a == 0 {
+            return h;
+        }
+        h = (h * 31 + a % 65536) % 4294967296;
+        x = next_place(s, p, x);
+    }
+}
+
+// Of the name that the identifier n has in HTML, of ns:name, and of an attribute's by its fields.
+fn ident_hash(n: &[u8]) -> usize
+    ensures { λ r. ⌜ r ≡ name-hash (html-name (ident (now (n .entry)))) ⌝ }
+{
+    match find_mark(n) {
+        b'=' => hash_joined(0, n, false, b""),
+        b'c' => hash_joined(0, b"class", false, b""),
+        b'f' => hash_joined(0, b"for", false, b""),
+        b'h' => hash_joined(0, b"href", false, b""),
+        b'p' => hash_joined(0, b"panose-1", false, b""),
+        m => hash_joined(m, n, false, b""),
+    }
+}
+
+fn pair_hash<'a>(ns: &'a [u8], name: &'a [u8]) -> usize
+    ensures { λ r. ⌜ r ≡ name-hash (html-name (namespaced (now (ns .entry)) (now (name .entry)))) ⌝ }
+{
+    if is_xlink_href(ns, name) {
+        return hash_joined(0, b"href", false, b"");
+    }
+    hash_joined(0, ns, true, name)
+}
+
+fn html_hash(a: &[u8]) -> usize
+    ensures { λ r. ⌜ r ≡ name-hash (html-name (attr-name-in (read (now (a .entry))))) ⌝ }
+{
+    match tag_at(a) {
+        0x40 => ident_hash(body(a)),
+        0x42 => {
+            let b = body(a);
+            pair_hash(first_name(b), second_name(b))
+        }
+        _ => ident_hash(&a[..0]),
+    }
+}
+
+// A name is noted under both halves of its hash.
+fn is_noted<'a>(low: &'a [u8; 65536], high: &'a [u8; 65536], h: usize) -> bool
+    requires { ⌜ (length (now low) ≡ 65536) × (length (now high) ≡ 65536) ⌝ }
+    ensures { λ r. ⌜ r ≡ (eqb (getD (now (low .entry)) (low-half h) 0) 1 && eqb (getD (now (high .entry)) (high-half h) 0) 1) ⌝ }
+{
+    let i = h % 65536;
+    let j = h / 65536 % 65536;
+    (low[i] == 1) & (high[j] == 1)
+}
+
+fn note(table: &mut [u8; 65536], i: usize)
+    requires { ⌜ (length (now table) ≡ 65536) × (i < 65536) ⌝ }
+    ensures { λ r. ⌜ now (table .exit) ≡ set (now (table .entry)) i 1 ⌝ }
+{
+    table[i] = 1;
+}
+
+// Whether one of the first k attributes of s has the name of a, where that may be.
+fn earlier_may<'a>(s: &'a [u8], k: usize, a: &'a [u8], may: bool) -> bool
+    requires { ⌜ (may ≡ false → among (html-name (attr-name-in (read (now a)))) (take k (html-names (attributes-in (read (now s))))) ≡ false) ⌝ }
+    ensures { λ r. ⌜ r ≡ among (html-name (attr-name-in (read (now (a .entry))))) (take k (html-names (attributes-in (read (now (s .entry)))))) ⌝ }
+{
+    if may {
+        return earlier_has(s, k, a);
+    }
+    false
+}
+
+// Whether two attributes in front of s have one name. Each name is noted as it comes, and only for one whose places are both taken are
+// those before it gone through: so thousands of attributes cost no search for each.
+fn by_hashes<'a>(s: &'a [u8], low: &'a mut [u8; 65536], high: &'a mut [u8; 65536]) -> bool
+    requires { ⌜ (now low ≡ replicate 65536 0) × (now high ≡ replicate 65536 0) ⌝ }
     ensures { λ r. ⌜ r ≡ repeats (html-names (attributes-in (read (now (s .entry))))) ⌝ }
 {
     let mut t = s;
@@ -246,9 +333,14 @@ pub fn repeats(s: &[u8]) -> bool
     loop {
         match tag_at(t) {
             0x50 => {
-                if earlier_has(s, k, body(t)) {
+                let a = body(t);
+                let h = html_hash(a);
+                let may = is_noted(low, high, h);
+                if earlier_may(s, k, a, may) {
                     return true;
                 }
+                note(low, h % 65536);
+                note(high, h / 65536 % 65536);
                 let r = behind(t);
                 t = r;
                 k += 1;
@@ -261,5 +353,144 @@ pub fn repeats(s: &[u8]) -> bool
                 return false;
             }
         }
+    }
+}
+
+fn table() -> [u8; 65536]
+    ensures { λ r. ⌜ r ≡ replicate 65536 0 ⌝ }
+{
+    [0; 65536]
+}
+
+// The same with tables of its own. A function that calls itself is not merged into its caller: so the tables stand in no frame of the
+// walks, which nest.
+fn many_repeat(s: &[u8], first: bool) -> bool
+    ensures { λ r. ⌜ r ≡ repeats (html-names (attributes-in (read (now (s .entry))))) ⌝ }
+{
+    if first {
+        return many_repeat(s, false);
+    }
+    let mut low = table();
+    let mut high = table();
+    by_hashes(s, &mut low, &mut high)
+}
+
+// A number below 64 that is one for names that are one, from the first letter and the last as they are written; 64 where it is not told.
+fn key_of(a: &[u8]) -> usize
+    ensures { λ r. ⌜ Keyed (html-name (attr-name-in (read (now (a .entry))))) r ⌝ }
+{
+    if tag_at(a) != 0x40 {
+        return 64;
+    }
+    let n = body(a);
+    let l = n.len();
+    if l == 0 {
+        return 64;
+    }
+    if same_bytes(n, b"className") {
+        return 39;
+    }
+    let c = n[0];
+    let d = n[l - 1];
+    (d % 32) as usize * 2 + (c % 2) as usize
+}
+
+// Whether a name of that key may have come before.
+fn may_be(seen: &[u8; 64], untold: bool, key: usize) -> bool
+    requires { ⌜ length (now seen) ≡ 64 ⌝ }
+    ensures { λ r. ⌜ (r ≡ false → (untold ≡ false) × (key < 64) × (eqb (getD (now (seen .entry)) key 0) 1 ≡ false)) ⌝ }
+{
+    if untold {
+        return true;
+    }
+    if 64 <= key {
+        return true;
+    }
+    seen[key] == 1
+}
+
+fn note_key(seen: &mut [u8; 64], key: usize)
+    requires { ⌜ length (now seen) ≡ 64 ⌝ }
+    ensures { λ r. ⌜ now (seen .exit) ≡ noted-at (now (seen .entry)) key ⌝ }
+{
+    if key < 64 {
+        seen[key] = 1;
+    }
+}
+
+pub enum Few {
+    No,
+    Yes,
+    // more than sixteen attributes: not told
+    Untold,
+}
+
+// Few attributes, as most elements have: by keys, which cost less than hashes.
+fn by_keys<'a>(s: &'a [u8], seen: &'a mut [u8; 64]) -> Few
+    requires { ⌜ now seen ≡ replicate 64 0 ⌝ }
+    ensures { λ r. ⌜ Told (repeats (html-names (attributes-in (read (now (s .entry)))))) r ⌝ }
+{
+    let mut t = s;
+    let mut k: usize = 0;
+    let mut untold = false;
+    loop {
+        match tag_at(t) {
+            0x50 => {
+                if 16 <= k {
+                    return Few::Untold;
+                }
+                let a = body(t);
+                let key = key_of(a);
+                let may = may_be(seen, untold, key);
+                if earlier_may(s, k, a, may) {
+                    return Few::Yes;
+                }
+                untold = untold | (key == 64);
+                note_key(seen, key);
+                let r = behind(t);
+                t = r;
+                k += 1;
+            }
+            0x53 => {
+                let r = behind(t);
+                t = r;
+            }
+            _ => {
+                return Few::No;
+            }
+        }
+    }
+}
+
+fn keys() -> [u8; 64]
+    ensures { λ r. ⌜ r ≡ replicate 64 0 ⌝ }
+{
+    [0; 64]
+}
+
+// Whether two attributes in front of s have one name. Most elements have none or one. With a spread no element is serialized.
+pub fn repeats(s: &[u8]) -> bool
+    ensures { λ r. ⌜ r ≡ repeats (html-names (attributes-in (read (now (s .entry))))) ⌝ }
+{
+    let a = tag_at(s);
+    if a == 0x53 {
+        return many_repeat(s, true);
+    }
+    if a != 0x50 {
+        return false;
+    }
+    let r = behind(s);
+    let b = tag_at(r);
+    if b == 0x53 {
+        return many_repeat(s, true);
+    }
+    if b != 0x50 {
+        return false;
+    }
+    let mut seen = keys();
+    match by_keys(s, &mut seen) {
+        Few::No => false,
+        Few::Yes => true,
+        Few::Untold => many_repeat(s, true),
     }
 }
