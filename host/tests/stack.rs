@@ -21,6 +21,9 @@ fn half_a_megabyte_is_enough() {
     let pages = [
         deepest(1, |x| element("b", &[attribute("strokeDashoffset"), x])),
         deepest(1, |x| element("F", &[attribute("strokeDashoffset"), x])),
+        deepest(1, |x| {
+            element("b", &[(0..20).map(|n| attribute(&format!("a{n}"))).collect::<Vec<_>>(), vec![x]].concat())
+        }),
         deepest(1, |x| element("F", &[i(), x])),
         deepest(1, |x| element("F", &[text("a"), x, i(), braces(string("a"))])),
         deepest(1, |x| fragment(&[empty_braces(), x, braces(null())])),
