@@ -100,8 +100,12 @@ fn tag(rng: &mut Rng, budget: &mut usize, at: usize, depth: usize) -> Vec<u8> {
         rng.pick(&["div", "p", "span", "li", "a", "button", "section", "h1", "img"])
     };
     let mut parts = vec![];
+    // no element has an attribute twice, nor `class` beside `className`
+    let mut names = ATTRIBUTES.to_vec();
     for _ in 0..rng.weighted(&[13, 36, 34, 13, 6]) {
-        parts.push(real_attribute(rng));
+        let name = rng.pick(&names);
+        names.retain(|other| *other != name && !(other.starts_with("class") && name.starts_with("class")));
+        parts.push(real_attribute(rng, name));
     }
     if name != "img" {
         parts.extend(children(rng, budget, at + 1, depth));
@@ -109,19 +113,10 @@ fn tag(rng: &mut Rng, budget: &mut usize, at: usize, depth: usize) -> Vec<u8> {
     element(name, &parts)
 }
 
-fn real_attribute(rng: &mut Rng) -> Vec<u8> {
-    let name = rng.pick(&[
-        "class",
-        "className",
-        "href",
-        "id",
-        "onClick",
-        "type",
-        "disabled",
-        "data-testid",
-        "aria-label",
-        "strokeWidth",
-    ]);
+const ATTRIBUTES: [&str; 10] =
+    ["class", "className", "href", "id", "onClick", "type", "disabled", "data-testid", "aria-label", "strokeWidth"];
+
+fn real_attribute(rng: &mut Rng, name: &str) -> Vec<u8> {
     let length = rng.within(4, 40);
     match rng.weighted(&[55, 35, 5, 5]) {
         0 => attribute_string(name, &words(rng, length)),

@@ -15,6 +15,25 @@ fn fill(beside: usize, one: &[u8]) -> Vec<Vec<u8>> {
     vec![one.to_vec(); (ROOM - beside) / one.len()]
 }
 
+/// As many different ones as go into a page beside some bytes: an element has no attribute twice.
+fn each(beside: usize, one: impl Fn(&str) -> Vec<u8>) -> Vec<Vec<u8>> {
+    let mut left = ROOM - beside;
+    (0..)
+        .map(|n| one(&letters(n)))
+        .take_while(|part| {
+            let fits = part.len() <= left;
+            left = left.saturating_sub(part.len());
+            fits
+        })
+        .collect()
+}
+
+/// The nth name of small letters: a, b, … z, ba, bb, …
+fn letters(n: usize) -> String {
+    let last = char::from(b'a' + (n % 26) as u8);
+    if n < 26 { last.to_string() } else { letters(n / 26) + &last.to_string() }
+}
+
 fn one(name: &str, page: Vec<u8>) -> Set {
     Set::of(name, vec![page])
 }
@@ -35,13 +54,24 @@ fn e() -> Vec<u8> {
 /// Many attributes of one element.
 fn attributes() -> Vec<Set> {
     let many = |element_name: &str, attribute: Vec<u8>| element(element_name, &fill(20, &attribute));
+    let all = |one: &dyn Fn(&str) -> Vec<u8>| element("i", &each(20, one));
     vec![
-        tag("attributes, no value", many("i", attribute("a"))),
-        tag("attributes, boolean", many("i", attribute("open"))),
-        tag("attributes, strings", many("i", attribute_string("a", "b"))),
-        tag("attributes, expressions", many("i", attribute_with("a", braces(e())))),
-        tag("attributes, long table row", many("i", attribute("sAtokeDashoffset"))),
-        tag("attributes, namespaced", many("i", attribute("a:b"))),
+        tag("attributes, no value", all(&|name| attribute(name))),
+        tag("attributes, strings", all(&|name| attribute_string(name, "b"))),
+        tag("attributes, expressions", all(&|name| attribute_with(name, braces(e())))),
+        tag("attributes, capitals", all(&|name| attribute(&name.to_uppercase()))),
+        tag("attributes, long table row", all(&|name| attribute(&format!("sAtokeDashoffset{name}")))),
+        tag("attributes, namespaced", all(&|name| attribute(&format!("a:{name}")))),
+        tag("attributes, one twice", element("i", &[each(30, attribute), vec![attribute("a")]].concat())),
+        tag("attributes, one name", many("i", attribute("a"))),
+        tag(
+            "attributes, sixteen of each",
+            element("b", &fill(20, &element("i", &(0..16).map(|n| attribute(&letters(n))).collect::<Vec<_>>()))),
+        ),
+        tag(
+            "attributes, seventeen of each",
+            element("b", &fill(20, &element("i", &(0..17).map(|n| attribute(&letters(n))).collect::<Vec<_>>()))),
+        ),
         tag("attributes of a call", many("F", attribute("a"))),
         tag("attributes of a call, key", many("F", attribute_string("key", "b"))),
         tag("attributes, spread", many("i", spread(e()))),
@@ -60,10 +90,18 @@ fn listed() -> Vec<Set> {
         under("02 full, elements in a call", short_names(2), many("F", i())),
         under("02 full, calls", names_like(2, "i"), many("F", i())),
         under("02 full, one long name", names_like(2, &"a".repeat(120)), many("b", element(&almost(120), &[]))),
-        under("03 full, no value", short_names(3), many("i", attribute("a"))),
-        under("03 full, expressions", short_names(3), many("i", attribute_with("a", braces(e())))),
-        under("03 full, namespaced", short_names(3), many("i", attribute("a:b"))),
-        under("03 full of a:c, namespaced", names_like(3, "a:c"), many("i", attribute("a:b"))),
+        under("03 full, no value", short_names(3), element("i", &each(20, attribute))),
+        under(
+            "03 full, expressions",
+            short_names(3),
+            element("i", &each(20, |name| attribute_with(name, braces(e())))),
+        ),
+        under("03 full, namespaced", short_names(3), element("i", &each(20, |name| attribute(&format!("a:{name}"))))),
+        under(
+            "03 full of a:c, namespaced",
+            names_like(3, "a:c"),
+            element("i", &each(20, |name| attribute(&format!("a:{name}")))),
+        ),
     ]
 }
 
