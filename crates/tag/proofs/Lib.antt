@@ -1,0 +1,2 @@
+-- Laws of what is printed of tag text.
+pub mod TagCardLaws
