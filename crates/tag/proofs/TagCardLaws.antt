@@ -1,5 +1,5 @@
 -- What is printed of the reader's answer: of a refusal the number; a tag that is read stands in the out, and its page around it.
--- Main statements: `tag-refused-printed`, `tag-stands`. Assumes nothing.
+-- Main statements: `tag-refused-printed`, `tag-stands`, `tag-card-is`. Assumes nothing.
 use Prim.Native.Nat.{ℕ, _+_, _-_, _≤_}
 use native.Mathlib.Omega.{arith}
 use mathlib.Core.Path.{_≡_, refl, sym, ap, ap₂, _∙_, subst}
@@ -22,7 +22,7 @@ use Rattle.tag_pass.specs.declared.answer.TagAnswer.{TagAnswer}
 use Rattle.spec.specs.Answer.{outcome}
 use Rattle.printing.specs.Card.{card-text}
 use Rattle.print_card.proofs.CardLaws.{front-put}
-use Rattle.tag.specs.TagCard.{without-end, page-of, tag-text}
+use Rattle.tag.specs.TagCard.{without-end, page-of, tag-text, tag-card}
 
 -- ---- the line end
 
@@ -133,3 +133,9 @@ module _ (scratch tr pr : ℕ) where
         field-length = omega (arith, ap length et, f);
         text-is = ap (λ (w : Bytes). card-text (outcome (field-bytes 0x01 (field-bytes 0x12 w)) [] scratch tr pr)) et ∙ ap (λ (w : Bytes). card-text (outcome w [] scratch tr pr)) (page-bytes t) ∙ sym (ap (tag-text scratch tr pr) (k .1));
       }
+
+-- with buffers as long as the program's, what `print_tag` writes is the card of the text
+pub tag-card-is : (s tag scratch t g : Bytes) → length tag ≡ 65538 → length scratch ≡ 65536 → length t ≡ 65536 → length g ≡ 65536 →
+    tag-text (length scratch) (length t) (length g) (tag-outcome (without-end s) (length tag)) ≡ tag-card s
+unfolding tag-card
+tag-card-is s tag scratch t g e es et eg = rw (e, es, et, eg)
