@@ -20,19 +20,20 @@ function rowsOf(section) {
 }
 
 test("key and ref", withProgram, () => {
-  // Written, on an element, on a component: what stands in the output.
+  // Written, on an element, on a component: what stands in the output; null: refused.
   const rows = [
     [`key="7"`, `_jsxAttr("key", "7")`, `_jsx(Foo, null, "7")`],
     ["key={x}", `_jsxAttr("key", x)`, "_jsx(Foo, null, x)"],
     [`key={"7"}`, `["<p key=\\"7\\"></p>"]`, `_jsx(Foo, null, "7")`],
     ["key", `_jsxAttr("key", true)`, "_jsx(Foo, { key: true })"],
-    ["key={x} key={y}", `_jsxAttr("key", x), _jsxAttr("key", y)`, "_jsx(Foo, null, y)"],
+    ["key={x} key={y}", null, "_jsx(Foo, null, y)"],
     [`ref="7"`, `_jsxAttr("ref", "7")`, `_jsx(Foo, { ref: "7" })`],
     [`ref={"7"}`, `["<p ref=\\"7\\"></p>"]`, `_jsx(Foo, { ref: "7" })`],
   ];
   for (const [written, element, component] of rows) {
-    const printed = build(`<p ${written}/>; <Foo ${written}/>`);
-    for (const part of [element, component]) assert.ok(printed.includes(part), `${written}: ${part} in ${printed}`);
+    if (element === null) assert.throws(() => build(`<p ${written}/>`), /: 16 \(/, written);
+    const printed = build(element === null ? `<Foo ${written}/>` : `<p ${written}/>; <Foo ${written}/>`);
+    for (const part of [element ?? "", component]) assert.ok(printed.includes(part), `${written}: ${part} in ${printed}`);
   }
   assert.equal(rows.length, rowsOf("`key` and `ref`"));
   const capital = build("<p KEY={x}/>; <Foo KEY={x}/>; <p {...a} KEY={x}/>");
