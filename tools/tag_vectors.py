@@ -25,9 +25,9 @@ def row(text):
 def main():
     path, start, count = sys.argv[1], int(sys.argv[2]), int(sys.argv[3])
     most = int(sys.argv[4]) if len(sys.argv) > 4 else 600
-    uses, names = gather("tag", TAG_ORDER)
+    uses, names = gather("tag_tree", TAG_ORDER)
     text = "-- Stored answers to tag text.\nuse Prim.Native.Nat.{ℕ}\nuse mathlib.Core.Path.{_≡_, refl}\nuse mathlib.Core.List.{[], _∷_}\nuse lib.ListN.{replicate}\n"
-    text += "use Rattle.field.specs.Bytes.{Bytes}\nuse Rattle.tag.specs.TagAnswer.{TagOutcome}\n" + "\n".join(uses) + "\n\n"
+    text += "use Rattle.field.specs.Bytes.{Bytes}\nuse Rattle.tag_tree.specs.TagAnswer.{TagOutcome}\n" + "\n".join(uses) + "\n\n"
     text += "pub record Reply : Type 0 where\n  pub number : ℕ\n  pub written : ℕ\n  pub out : Bytes\n\n"
     text += "unfoldable reply : TagOutcome → Bytes → Reply\nunfolding " + " ".join(names) + "\nreply o b = record { number = tag-number o; written = tag-bytes o; out = tag-left o b }\n\n"
     text += "unfoldable computed : Bytes → ℕ → TagOutcome\nunfolding " + " ".join(names) + "\ncomputed s room = tag-outcome s room\n\n"
@@ -49,12 +49,12 @@ def main():
         shutil.copy(os.path.join(root(), "crates.txt"), tmp)
         if os.path.isdir(os.path.join(root(), "target")):
             shutil.copytree(os.path.join(root(), "target"), os.path.join(tmp, "target"), symlinks=True)
-        proofs = os.path.join(tmp, "crates", "tag", "proofs")
+        proofs = os.path.join(tmp, "crates", "tag_tree", "proofs")
         shutil.rmtree(proofs)
         os.mkdir(proofs)
         open(os.path.join(proofs, "Lib.antt"), "w").write("pub mod Vectors\n")
         open(os.path.join(proofs, "Vectors.antt"), "w").write(text)
-        run = subprocess.run([os.environ.get("RT", "rt"), "check", "tag"], cwd=tmp, capture_output=True, text=True)
+        run = subprocess.run([os.environ.get("RT", "rt"), "check", "tag_tree"], cwd=tmp, capture_output=True, text=True)
     out = run.stdout + run.stderr
     print(taken, "vectors, by answer:", dict(sorted(seen.items())), "-> exit", run.returncode)
     for line in out.splitlines():

@@ -23,7 +23,7 @@ TAG_ORDER = [
     ("utf8", ["Utf8"]),
     ("page", ["Number", "Encode"]),
     ("grammar", ["Signs", "Known", "Syntax", "Reader"]),
-    ("tag", ["PageTag", "TagAnswer"]),
+    ("tag_tree", ["PageTag", "TagAnswer"]),
 ]
 # names of types, which nothing has to unfold
 TYPES = {"AllBytes"}

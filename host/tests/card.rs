@@ -10,7 +10,7 @@ use oracle::make::{attribute_string, braces, code, element, page, source, statem
 use oracle::marks;
 use oracle::show::{hex, show};
 use oracle::shrink::shrink;
-use program::{Card, parting};
+use program::{Program, parting};
 use std::collections::BTreeMap;
 use std::thread;
 use std::time::Instant;
@@ -21,7 +21,7 @@ const THREADS: usize = 2;
 type Tally = BTreeMap<u32, u64>;
 
 /// Where the program's text of this page parts from the judge's; else the number that both printed, 0 for a text.
-fn compare(card: &Card, page: &[u8]) -> Result<u32, String> {
+fn compare(card: &Program, page: &[u8]) -> Result<u32, String> {
     let judged = oracle::card(page);
     let printed = card.prints(&[page])?;
     match parting(["judge", "program"], [&judged, &printed]) {
@@ -38,7 +38,7 @@ fn shown(page: &[u8]) -> String {
 }
 
 /// The smallest page found that still shows a difference, and its words.
-fn smallest(card: &Card, page: Vec<u8>) -> String {
+fn smallest(card: &Program, page: Vec<u8>) -> String {
     let (scratch, room) = (LEAST_SCRATCH, Room::Exact);
     let case = Case { page, options: vec![], scratch, templates_room: room, page_room: room };
     let page = shrink(case, |case| compare(card, &case.page).is_err()).page;
@@ -69,7 +69,7 @@ fn damage(rng: &mut Rng, page: &mut Vec<u8>) {
     }
 }
 
-fn tally(card: &Card, seeds: impl Iterator<Item = u64>) -> Result<Tally, String> {
+fn tally(card: &Program, seeds: impl Iterator<Item = u64>) -> Result<Tally, String> {
     let mut tally = Tally::new();
     for seed in seeds {
         let page = page_of_seed(seed);
@@ -90,7 +90,7 @@ fn seeds() {
     if no_judge() {
         return;
     }
-    let card = &Card::found();
+    let card = &Program::found("card");
     let count: u64 = std::env::var("CARD_PAGES").map_or(10_000, |word| word.parse().expect("CARD_PAGES is a number"));
     let start = Instant::now();
     let mut all = Tally::new();
@@ -121,7 +121,7 @@ fn limits_and_marks() {
     if no_judge() {
         return;
     }
-    let card = Card::found();
+    let card = Program::found("card");
     let marks = marks::all();
     for mark in &marks {
         if let Err(words) = compare(&card, &mark.case.page) {
@@ -143,7 +143,7 @@ fn lengths() {
     if no_judge() {
         return;
     }
-    let card = Card::found();
+    let card = Program::found("card");
     let inputs = [
         (vec![], 3),
         (padded(worked(), MOST_PAGE - 1), 0),
@@ -172,7 +172,7 @@ fn in_parts() {
     if no_judge() {
         return;
     }
-    let card = Card::found();
+    let card = Program::found("card");
     let same = |parts: &[&[u8]]| {
         let printed = card.prints(parts).unwrap_or_else(|words| panic!("{words}"));
         if let Some(words) = parting(["judge", "program"], [&oracle::card(&parts.concat()), &printed]) {

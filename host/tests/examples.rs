@@ -13,7 +13,7 @@ use jsx_precompile::out::{PageOut, Templates};
 use jsx_precompile::page::Page;
 use jsx_precompile::{Options, transform};
 use oracle::{marks, outcome};
-use program::{Card, parting};
+use program::{Program, parting};
 use std::collections::BTreeSet;
 use std::fs;
 use std::path::{Path, PathBuf};
@@ -173,7 +173,7 @@ fn cards_of_the_judge() {
 #[test]
 fn cards_of_the_program() {
     let examples = examples();
-    let card = Card::found();
+    let card = Program::found("card");
     for example in &examples {
         let page = stored(&file(example, "page"));
         let printed = card.prints(&[&page]).unwrap_or_else(|words| panic!("{}: {words}", file(example, "page")));

@@ -2,13 +2,10 @@
 // No contract can speak of what is read and written: what stands between, `print_card`, is equal to the definition of the printed text.
 ghost use mathlib.Core.Path.{_≡_};
 ghost use lib.ListN.{length};
-
-mod card;
-
-use card::print_card;
 use libc::STDERR_FILENO;
 use libc::STDIN_FILENO;
 use libc::STDOUT_FILENO;
+use print_card::print_card;
 
 // Room for a page, and one byte more: so a longer one is seen.
 fn page_room() -> [u8; 32769]

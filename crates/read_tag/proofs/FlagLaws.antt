@@ -13,8 +13,8 @@ use Rattle.page.specs.Encode.{attr-name-row, tag-row, attributes-row, value-row
 use Rattle.grammar.specs.Known.{Known}
 use Rattle.grammar.specs.Syntax as S
 use Rattle.grammar.specs.Syntax.{Name, every-tag, every-attributes, every-attribute, every-children, every-child, join-attributes, join-children}
-use Rattle.tag.specs.PageTag.{page-attr-name, page-tag, page-attributes, page-attribute, page-children, page-child, page-expr}
-use Rattle.tag.specs.TagAnswer.{shallow}
+use Rattle.tag_tree.specs.PageTag.{page-attr-name, page-tag, page-attributes, page-attribute, page-children, page-child, page-expr}
+use Rattle.tag_tree.specs.TagAnswer.{shallow}
 
 pub and-assoc : (a b c : Bool) → ((a && b) && c) ≡ (a && (b && c))
 and-assoc true b c = refl

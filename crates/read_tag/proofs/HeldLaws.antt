@@ -20,8 +20,8 @@ use Rattle.page.specs.Number.{number-tag, minus-tag, number-bytes, in-range}
 use Rattle.page.specs.Encode.{boolean-byte, tag-row, expr-row}
 use Rattle.grammar.specs.Known.{Known, whole, quoted, boolean, null, other, some}
 use Rattle.grammar.specs.Syntax.{known-expr}
-use Rattle.tag.specs.PageTag.{page-known, page-tag, page-expr}
-use Rattle.tag.specs.TagAnswer.{known-in-range, shallow}
+use Rattle.tag_tree.specs.PageTag.{page-known, page-tag, page-expr}
+use Rattle.tag_tree.specs.TagAnswer.{known-in-range, shallow}
 use Rattle.read_tag.specs.Progress.{expr-bytes}
 use Rattle.read_tag.proofs.ProgressLaws.{leaf-alone}
 use Rattle.read_tag.specs.Knowns.{Capped, signed-whole, signed-decimal, whole-tag, decimal-tag, Holding, Holds, HeldWhole, HeldDecimal}

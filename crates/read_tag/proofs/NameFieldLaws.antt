@@ -20,7 +20,7 @@ use Rattle.grammar.specs.Syntax.{Part, part, Name, short, no-hyphen, member-par
 use Rattle.grammar.specs.Reader.{Stack, For, for-tag, for-attribute, for-closing, State, in-ident, in-tag, attribute-named, close-named, refused, fits, named, no-reading, outcome}
 use Rattle.grammar.proofs.Tests.{chose, passed, or-cases, or-left, at-eq}
 use Rattle.grammar.proofs.Complete.{refused-never}
-use Rattle.tag.specs.PageTag.{idents, page-name, page-attr-name}
+use Rattle.tag_tree.specs.PageTag.{idents, page-name, page-attr-name}
 use Rattle.read_tag.specs.Progress.{name-bytes, attr-name-bytes}
 use Rattle.read_tag.specs.Shapes.{name-tag}
 use Rattle.read_tag.specs.Names.{named-if, FoundName, parts-bytes}

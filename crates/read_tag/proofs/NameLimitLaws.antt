@@ -23,8 +23,8 @@ use Rattle.grammar.specs.Syntax.{part, Name, short, no-hyphen, member-parts, at
 use Rattle.grammar.specs.Grammar.{Spaces, no-space, space-on, IsIdent, ident, IsParts, no-parts, one-part, IsName, is-name}
 use Rattle.grammar.proofs.Tests.{or-cases}
 use Rattle.grammar.proofs.Letters.{run-is}
-use Rattle.tag.specs.PageTag.{idents, page-name, page-attr-name}
-use Rattle.tag.specs.TagAnswer.{shallow}
+use Rattle.tag_tree.specs.PageTag.{idents, page-name, page-attr-name}
+use Rattle.tag_tree.specs.TagAnswer.{shallow}
 use Rattle.read_tag.specs.Shapes.{name-tag, all-short}
 use Rattle.read_tag.specs.Progress.{name-bytes}
 use Rattle.read_tag.specs.Names.{FoundName, parts-bytes, name-depth}

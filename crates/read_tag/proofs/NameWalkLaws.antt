@@ -18,7 +18,7 @@ use Rattle.grammar.specs.Signs.{name-byte, separator, space, name-goes-on}
 use Rattle.grammar.specs.Syntax.{part, Name, same-name}
 use Rattle.grammar.specs.Grammar.{Ends, Run, run-ends, run-on, Spaces, no-space, space-on, IsIdent, ident, IsParts, no-parts, one-part, IsName, is-name}
 use Rattle.grammar.proofs.Tests.{clash, not-or, or-right, letter-no-space, separator-no-space}
-use Rattle.tag.specs.PageTag.{idents}
+use Rattle.tag_tree.specs.PageTag.{idents}
 use Rattle.read_tag.specs.Names.{PartAt, NameAt, FoundName, parts-bytes, PartsPut, NamesCompared}
 use Rattle.read_tag.specs.declared.name.NamePart.{NamePart}
 use Rattle.read_tag.proofs.NameLaws.{word, next, word-next, word-length, unsigned, signed, part-after, next-after}

@@ -15,7 +15,7 @@ use Rattle.page.specs.Page as P
 use Rattle.page.specs.Encode.{texts-row, name-row, attr-name-row, tag-row, attributes-row, value-row, children-row, expr-row, pieces-row}
 use Rattle.grammar.specs.Syntax as S
 use Rattle.grammar.specs.Syntax.{Name, no-attributes, join-attributes, join-children}
-use Rattle.tag.specs.PageTag.{page-name, page-attr-name, page-tag, page-tag-by, page-attributes, page-attribute, page-children, page-child, page-expr}
+use Rattle.tag_tree.specs.PageTag.{page-name, page-attr-name, page-tag, page-tag-by, page-attributes, page-attribute, page-children, page-child, page-expr}
 use Rattle.read_tag.specs.Progress.{tag-code, name-bytes, attr-name-bytes, attribute-bytes, attributes-bytes, child-bytes, children-bytes, tag-bytes, begun, Plain}
 
 -- ---- rows one behind the other

@@ -13,8 +13,8 @@ use Rattle.page.specs.Encode.{expr-row}
 use Rattle.grammar.specs.Signs.{choose, some-byte, digit}
 use Rattle.grammar.specs.Known.{Known, whole, minus-whole, decimal, minus-decimal, quoted, Found, none, some, value-from, is-whole, is-decimal, before-point, after-point, number-of, unsigned, has-minus, string-of, digit-or-point, of-a-number, not-read, rest-of, or-else}
 use Rattle.grammar.specs.Syntax.{known-expr}
-use Rattle.tag.specs.PageTag.{page-expr}
-use Rattle.tag.specs.TagAnswer.{known-in-range, shallow}
+use Rattle.tag_tree.specs.PageTag.{page-expr}
+use Rattle.tag_tree.specs.TagAnswer.{known-in-range, shallow}
 use Rattle.read_tag.specs.Runs.{Ran}
 use Rattle.read_tag.specs.Progress.{expr-bytes}
 use Rattle.read_tag.specs.declared.known.Held.{Held}

@@ -15,7 +15,7 @@ use Rattle.grammar.specs.Signs.{choose, name-byte, separator, space, name-goes-
 use Rattle.grammar.specs.Syntax.{Name, tag-name-fits, same-name}
 use Rattle.grammar.specs.Grammar.{Ends, IsName}
 use Rattle.grammar.specs.Reader.{For, State, in-ident, refused, fits, named, no-reading, outcome}
-use Rattle.tag.specs.PageTag.{idents}
+use Rattle.tag_tree.specs.PageTag.{idents}
 use Rattle.read_tag.specs.Runs.{Ran}
 use Rattle.read_tag.specs.Progress.{name-bytes}
 use Rattle.read_tag.specs.Shapes.{name-tag}

@@ -10,7 +10,7 @@ use Rattle.page.specs.Page as P
 use Rattle.page.specs.Encode.{name-row, attr-name-row, tag-row, attributes-row, children-row, expr-row}
 use Rattle.grammar.specs.Syntax.{Name, Tag, Attributes, no-attributes, Attribute, Children, Child, Expr}
 use Rattle.grammar.specs.Reader.{Braces, child-braces, spread-child-braces, value-braces, spread-braces}
-use Rattle.tag.specs.PageTag.{page-name, page-attr-name, page-tag, page-attributes, page-attribute, page-children, page-child, page-expr}
+use Rattle.tag_tree.specs.PageTag.{page-name, page-attr-name, page-tag, page-attributes, page-attribute, page-children, page-child, page-expr}
 
 -- ---- what was read, as bytes
 

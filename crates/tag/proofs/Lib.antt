@@ -1,5 +1,2 @@
--- The laws of `tag`: what is accepted, and that it stands in a page.
-pub mod NamesOk
-pub mod TagLimits
-pub mod TagExact
-pub mod TagSamples
+-- Laws of what is printed of tag text.
+pub mod TagCardLaws

@@ -18,9 +18,9 @@ use Rattle.page.specs.Encode.{name-row, tag-row, attributes-row, children-row}
 use Rattle.grammar.specs.Signs.{choose}
 use Rattle.grammar.specs.Syntax.{Tag, matched}
 use Rattle.grammar.specs.Reader.{start, outcome, read, no-reading, taken, refused-15, judged, answer}
-use Rattle.tag.specs.PageTag.{page-tag}
-use Rattle.tag.specs.TagAnswer as TA
-use Rattle.tag.specs.TagAnswer.{TagOutcome, tag-refused, tag-accepted, numbers-in-range, shallow, tag-field, tag-encode, given, within, answered, tag-outcome, tag-number, tag-refusal-number, tag-left}
+use Rattle.tag_tree.specs.PageTag.{page-tag}
+use Rattle.tag_tree.specs.TagAnswer as TA
+use Rattle.tag_tree.specs.TagAnswer.{TagOutcome, tag-refused, tag-accepted, numbers-in-range, shallow, tag-field, tag-encode, given, within, answered, tag-outcome, tag-number, tag-refusal-number, tag-left}
 use Rattle.read_tag.specs.Progress as R
 use Rattle.tag_pass.specs.Worlds.{ended-world, nothing-made, Made}
 use Rattle.tag_pass.specs.States.{Passed, passed-none, passed-tag}

@@ -19,8 +19,8 @@ use Rattle.grammar.specs.Syntax.{Name, Attributes, attribute-name-fits, same-na
 use Rattle.grammar.specs.Grammar.{Ends}
 use Rattle.grammar.specs.Reader.{value-braces, spread-braces, value-of, Stack, for-attribute, in-tag, attribute-named, equals, in-string, spread-opened, one-point, braces-opened, opened, fits, named, refused, step, step-attribute-named, at-end, outcome}
 use Rattle.grammar.proofs.Complete.{skip-equals, skip-spread, no-value-leaves, string-opens, refused-never}
-use Rattle.tag.specs.PageTag.{page-attr-name, page-tag, page-attribute}
-use Rattle.tag.specs.TagAnswer.{shallow, known-in-range}
+use Rattle.tag_tree.specs.PageTag.{page-attr-name, page-tag, page-attribute}
+use Rattle.tag_tree.specs.TagAnswer.{shallow, known-in-range}
 use Rattle.read_tag.specs.Progress.{name-bytes, attr-name-bytes, begun, attribute-begun}
 use Rattle.read_tag.specs.Flags.{depth-of}
 use Rattle.read_tag.specs.Runs.{Ran}

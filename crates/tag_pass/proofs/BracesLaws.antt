@@ -19,8 +19,8 @@ use Rattle.grammar.specs.Syntax.{Name, Attributes, Expr, same-name, every-tag, 
 use Rattle.grammar.specs.Reader.{Braces, child-braces, spread-child-braces, value-braces, spread-braces, in-braces, Stack, filled, filled-if, opened, in-source, one-point, two-points, braces-opened, refused, emptied, pointed, step, at-end, outcome}
 use Rattle.grammar.proofs.Complete.{refused-never, skip-braces}
 use Rattle.grammar.specs.Signs.{choose, space, source-start}
-use Rattle.tag.specs.PageTag.{page-tag, page-known, page-expr}
-use Rattle.tag.specs.TagAnswer.{shallow, known-in-range}
+use Rattle.tag_tree.specs.PageTag.{page-tag, page-known, page-expr}
+use Rattle.tag_tree.specs.TagAnswer.{shallow, known-in-range}
 use Rattle.read_tag.specs.Progress.{begun, expr-bytes, child-bytes, attribute-bytes, attribute-begun, attr-name-bytes, braces-code}
 use Rattle.read_tag.specs.Flags.{depth-of}
 use Rattle.read_tag.proofs.FlagLaws.{and-assoc}

@@ -19,8 +19,8 @@ use Rattle.grammar.specs.Syntax as S
 use Rattle.grammar.specs.Syntax.{Name, Attributes, Children, every-tag}
 use Rattle.grammar.specs.Reader.{child-braces, spread-child-braces, within, Stack, opened, braces-opened, one-point, in-children, emptied, pointed, step, step-children, at-end, refused}
 use Rattle.grammar.proofs.Complete.{skip-braces}
-use Rattle.tag.specs.PageTag.{page-tag, page-child}
-use Rattle.tag.specs.TagAnswer.{shallow}
+use Rattle.tag_tree.specs.PageTag.{page-tag, page-child}
+use Rattle.tag_tree.specs.TagAnswer.{shallow}
 use Rattle.read_tag.specs.Progress.{child-bytes}
 use Rattle.read_tag.specs.Flags.{depth-of}
 use Rattle.read_tag.specs.Runs.{Ran}

@@ -18,8 +18,8 @@ use Rattle.grammar.specs.Syntax as S
 use Rattle.grammar.specs.Syntax.{Name, Tag, Attributes, no-attributes, no-children, same-name, every-tag}
 use Rattle.grammar.specs.Reader.{Braces, child-braces, spread-child-braces, value-braces, spread-braces, Frame, within, value-of, in-braces, Stack, State, start, for-tag, in-ident, opened, behind-tag, in-children, closed, close-of, done, filled, refused, step, at-end, no-reading, outcome}
 use Rattle.grammar.proofs.Complete.{skip-opened, skip-behind-tag, refused-never}
-use Rattle.tag.specs.PageTag.{page-tag, page-expr}
-use Rattle.tag.specs.TagAnswer.{shallow, known-in-range}
+use Rattle.tag_tree.specs.PageTag.{page-tag, page-expr}
+use Rattle.tag_tree.specs.TagAnswer.{shallow, known-in-range}
 use Rattle.read_tag.specs.Progress.{tag-code, name-bytes, attributes-bytes, children-bytes, begun, tag-bytes, expr-bytes, child-bytes, attribute-begun, braces-code}
 use Rattle.read_tag.specs.Flags.{depth-of, braces-depth}
 use Rattle.read_tag.specs.Names.{NameAt}

@@ -17,7 +17,7 @@ use Rattle.grammar.specs.Signs.{choose, space, quote}
 use Rattle.grammar.specs.Known.{Known, whole, minus-whole, decimal, minus-decimal, quoted, boolean, null, other, Found, none, some, kept, trimmed-end, is-whole, is-decimal, before-point, after-point, value-from, number-of, unsigned, has-minus, string-from, string-of, rest-of, or-else, known-trimmed, known-of}
 use Rattle.grammar.specs.Syntax.{Part, part, Name, known-expr}
 use Rattle.grammar.specs.Grammar.{Run, run-ends, run-on, Spaces, no-space, space-on, IsIdent, ident, IsParts, no-parts, one-part, IsName, is-name}
-use Rattle.tag.specs.PageTag.{idents, page-name, page-known, page-tag}
+use Rattle.tag_tree.specs.PageTag.{idents, page-name, page-known, page-tag}
 use Rattle.read_tag.specs.Progress.{name-bytes, expr-bytes}
 use Rattle.read_tag.proofs.ProgressLaws as L
 

@@ -20,8 +20,8 @@ use Rattle.grammar.specs.Grammar.{Ends, IsParts, no-parts, one-part, IsName, is
 use Rattle.grammar.specs.Reader.{Stack, State, for-tag, for-attribute, for-closing, in-ident, in-tag, slashed, spread-opened, in-children, closing, close-named, closed, fits, named, refused, step, step-tag, step-close-named, at-end, outcome}
 use Rattle.grammar.proofs.Tests.{chose}
 use Rattle.grammar.proofs.Complete.{skip-tag, skip-slashed, skip-closing}
-use Rattle.tag.specs.PageTag.{page-tag}
-use Rattle.tag.specs.TagAnswer.{shallow}
+use Rattle.tag_tree.specs.PageTag.{page-tag}
+use Rattle.tag_tree.specs.TagAnswer.{shallow}
 use Rattle.read_tag.specs.Progress.{tag-code, name-bytes, attributes-bytes, children-bytes, begun, Plain}
 use Rattle.read_tag.specs.Flags.{depth-of}
 use Rattle.read_tag.specs.Runs.{Ran}

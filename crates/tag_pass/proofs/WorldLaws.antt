@@ -16,8 +16,8 @@ use Rattle.page.specs.Page as P
 use Rattle.page.specs.Encode.{texts-row, name-row, attr-name-row, tag-row, attributes-row, value-row, children-row, expr-row}
 use Rattle.grammar.specs.Syntax as S
 use Rattle.grammar.specs.Syntax.{Name, Attributes, Children, same-name, every-tag, every-attributes, every-attribute, every-children, every-child}
-use Rattle.tag.specs.PageTag.{page-name, page-attr-name, page-tag, page-tag-by, page-attributes, page-attribute, page-children, page-child}
-use Rattle.tag.specs.TagAnswer.{shallow, known-in-range}
+use Rattle.tag_tree.specs.PageTag.{page-name, page-attr-name, page-tag, page-tag-by, page-attributes, page-attribute, page-children, page-child}
+use Rattle.tag_tree.specs.TagAnswer.{shallow, known-in-range}
 use Rattle.read_tag.specs.Progress.{tag-code, name-bytes, attr-name-bytes, attribute-bytes, attributes-bytes, child-bytes, children-bytes, begun, attribute-begun, Plain}
 use Rattle.read_tag.proofs.ProgressLaws as L
 use Rattle.read_tag.proofs.FlagLaws.{and-assoc, and-true, every-attributes-more, every-children-more, shallow-attributes-more, shallow-children-more}

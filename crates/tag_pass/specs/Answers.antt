@@ -6,7 +6,7 @@ use mathlib.Core.Bool.{not}
 use lib.Dec.{eqb, ltb}
 use lib.ListN.{length}
 use Rattle.field.specs.Bytes.{Bytes, pick}
-use Rattle.tag.specs.TagAnswer.{tag-outcome, tag-number, tag-bytes, tag-left}
+use Rattle.tag_tree.specs.TagAnswer.{tag-outcome, tag-number, tag-bytes, tag-left}
 use Rattle.tag_pass.specs.declared.state.Reading.{Reading}
 use Rattle.tag_pass.specs.declared.answer.TagAnswer.{TagAnswer}
 

@@ -14,8 +14,8 @@ use Rattle.grammar.specs.Known.{known-of}
 use Rattle.grammar.specs.Syntax.{Name, same-name, Tag, tag, Attributes, no-attributes, Children, no-children, Expr, every-expr}
 use Rattle.grammar.specs.Grammar.{IsName}
 use Rattle.grammar.specs.Reader.{Braces, child-braces, in-braces, behind-tag, Frame, Stack, State, for-attribute, for-tag, in-ident, opened, in-tag, slashed, attribute-named, equals, in-string, spread-opened, one-point, braces-opened, in-children, closing, closed, filled, filled-if}
-use Rattle.tag.specs.PageTag.{page-expr}
-use Rattle.tag.specs.TagAnswer.{shallow, known-in-range}
+use Rattle.tag_tree.specs.PageTag.{page-expr}
+use Rattle.tag_tree.specs.TagAnswer.{shallow, known-in-range}
 use Rattle.read_tag.specs.Progress.{begun, expr-bytes, Plain}
 use Rattle.read_tag.specs.Flags.{depth-of}
 use Rattle.read_tag.specs.Names.{NameAt}

@@ -13,8 +13,8 @@ use Rattle.page.specs.Encode.{name-row, attr-name-row, tag-row, attributes-row,
 use Rattle.grammar.specs.Known.{Known}
 use Rattle.grammar.specs.Syntax.{Name, same-name, Tag, Attributes, Children, every-tag, every-attributes, every-children, every-child}
 use Rattle.grammar.specs.Reader.{Braces, child-braces, spread-child-braces, value-braces, spread-braces, Frame, within, value-of, in-braces, Stack}
-use Rattle.tag.specs.PageTag.{page-name, page-attr-name, page-tag, page-attributes, page-children}
-use Rattle.tag.specs.TagAnswer.{shallow, known-in-range}
+use Rattle.tag_tree.specs.PageTag.{page-name, page-attr-name, page-tag, page-attributes, page-children}
+use Rattle.tag_tree.specs.TagAnswer.{shallow, known-in-range}
 use Rattle.read_tag.specs.Progress.{tag-bytes, children-bytes, begun, attribute-begun, braces-code}
 use Rattle.read_tag.specs.Flags.{depth-of}
 

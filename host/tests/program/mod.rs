@@ -1,4 +1,4 @@
-//! The program `card`: run on the bytes of a page, and what it printed held to another text.
+//! The programs `card` and `tag`: run on some bytes, and what was printed held to another text.
 
 use std::io::Write;
 use std::path::{Path, PathBuf};
@@ -6,23 +6,22 @@ use std::process::{Command, Stdio};
 use std::thread;
 use std::time::Duration;
 
-const VARIABLE: &str = "JSX_PRECOMPILE_CARD";
-
 /// Long enough for the program to read what is there before more comes.
 const PAUSE: Duration = Duration::from_millis(3);
 
-/// target/bin/card of the repository, or the file that JSX_PRECOMPILE_CARD names.
-pub struct Card(PathBuf);
+/// Of the repository's target/bin, or the file that JSX_PRECOMPILE_ and its name, in capitals, name.
+pub struct Program(PathBuf);
 
-impl Card {
+impl Program {
     /// Without the program nothing can be compared, so that it is missing is a failure.
-    pub fn found() -> Card {
-        let built = Path::new(env!("CARGO_MANIFEST_DIR")).with_file_name("target").join("bin/card");
-        let program = std::env::var_os(VARIABLE).map_or(built, PathBuf::from);
+    pub fn found(name: &str) -> Program {
+        let built = Path::new(env!("CARGO_MANIFEST_DIR")).with_file_name("target").join("bin").join(name);
+        let variable = format!("JSX_PRECOMPILE_{}", name.to_uppercase());
+        let program = std::env::var_os(variable).map_or(built, PathBuf::from);
         if !program.is_file() {
-            panic!("{} is not there: run `rt check card` in the repository's root", program.display());
+            panic!("{} is not there: run `rt check {name}` in the repository's root", program.display());
         }
-        Card(program)
+        Program(program)
     }
 
     /// What the program prints of its standard input, which comes in these parts, a pause between them.

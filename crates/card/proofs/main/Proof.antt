@@ -1,5 +1,5 @@
 -- `main` meets its contract: what is printed stands in the text's buffer, by the test before. Assumes nothing.
-use Rattle.card.proofs.CardLaws.{front-length}
+use Rattle.print_card.proofs.CardLaws.{front-length}
 use borrow.Author.Needs.{needs}
 use Rattle.card.proofs.main.Statement.{statement}
 use Rattle.card.proofs.main.Tie as tie

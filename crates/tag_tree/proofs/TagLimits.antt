@@ -23,9 +23,9 @@ use Rattle.grammar.specs.Syntax as S
 use Rattle.grammar.specs.Syntax.{Name, every-tag, every-attributes, every-attribute, every-children, every-child, every-expr, tag-name-fits, attribute-name-fits, member-fits}
 use Rattle.grammar.specs.Grammar.{Spaces, IsName, Closing, closing-name, closing-fragment, IsTag, is-alone, is-around, is-fragment, IsAttributes, are-no-attributes, are-attributes, IsAttribute, is-no-value, is-string-value, is-container-value, is-tag-value, is-spread-attribute, IsChildren, are-no-children, are-children, IsChild, is-text-child, is-tag-child, is-empty-child, is-container-child, is-spread-child, IsExpr, is-tag-expr, is-known-expr}
 use Rattle.grammar.proofs.Letters.{Whole, skip-ascii, spaces-utf8, text-utf8, string-utf8, quote-small, source-utf8, KnownUtf8, known-utf8, name-utf8, Idents, name-idents}
-use Rattle.tag.specs.PageTag.{page-name, page-attr-name, page-known, page-tag-by, page-tag, page-attributes, page-attribute, page-children, page-child, page-expr}
-use Rattle.tag.specs.TagAnswer.{known-in-range, shallow}
-use Rattle.tag.proofs.NamesOk.{field-shallow, attr-name-ok, element-name-ok}
+use Rattle.tag_tree.specs.PageTag.{page-name, page-attr-name, page-known, page-tag-by, page-tag, page-attributes, page-attribute, page-children, page-child, page-expr}
+use Rattle.tag_tree.specs.TagAnswer.{known-in-range, shallow}
+use Rattle.tag_tree.proofs.NamesOk.{field-shallow, attr-name-ok, element-name-ok}
 
 abbrev Any : Name → Name → Bool
 Any n m = true

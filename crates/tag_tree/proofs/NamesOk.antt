@@ -20,8 +20,8 @@ use Rattle.grammar.specs.Syntax as S
 use Rattle.grammar.specs.Syntax.{part, Name, short, member-parts, attribute-name-fits, member-fits, tag-name-fits}
 use Rattle.grammar.proofs.Tests.{or-cases, at-eq}
 use Rattle.grammar.proofs.Letters.{is-ident, Idents}
-use Rattle.tag.specs.PageTag.{idents, page-name, page-attr-name}
-use Rattle.tag.specs.TagAnswer.{shallow}
+use Rattle.tag_tree.specs.PageTag.{idents, page-name, page-attr-name}
+use Rattle.tag_tree.specs.TagAnswer.{shallow}
 
 -- ---- one identifier
 

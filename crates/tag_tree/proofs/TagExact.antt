@@ -21,9 +21,9 @@ use Rattle.grammar.specs.Syntax.{Tag, matched}
 use Rattle.grammar.specs.Grammar.{ReadsAs, Reads}
 use Rattle.grammar.specs.Reader.{Answer, taken, refused-14, refused-15, answer}
 use Rattle.grammar.proofs.Exact.{unique, taken-exactly, fourteen-exactly, fifteen-exactly}
-use Rattle.tag.specs.PageTag.{page-tag}
-use Rattle.tag.specs.TagAnswer.{TagRefusal, input-too-long, not-utf8, no-reading, names-differ, number-too-large, too-deep, output-too-long, tag-too-small, TagOutcome, tag-refused, tag-accepted, numbers-in-range, shallow, tag-field, tag-encode, IsAnswered, is-long, is-no-utf8, has-no-reading, has-other-names, has-number-over, is-deep, has-long-body, has-no-room, is-read, given, within, answered, tag-outcome}
-use Rattle.tag.proofs.TagLimits.{tag-ok}
+use Rattle.tag_tree.specs.PageTag.{page-tag}
+use Rattle.tag_tree.specs.TagAnswer.{TagRefusal, input-too-long, not-utf8, no-reading, names-differ, number-too-large, too-deep, output-too-long, tag-too-small, TagOutcome, tag-refused, tag-accepted, numbers-in-range, shallow, tag-field, tag-encode, IsAnswered, is-long, is-no-utf8, has-no-reading, has-other-names, has-number-over, is-deep, has-long-body, has-no-room, is-read, given, within, answered, tag-outcome}
+use Rattle.tag_tree.proofs.TagLimits.{tag-ok}
 
 -- ---- a test and what follows it
 

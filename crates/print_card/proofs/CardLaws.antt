@@ -39,7 +39,7 @@ pub front-length : (n : ℕ) (s : Bytes) → n ≤ length s → n ≡ length (ta
 front-length n s h = sym (length-take-le n s h)
 
 -- what fits stands in front
-front-put : (o w : Bytes) → length w ≤ length o → take (length w) (put o 0 w) ≡ w
+pub front-put : (o w : Bytes) → length w ≤ length o → take (length w) (put o 0 w) ≡ w
 front-put o w h = ap (take (length w)) (put-fits o 0 w (omega arith)) ∙ take-at w (drop (0 + length w) o) (length w) refl
 
 -- ---- both outputs of an accepted page are less than 32 MiB long: at most 512 bytes for each byte of the page that is given, and the import

@@ -6,7 +6,7 @@ use mathlib.Core.List.{[], _∷_}
 use lib.ListN.{replicate}
 use Rattle.field.specs.Bytes.{Bytes}
 use Rattle.field.specs.Bytes as B
-use Rattle.tag.specs.TagAnswer.{TagOutcome}
+use Rattle.tag_tree.specs.TagAnswer.{TagOutcome}
 use Rattle.field.specs.Bytes.{same, among}
 use Rattle.field.specs.Number.{big-endian, number-from}
 use Rattle.field.specs.Row.{field-bytes, bytes, long-body, inside, next-of, opened, built, read-from, read}
@@ -18,8 +18,8 @@ use Rattle.grammar.specs.Signs.{choose, each, letter, digit, name-byte, separat
 use Rattle.grammar.specs.Known.{trimmed-front, kept, trimmed-end, value-from, is-whole, before-point, after-point, is-empty-text, is-decimal, number-of, unsigned, has-minus, string-from, string-of, digit-or-point, of-a-number, not-read, rest-of, or-else, known-trimmed, known-of, entity-of}
 use Rattle.grammar.specs.Syntax.{short, no-hyphen, member-parts, attribute-name-fits, member-fits, tag-name-fits, same-name, matched, join-attributes, join-children, every-tag}
 use Rattle.grammar.specs.Reader.{closed, filled, filled-if, emptied, pointed, close-of, brace-ends, resumed, resumed-if, fits, named, step-tag, step-attribute-named, step-close-named, step-of-named, step-behind, step-source, step-children, step, at-end, outcome, judged, answer}
-use Rattle.tag.specs.PageTag.{idents, page-name, page-attr-name, page-known, page-tag-by, page-tag}
-use Rattle.tag.specs.TagAnswer.{tag-refusal-number, known-in-range, numbers-in-range, shallow, tag-field, tag-encode, given, within, answered, tag-outcome, tag-number, tag-bytes, tag-left}
+use Rattle.tag_tree.specs.PageTag.{idents, page-name, page-attr-name, page-known, page-tag-by, page-tag}
+use Rattle.tag_tree.specs.TagAnswer.{tag-refusal-number, known-in-range, numbers-in-range, shallow, tag-field, tag-encode, given, within, answered, tag-outcome, tag-number, tag-bytes, tag-left}
 
 record Reply : Type 0 where
   number : ℕ

@@ -18,7 +18,7 @@ use Rattle.grammar.specs.Known.{Known, whole, minus-whole, decimal, minus-decim
 use Rattle.grammar.specs.Syntax.{Name, Tag, every-tag, matched}
 use Rattle.grammar.specs.Grammar.{ReadsAs, Reads}
 use Rattle.grammar.specs.Reader.{Answer, taken, refused-14, refused-15, answer}
-use Rattle.tag.specs.PageTag.{page-tag}
+use Rattle.tag_tree.specs.PageTag.{page-tag}
 
 -- 02, A3: the refusals of the reader
 pub data TagRefusal : Type 0 where

@@ -3,10 +3,10 @@ use native.Mathlib.Omega.{arith}
 use mathlib.Core.List.{[]}
 use Rattle.field.proofs.PutLaws.{wrote-is}
 use Rattle.text.proofs.DecimalLaws.{length-decimal}
-use Rattle.card.proofs.CardLaws.{front-length, refused-printed, Stand, outs-stand}
+use Rattle.print_card.proofs.CardLaws.{front-length, refused-printed, Stand, outs-stand}
 use borrow.Author.Needs.{needs}
-use Rattle.card.proofs.card.print_card.Statement.{statement}
-use Rattle.card.proofs.card.print_card.Tie as tie
+use Rattle.print_card.proofs.print_card.Statement.{statement}
+use Rattle.print_card.proofs.print_card.Tie as tie
 
 slice-aggregate-jsx-precompile-transform : tie.Need-slice-aggregate-jsx-precompile-transform
 slice-aggregate-jsx-precompile-transform c = search needs
