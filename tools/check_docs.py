@@ -270,7 +270,7 @@ PLANTED = [
     ("docs/PROMISES.md", "| `absent_tag` |", "| - |", "not named in docs/PROMISES.md, section field"),
     ("docs/PROMISES.md", "| `absent_tag` |", "| `body_behind` |", "not as tools/promises.py makes it"),
     ("crates/field/src/reader.rt", "Header::Absent => 256,", "Header::Absent => 0 + 256,", "its old: stands 0 times"),
-    ("docs/PROMISES.md", "_higher_defined` | `in-range` |", "_higher_defined` | `number-in` |", "`number_one_higher_defined` changes `in-range`"),
+    ("docs/PROMISES.md", "as_string` | `expr-row` |", "as_string` | `number-in` |", "`literal_written_as_string` changes `expr-row`"),
     ("README.md", "| `utf8` |", "| `text` |", "crates.txt has utf8 here, not text"),
     ("docs/PROMISES.md", r"The last \w+ are used", "The last one are used", "are used within the crate only, not one"),
 ]
