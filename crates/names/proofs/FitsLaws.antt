@@ -42,7 +42,7 @@ fits-length fs n h = (above (length n) refl, within (ltb (length n) (length fs))
     within false e = absurd (false≢true (sym (fits-long fs n (ltb-false (length n) (length fs) e)) ∙ h))
 
 -- a capital and its small letter are one letter to the test
-small-modulo : (c : ℕ) → small-letter c % 32 ≡ c % 32
+pub small-modulo : (c : ℕ) → small-letter c % 32 ≡ c % 32
 unfolding small-letter
 small-modulo c = on (capital c)
   where

@@ -6,6 +6,7 @@ pub mod FitsLaws
 pub mod ListLaws
 pub mod NormalizeLaws
 pub mod TableLaws
+pub mod VoidLaws
 pub mod MarkLaws
 pub mod NamespacedLaws
 pub mod EscapedLaws

@@ -1,6 +1,6 @@
 -- A table of names, sorted by length, each with a mark behind it: its rule is proved by two tests that are computed, one over every
 -- entry of the table and one over every name that it has to have.
--- Main statements: `table-mark`, `table-has`, `table-lacks`, `table-row`.
+-- Main statements: `table-mark`, `table-finds`, `table-has`, `lacks`, `table-lacks`, `table-row`.
 -- Assumes nothing.
 use mathlib.Core.Path.{_≡_, refl, sym, ap, _∙_}
 use mathlib.Core.Bool.{Bool, true, false, _&&_, not, false≢true}
@@ -64,17 +64,24 @@ table-mark f t s k h n l = entries-at f n 0 (row-at t s (length n)) (upto-at (λ
 abbrev pub has : Bytes → List ℕ → Bytes → Bool
 has t s w = not (eqb (mark-in (row-at t s (length w)) w) 0)
 
--- a table of the names xs and of no others
-pub table-has : (t : Bytes) (s fs : List ℕ) (xs : List Bytes) (n : Bytes) {r : Bytes} {m l : ℕ} → m ≡ mark-in r n → length n ≡ l → r ≡ row-of t s l → fits-in fs n ≡ true → all-entries (λ w m. among w xs) t s (length fs) ≡ true → every (has t s) xs ≡ true → not (eqb m 0) ≡ among n xs
-table-has t s fs xs n a b c h p q =
-    let k = mark-in (row-at t s (length n)) n in
-    ap (λ (x : ℕ). not (eqb x 0)) (mark-at t s n a b c) ∙ both-ways (not (eqb k 0)) (among n xs)
-    (λ e. ⊎-elim (λ z. absurd (false≢true (sym (ap not (eq-eqb k 0 z)) ∙ e))) (λ a. a) (table-mark (λ w k. among w xs) t s (length fs) p n (fits-length fs n h .1)))
+-- a table of the names xs and of no others, all of less than k letters
+pub table-finds : (t : Bytes) (s : List ℕ) (k : ℕ) (xs : List Bytes) (n : Bytes) {r : Bytes} {m l : ℕ} → m ≡ mark-in r n → length n ≡ l → r ≡ row-of t s l → length n < k → all-entries (λ w m. among w xs) t s k ≡ true → every (has t s) xs ≡ true → not (eqb m 0) ≡ among n xs
+table-finds t s k xs n a b c h p q =
+    let j = mark-in (row-at t s (length n)) n in
+    ap (λ (x : ℕ). not (eqb x 0)) (mark-at t s n a b c) ∙ both-ways (not (eqb j 0)) (among n xs)
+    (λ e. ⊎-elim (λ z. absurd (false≢true (sym (ap not (eq-eqb j 0 z)) ∙ e))) (λ a. a) (table-mark (λ w m. among w xs) t s k p n h))
     (λ a. every-at (has t s) xs q n a)
+
+pub table-has : (t : Bytes) (s fs : List ℕ) (xs : List Bytes) (n : Bytes) {r : Bytes} {m l : ℕ} → m ≡ mark-in r n → length n ≡ l → r ≡ row-of t s l → fits-in fs n ≡ true → all-entries (λ w m. among w xs) t s (length fs) ≡ true → every (has t s) xs ≡ true → not (eqb m 0) ≡ among n xs
+table-has t s fs xs n a b c h p q = table-finds t s (length fs) xs n a b c (fits-length fs n h .1) p q
+
+-- what fails a test that all of the names pass is none of them
+pub lacks : (f : Bytes → Bool) (xs : List Bytes) (n : Bytes) → f n ≡ false → every f xs ≡ true → among n xs ≡ false
+lacks f xs n h q = refuted (among n xs) (λ a. false≢true (sym h ∙ every-at f xs q n a))
 
 -- none of the names has another length or first letter
 pub table-lacks : (fs : List ℕ) (xs : List Bytes) (n : Bytes) → fits-in fs n ≡ false → every (fits-in fs) xs ≡ true → among n xs ≡ false
-table-lacks fs xs n h q = refuted (among n xs) (λ a. false≢true (sym h ∙ every-at (fits-in fs) xs q n a))
+table-lacks fs xs n h q = lacks (fits-in fs) xs n h q
 
 -- ---- where the rows stand
 

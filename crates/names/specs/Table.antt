@@ -6,7 +6,7 @@ use mathlib.Core.List.{List, [], _∷_, _++_}
 use lib.Dec.{leb, eqb}
 use lib.ListN.{length, take, drop, getD}
 use Rattle.field.specs.Bytes.{Bytes, ascii, pick, same}
-use Rattle.names.specs.Names.{capital, small-letters}
+use Rattle.names.specs.Names.{capital, small-letters, is-void-element}
 
 -- a name as it stands, or in small letters
 abbrev pub read-as : Bool → Bytes → Bytes
@@ -16,6 +16,19 @@ read-as small n = pick small (small-letters n) n
 unfoldable pub fits-in : List ℕ → Bytes → Bool
 fits-in firsts [] = false
 fits-in firsts (c ∷ cs) = eqb (getD firsts (suc (length cs)) 0 / 2 ^ (c % 32) % 2) 1
+
+-- some name of a table has this length, this first letter and this last letter: of the entry at a length, the bit that the first letter
+-- modulo 32 says, and, 32 above it, the bit that the last says
+unfoldable pub fits-ends : List ℕ → Bytes → Bool
+fits-ends ends n = eqb (getD ends (length n) 0 / 2 ^ (getD n 0 0 % 32) % 2) 1 && eqb (getD ends (length n) 0 / 2 ^ (getD n (length n - 1) 0 % 32 + 32) % 2) 1
+
+-- the entries for the void names
+unfoldable pub void-ends : List ℕ
+void-ends = 0 ∷ 0 ∷ 0x4000000000104 ∷ 0x4108000800208 ∷ 0x82200003006 ∷ 0x10281000110220 ∷ 0x2000080000 ∷ []
+
+-- 1 for a void name, 2 for one that is void in small letters alone
+abbrev pub void-kind : Bytes → ℕ
+void-kind n = pick (is-void-element n) 1 (pick (is-void-element (small-letters n)) 2 0)
 
 -- a table is rows of names, the shorter names first, and starts says where the names of each length begin: the row of length l
 unfoldable pub row-of : Bytes → List ℕ → ℕ → Bytes

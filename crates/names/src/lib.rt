@@ -20,7 +20,7 @@ pub use booleans::is_boolean_attr;
 pub use booleans::normalizes_to_boolean;
 pub use compare::same_bytes;
 pub use elements::is_void_element;
-pub use elements::is_void_when_lowered;
+pub use elements::void_kind;
 pub use escaped::put_attr_name;
 pub use escaped::put_namespaced;
 pub use listed::find_mark;

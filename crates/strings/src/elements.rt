@@ -5,9 +5,11 @@ ghost use mathlib.Core.Bool.{true, _&&_};
 ghost use Prim.Native.Nat.{_+_, _<_, _^_};
 ghost use mathlib.Core.List.{_∷_, [], _++_};
 ghost use lib.ListN.{length};
+ghost use Rattle.field.specs.Bytes.{Bytes};
 ghost use Rattle.field.specs.Put.{Wrote};
 ghost use Rattle.field.specs.Row.{read};
 ghost use Rattle.text.specs.Escape.{escape-html};
+ghost use Rattle.names.specs.Table.{void-kind};
 ghost use Rattle.page.specs.Tree.{children-in, contained-in};
 ghost use Rattle.spec.specs.Pass.{chars};
 ghost use Rattle.spec.specs.Children.{children-to-string};
@@ -35,8 +37,7 @@ use field::reader::body;
 use field::reader::tag_at;
 use field::writer::put_byte;
 use field::writer::put_bytes;
-use names::is_void_element;
-use names::is_void_when_lowered;
+use names::void_kind;
 use text::escape::put_escaped;
 use text::escape::put_short_escaped;
 
@@ -50,28 +51,28 @@ fn put_open(out: &mut [u8], st: Open, n: &[u8]) -> Open
     ended(st, q)
 }
 
-// What is found of an element that is serialized.
-fn tag_due<'a>(due: u8, n: &'a [u8], rest: &'a [u8]) -> u8
-    ensures { λ r. ⌜ r ≡ graver due (grave (flags-at (now (n .entry)) (now (rest .entry)))) ⌝ }
+// What is found of an element that is serialized, by what its name is to `void_kind`.
+fn tag_due(due: u8, kind: u8, rest: &[u8]) -> u8
+    ensures { λ r. ⌜ ((n : Bytes) → kind ≡ void-kind n → r ≡ graver due (grave (flags-at n (now (rest .entry))))) ⌝ }
 {
     if repeats(rest) {
         return graver(due, REPEATED);
     }
-    if is_void_when_lowered(n) {
+    if kind == 2 {
         return graver(due, MIXED);
     }
     due
 }
 
-fn open_tag<'a>(out: &mut [u8], st: Open, n: &'a [u8], rest: &'a [u8]) -> Open
-    requires { ⌜ Low (carve (opening (now n) (now rest)) (at (now out) st)) ⌝ }
+fn open_tag<'a>(out: &mut [u8], st: Open, n: &'a [u8], kind: u8, rest: &'a [u8]) -> Open
+    requires { ⌜ (kind ≡ void-kind (now n)) × Low (carve (opening (now n) (now rest)) (at (now out) st)) ⌝ }
     ensures { λ r. ⌜ at (now (out .exit)) r ≡ carve (opening (now (n .entry)) (now (rest .entry))) (at (now (out .entry)) st) ⌝ }
 {
     let p = put_open(out, st, n);
     Open {
         head: p.head,
         len: p.len,
-        due: tag_due(p.due, n, rest),
+        due: tag_due(p.due, kind, rest),
     }
 }
 
@@ -161,10 +162,11 @@ pub fn tag_strings<'a>(skip: &[u8], props: &'a [u8], b: &'a [u8], out: &mut [u8]
 {
     let n = identifier(b);
     let rest = behind(b);
-    let p = open_tag(out, st, n, rest);
+    let kind = void_kind(n);
+    let p = open_tag(out, st, n, kind, rest);
     let a = attributes_strings(skip, props, rest, out, p);
     let c = put_chars(out, a, b">");
-    if is_void_element(n) {
+    if kind == 1 {
         return c;
     }
     let d = children_strings(skip, props, rest, true, out, c);

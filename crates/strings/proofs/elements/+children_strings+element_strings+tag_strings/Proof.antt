@@ -4,6 +4,7 @@
 use borrow.Author.Tests.{not-true, not-false}
 use Rattle.field.proofs.Actions.{kept}
 use Rattle.field.proofs.FrontLaws.{behind-less}
+use Rattle.names.proofs.VoidLaws.{void-by-kind, not-void-by-kind}
 use Rattle.strings.proofs.CarveLaws.{same-size}
 use Rattle.strings.proofs.FrontSizes.{behind-le}
 use borrow.Author.Needs.{needs}
@@ -29,7 +30,7 @@ use Rattle.decisions.proofs.element.is_serializable.Reads as is-serializable-re
 use Rattle.field.proofs.reader.behind.Reads as behind-reads
 use Rattle.field.proofs.reader.body.Reads as body-reads
 use Rattle.field.proofs.reader.tag_at.Reads as tag-at-reads
-use Rattle.names.proofs.is_void_element.Reads as is-void-element-reads
+use Rattle.names.proofs.void_kind.Reads as void-kind-reads
 use Rattle.strings.proofs.attributes.attributes_strings.Reads as attributes-strings-reads
 use Rattle.strings.proofs.elements.container_child.Reads as container-child-reads
 use Rattle.strings.proofs.elements.is_last.Reads as is-last-reads
@@ -259,7 +260,7 @@ element-strings-returns-2 : (t : ℕ) → element-strings-lts.Need-returns-2 (el
 element-strings-returns-2 t c = c .before .before .tag-strings .ensures
 
 abbrev tag-strings-calls : ℕ → tag-strings-lts.Claims
-tag-strings-calls t = (identifier-reads.Asked, identifier-reads.Learnt, behind-reads.Asked, behind-reads.Learnt, open-tag-reads.Asked, open-tag-reads.Learnt, attributes-strings-reads.Asked, attributes-strings-reads.Learnt, put-chars-reads.Asked, put-chars-reads.Learnt, is-void-element-reads.Asked, is-void-element-reads.Learnt, children-strings-below t, children-strings.Post, put-close-reads.Asked, put-close-reads.Learnt)
+tag-strings-calls t = (identifier-reads.Asked, identifier-reads.Learnt, behind-reads.Asked, behind-reads.Learnt, void-kind-reads.Asked, void-kind-reads.Learnt, open-tag-reads.Asked, open-tag-reads.Learnt, attributes-strings-reads.Asked, attributes-strings-reads.Learnt, put-chars-reads.Asked, put-chars-reads.Learnt, children-strings-below t, children-strings.Post, put-close-reads.Asked, put-close-reads.Learnt)
 
 tag-strings-identifier-requires : (t : ℕ) → tag-strings-lts.Need-identifier-requires (tag-strings-calls t) (tag-strings-at t) tag-strings.Post
 tag-strings-identifier-requires t c κs = tt
@@ -267,19 +268,23 @@ tag-strings-identifier-requires t c κs = tt
 tag-strings-behind-requires : (t : ℕ) → tag-strings-lts.Need-behind-requires (tag-strings-calls t) (tag-strings-at t) tag-strings.Post
 tag-strings-behind-requires t c κs = tt
 
+tag-strings-void-kind-requires : (t : ℕ) → tag-strings-lts.Need-void-kind-requires (tag-strings-calls t) (tag-strings-at t) tag-strings.Post
+tag-strings-void-kind-requires t c κs = tt
+
 tag-strings-open-tag-requires : (t : ℕ) → tag-strings-lts.Need-open-tag-requires (tag-strings-calls t) (tag-strings-at t) tag-strings.Post
 tag-strings-open-tag-requires t c κs =
-    let start = c .before .before .before .before .before .before .before in
+    let p = c .before .before .before in
+    let start = p .before .before .before .before .before in
     let a = start .args in
-    open-room (a .skip .now) (a .props .now) (a .b .now) (at (a .out .now) (a .st)) refl (start .pre .1 .0) (c .before .before .identifier .ensures) (c .before .behind .ensures) (start .pre .1 .1)
+    (c .before .void-kind .ensures, open-room (a .skip .now) (a .props .now) (a .b .now) (at (a .out .now) (a .st)) refl (start .pre .1 .0) (p .identifier .ensures) (c .before .before .behind .ensures) (start .pre .1 .1))
 
 tag-strings-attributes-strings-requires : (t : ℕ) → tag-strings-lts.Need-attributes-strings-requires (tag-strings-calls t) (tag-strings-at t) tag-strings.Post
 tag-strings-attributes-strings-requires t c κs =
     let p₁ = c .before .before .before in
-    let p₂ = p₁ .before .before .before in
+    let p₂ = p₁ .before .before .before .before in
     let start = p₂ .before .before .before .before .before in
     let a = start .args in
-    attrs-room (a .skip .now) (a .props .now) (a .b .now) (at (a .out .now) (a .st)) refl (start .pre .1 .0) (p₂ .identifier .ensures) (p₁ .before .before .behind .ensures) (p₁ .open-tag .ensures) (start .pre .1 .1)
+    attrs-room (a .skip .now) (a .props .now) (a .b .now) (at (a .out .now) (a .st)) refl (start .pre .1 .0) (p₂ .identifier .ensures) (p₁ .before .before .before .behind .ensures) (p₁ .open-tag .ensures) (start .pre .1 .1)
 
 tag-strings-slice-aggregate-put-chars : (t : ℕ) → tag-strings-lts.Need-slice-aggregate-put-chars (tag-strings-calls t) (tag-strings-at t) tag-strings.Post
 tag-strings-slice-aggregate-put-chars t c = search needs
@@ -288,79 +293,73 @@ tag-strings-put-chars-requires : (t : ℕ) → tag-strings-lts.Need-put-chars-re
 tag-strings-put-chars-requires t c κs =
     let p₁ = c .before .before .before .before in
     let p₂ = p₁ .before .before .before .before in
-    let p₃ = p₂ .before .before .before in
+    let p₃ = p₂ .before .before .before .before in
     let start = p₃ .before .before .before .before .before in
     let a = start .args in
-    end-room (a .skip .now) (a .props .now) (a .b .now) (at (a .out .now) (a .st)) refl (start .pre .1 .0) (p₃ .identifier .ensures) (p₂ .before .before .behind .ensures) (p₂ .open-tag .ensures) (p₁ .attributes-strings .ensures) (start .pre .1 .1)
-
-tag-strings-is-void-element-requires : (t : ℕ) → tag-strings-lts.Need-is-void-element-requires (tag-strings-calls t) (tag-strings-at t) tag-strings.Post
-tag-strings-is-void-element-requires t c κs = tt
+    end-room (a .skip .now) (a .props .now) (a .b .now) (at (a .out .now) (a .st)) refl (start .pre .1 .0) (p₃ .identifier .ensures) (p₂ .before .before .before .behind .ensures) (p₂ .open-tag .ensures) (p₁ .attributes-strings .ensures) (start .pre .1 .1)
 
 tag-strings-same-length : (t : ℕ) → tag-strings-lts.Need-same-length (tag-strings-calls t) (tag-strings-at t) tag-strings.Post
 tag-strings-same-length t c =
-    let p₁ = c .before .before .before .before in
+    let p₁ = c .before .before .before in
     let p₂ = p₁ .before .before .before .before .before in
     let p₃ = p₂ .before .before .before .before in
-    let p₄ = p₃ .before .before .before in
+    let p₄ = p₃ .before .before .before .before in
     let start = p₄ .before .before .before .before .before in
     let a = start .args in
-    kept same-size (void-end (a .skip .now) (a .props .now) (a .b .now) (at (a .out .now) (a .st)) refl (start .pre .1 .0) (p₄ .identifier .ensures) (p₃ .before .before .behind .ensures) (p₃ .open-tag .ensures) (p₂ .attributes-strings .ensures) (p₁ .put-chars .ensures) (c .before .is-void-element .ensures) (c .if1 .taken))
+    kept same-size (void-end (a .skip .now) (a .props .now) (a .b .now) (at (a .out .now) (a .st)) refl (start .pre .1 .0) (p₄ .identifier .ensures) (p₃ .before .before .before .behind .ensures) (p₃ .open-tag .ensures) (p₂ .attributes-strings .ensures) (p₁ .put-chars .ensures) refl (void-by-kind _ (p₃ .before .before .void-kind .ensures) (c .if1 .taken)))
 
 tag-strings-returns : (t : ℕ) → tag-strings-lts.Need-returns (tag-strings-calls t) (tag-strings-at t) tag-strings.Post
 tag-strings-returns t c =
-    let p₁ = c .before .before .before .before in
+    let p₁ = c .before .before .before in
     let p₂ = p₁ .before .before .before .before .before in
     let p₃ = p₂ .before .before .before .before in
-    let p₄ = p₃ .before .before .before in
+    let p₄ = p₃ .before .before .before .before in
     let start = p₄ .before .before .before .before .before in
     let a = start .args in
-    void-end (a .skip .now) (a .props .now) (a .b .now) (at (a .out .now) (a .st)) refl (start .pre .1 .0) (p₄ .identifier .ensures) (p₃ .before .before .behind .ensures) (p₃ .open-tag .ensures) (p₂ .attributes-strings .ensures) (p₁ .put-chars .ensures) (c .before .is-void-element .ensures) (c .if1 .taken)
+    void-end (a .skip .now) (a .props .now) (a .b .now) (at (a .out .now) (a .st)) refl (start .pre .1 .0) (p₄ .identifier .ensures) (p₃ .before .before .before .behind .ensures) (p₃ .open-tag .ensures) (p₂ .attributes-strings .ensures) (p₁ .put-chars .ensures) refl (void-by-kind _ (p₃ .before .before .void-kind .ensures) (c .if1 .taken))
 
 tag-strings-children-strings-requires : (t : ℕ) → tag-strings-lts.Need-children-strings-requires (tag-strings-calls t) (tag-strings-at t) tag-strings.Post
 tag-strings-children-strings-requires t c κs =
-    let p₁ = c .before .before .before .before .before in
+    let p₁ = c .before .before .before .before in
     let p₂ = p₁ .before .before .before .before .before in
     let p₃ = p₂ .before .before .before .before in
-    let p₄ = p₃ .before .before .before in
+    let p₄ = p₃ .before .before .before .before in
     let start = p₄ .before .before .before .before .before in
     let a = start .args in
-    (omega (arith, behind-le (a .b .now) (p₃ .before .before .behind .ensures), start .pre .0), kids-room (a .skip .now) (a .props .now) (a .b .now) (at (a .out .now) (a .st)) refl (start .pre .1 .0) (p₄ .identifier .ensures) (p₃ .before .before .behind .ensures) (p₃ .open-tag .ensures) (p₂ .attributes-strings .ensures) (p₁ .put-chars .ensures) (c .before .before .is-void-element .ensures) (c .before .if1 .left) (start .pre .1 .1))
+    (omega (arith, behind-le (a .b .now) (p₃ .before .before .before .behind .ensures), start .pre .0), kids-room (a .skip .now) (a .props .now) (a .b .now) (at (a .out .now) (a .st)) refl (start .pre .1 .0) (p₄ .identifier .ensures) (p₃ .before .before .before .behind .ensures) (p₃ .open-tag .ensures) (p₂ .attributes-strings .ensures) (p₁ .put-chars .ensures) refl (not-void-by-kind _ (p₃ .before .before .void-kind .ensures) (c .before .if1 .left)) (start .pre .1 .1))
 
 tag-strings-put-close-requires : (t : ℕ) → tag-strings-lts.Need-put-close-requires (tag-strings-calls t) (tag-strings-at t) tag-strings.Post
 tag-strings-put-close-requires t c κs =
     let p₁ = c .before .before .before in
-    let p₂ = p₁ .before .before .before in
-    let p₃ = p₂ .before .before .before in
-    let p₄ = p₃ .before .before .before .before .before in
+    let p₂ = p₁ .before .before .before .before .before in
+    let p₃ = p₂ .before .before .before .before .before in
+    let p₄ = p₃ .before .before .before .before in
     let p₅ = p₄ .before .before .before .before in
-    let p₆ = p₅ .before .before .before in
-    let start = p₆ .before .before .before .before .before in
+    let start = p₅ .before .before .before .before .before in
     let a = start .args in
-    close-room (a .skip .now) (a .props .now) (a .b .now) (at (a .out .now) (a .st)) refl (start .pre .1 .0) (p₆ .identifier .ensures) (p₅ .before .before .behind .ensures) (p₅ .open-tag .ensures) (p₄ .attributes-strings .ensures) (p₃ .put-chars .ensures) (p₂ .is-void-element .ensures) (p₁ .before .before .if1 .left) (p₁ .children-strings .ensures) (start .pre .1 .1)
+    close-room (a .skip .now) (a .props .now) (a .b .now) (at (a .out .now) (a .st)) refl (start .pre .1 .0) (p₅ .identifier .ensures) (p₄ .before .before .before .behind .ensures) (p₄ .open-tag .ensures) (p₃ .attributes-strings .ensures) (p₂ .put-chars .ensures) refl (not-void-by-kind _ (p₄ .before .before .void-kind .ensures) (p₁ .before .before .if1 .left)) (p₁ .children-strings .ensures) (start .pre .1 .1)
 
 tag-strings-same-length-2 : (t : ℕ) → tag-strings-lts.Need-same-length-2 (tag-strings-calls t) (tag-strings-at t) tag-strings.Post
 tag-strings-same-length-2 t c =
     let p₁ = c .before .before .before .before .before .before in
-    let p₂ = p₁ .before .before .before in
-    let p₃ = p₂ .before .before .before in
-    let p₄ = p₃ .before .before .before .before .before in
+    let p₂ = p₁ .before .before .before .before .before in
+    let p₃ = p₂ .before .before .before .before .before in
+    let p₄ = p₃ .before .before .before .before in
     let p₅ = p₄ .before .before .before .before in
-    let p₆ = p₅ .before .before .before in
-    let start = p₆ .before .before .before .before .before in
+    let start = p₅ .before .before .before .before .before in
     let a = start .args in
-    kept same-size (close-end (a .skip .now) (a .props .now) (a .b .now) (at (a .out .now) (a .st)) refl (start .pre .1 .0) (p₆ .identifier .ensures) (p₅ .before .before .behind .ensures) (p₅ .open-tag .ensures) (p₄ .attributes-strings .ensures) (p₃ .put-chars .ensures) (p₂ .is-void-element .ensures) (p₁ .before .before .if1 .left) (p₁ .children-strings .ensures) (c .before .before .put-close .ensures))
+    kept same-size (close-end (a .skip .now) (a .props .now) (a .b .now) (at (a .out .now) (a .st)) refl (start .pre .1 .0) (p₅ .identifier .ensures) (p₄ .before .before .before .behind .ensures) (p₄ .open-tag .ensures) (p₃ .attributes-strings .ensures) (p₂ .put-chars .ensures) refl (not-void-by-kind _ (p₄ .before .before .void-kind .ensures) (p₁ .before .before .if1 .left)) (p₁ .children-strings .ensures) (c .before .before .put-close .ensures))
 
 tag-strings-returns-2 : (t : ℕ) → tag-strings-lts.Need-returns-2 (tag-strings-calls t) (tag-strings-at t) tag-strings.Post
 tag-strings-returns-2 t c =
     let p₁ = c .before .before .before .before .before .before in
-    let p₂ = p₁ .before .before .before in
-    let p₃ = p₂ .before .before .before in
-    let p₄ = p₃ .before .before .before .before .before in
+    let p₂ = p₁ .before .before .before .before .before in
+    let p₃ = p₂ .before .before .before .before .before in
+    let p₄ = p₃ .before .before .before .before in
     let p₅ = p₄ .before .before .before .before in
-    let p₆ = p₅ .before .before .before in
-    let start = p₆ .before .before .before .before .before in
+    let start = p₅ .before .before .before .before .before in
     let a = start .args in
-    close-end (a .skip .now) (a .props .now) (a .b .now) (at (a .out .now) (a .st)) refl (start .pre .1 .0) (p₆ .identifier .ensures) (p₅ .before .before .behind .ensures) (p₅ .open-tag .ensures) (p₄ .attributes-strings .ensures) (p₃ .put-chars .ensures) (p₂ .is-void-element .ensures) (p₁ .before .before .if1 .left) (p₁ .children-strings .ensures) (c .before .before .put-close .ensures)
+    close-end (a .skip .now) (a .props .now) (a .b .now) (at (a .out .now) (a .st)) refl (start .pre .1 .0) (p₅ .identifier .ensures) (p₄ .before .before .before .behind .ensures) (p₄ .open-tag .ensures) (p₃ .attributes-strings .ensures) (p₂ .put-chars .ensures) refl (not-void-by-kind _ (p₄ .before .before .void-kind .ensures) (p₁ .before .before .if1 .left)) (p₁ .children-strings .ensures) (c .before .before .put-close .ensures)
 
 pub +children-strings+element-strings+tag-strings-spec : {M : Type 1} → statement M
 +children-strings+element-strings+tag-strings-spec =
@@ -412,11 +411,11 @@ pub +children-strings+element-strings+tag-strings-spec : {M : Type 1} → statem
     tag-strings.Post
     (tag-strings-identifier-requires t)
     (tag-strings-behind-requires t)
+    (tag-strings-void-kind-requires t)
     (tag-strings-open-tag-requires t)
     (tag-strings-attributes-strings-requires t)
     (tag-strings-slice-aggregate-put-chars t)
     (tag-strings-put-chars-requires t)
-    (tag-strings-is-void-element-requires t)
     (tag-strings-same-length t)
     (tag-strings-returns t)
     (tag-strings-children-strings-requires t)

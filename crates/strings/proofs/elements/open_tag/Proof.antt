@@ -8,7 +8,7 @@ put-open-requires : tie.Need-put-open-requires
 put-open-requires c κs =
     let start = c .before .before .before .before in
     let a = start .args in
-    opening-low (a .n .now) (a .rest .now) (at (a .out .now) (a .st)) (start .pre)
+    opening-low (a .n .now) (a .rest .now) (at (a .out .now) (a .st)) (start .pre .1)
 
 tag-due-requires : tie.Need-tag-due-requires
 tag-due-requires c κs = search needs
@@ -17,7 +17,10 @@ same-length : tie.Need-same-length
 same-length c = search needs
 
 returns : tie.Need-returns
-returns c = opening-is _ _ _ (c .before .before .before .put-open .ensures) (c .tag-due .ensures)
+returns c =
+    let p = c .before .before .before in
+    let start = p .before .before .before .before .before in
+    opening-is _ _ _ (p .put-open .ensures) (c .tag-due .ensures (start .args .n .now) (start .pre .0))
 
 pub open-tag-spec : {M : Type 1} → statement M
 open-tag-spec = tie.close (tie.spec put-open-requires tag-due-requires same-length returns)
