@@ -31,6 +31,12 @@ at-mode st m i = record { mode = m; place = i; at = st .at; height = st .height;
 abbrev pub at-inner : Reading → ℕ → ℕ → Reading
 at-inner st k i = record { mode = 2; place = i; at = st .at; height = st .height; head = st .head; name = st .name; depth = st .depth; kind = k; fifty = st .fifty; names = st .names; numbers = st .numbers; shallow = st .shallow }
 
+abbrev pub with-numbers : Reading → Bool → Reading
+with-numbers st b = record { mode = st .mode; place = st .place; at = st .at; height = st .height; head = st .head; name = st .name; depth = st .depth; kind = st .kind; fifty = st .fifty; names = st .names; numbers = b; shallow = st .shallow }
+
+abbrev pub with-shallow : Reading → Bool → Reading
+with-shallow st b = record { mode = st .mode; place = st .place; at = st .at; height = st .height; head = st .head; name = st .name; depth = st .depth; kind = st .kind; fifty = st .fifty; names = st .names; numbers = st .numbers; shallow = b }
+
 -- something more was written, up to a; whether its number is in range, and whether it is not too deep
 abbrev pub at-more : Reading → ℕ → Bool → Bool → Reading
 at-more st a y z = record { mode = st .mode; place = st .place; at = a; height = st .height; head = st .head; name = st .name; depth = st .depth; kind = st .kind; fifty = st .fifty; names = st .names; numbers = st .numbers && y; shallow = st .shallow && z }

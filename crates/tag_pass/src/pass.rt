@@ -1,6 +1,6 @@
 // The loop over the text, and what it does with the stack.
 ghost use mathlib.Core.Path.{_≡_};
-ghost use Prim.Native.Nat.{_+_, _≤_, _<_};
+ghost use Prim.Native.Nat.{_+_, _*_, _≤_, _<_};
 ghost use lib.ListN.{length};
 ghost use Rattle.tag_pass.specs.States.{Bounded, Lent, Passed};
 ghost use Rattle.tag_pass.specs.Turns.{fresh-reading, InnerTurn, EndedTurn, BehindTurn, StepTurn, PassTurn, OuterTurn, NamePlace};
@@ -27,6 +27,10 @@ use read_tag::signs::is_letter;
 use read_tag::signs::skip_spaces;
 
 // Four words of the stack for two bytes of text.
+const TINY: usize = 64;
+
+const TINY_WORDS: usize = 128;
+
 const SHORT: usize = 512;
 
 const SHORT_WORDS: usize = 1024;
@@ -185,13 +189,29 @@ fn open_outer(text: &[u8], out: &mut [u8]) -> Reading
     refuse(st)
 }
 
+// With a stack that is long enough.
+fn pass_with(text: &[u8], out: &mut [u8], frames: &mut [u32]) -> Reading
+    requires { ⌜ (length (now text) ≤ 32768) × (2 * length (now text) ≤ length (now frames)) ⌝ }
+    ensures { λ r. ⌜ Passed (now (text .entry)) (now (out .entry)) r (now (out .exit)) ⌝ }
+{
+    let st = open_outer(text, out);
+    pass(text, out, frames, st)
+}
+
+fn tiny_pass(text: &[u8], out: &mut [u8]) -> Reading
+    requires { ⌜ length (now text) ≤ 64 ⌝ }
+    ensures { λ r. ⌜ Passed (now (text .entry)) (now (out .entry)) r (now (out .exit)) ⌝ }
+{
+    let mut frames = [0u32; TINY_WORDS];
+    pass_with(text, out, &mut frames)
+}
+
 fn short_pass(text: &[u8], out: &mut [u8]) -> Reading
     requires { ⌜ length (now text) ≤ 512 ⌝ }
     ensures { λ r. ⌜ Passed (now (text .entry)) (now (out .entry)) r (now (out .exit)) ⌝ }
 {
     let mut frames = [0u32; SHORT_WORDS];
-    let st = open_outer(text, out);
-    pass(text, out, &mut frames, st)
+    pass_with(text, out, &mut frames)
 }
 
 fn middle_pass(text: &[u8], out: &mut [u8]) -> Reading
@@ -199,8 +219,7 @@ fn middle_pass(text: &[u8], out: &mut [u8]) -> Reading
     ensures { λ r. ⌜ Passed (now (text .entry)) (now (out .entry)) r (now (out .exit)) ⌝ }
 {
     let mut frames = [0u32; MIDDLE_WORDS];
-    let st = open_outer(text, out);
-    pass(text, out, &mut frames, st)
+    pass_with(text, out, &mut frames)
 }
 
 fn long_pass(text: &[u8], out: &mut [u8]) -> Reading
@@ -208,8 +227,7 @@ fn long_pass(text: &[u8], out: &mut [u8]) -> Reading
     ensures { λ r. ⌜ Passed (now (text .entry)) (now (out .entry)) r (now (out .exit)) ⌝ }
 {
     let mut frames = [0u32; LONG_WORDS];
-    let st = open_outer(text, out);
-    pass(text, out, &mut frames, st)
+    pass_with(text, out, &mut frames)
 }
 
 fn full_pass(text: &[u8], out: &mut [u8]) -> Reading
@@ -217,15 +235,17 @@ fn full_pass(text: &[u8], out: &mut [u8]) -> Reading
     ensures { λ r. ⌜ Passed (now (text .entry)) (now (out .entry)) r (now (out .exit)) ⌝ }
 {
     let mut frames = [0u32; WORDS];
-    let st = open_outer(text, out);
-    pass(text, out, &mut frames, st)
+    pass_with(text, out, &mut frames)
 }
 
-// A stack is cleared before it is used: a text pays for at most four times what it can need.
+// A stack is cleared before it is used: a text of over 64 bytes pays for at most eight times what it can need.
 pub fn read(text: &[u8], out: &mut [u8]) -> Reading
     requires { ⌜ length (now text) ≤ 32768 ⌝ }
     ensures { λ r. ⌜ Passed (now (text .entry)) (now (out .entry)) r (now (out .exit)) ⌝ }
 {
+    if text.len() <= TINY {
+        return tiny_pass(text, out);
+    }
     if text.len() <= SHORT {
         return short_pass(text, out);
     }
