@@ -1,5 +1,6 @@
 -- What a caller of the reader knows from its answer and its buffer alone (document 02, A3). Main statements: `number-exactly`,
--- `accepted-exactly`, `one-reading`, `fourteen-exactly`, `fifteen-exactly`, `accepted-bytes`, `refused-bytes`, `accepted-stands`. Assumes nothing.
+-- `accepted-exactly`, `one-reading`, `fourteen-exactly`, `fifteen-exactly`, `accepted-bytes`, `refused-bytes`, `page-within`, `accepted-stands`.
+-- Assumes nothing.
 use Prim.Native.Nat.{ℕ, _+_, _≤_}
 use native.Mathlib.Nat.{zero-add}
 use native.Mathlib.Omega.{arith}
@@ -20,7 +21,9 @@ use Rattle.page.specs.Page as P
 use Rattle.page.specs.Tree.{page-in}
 use Rattle.page.specs.Check.{check-page}
 use Rattle.page.specs.Encode.{encode, tag-row, pieces-row, module-items-row, page-row}
+use Rattle.page.specs.Limits.{TagOk, ModuleItemsOk, WithinLimits}
 use Rattle.page.specs.declared.Verdict.the-variants.{Fine}
+use Rattle.page.proofs.Exact.{page-read}
 use Rattle.grammar.specs.Signs.{choose}
 use Rattle.grammar.specs.Syntax.{Tag, matched}
 use Rattle.grammar.specs.Grammar.{ReadsAs, Reads}
@@ -28,7 +31,7 @@ use Rattle.grammar.proofs.Exact.{unique}
 use Rattle.tag_tree.specs.PageTag.{page-tag}
 use Rattle.tag_tree.specs.TagAnswer as TA
 use Rattle.tag_tree.specs.TagAnswer.{TagRefusal, tag-refusal-number, TagOutcome, tag-refused, tag-accepted, numbers-in-range, shallow, tag-field, tag-encode, IsAnswered, is-long, is-no-utf8, has-no-reading, has-other-names, has-number-over, is-deep, has-long-body, has-no-room, is-read, tag-outcome, tag-number, tag-left}
-use Rattle.tag_tree.proofs.TagExact.{answered-exactly, tag-page, stands-in-page}
+use Rattle.tag_tree.proofs.TagExact.{answered-exactly, accepted-ok, tag-page}
 use Rattle.tag_pass.specs.Answers.{TagAnswers}
 use Rattle.tag_pass.specs.declared.answer.TagAnswer.{TagAnswer}
 
@@ -240,11 +243,19 @@ module _ (text out : Bytes) (a : TagAnswer) (out′ : Bytes) (x : TagAnswers tex
       let k = refused-as (tag-outcome text (length out)) (λ e. z (x .number-is ∙ e)) in
       (x .bytes-is ∙ ap TA.tag-bytes (k .1), x .out-is ∙ ap (λ (y : TagOutcome). tag-left y out) (k .1))
 
-  -- the page of one statement that is the field as it stands in the buffer, where it has at most 32,768 bytes: none of 3 to 8, and it is read back
-  -- as that tree
+  -- the page of one statement that is the field as it stands in the buffer is that of the tree
+  pub page-written : (t : Tag) → Within text (length out) t → encode (tag-page (page-tag t)) ≡ page-of-field (take (a .«tag_bytes») out′)
+  page-written t w = page-is (page-tag t) ∙ ap page-of-field (sym (accepted-bytes t w .1))
+
+  -- it is within the limits of pages, where it has at most 32,768 bytes
+  pub page-within : (t : Tag) → Within text (length out) t → length (page-of-field (take (a .«tag_bytes») out′)) ≤ 32768 → WithinLimits (tag-page (page-tag t))
+  unfolding WithinLimits ModuleItemsOk TagOk
+  page-within t w l =
+      let s : length (encode (tag-page (page-tag t))) ≤ 32768 = omega (arith, ap length (page-written t w)) in
+      (((accepted-ok text (length out) (page-tag t) (within-accepted text (length out) t w), tt), tt), le→leb (length (encode (tag-page (page-tag t)))) 32768 s)
+
+  -- so it has none of 3 to 8, and is read back as that tree
   pub accepted-stands : (t : Tag) → Within text (length out) t → length (page-of-field (take (a .«tag_bytes») out′)) ≤ 32768 →
       (check-page (read (page-of-field (take (a .«tag_bytes») out′))) ≡ Fine) × (page-in (read (page-of-field (take (a .«tag_bytes») out′))) ≡ tag-page (page-tag t)) × AllBytes (page-of-field (take (a .«tag_bytes») out′))
   accepted-stands t w l =
-      let e : encode (tag-page (page-tag t)) ≡ page-of-field (take (a .«tag_bytes») out′) = page-is (page-tag t) ∙ ap page-of-field (sym (accepted-bytes t w .1)) in
-      let s : T (leb (length (encode (tag-page (page-tag t)))) 32768) = le→leb (length (encode (tag-page (page-tag t)))) 32768 (omega (arith, ap length e)) in
-      subst (λ (p : Bytes). (check-page (read p) ≡ Fine) × (page-in (read p) ≡ tag-page (page-tag t)) × AllBytes p) e (stands-in-page text (length out) (page-tag t) (within-accepted text (length out) t w) s)
+      subst (λ (p : Bytes). (check-page (read p) ≡ Fine) × (page-in (read p) ≡ tag-page (page-tag t)) × AllBytes p) (page-written t w) (page-read (tag-page (page-tag t)) (page-within t w l))
