@@ -18,7 +18,7 @@ use Rattle.tag_tree.specs.PageTag.{page-tag}
 use Rattle.tag_tree.proofs.TagExact.{tag-page}
 use Rattle.tag_pass.specs.Answers.{TagAnswers}
 use Rattle.tag_pass.specs.declared.answer.TagAnswer.{TagAnswer}
-use Rattle.tag_pass.proofs.Caller.{page-of-field, accepted-exactly, page-written, page-within}
+use Rattle.tag_pass.proofs.Caller.{page-of-field, answers-0-exactly, page-written, page-within}
 use Rattle.transform.specs.declared.Answer.{Answer}
 use Rattle.transform.specs.Run.{Answers}
 
@@ -35,7 +35,7 @@ module _ (text out : Bytes) (a : TagAnswer) (out′ : Bytes) (x : TagAnswers tex
   -- none of 1 to 9
   pub transform-takes : a .number ≡ 0 → length (page-of-field (take (a .«tag_bytes») out′)) ≤ 32768 → length options ≤ 4096 → check-options (read options) ≡ Fine → 65536 ≤ length scratch → (b .number ≡ 0) ⊎ (10 ≤ b .number)
   transform-takes z l short fine enough =
-      let w = accepted-exactly text out a out′ x .0 z in
+      let w = answers-0-exactly text out a out′ x .0 z in
       let e = page-written text out a out′ x (w .0) (w .1) in
       let h = page-within text out a out′ x (w .0) (w .1) l in
       let o : Outcome = outcome (page-of-field (take (a .«tag_bytes») out′)) options (length scratch) (length templates-out) (length page-out) in

@@ -1,5 +1,5 @@
--- What a caller of the reader knows from its answer and its buffer alone (document 02, A3). Main statements: `number-exactly`,
--- `accepted-exactly`, `one-reading`, `fourteen-exactly`, `fifteen-exactly`, `accepted-bytes`, `refused-bytes`, `page-within`, `accepted-stands`.
+-- What a caller of the reader knows from its answer and its buffer alone (document 02, A3). Main statements: `answers-exactly`,
+-- `answers-0-exactly`, `one-tree`, `answers-14-exactly`, `answers-15-exactly`, `answers-bytes`, `answers-zeros`, `page-within`, `answer-stands`.
 -- Assumes nothing.
 use Prim.Native.Nat.{ℕ, _+_, _≤_}
 use native.Mathlib.Nat.{zero-add}
@@ -179,27 +179,27 @@ put-rest o w h =
 
 module _ (text out : Bytes) (a : TagAnswer) (out′ : Bytes) (x : TagAnswers text out a out′) where
   -- each number other than 0 exactly where its refusal is due, and so never two
-  pub number-exactly : (q : TagRefusal) → (a .number ≡ tag-refusal-number q) ↔ IsAnswered text (length out) (tag-refused q)
+  pub answers-exactly : (q : TagRefusal) → (a .number ≡ tag-refusal-number q) ↔ IsAnswered text (length out) (tag-refused q)
   unfolding tag-number
-  number-exactly q = (
+  answers-exactly q = (
     λ e. answered-exactly text (length out) (tag-refused q) .0 (refused-by (tag-outcome text (length out)) q (sym (x .number-is) ∙ e)),
     λ i. x .number-is ∙ ap tag-number (answered-exactly text (length out) (tag-refused q) .1 i),
   )
 
   -- 14: no reading, even with closing names not compared
-  pub fourteen-exactly : (a .number ≡ 14) ↔ Unread text
+  pub answers-14-exactly : (a .number ≡ 14) ↔ Unread text
   unfolding tag-refusal-number Means
-  fourteen-exactly = (
-    λ e. meant text (length out) (tag-refused TA.no-reading) (number-exactly TA.no-reading .0 e),
-    λ u. number-exactly TA.no-reading .1 (has-no-reading (u .short) (u .letters) (u .none)),
+  answers-14-exactly = (
+    λ e. meant text (length out) (tag-refused TA.no-reading) (answers-exactly TA.no-reading .0 e),
+    λ u. answers-exactly TA.no-reading .1 (has-no-reading (u .short) (u .letters) (u .none)),
   )
 
   -- 15: a reading, but only so
-  pub fifteen-exactly : (a .number ≡ 15) ↔ Misnamed text
+  pub answers-15-exactly : (a .number ≡ 15) ↔ Misnamed text
   unfolding tag-refusal-number Means
-  fifteen-exactly = (
-    λ e. meant text (length out) (tag-refused TA.names-differ) (number-exactly TA.names-differ .0 e),
-    λ u. number-exactly TA.names-differ .1 (has-other-names (u .short) (u .letters) (u .reads-as) (not-matched text (u .tag-read) (u .reads-as) (u .none))),
+  answers-15-exactly = (
+    λ e. meant text (length out) (tag-refused TA.names-differ) (answers-exactly TA.names-differ .0 e),
+    λ u. answers-exactly TA.names-differ .1 (has-other-names (u .short) (u .letters) (u .reads-as) (not-matched text (u .tag-read) (u .reads-as) (u .none))),
   )
 
   accepted-as : a .number ≡ 0 → (t : P.Tag) × (tag-outcome text (length out) ≡ tag-accepted t)
@@ -213,19 +213,19 @@ module _ (text out : Bytes) (a : TagAnswer) (out′ : Bytes) (x : TagAnswers tex
       (w .tag-read, w .within)
 
   -- 0: exactly the texts of the language, within the limits
-  pub accepted-exactly : (a .number ≡ 0) ↔ ((t : Tag) × Within text (length out) t)
+  pub answers-0-exactly : (a .number ≡ 0) ↔ ((t : Tag) × Within text (length out) t)
   unfolding tag-number
-  accepted-exactly = (within-of, λ w. x .number-is ∙ ap tag-number (within-accepted text (length out) (w .0) (w .1)))
+  answers-0-exactly = (within-of, λ w. x .number-is ∙ ap tag-number (within-accepted text (length out) (w .0) (w .1)))
 
   -- in one way only
-  pub one-reading : (t u : Tag) → ReadsAs text t → ReadsAs text u → t ≡ u
-  one-reading t u r s = unique text t u r s
+  pub one-tree : (t u : Tag) → Within text (length out) t → Within text (length out) u → t ≡ u
+  one-tree t u v w = unique text t u (v .reads .0) (w .reads .0)
 
   -- what is written, in front of a buffer whose other bytes stay, is the encoding of that tree
-  pub accepted-bytes : (t : Tag) → Within text (length out) t →
+  pub answers-bytes : (t : Tag) → Within text (length out) t →
       (a .«tag_bytes» ≡ length (tag-encode (page-tag t))) × (take (a .«tag_bytes») out′ ≡ tag-encode (page-tag t)) × (drop (a .«tag_bytes») out′ ≡ drop (a .«tag_bytes») out)
   unfolding TA.tag-bytes tag-left
-  accepted-bytes t w =
+  answers-bytes t w =
       let e = within-accepted text (length out) t w in
       let b : Bytes = tag-encode (page-tag t) in
       let n : a .«tag_bytes» ≡ length b = x .bytes-is ∙ ap TA.tag-bytes e in
@@ -237,15 +237,15 @@ module _ (text out : Bytes) (a : TagAnswer) (out′ : Bytes) (x : TagAnswers tex
       )
 
   -- any other number: zeros
-  pub refused-bytes : (a .number ≡ 0 → ⊥) → (a .«tag_bytes» ≡ 0) × (out′ ≡ replicate (length out) 0)
+  pub answers-zeros : (a .number ≡ 0 → ⊥) → (a .«tag_bytes» ≡ 0) × (out′ ≡ replicate (length out) 0)
   unfolding TA.tag-bytes tag-left
-  refused-bytes z =
+  answers-zeros z =
       let k = refused-as (tag-outcome text (length out)) (λ e. z (x .number-is ∙ e)) in
       (x .bytes-is ∙ ap TA.tag-bytes (k .1), x .out-is ∙ ap (λ (y : TagOutcome). tag-left y out) (k .1))
 
   -- the page of one statement that is the field as it stands in the buffer is that of the tree
   pub page-written : (t : Tag) → Within text (length out) t → encode (tag-page (page-tag t)) ≡ page-of-field (take (a .«tag_bytes») out′)
-  page-written t w = page-is (page-tag t) ∙ ap page-of-field (sym (accepted-bytes t w .1))
+  page-written t w = page-is (page-tag t) ∙ ap page-of-field (sym (answers-bytes t w .1))
 
   -- it is within the limits of pages, where it has at most 32,768 bytes
   pub page-within : (t : Tag) → Within text (length out) t → length (page-of-field (take (a .«tag_bytes») out′)) ≤ 32768 → WithinLimits (tag-page (page-tag t))
@@ -255,7 +255,7 @@ module _ (text out : Bytes) (a : TagAnswer) (out′ : Bytes) (x : TagAnswers tex
       (((accepted-ok text (length out) (page-tag t) (within-accepted text (length out) t w), tt), tt), le→leb (length (encode (tag-page (page-tag t)))) 32768 s)
 
   -- so it has none of 3 to 8, and is read back as that tree
-  pub accepted-stands : (t : Tag) → Within text (length out) t → length (page-of-field (take (a .«tag_bytes») out′)) ≤ 32768 →
+  pub answer-stands : (t : Tag) → Within text (length out) t → length (page-of-field (take (a .«tag_bytes») out′)) ≤ 32768 →
       (check-page (read (page-of-field (take (a .«tag_bytes») out′))) ≡ Fine) × (page-in (read (page-of-field (take (a .«tag_bytes») out′))) ≡ tag-page (page-tag t)) × AllBytes (page-of-field (take (a .«tag_bytes») out′))
-  accepted-stands t w l =
+  answer-stands t w l =
       subst (λ (p : Bytes). (check-page (read p) ≡ Fine) × (page-in (read p) ≡ tag-page (page-tag t)) × AllBytes p) (page-written t w) (page-read (tag-page (page-tag t)) (page-within t w l))

@@ -3,7 +3,7 @@ ghost use mathlib.Core.Path.{_≡_};
 ghost use Prim.Native.Nat.{_+_, _*_, _≤_, _<_};
 ghost use lib.ListN.{length};
 ghost use Rattle.tag_pass.specs.States.{Bounded, Lent, Passed};
-ghost use Rattle.tag_pass.specs.Turns.{fresh-reading, InnerTurn, EndedTurn, BehindTurn, StepTurn, PassTurn, OuterTurn, NamePlace};
+ghost use Rattle.tag_pass.specs.Turns.{fresh-reading, InnerTurn, EndedTurn, BehindTurn, FrontTurn, StepTurn, PassTurn, OuterTurn, NamePlace};
 use crate::braces::end_attribute;
 use crate::braces::end_braces;
 use crate::children::step_children;
@@ -12,6 +12,7 @@ use crate::frames::push;
 use crate::state::CHILDREN;
 use crate::state::DONE;
 use crate::state::ENDED;
+use crate::state::INNER;
 use crate::state::Reading;
 use crate::state::TAG;
 use crate::state::VALUE;
@@ -109,9 +110,10 @@ fn ended(text: &[u8], out: &mut [u8], frames: &[u32], st: Reading) -> Reading
     behind(text, out, w, p)
 }
 
-fn step(text: &[u8], out: &mut [u8], frames: &mut [u32], st: Reading) -> Reading
-    requires { ⌜ Lent (now text) (now frames) st (now out) × (st .mode < 3) ⌝ }
-    ensures { λ r. ⌜ StepTurn (now (text .entry)) (now (frames .entry)) st (now (out .entry)) r (now (frames .exit)) (now (out .exit)) ⌝ }
+// A turn that leaves the stack as it is. Behind the `<` of an inner tag there is none.
+fn step(text: &[u8], out: &mut [u8], st: Reading) -> Reading
+    requires { ⌜ Bounded (length (now text)) st (st .place) × (st .mode < 3) ⌝ }
+    ensures { λ r. ⌜ FrontTurn (now (text .entry)) st (now (out .entry)) r (now (out .exit)) ⌝ }
 {
     if st.mode == TAG {
         return step_tag(text, out, st);
@@ -119,14 +121,26 @@ fn step(text: &[u8], out: &mut [u8], frames: &mut [u32], st: Reading) -> Reading
     if st.mode == CHILDREN {
         return step_children(text, out, st);
     }
-    open_inner(text, out, frames, st)
+    st
+}
+
+// Then the inner tag, where the pass stands before one: it is not worth a turn of its own.
+fn opened(text: &[u8], out: &mut [u8], frames: &mut [u32], st: Reading) -> Reading
+    requires { ⌜ Lent (now text) (now frames) st (now out) × (st .mode < 3) ⌝ }
+    ensures { λ r. ⌜ StepTurn (now (text .entry)) (now (frames .entry)) st (now (out .entry)) r (now (frames .exit)) (now (out .exit)) ⌝ }
+{
+    let w = step(text, out, st);
+    if w.mode == INNER {
+        return open_inner(text, out, frames, w);
+    }
+    w
 }
 
 fn turn(text: &[u8], out: &mut [u8], frames: &mut [u32], st: Reading) -> Reading
     requires { ⌜ Lent (now text) (now frames) st (now out) × (st .mode < 3) ⌝ }
     ensures { λ r. ⌜ StepTurn (now (text .entry)) (now (frames .entry)) st (now (out .entry)) r (now (frames .exit)) (now (out .exit)) × (r .mode ≡ 3 → ⊥) ⌝ }
 {
-    let w = step(text, out, frames, st);
+    let w = opened(text, out, frames, st);
     if w.mode == ENDED {
         return ended(text, out, frames, w);
     }
