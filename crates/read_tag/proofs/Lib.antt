@@ -1,5 +1,6 @@
 -- The laws of `read_tag`.
 pub mod RunLaws
+pub mod SmallLaws
 pub mod ProgressLaws
 pub mod FlagLaws
 pub mod SourceLaws
@@ -9,6 +10,7 @@ pub mod ShapeLaws
 pub mod NameLaws
 pub mod NameWalkLaws
 pub mod NameFieldLaws
+pub mod IdentLaws
 pub mod NameLimitLaws
 pub mod TextLaws
 pub mod KnownLaws

@@ -4,7 +4,7 @@
 use Prim.Native.Nat.{ℕ, _+_}
 use mathlib.Core.Path.{_≡_, refl, sym, _∙_, ap, subst}
 use mathlib.Core.Bool.{Bool, true, false, _&&_, _||_, not}
-use mathlib.Core.List.{List, [], _∷_, append-nil}
+use mathlib.Core.List.{List, [], _∷_, _++_, append-nil}
 use mathlib.Core.Logic.{_⊎_, inl, inr}
 use native.Mathlib.Omega.{arith}
 use borrow.Author.Tests.{eq-eqb, ne-eqb}
@@ -56,15 +56,24 @@ colon-two a e w v h f = on (or-cases (eqb e 58 && short w && short v) ((short w 
 
 -- ---- a name's bytes by its tag
 
-pub name-one : (n : Name) (t : ℕ) → T (tag-name-fits n) → t ≡ name-tag n → t ≡ 0x40 → parts-bytes n ≡ name-bytes n
-unfolding tag-name-fits attribute-name-fits member-fits name-tag choose
-name-one [] t f e z = absurd f
-name-one (part d w ∷ []) t f e z = unfold parts-bytes name-bytes idents page-name texts-row name-row in refl
-name-one (p ∷ part c v ∷ ps) t f e z = absurd (on (eqb c 58) (sym e ∙ z))
+-- a 40 is one part
+pub name-alone : (p : Part) (c : ℕ) (v : Bytes) (ps : Name) (t : ℕ) → t ≡ name-tag (p ∷ part c v ∷ ps) → t ≡ 0x40 → ⊥
+unfolding name-tag choose
+name-alone p c v ps t e z = on (eqb c 58) (sym e ∙ z)
   where
     on : (b : Bool) → _≡_ {A = ℕ} (choose b 0x42 0x41) 0x40 → ⊥
     on true r = omega arith
     on false r = omega arith
+
+pub one-part-bytes : (d : ℕ) (w : Bytes) → parts-bytes (part d w ∷ []) ≡ field-bytes 0x40 w
+unfolding parts-bytes idents texts-row bytes
+one-part-bytes d w = append-nil (field-bytes 0x40 (w ++ [])) ∙ ap (field-bytes 0x40) (append-nil w)
+
+pub name-one : (n : Name) (t : ℕ) → T (tag-name-fits n) → t ≡ name-tag n → t ≡ 0x40 → parts-bytes n ≡ name-bytes n
+unfolding tag-name-fits attribute-name-fits member-fits name-tag choose
+name-one [] t f e z = absurd f
+name-one (part d w ∷ []) t f e z = unfold parts-bytes name-bytes idents page-name texts-row name-row in refl
+name-one (p ∷ part c v ∷ ps) t f e z = absurd (name-alone p c v ps t e z)
 
 field-whole : (t : ℕ) (ws : List Bytes) → field-bytes t (bytes (texts-row 0x40 ws)) ≡ bytes (field t [] (texts-row 0x40 ws) end)
 unfolding bytes

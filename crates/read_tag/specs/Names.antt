@@ -67,9 +67,9 @@ parts-bytes n = bytes (texts-row 0x40 (idents n))
 unfoldable pub PartsPut : Bytes → ℕ → Bytes → ℕ → Bytes → ℕ → Type 0
 PartsPut s i o at o′ r = (n : Name) (rest : Bytes) → IsName (drop i s) n rest → Wrote o at (parts-bytes n) o′ r
 
--- its field was written, where it is one of 01's and has that tag
-unfoldable pub NamePut : Bytes → ℕ → ℕ → Bytes → ℕ → Bytes → ℕ → Type 0
-NamePut s i tag o at o′ r = (n : Name) (rest : Bytes) → IsName (drop i s) n rest → T (tag-name-fits n) → tag ≡ name-tag n → Wrote o at (name-bytes n) o′ r
+-- its field was written, where it ends at e, is one of 01's and has that tag
+unfoldable pub NamePut : Bytes → ℕ → ℕ → ℕ → Bytes → ℕ → Bytes → ℕ → Type 0
+NamePut s i tag e o at o′ r = (n : Name) → IsName (drop i s) n (drop e s) → T (tag-name-fits n) → tag ≡ name-tag n → Wrote o at (name-bytes n) o′ r
 
 -- whatever names stand at i and j, they are the same or not
 unfoldable pub NamesCompared : Bytes → ℕ → ℕ → Bool → Type 0

@@ -154,10 +154,16 @@ fn is_string(s: &[u8]) -> bool
     false
 }
 
-// Backquote, backslash, slash, `<`.
+// Backquote, backslash, slash, `<`. LLVM makes one test of the first two.
 fn is_not_read(c: u8) -> bool
     ensures { λ r. ⌜ r ≡ not-read c ⌝ }
 {
+    if b'a' <= c {
+        return false;
+    }
+    if c < b'/' {
+        return false;
+    }
     (c == b'`') | (c == b'\\') | (c == b'/') | (c == b'<')
 }
 

@@ -9,6 +9,7 @@ ghost use Rattle.grammar.specs.Signs.{letter, separator};
 ghost use Rattle.grammar.specs.Syntax.{no-hyphen};
 ghost use Rattle.read_tag.specs.Shapes.{shape-tag};
 ghost use Rattle.read_tag.specs.Names.{PartAt, Scanned, NameAt, PartsPut, NamePut, NamesCompared};
+use crate::known::trim_end;
 use crate::signs::ident_end;
 use crate::signs::is_letter;
 use crate::signs::skip_spaces;
@@ -192,13 +193,15 @@ fn put_parts(text: &[u8], i: usize, out: &mut [u8], at: usize) -> usize
     }
 }
 
-// The field of the name at i, white space apart. What holds parts gets its length when they are written.
-pub fn put_name(text: &[u8], i: usize, tag: u8, out: &mut [u8], at: usize) -> usize
-    requires { ⌜ NameAt (now text) i × (at + 8 * length (now text) < 2 ^ 63) ⌝ }
-    ensures { λ r. ⌜ NamePut (now (text .entry)) i tag (now (out .entry)) at (now (out .exit)) r ⌝ }
+// The field of the name from i to end, white space apart. One identifier is not read again: its end is found from behind. What holds parts gets
+// its length when they are written.
+pub fn put_name(text: &[u8], i: usize, tag: u8, end: usize, out: &mut [u8], at: usize) -> usize
+    requires { ⌜ NameAt (now text) i × (i ≤ end) × (end ≤ length (now text)) × (at + 8 * length (now text) < 2 ^ 63) ⌝ }
+    ensures { λ r. ⌜ NamePut (now (text .entry)) i tag end (now (out .entry)) at (now (out .exit)) r ⌝ }
 {
     if tag == 0x40 {
-        return put_parts(text, i, out, at);
+        let e = trim_end(text, i, end);
+        return put_ident(out, at, &text[i..e]);
     }
     let o = put_parts(text, i, out, at + 3);
     put_head(out, at, tag, o - (at + 3));

@@ -7,7 +7,7 @@ ghost use lib.ListN.{length};
 ghost use Rattle.grammar.specs.Signs.{letter, name-byte, space, quote, quoted-byte, source-byte};
 ghost use Rattle.read_tag.specs.Runs.{Ran, plain-text, plain-string};
 
-// The small letters come first in both tests: most names have no others.
+// The small letters come first in the tests: most bytes are such.
 pub fn is_letter(c: u8) -> bool
     ensures { λ r. ⌜ r ≡ letter c ⌝ }
 {
@@ -46,6 +46,9 @@ pub fn is_space(c: u8) -> bool
 pub fn is_plain_text(c: u8) -> bool
     ensures { λ r. ⌜ r ≡ plain-text c ⌝ }
 {
+    if (b'a' <= c) & (c <= b'z') {
+        return true;
+    }
     !((c == b'<') | (c == b'>') | (c == b'{') | (c == b'}')) & !(c == b'&')
 }
 
@@ -73,6 +76,9 @@ pub fn is_quote(c: u8) -> bool
 pub fn is_source(c: u8) -> bool
     ensures { λ r. ⌜ r ≡ source-byte c ⌝ }
 {
+    if (b'a' <= c) & (c <= b'z') {
+        return true;
+    }
     !((c == b'<')
         | (c == b'{')
         | (c == b'}')

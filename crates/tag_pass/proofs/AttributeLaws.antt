@@ -194,7 +194,7 @@ deep-enough t d = on (eqb t 0x40)
     on true = omega arith
     on false = omega arith
 
-pub attribute-found : {s out out₁ out₂ out₃ : Bytes} {st w v r : Reading} {i tag e a b d y : ℕ} (p : ScannedName) → st .at ≤ 16 * i → Scanned s i p → p ≡ SN.Found tag e → (tag ≡ 0x41 → ⊥) → Wrote out (st .at) (head 0x50 0) out₁ a → NamePut s i tag out₁ a out₂ b → y ≡ st .depth + 2 → d ≡ name-depth tag y → w ≡ at-more st b true (leb d 48) → v ≡ at-fifty w (st .at) → NoValueTurn s v e out₂ r out₃ → AttributeTurn s st i out r out₃
+pub attribute-found : {s out out₁ out₂ out₃ : Bytes} {st w v r : Reading} {i tag e a b d y : ℕ} (p : ScannedName) → st .at ≤ 16 * i → Scanned s i p → p ≡ SN.Found tag e → (tag ≡ 0x41 → ⊥) → Wrote out (st .at) (head 0x50 0) out₁ a → NamePut s i tag e out₁ a out₂ b → y ≡ st .depth + 2 → d ≡ name-depth tag y → w ≡ at-more st b true (leb d 48) → v ≡ at-fifty w (st .at) → NoValueTurn s v e out₂ r out₃ → AttributeTurn s st i out r out₃
 unfolding NamePut named-if fits named choose attribute-begun value-world tag-world
 attribute-found {s} {out} {out₁} {out₂} {out₃} {st} {w} {v} {r} {i} {tag} {e} {a} {b} {d} {y} p grown t eq no-member wr put-name ys ds ws vs turn n ps K nm o h stands =
     let f : FoundName s i tag e = found p t eq in
@@ -202,7 +202,7 @@ attribute-found {s} {out} {out₁} {out₂} {out₃} {st} {w} {v} {r} {i} {tag} 
     let D : ℕ = depth-of K in
     let good : attribute-name-fits N ≡ true = member-tag N (f .fits-tag) ∙ ap not (ne-eqb (name-tag N) 0x41 (λ z. no-member (f .tag-is ∙ z))) in
     let tgood : T (attribute-name-fits N) = is-T (attribute-name-fits N) good in
-    let wn = put-name N (drop e s) (f .is) (f .fits-tag) (f .tag-is) in
+    let wn = put-name N (f .is) (f .fits-tag) (f .tag-is) in
     let same : attr-name-bytes N ≡ name-bytes N = attr-name-same N tgood in
     let both : Wrote out (st .at) (head 0x50 0 ++ attr-name-bytes N) out₂ b = subst (λ (z : Bytes). Wrote out (st .at) (head 0x50 0 ++ z) out₂ b) (sym same) (wrote-then wr wn) in
     let yd : y ≡ suc (suc D) = ys ∙ ap (λ (z : ℕ). z + 2) (stands .depth-is) ∙ omega arith in
@@ -230,11 +230,16 @@ name-found {tag} {e} s i p t eq =
     let f : FoundName s i tag e = found p t eq in
     record { name = f .name; rest = drop e s; is = f .is }
 
-pub attribute-bounded : {out out₁ : Bytes} {st w v : Reading} {i tag e a b c : ℕ} (s out₂ : Bytes) (z : Bool) (p : ScannedName) → Bounded (length s) st i → Scanned s i p → p ≡ SN.Found tag e → Wrote out (st .at) (head c 0) out₁ a → NamePut s i tag out₁ a out₂ b → w ≡ at-more st b true z → v ≡ at-fifty w (st .at) → Bounded (length s) v e
+pub name-span : {tag e : ℕ} (s : Bytes) (i : ℕ) (p : ScannedName) → Scanned s i p → p ≡ SN.Found tag e → (i ≤ e) × (e ≤ length s)
+name-span {tag} {e} s i p t eq =
+    let f : FoundName s i tag e = found p t eq in
+    (omega (arith, f .after), f .inside)
+
+pub attribute-bounded : {out out₁ : Bytes} {st w v : Reading} {i tag e a b c : ℕ} (s out₂ : Bytes) (z : Bool) (p : ScannedName) → Bounded (length s) st i → Scanned s i p → p ≡ SN.Found tag e → Wrote out (st .at) (head c 0) out₁ a → NamePut s i tag e out₁ a out₂ b → w ≡ at-more st b true z → v ≡ at-fifty w (st .at) → Bounded (length s) v e
 unfolding NamePut
 attribute-bounded {out} {out₁} {st} {w} {v} {i} {tag} {e} {a} {b} {c} s out₂ z p k t eq wr put-name ws vs =
     let f : FoundName s i tag e = found p t eq in
-    let wn = put-name (f .name) (drop e s) (f .is) (f .fits-tag) (f .tag-is) in
+    let wn = put-name (f .name) (f .is) (f .fits-tag) (f .tag-is) in
     let size = name-size (f .is) in
     let at : v .at ≡ b = ap (λ (x : Reading). x .at) vs ∙ ap (λ (x : Reading). x .at) ws in
     let depth : v .depth ≡ st .depth = ap (λ (x : Reading). x .depth) vs ∙ ap (λ (x : Reading). x .depth) ws in

@@ -1,7 +1,8 @@
--- The stack of the pass: frames stored, found and taken back. Main statements: `stored`, `stacked-push`, `stacked-depth`. Assumes nothing.
+-- The stack of the pass: frames stored, found and taken back. Main statements: `stored`, `stacked-push`, `stacked-depth`, and its flags:
+-- `numbers-kept`, `shallow-kept`. Assumes nothing.
 use Prim.Native.Nat.{ℕ, _+_, _-_, _%_, _≤_, _<_}
 use mathlib.Core.Path.{_≡_, refl, sym, _∙_, ap, subst}
-use mathlib.Core.Bool.{Bool, true, false}
+use mathlib.Core.Bool.{Bool, true, false, _&&_}
 use mathlib.Core.List.{List, [], _∷_}
 use native.Mathlib.Omega.{arith}
 use lib.Dec.{eqb}
@@ -12,7 +13,10 @@ use Rattle.grammar.specs.Reader.{child-braces, spread-child-braces, value-brace
 use Rattle.read_tag.specs.Flags.{depth-of, braces-depth}
 use Rattle.tag_pass.specs.Worlds.{world-of}
 use Rattle.tag_pass.specs.States.{TagName, kind-of, braces-kind, frame-name, PlainFrame, Fifty, Framed, Stacked, empty, frame}
-use Rattle.tag_pass.specs.Turns.{kind-added, Stored}
+use Rattle.tag_pass.specs.Turns.{kind-added, Stored, with-numbers, with-shallow}
+use Rattle.tag_pass.specs.declared.state.Reading.{Reading}
+use Rattle.read_tag.proofs.FlagLaws.{and-true}
+use Rattle.tag_pass.proofs.Standing.{and-none}
 
 pub kind-added-small : (k : ℕ) → kind-added k ≤ 3
 unfolding kind-added
@@ -112,3 +116,18 @@ stacked-none (frame u st) e = absurd (omega arith)
 
 pub low-is : (x : ℕ) → x < 4294967296 → x % 4294967296 ≡ x
 low-is x l = omega arith
+
+-- ---- flags
+
+module _ (st : Reading) (b : Bool) where
+  pub numbers-kept : b ≡ true → st ≡ with-numbers st (st .numbers && b)
+  numbers-kept e = ap (with-numbers st) (sym (and-true (st .numbers)) ∙ ap (λ (z : Bool). st .numbers && z) (sym e))
+
+  pub numbers-lost : b ≡ false → with-numbers st false ≡ with-numbers st (st .numbers && b)
+  numbers-lost e = ap (with-numbers st) (sym (and-none (st .numbers)) ∙ ap (λ (z : Bool). st .numbers && z) (sym e))
+
+  pub shallow-kept : b ≡ true → st ≡ with-shallow st (st .shallow && b)
+  shallow-kept e = ap (with-shallow st) (sym (and-true (st .shallow)) ∙ ap (λ (z : Bool). st .shallow && z) (sym e))
+
+  pub shallow-lost : b ≡ false → with-shallow st false ≡ with-shallow st (st .shallow && b)
+  shallow-lost e = ap (with-shallow st) (sym (and-none (st .shallow)) ∙ ap (λ (z : Bool). st .shallow && z) (sym e))

@@ -10,3 +10,4 @@ pub mod TagLaws
 pub mod FrameLaws
 pub mod PassLaws
 pub mod AnswerLaws
+pub mod Caller

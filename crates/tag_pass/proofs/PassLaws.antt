@@ -27,7 +27,7 @@ use Rattle.read_tag.specs.Runs.{Ran}
 use Rattle.read_tag.proofs.NameWalkLaws.{name-inside}
 use Rattle.tag_pass.specs.Worlds.{World, more, any-known, any-names, tag-world, children-world, value-world, before-world, braces-at, braces-world, frame-world, world-of, ended-world, nothing-made, Made}
 use Rattle.tag_pass.specs.States.{TagName, no-name, name-at, braces-kind, kind-of, frame-name, PlainFrame, BracesFifty, Fifty, Framed, Stacked, empty, frame, Bounded, Stands, OpensIn, Next, next-tag, next-children, next-inner, next-ended, next-refused, next-done, Going, Lent, Passed, passed-none, passed-tag, Settled}
-use Rattle.tag_pass.specs.Turns.{at-mode, pushed, popped, kind-added, Stored, AttributeEnded, FilledTurn, TagTurn, ChildrenTurn, ClosingTurn, NamedTurn, FragmentTurn, InnerTurn, EndedTurn, BehindTurn, StepTurn, OuterTurn, fresh-reading, NamePlace}
+use Rattle.tag_pass.specs.Turns.{at-mode, pushed, popped, kind-added, Stored, AttributeEnded, FilledTurn, TagTurn, ChildrenTurn, ClosingTurn, NamedTurn, FragmentTurn, InnerTurn, EndedTurn, BehindTurn, StepTurn, OuterTurn, fresh-reading, NamePlace, Front, Onward}
 use Rattle.tag_pass.specs.declared.state.Reading.{Reading}
 use Rattle.tag_pass.proofs.Machine.{spaces, not-space, steps, stuck, out-of}
 use Rattle.tag_pass.proofs.WorldLaws.{child-more}
@@ -391,6 +391,14 @@ step-inner {s} {out} {out′} {fs} {fs′} {st} {r} small m turn o i g = on (g .
     on (next-refused k e) = absurd (omega arith)
     on (next-done k e v) = absurd (omega arith)
 
+-- a turn that goes on
+pub front-on : {s o : Bytes} {fs : List ℕ} {st r : Reading} {out : Bytes} → Going s o fs (st .place) r out → Front s o fs st r out
+front-on {st = st} g = record { from = st .place; going = g; passed = λ z. omega arith; reached = λ m. omega (arith, somewhere (g .next) (omega arith) .after) }
+
+-- and none before an inner tag
+pub front-inner : {s o : Bytes} {fs : List ℕ} {i : ℕ} {st : Reading} {out : Bytes} → st .mode ≡ 2 → Going s o fs i st out → Front s o fs st st out
+front-inner {i = i} m g = record { from = i; going = g; passed = λ z. absurd (z m); reached = λ z. omega arith }
+
 -- what the stack is asked for
 pub inner-needs : {s o : Bytes} {fs : List ℕ} {i : ℕ} {st : Reading} {out : Bytes} → length s ≤ 32768 → 2 * length s ≤ length fs → Going s o fs i st out → st .mode ≡ 2 → Bounded (length s) st (st .place) × NamePlace s (st .name) × (st .height + 4 ≤ length fs) × (st .depth ≤ 65550) × (st .height ≤ 65536)
 inner-needs small words g m =
@@ -521,7 +529,7 @@ fresh-bounded {n} {i} {st} e l m =
 unfoldable pub still : ℕ → Reading → ℕ
 still n r = pick (ltb (r .mode) 4) (1 + (n - r .place)) 0
 
-pub turn-less : {s o : Bytes} {fs fs′ : List ℕ} {i : ℕ} {st r : Reading} {out out′ : Bytes} → st .mode < 3 → Going s o fs i st out → Going s o fs′ (st .place) r out′ → still (length s) r < still (length s) st
+pub turn-less : {s o : Bytes} {fs fs′ : List ℕ} {i : ℕ} {st r : Reading} {out out′ : Bytes} → st .mode < 3 → Going s o fs i st out → Onward s o fs′ (st .place) r out′ → still (length s) r < still (length s) st
 unfolding still
 turn-less {s} {o} {fs} {fs′} {i} {st} {r} {out} {out′} lt g v =
     let w = somewhere (g .next) (omega arith) in
@@ -529,8 +537,8 @@ turn-less {s} {o} {fs} {fs′} {i} {st} {r} {out} {out′} lt g v =
   where
     on : (b : Bool) → ltb (r .mode) 4 ≡ b → pick b (1 + (length s - r .place)) 0 < 1 + (length s - st .place)
     on true e =
-        let u = somewhere (v .next) (ltb-true (r .mode) 4 e) in
-        omega (arith, u .after, u .stands .inside)
+        let u = somewhere (v .going .next) (ltb-true (r .mode) 4 e) in
+        omega (arith, v .after, u .after, u .stands .inside)
     on false e = omega arith
 
 pub record Anywhere (s o : Bytes) (fs : List ℕ) (r : Reading) (out : Bytes) : Type 0 where
@@ -549,14 +557,18 @@ pub passing-first : {s o : Bytes} {fs : List ℕ} {st : Reading} → Lent s fs s
 passing-first p = record { lent = p .0; not-ended = p .1; out-size = refl; frames-size = refl; tracks = λ b i g. record { i = i; going = g } }
 
 pub passing-more : {s o₀ o o′ : Bytes} {fs₀ fs fs′ : List ℕ} {st₀ st r : Reading} → Passing s o₀ fs₀ st₀ o fs st → StepTurn s fs st o r fs′ o′ × (r .mode ≡ 3 → ⊥) → length o′ ≡ length o → Passing s o₀ fs₀ st₀ o′ fs′ r
-passing-more {st = st} p turn size =
+passing-more p turn size =
     let l = p .lent in
+    let next = turn .0 .1 (l .o) (l .i) (l .going) in
     record {
-      lent = record { o = l .o; i = st .place; small = l .small; words = omega (arith, l .words, turn .0 .0); going = turn .0 .1 (l .o) (l .i) (l .going) };
+      lent = record { o = l .o; i = next .from; small = l .small; words = omega (arith, l .words, turn .0 .0); going = next .going };
       not-ended = turn .1;
       out-size = size ∙ p .out-size;
       frames-size = turn .0 .0 ∙ p .frames-size;
-      tracks = λ b i g. record { i = st .place; going = turn .0 .1 b (p .tracks b i g .i) (p .tracks b i g .going) };
+      tracks =
+          λ b i g.
+          let next = turn .0 .1 b (p .tracks b i g .i) (p .tracks b i g .going) in
+          record { i = next .from; going = next .going };
     }
 
 pub passes : {s o : Bytes} {fs : List ℕ} {r : Reading} {out : Bytes} → Anywhere s o fs r out → 3 ≤ r .mode → (r .mode ≡ 3 → ⊥) → Passed s o r out

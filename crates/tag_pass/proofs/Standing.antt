@@ -23,7 +23,7 @@ use Rattle.tag_pass.proofs.WorldLaws.{made-more}
 
 -- ---- tests of depth: the deeper one decides
 
-and-none : (t : Bool) → t && false ≡ false
+pub and-none : (t : Bool) → t && false ≡ false
 and-none true = refl
 and-none false = refl
 

@@ -277,13 +277,13 @@ name-world W d (p ∷ n) m =
     world-is (ap (λ (z : Bytes). W .bytes ++ (head 0x30 0 ++ z)) (sym (append-nil (name-bytes (p ∷ n))))) refl refl
     (ap (λ (z : Bool). W .shallow && (leb d 48 && z)) (sym (and-true (shallow-name (suc d) (p ∷ n)))))
 
-pub named-found : {s out out₁ out₂ : Bytes} {st w v r : Reading} {i tag e a b d y : ℕ} (p : ScannedName) → st .at ≤ 16 * i → Scanned s i p → p ≡ SN.Found tag e → Wrote out (st .at) (head 0x30 0) out₁ a → NamePut s i tag out₁ a out₂ b → y ≡ st .depth + 1 → d ≡ name-depth tag y → w ≡ at-more st b true (leb d 48) → v ≡ at-begin w (st .at) i → r ≡ at-mode v 0 e → NamedTurn s st i out r out₂
+pub named-found : {s out out₁ out₂ : Bytes} {st w v r : Reading} {i tag e a b d y : ℕ} (p : ScannedName) → st .at ≤ 16 * i → Scanned s i p → p ≡ SN.Found tag e → Wrote out (st .at) (head 0x30 0) out₁ a → NamePut s i tag e out₁ a out₂ b → y ≡ st .depth + 1 → d ≡ name-depth tag y → w ≡ at-more st b true (leb d 48) → v ≡ at-begin w (st .at) i → r ≡ at-mode v 0 e → NamedTurn s st i out r out₂
 unfolding NamePut named-if fits named
 named-found {s} {out} {out₁} {out₂} {st} {w} {v} {r} {i} {tag} {e} {a} {b} {d} {y} p grown t eq wr put-name ys ds ws vs rs K o h l opens =
     let f : FoundName s i tag e = found p t eq in
     let N : Name = f .name in
     let D : ℕ = depth-of K in
-    let wn = put-name N (drop e s) (f .is) (f .fits-tag) (f .tag-is) in
+    let wn = put-name N (f .is) (f .fits-tag) (f .tag-is) in
     let both : Wrote out (st .at) (head 0x30 0 ++ name-bytes N) out₂ b = wrote-then wr wn in
     let yd : y ≡ suc D = ys ∙ ap (λ (z : ℕ). z + 1) (opens .depth-is) ∙ omega arith in
     let dd : d ≡ name-depth (name-tag N) (suc D) = ds ∙ ap₂ name-depth (f .tag-is) yd in

@@ -31,6 +31,12 @@ at-mode st m i = record { mode = m; place = i; at = st .at; height = st .height;
 abbrev pub at-inner : Reading → ℕ → ℕ → Reading
 at-inner st k i = record { mode = 2; place = i; at = st .at; height = st .height; head = st .head; name = st .name; depth = st .depth; kind = k; fifty = st .fifty; names = st .names; numbers = st .numbers; shallow = st .shallow }
 
+abbrev pub with-numbers : Reading → Bool → Reading
+with-numbers st b = record { mode = st .mode; place = st .place; at = st .at; height = st .height; head = st .head; name = st .name; depth = st .depth; kind = st .kind; fifty = st .fifty; names = st .names; numbers = b; shallow = st .shallow }
+
+abbrev pub with-shallow : Reading → Bool → Reading
+with-shallow st b = record { mode = st .mode; place = st .place; at = st .at; height = st .height; head = st .head; name = st .name; depth = st .depth; kind = st .kind; fifty = st .fifty; names = st .names; numbers = st .numbers; shallow = b }
+
 -- something more was written, up to a; whether its number is in range, and whether it is not too deep
 abbrev pub at-more : Reading → ℕ → Bool → Bool → Reading
 at-more st a y z = record { mode = st .mode; place = st .place; at = a; height = st .height; head = st .head; name = st .name; depth = st .depth; kind = st .kind; fifty = st .fifty; names = st .names; numbers = st .numbers && y; shallow = st .shallow && z }
@@ -186,9 +192,24 @@ EndedTurn s fs st out r out′ = (o : Bytes) (n : Name) (t : Tag) (K : Stack) (h
 abbrev pub BehindTurn : Bytes → Reading → ℕ → Bytes → Reading → Bytes → Type 0
 BehindTurn s st p out r out′ = (o : Bytes) (t : Tag) (g : Braces) (K : Stack) (h i : ℕ) → i < st .place → st .kind ≡ braces-kind g → p ≡ length (world-of (in-braces g ∷ K) .bytes) → PlainBraces g → BracesFifty (world-of K .bytes) g (st .fifty) → Stands s o (behind-tag t g K) (ended-world (world-of (in-braces g ∷ K)) (depth-of (in-braces g ∷ K)) t) (braces-name g) K h st (st .place) out → Next s o K h i r out′
 
--- any turn
+-- where the pass is behind a turn that leaves the stack as it is: further on, or before an inner tag
+pub record Front (s o : Bytes) (fs : List ℕ) (st r : Reading) (out : Bytes) : Type 0 where
+  pub from : ℕ
+  pub going : Going s o fs from r out
+  pub passed : (r .mode ≡ 2 → ⊥) → st .place ≤ from
+  pub reached : r .mode ≡ 2 → st .place ≤ r .place
+
+abbrev pub FrontTurn : Bytes → Reading → Bytes → Reading → Bytes → Type 0
+FrontTurn s st out r out′ = (fs : List ℕ) (o : Bytes) (i : ℕ) → Going s o fs i st out → Front s o fs st r out′
+
+-- any turn: the pass is further on than i
+pub record Onward (s o : Bytes) (fs : List ℕ) (i : ℕ) (r : Reading) (out : Bytes) : Type 0 where
+  pub from : ℕ
+  pub after : i ≤ from
+  pub going : Going s o fs from r out
+
 abbrev pub StepTurn : Bytes → List ℕ → Reading → Bytes → Reading → List ℕ → Bytes → Type 0
-StepTurn s fs st out r fs′ out′ = (length fs′ ≡ length fs) × ((o : Bytes) (i : ℕ) → Going s o fs i st out → Going s o fs′ (st .place) r out′)
+StepTurn s fs st out r fs′ out′ = (length fs′ ≡ length fs) × ((o : Bytes) (i : ℕ) → Going s o fs i st out → Onward s o fs′ (st .place) r out′)
 
 -- the pass from its first turn on
 abbrev pub PassTurn : Bytes → List ℕ → Reading → Bytes → Reading → Bytes → Type 0

@@ -102,7 +102,7 @@ pub fn attribute(text: &[u8], out: &mut [u8], st: Reading, i: usize) -> Reading
             }
             let f = st.at;
             let a = put_head(out, f, 0x50, 0);
-            let b = put_name(text, i, tag, out, a);
+            let b = put_name(text, i, tag, end, out, a);
             let d = name_depth(tag, st.depth + 2);
             let w = wrote(st, b, true, d <= MAX_DEPTH);
             behind_name(text, out, at_fifty(w, f), end)

@@ -1,9 +1,9 @@
 // The loop over the text, and what it does with the stack.
 ghost use mathlib.Core.Path.{_≡_};
-ghost use Prim.Native.Nat.{_+_, _≤_, _<_};
+ghost use Prim.Native.Nat.{_+_, _*_, _≤_, _<_};
 ghost use lib.ListN.{length};
 ghost use Rattle.tag_pass.specs.States.{Bounded, Lent, Passed};
-ghost use Rattle.tag_pass.specs.Turns.{fresh-reading, InnerTurn, EndedTurn, BehindTurn, StepTurn, PassTurn, OuterTurn, NamePlace};
+ghost use Rattle.tag_pass.specs.Turns.{fresh-reading, InnerTurn, EndedTurn, BehindTurn, FrontTurn, StepTurn, PassTurn, OuterTurn, NamePlace};
 use crate::braces::end_attribute;
 use crate::braces::end_braces;
 use crate::children::step_children;
@@ -12,6 +12,7 @@ use crate::frames::push;
 use crate::state::CHILDREN;
 use crate::state::DONE;
 use crate::state::ENDED;
+use crate::state::INNER;
 use crate::state::Reading;
 use crate::state::TAG;
 use crate::state::VALUE;
@@ -27,6 +28,10 @@ use read_tag::signs::is_letter;
 use read_tag::signs::skip_spaces;
 
 // Four words of the stack for two bytes of text.
+const TINY: usize = 64;
+
+const TINY_WORDS: usize = 128;
+
 const SHORT: usize = 512;
 
 const SHORT_WORDS: usize = 1024;
@@ -105,9 +110,10 @@ fn ended(text: &[u8], out: &mut [u8], frames: &[u32], st: Reading) -> Reading
     behind(text, out, w, p)
 }
 
-fn step(text: &[u8], out: &mut [u8], frames: &mut [u32], st: Reading) -> Reading
-    requires { ⌜ Lent (now text) (now frames) st (now out) × (st .mode < 3) ⌝ }
-    ensures { λ r. ⌜ StepTurn (now (text .entry)) (now (frames .entry)) st (now (out .entry)) r (now (frames .exit)) (now (out .exit)) ⌝ }
+// A turn that leaves the stack as it is. Behind the `<` of an inner tag there is none.
+fn step(text: &[u8], out: &mut [u8], st: Reading) -> Reading
+    requires { ⌜ Bounded (length (now text)) st (st .place) × (st .mode < 3) ⌝ }
+    ensures { λ r. ⌜ FrontTurn (now (text .entry)) st (now (out .entry)) r (now (out .exit)) ⌝ }
 {
     if st.mode == TAG {
         return step_tag(text, out, st);
@@ -115,14 +121,26 @@ fn step(text: &[u8], out: &mut [u8], frames: &mut [u32], st: Reading) -> Reading
     if st.mode == CHILDREN {
         return step_children(text, out, st);
     }
-    open_inner(text, out, frames, st)
+    st
+}
+
+// Then the inner tag, where the pass stands before one: it is not worth a turn of its own.
+fn opened(text: &[u8], out: &mut [u8], frames: &mut [u32], st: Reading) -> Reading
+    requires { ⌜ Lent (now text) (now frames) st (now out) × (st .mode < 3) ⌝ }
+    ensures { λ r. ⌜ StepTurn (now (text .entry)) (now (frames .entry)) st (now (out .entry)) r (now (frames .exit)) (now (out .exit)) ⌝ }
+{
+    let w = step(text, out, st);
+    if w.mode == INNER {
+        return open_inner(text, out, frames, w);
+    }
+    w
 }
 
 fn turn(text: &[u8], out: &mut [u8], frames: &mut [u32], st: Reading) -> Reading
     requires { ⌜ Lent (now text) (now frames) st (now out) × (st .mode < 3) ⌝ }
     ensures { λ r. ⌜ StepTurn (now (text .entry)) (now (frames .entry)) st (now (out .entry)) r (now (frames .exit)) (now (out .exit)) × (r .mode ≡ 3 → ⊥) ⌝ }
 {
-    let w = step(text, out, frames, st);
+    let w = opened(text, out, frames, st);
     if w.mode == ENDED {
         return ended(text, out, frames, w);
     }
@@ -185,13 +203,29 @@ fn open_outer(text: &[u8], out: &mut [u8]) -> Reading
     refuse(st)
 }
 
+// With a stack that is long enough.
+fn pass_with(text: &[u8], out: &mut [u8], frames: &mut [u32]) -> Reading
+    requires { ⌜ (length (now text) ≤ 32768) × (2 * length (now text) ≤ length (now frames)) ⌝ }
+    ensures { λ r. ⌜ Passed (now (text .entry)) (now (out .entry)) r (now (out .exit)) ⌝ }
+{
+    let st = open_outer(text, out);
+    pass(text, out, frames, st)
+}
+
+fn tiny_pass(text: &[u8], out: &mut [u8]) -> Reading
+    requires { ⌜ length (now text) ≤ 64 ⌝ }
+    ensures { λ r. ⌜ Passed (now (text .entry)) (now (out .entry)) r (now (out .exit)) ⌝ }
+{
+    let mut frames = [0u32; TINY_WORDS];
+    pass_with(text, out, &mut frames)
+}
+
 fn short_pass(text: &[u8], out: &mut [u8]) -> Reading
     requires { ⌜ length (now text) ≤ 512 ⌝ }
     ensures { λ r. ⌜ Passed (now (text .entry)) (now (out .entry)) r (now (out .exit)) ⌝ }
 {
     let mut frames = [0u32; SHORT_WORDS];
-    let st = open_outer(text, out);
-    pass(text, out, &mut frames, st)
+    pass_with(text, out, &mut frames)
 }
 
 fn middle_pass(text: &[u8], out: &mut [u8]) -> Reading
@@ -199,8 +233,7 @@ fn middle_pass(text: &[u8], out: &mut [u8]) -> Reading
     ensures { λ r. ⌜ Passed (now (text .entry)) (now (out .entry)) r (now (out .exit)) ⌝ }
 {
     let mut frames = [0u32; MIDDLE_WORDS];
-    let st = open_outer(text, out);
-    pass(text, out, &mut frames, st)
+    pass_with(text, out, &mut frames)
 }
 
 fn long_pass(text: &[u8], out: &mut [u8]) -> Reading
@@ -208,8 +241,7 @@ fn long_pass(text: &[u8], out: &mut [u8]) -> Reading
     ensures { λ r. ⌜ Passed (now (text .entry)) (now (out .entry)) r (now (out .exit)) ⌝ }
 {
     let mut frames = [0u32; LONG_WORDS];
-    let st = open_outer(text, out);
-    pass(text, out, &mut frames, st)
+    pass_with(text, out, &mut frames)
 }
 
 fn full_pass(text: &[u8], out: &mut [u8]) -> Reading
@@ -217,15 +249,17 @@ fn full_pass(text: &[u8], out: &mut [u8]) -> Reading
     ensures { λ r. ⌜ Passed (now (text .entry)) (now (out .entry)) r (now (out .exit)) ⌝ }
 {
     let mut frames = [0u32; WORDS];
-    let st = open_outer(text, out);
-    pass(text, out, &mut frames, st)
+    pass_with(text, out, &mut frames)
 }
 
-// A stack is cleared before it is used: a text pays for at most four times what it can need.
+// A stack is cleared before it is used: a text of over 64 bytes pays for at most eight times what it can need.
 pub fn read(text: &[u8], out: &mut [u8]) -> Reading
     requires { ⌜ length (now text) ≤ 32768 ⌝ }
     ensures { λ r. ⌜ Passed (now (text .entry)) (now (out .entry)) r (now (out .exit)) ⌝ }
 {
+    if text.len() <= TINY {
+        return tiny_pass(text, out);
+    }
     if text.len() <= SHORT {
         return short_pass(text, out);
     }

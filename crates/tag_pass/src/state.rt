@@ -1,7 +1,8 @@
 // Where the pass stands. Behind a mode stands a state of the grammar's reader (specs/States.antt).
 ghost use mathlib.Core.Path.{_≡_};
+ghost use mathlib.Core.Bool.{_&&_};
 ghost use Prim.Native.Nat.{_-_, _<_, _^_};
-ghost use Rattle.tag_pass.specs.Turns.{at-mode, at-inner, at-more, at-fifty, at-begin, Patched};
+ghost use Rattle.tag_pass.specs.Turns.{at-mode, at-inner, with-numbers, with-shallow, at-more, at-fifty, at-begin, Patched};
 use field::writer::put_head;
 
 pub struct Reading {
@@ -82,15 +83,37 @@ pub fn at_inner(st: Reading, kind: usize, i: usize) -> Reading
     w
 }
 
+// A number was read. A flag is set only where it changes: the three stand in one word, which is else taken apart and put together at each turn.
+fn counted(st: Reading, fits: bool) -> Reading
+    ensures { λ r. ⌜ r ≡ with-numbers st (st .numbers && fits) ⌝ }
+{
+    if fits {
+        return st;
+    }
+    let mut w = st;
+    w.numbers = false;
+    w
+}
+
+fn sunk(st: Reading, shallow: bool) -> Reading
+    ensures { λ r. ⌜ r ≡ with-shallow st (st .shallow && shallow) ⌝ }
+{
+    if shallow {
+        return st;
+    }
+    let mut w = st;
+    w.shallow = false;
+    w
+}
+
 // Something more was written.
 pub fn wrote(st: Reading, at: usize, fits: bool, shallow: bool) -> Reading
     ensures { λ r. ⌜ r ≡ at-more st at fits shallow ⌝ }
 {
     let mut w = st;
     w.at = at;
-    w.numbers = st.numbers & fits;
-    w.shallow = st.shallow & shallow;
-    w
+    let v = counted(w, fits);
+    sunk(v, shallow)
 }
 
 // An attribute's head stands at f.

@@ -38,7 +38,7 @@ pub fn open_named(text: &[u8], out: &mut [u8], st: Reading, i: usize) -> Reading
         ScannedName::Found { tag, end } => {
             let h = st.at;
             let a = put_head(out, h, 0x30, 0);
-            let b = put_name(text, i, tag, out, a);
+            let b = put_name(text, i, tag, end, out, a);
             let d = name_depth(tag, st.depth + 1);
             let w = wrote(st, b, true, d <= MAX_DEPTH);
             in_mode(at_begin(w, h, i), TAG, end)

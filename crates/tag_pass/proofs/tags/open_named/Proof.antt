@@ -3,7 +3,7 @@ use native.Mathlib.Omega.{arith}
 use mathlib.Core.Path.{refl, ap}
 use Rattle.tag_pass.specs.declared.state.Reading.{Reading}
 use Rattle.field.specs.Number.{big-endian}
-use Rattle.tag_pass.proofs.AttributeLaws.{name-found}
+use Rattle.tag_pass.proofs.AttributeLaws.{name-found, name-span}
 use Rattle.tag_pass.proofs.TagLaws.{named-none, named-found}
 use Rattle.tag_pass.proofs.Standing.{settled}
 use borrow.Author.Needs.{needs}
@@ -27,7 +27,9 @@ put-head-requires c κs = search needs
 
 put-name-requires : tie.Need-put-name-requires
 unfolding big-endian
-put-name-requires c κs = (name-found _ _ _ (c .before .before .before .before .before .before .before .before .scan-name .ensures) (c .before .before .before .before .before .before .tag .given .1), omega (arith, c .before .before .before .before .before .before .before .before .before .before .before .pre .0 .small, c .before .before .before .before .before .before .before .before .before .before .before .pre .0 .inside, c .before .before .before .before .before .before .before .before .before .before .before .pre .0 .grown, c .before .before .before .put-head .ensures .end-is))
+put-name-requires c κs =
+    let span = name-span _ _ _ (c .before .before .before .before .before .before .before .before .scan-name .ensures) (c .before .before .before .before .before .before .tag .given .1) in
+    (name-found _ _ _ (c .before .before .before .before .before .before .before .before .scan-name .ensures) (c .before .before .before .before .before .before .tag .given .1), span .0, span .1, omega (arith, c .before .before .before .before .before .before .before .before .before .before .before .pre .0 .small, c .before .before .before .before .before .before .before .before .before .before .before .pre .0 .inside, c .before .before .before .before .before .before .before .before .before .before .before .pre .0 .grown, c .before .before .before .put-head .ensures .end-is))
 
 add-name-depth : tie.Need-add-name-depth
 add-name-depth c = search needs
