@@ -1,6 +1,7 @@
 #!/bin/sh
 # Instructions a page byte inside the library, counted by valgrind's callgrind: sizes, depths and the worst cases.
 # callgrind.sh [WORD]: only the sets of pages whose name has WORD, and 'mean', to which all are compared.
+# callgrind.sh tags [WORD]: instructions a byte of tag text, in the reader of tags.
 set -eu
 cd "$(dirname "$0")"
 command -v valgrind >/dev/null || { echo "callgrind.sh: no valgrind here" >&2; exit 1; }
@@ -14,10 +15,22 @@ tab=$(printf '\t')
 # A copy by `rep` would be counted as one instruction for each byte.
 export GLIBC_TUNABLES=glibc.cpu.x86_rep_stosb_threshold=0x10000000:glibc.cpu.x86_rep_movsb_threshold=0x10000000
 
-count() { # NAME: instructions, answer
-  valgrind --tool=callgrind --toggle-collect=jsx_precompile_transform --callgrind-out-file=/dev/null "$speed" run "$1" 2>&1 |
+count() { # FUNCTION COMMAND NAME: instructions, answer
+  valgrind --tool=callgrind --toggle-collect="$1" --callgrind-out-file=/dev/null "$speed" "$2" "$3" 2>&1 |
     awk '/Collected :/ { n = $NF } /^[0-9]+$/ { answer = $0 } END { print n "\t" answer }'
 }
+
+if [ "$word" = tags ]; then
+  printf '%-34s %7s %13s %9s  %s\n' text bytes instructions 'a byte' answer
+  "$speed" tags | while IFS=$tab read -r name bytes; do
+    case $name in *"${2:-}"*) ;; *) continue ;; esac
+    count jsx_precompile_read_tag tag "$name" >"$rates.one"
+    IFS=$tab read -r instructions answer <"$rates.one" || true
+    echo "$name$tab$bytes$tab$instructions$tab$answer" |
+      awk -F '\t' '{ printf "%-34s %7d %13d %9.1f  %s\n", $1, $2, $3, $3 / $2, $4 }'
+  done
+  exit
+fi
 
 printf '%-34s %5s %7s %6s %6s %5s %13s %9s %7s  %s\n' set pages bytes tags attrs depth instructions 'a byte' 'x mean' answer
 "$speed" list | while IFS=$tab read -r name pages bytes tags attributes depth; do
@@ -25,7 +38,7 @@ printf '%-34s %5s %7s %6s %6s %5s %13s %9s %7s  %s\n' set pages bytes tags attrs
     mean | *"$word"*) ;;
     *) continue ;;
   esac
-  count "$name" >"$rates.one"
+  count jsx_precompile_transform run "$name" >"$rates.one"
   IFS=$tab read -r instructions answer <"$rates.one" || true
   printf '%s\t%s\t%s\t%s\t%s\t%s\t%s\t%s\n' "$name" "$pages" "$bytes" "$tags" "$attributes" "$depth" "$instructions" "$answer" |
     tee -a "$rates" |

@@ -1,14 +1,16 @@
 //! `cargo bench`: nanoseconds a page byte of the library, bytes to bytes, and of the judge's Rust, both the transform
 //! alone on ready trees and bytes to bytes, on the same pages in one run.
 //!
-//! For callgrind.sh: `list` names the sets of pages, `run NAME` calls the library once on each page of a set.
+//! For callgrind.sh: `list` names the sets of pages, `run NAME` calls the library once on each page of a set; `tags` names
+//! the tag texts, `tag NAME` has the library read one.
 
 #![allow(missing_docs)]
 
 mod pages;
+mod tags;
 
-use jsx_precompile::limits::MIN_SCRATCH;
-use jsx_precompile::{Answer, Options, Transformer, transform_into};
+use jsx_precompile::limits::{MAX_TAG, MIN_SCRATCH};
+use jsx_precompile::{Answer, Options, Transformer, read_tag_into, transform_into};
 use oracle::stand_ins::swc_ecma_ast::Module;
 use pages::Set;
 use std::hint::black_box;
@@ -22,9 +24,11 @@ fn main() {
     match words.iter().map(String::as_str).collect::<Vec<_>>()[..] {
         ["list"] => list(),
         ["run", name] => run(name),
+        ["tags"] => tags::all().iter().for_each(|tag| println!("{}\t{}", tag.name, tag.text.len())),
+        ["tag", name] => read(name),
         [] if oracle::AVAILABLE => times(),
         [] => eprintln!("built without jsx_precompile.rs: there is nothing to compare with"),
-        _ => eprintln!("speed, speed list, or speed run NAME"),
+        _ => eprintln!("speed, speed list, speed run NAME, speed tags, or speed tag NAME"),
     }
 }
 
@@ -45,6 +49,11 @@ fn run(name: &str) {
             println!("{}", answer.number);
         }
     }
+}
+
+fn read(name: &str) {
+    let tag = tags::all().into_iter().find(|tag| tag.name == name).expect("a text of that name");
+    println!("{}", read_tag_into(tag.text.as_bytes(), &mut vec![0; MAX_TAG]).number);
 }
 
 /// The three lent buffers, allocated once.

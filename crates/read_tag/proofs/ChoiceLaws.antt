@@ -17,7 +17,7 @@ use Rattle.read_tag.specs.Knowns.{Numbered, Unsigned, signed-whole, sign
 use Rattle.read_tag.specs.declared.known.Held.{Held}
 use Rattle.read_tag.specs.declared.known.Numeral.{Numeral}
 use Rattle.read_tag.specs.declared.known.Numeral.the-variants as N
-use Rattle.read_tag.proofs.TextLaws.{next}
+use Rattle.read_tag.proofs.RunLaws.{next}
 
 yes : (b : Bool) → b ≡ true → T b
 yes b e = subst T (sym e) tt

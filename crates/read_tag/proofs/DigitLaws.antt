@@ -19,7 +19,8 @@ use Rattle.read_tag.specs.Knowns.{Capped, Counted, Numbered}
 use Rattle.read_tag.specs.declared.known.Digits.{Digits}
 use Rattle.read_tag.specs.declared.known.Numeral.the-variants as N
 use Rattle.read_tag.proofs.RunLaws.{Running, running-none, tested-on, tested-stops, ran-out}
-use Rattle.read_tag.proofs.TextLaws.{next, run-end}
+use Rattle.read_tag.proofs.RunLaws.{next}
+use Rattle.read_tag.proofs.TextLaws.{run-end}
 use Rattle.read_tag.proofs.KnownLaws.{take-more}
 
 -- ---- values

@@ -16,7 +16,8 @@ use Rattle.grammar.specs.Grammar.{Ends, Run, run-ends, run-on}
 use Rattle.grammar.proofs.Tests.{chose, passed}
 use Rattle.read_tag.specs.Runs.{Ran}
 use Rattle.read_tag.specs.Knowns.{Unsigned, Quoted}
-use Rattle.read_tag.proofs.TextLaws.{other, next}
+use Rattle.read_tag.proofs.RunLaws.{next}
+use Rattle.read_tag.proofs.TextLaws.{other}
 
 -- ---- tests
 

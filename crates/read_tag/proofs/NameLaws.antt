@@ -6,11 +6,10 @@ use mathlib.Core.Path.{_≡_, refl, sym, _∙_, ap, ap₂, subst}
 use mathlib.Core.Bool.{Bool, true, false, _&&_, _||_, not, false≢true}
 use mathlib.Core.List.{[], _∷_, _++_, append-assoc}
 use native.Mathlib.Omega.{arith}
-use native.Mathlib.Numerals.{add-one}
 use borrow.Author.Tests.{ne-eqb, le-leb, lt-leb}
 use lib.Dec.{T, leb, eqb}
 use lib.ListN.{length, take, drop, getD, length-append, length-drop, drop-of-length-le}
-use lib.Seq.{drop-cons, length-take-le}
+use lib.Seq.{length-take-le}
 use Rattle.field.specs.Bytes.{Bytes}
 use Rattle.grammar.specs.Signs.{choose, each, letter, name-byte, separator, space, name-goes-on}
 use Rattle.grammar.specs.Syntax.{Part, part, Name, short, no-hyphen, attribute-name-fits, tag-name-fits}
@@ -25,13 +24,11 @@ use Rattle.read_tag.specs.declared.name.NamePart.{NamePart}
 use Rattle.read_tag.specs.declared.name.ScannedName.the-variants as F
 use Rattle.read_tag.proofs.FlagLaws.{and-assoc, and-true}
 use Rattle.read_tag.proofs.ShapeLaws.{shape-is, shape-long, shape-one}
+use Rattle.read_tag.proofs.RunLaws.{next}
 
 -- the bytes from k to e
 abbrev pub word : Bytes → ℕ → ℕ → Bytes
 word s k e = take (e - k) (drop k s)
-
-pub next : (s : Bytes) (k : ℕ) → k < length s → drop k s ≡ getD s k 0 ∷ drop (k + 1) s
-next s k h = rw (add-one k) (drop-cons s k 0 h)
 
 pub word-next : (s : Bytes) (k e : ℕ) → k < e → e ≤ length s → word s k e ≡ getD s k 0 ∷ word s (k + 1) e
 word-next s k e h l =

@@ -21,7 +21,8 @@ use Rattle.grammar.proofs.Tests.{clash, not-or, or-right, letter-no-space, sepa
 use Rattle.tag_tree.specs.PageTag.{idents}
 use Rattle.read_tag.specs.Names.{PartAt, NameAt, FoundName, parts-bytes, PartsPut, NamesCompared}
 use Rattle.read_tag.specs.declared.name.NamePart.{NamePart}
-use Rattle.read_tag.proofs.NameLaws.{word, next, word-next, word-length, unsigned, signed, part-after, next-after}
+use Rattle.read_tag.proofs.RunLaws.{next}
+use Rattle.read_tag.proofs.NameLaws.{word, word-next, word-length, unsigned, signed, part-after, next-after}
 
 -- ---- runs and white space end at one place
 

@@ -1,4 +1,4 @@
--- A run grows by a byte, and ends. Main statements: `running-none`, `tested-on`, `tested-stops`, `ran-out`. Assumes nothing.
+-- A run grows by a byte, and ends. Main statements: `next`, `running-none`, `tested-on`, `tested-stops`, `ran-out`. Assumes nothing.
 use Prim.Native.Nat.{ℕ, zero, suc, _+_, _-_, _≤_, _<_}
 use mathlib.Core.Path.{_≡_, refl, sym, _∙_, ap, subst}
 use mathlib.Core.Bool.{Bool, true, false, not, false≢true}
@@ -11,6 +11,10 @@ use lib.Seq.{drop-cons, take-at}
 use Rattle.field.specs.Bytes.{Bytes}
 use Rattle.grammar.specs.Grammar.{Ends, Run, run-ends, run-on}
 use Rattle.read_tag.specs.Runs.{Ran}
+
+-- a byte further
+pub next : (s : Bytes) (k : ℕ) → k < length s → drop k s ≡ getD s k 0 ∷ drop (k + 1) s
+next s k h = rw (add-one k) (drop-cons s k 0 h)
 
 -- bytes of the sort p in front, whatever follows
 pub data Front (p : ℕ → Bool) : Bytes → Bytes → Bytes → Type 0 where
@@ -42,16 +46,13 @@ module _ (p : ℕ → Bool) where
     pub running-none : i ≤ length s → Running p s i i
     running-none h = record { after = omega arith; inside = h; read = []; front = front-none; counted = omega arith }
 
-    next : (k : ℕ) → k < length s → drop k s ≡ getD s k 0 ∷ drop (k + 1) s
-    next k h = rw (add-one k) (drop-cons s k 0 h)
-
     pub running-on : (k : ℕ) → Running p s i k → k < length s → T (p (getD s k 0)) → Running p s i (k + 1)
     running-on k u h t =
         record {
           after = omega (arith, u .after);
           inside = omega arith;
           read = u .read ++ (getD s k 0 ∷ []);
-          front = front-more (subst (λ (z : Bytes). Front p (drop i s) (u .read) z) (next k h) (u .front)) t;
+          front = front-more (subst (λ (z : Bytes). Front p (drop i s) (u .read) z) (next s k h) (u .front)) t;
           counted = omega (arith, u .counted, length-append (u .read) (getD s k 0 ∷ []));
         }
 
@@ -63,7 +64,7 @@ module _ (p : ℕ → Bool) where
     -- at a byte that is none of them; at the end of the text
     pub ran-stops : (k : ℕ) → Running p s i k → k < length s → T (not (p (getD s k 0))) → Ran p s i k
     unfolding Ends
-    ran-stops k u h t = ran-from k u (subst (Ends p) (sym (next k h)) t)
+    ran-stops k u h t = ran-from k u (subst (Ends p) (sym (next s k h)) t)
 
     pub ran-out : (k : ℕ) → Running p s i k → length s ≤ k → Ran p s i k
     unfolding Ends

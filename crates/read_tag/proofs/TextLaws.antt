@@ -5,10 +5,9 @@ use mathlib.Core.Path.{_≡_, refl, sym, _∙_, ap, subst}
 use mathlib.Core.Bool.{Bool, true, false, _&&_, not}
 use mathlib.Core.List.{[], _∷_, _++_, append-nil, append-assoc}
 use native.Mathlib.Omega.{arith}
-use native.Mathlib.Numerals.{add-one}
 use lib.Dec.{T, eqb, eqb→eq, not-T}
 use lib.ListN.{length, take, drop, getD, length-append, length-drop, drop-of-length-le}
-use lib.Seq.{drop-cons, length-take-le}
+use lib.Seq.{length-take-le}
 use Rattle.field.specs.Bytes.{Bytes, ascii, same}
 use Rattle.field.specs.Put.{head, Wrote}
 use Rattle.field.proofs.PutLaws.{wrote-none, wrote-then, wrote-length, wrote-behind}
@@ -27,7 +26,7 @@ use Rattle.read_tag.specs.declared.texts.Run as Answer
 use Rattle.read_tag.specs.declared.texts.Run.the-variants as R
 use Rattle.read_tag.specs.declared.texts.Entity.{Entity}
 use Rattle.read_tag.specs.declared.texts.Entity.the-variants as E
-use Rattle.read_tag.proofs.RunLaws.{Front, front-none, front-on, Running, running-on, ran-stops, ran-out}
+use Rattle.read_tag.proofs.RunLaws.{next, Front, front-none, front-on, Running, running-on, ran-stops, ran-out}
 
 -- ---- tests
 
@@ -50,9 +49,6 @@ snd-of false b t = absurd t
 double : (b : Bool) → T (not (not b)) → T b
 double true t = tt
 double false t = absurd t
-
-pub next : (s : Bytes) (k : ℕ) → k < length s → drop k s ≡ getD s k 0 ∷ drop (k + 1) s
-next s k h = rw (add-one k) (drop-cons s k 0 h)
 
 -- ---- the sort of a run
 

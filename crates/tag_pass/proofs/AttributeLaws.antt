@@ -39,7 +39,8 @@ use Rattle.tag_pass.specs.Worlds.{World, more, any-known, any-names, tag
 use Rattle.tag_pass.specs.States.{Named, braces-kind, kind-of, braces-name, frame-name, PlainBraces, PlainFrame, BracesFifty, Fifty, Bounded, Stands, Next}
 use Rattle.tag_pass.specs.Turns.{at-more, at-inner, at-fifty, BracesTurn, PointTurn, AttributeTurn, NoValueTurn, StringTurn, ValueTurn, SpreadTurn, AttributeEnded}
 use Rattle.tag_pass.specs.declared.state.Reading.{Reading}
-use Rattle.tag_pass.proofs.Machine.{next, spaces, not-space, steps, stuck, out-of}
+use Rattle.read_tag.proofs.RunLaws.{next}
+use Rattle.tag_pass.proofs.Machine.{spaces, not-space, steps, stuck, out-of}
 use Rattle.tag_pass.proofs.WorldLaws.{more-none, attribute-ended}
 use Rattle.tag_pass.proofs.Sizes.{name-size}
 use Rattle.tag_pass.proofs.BracesLaws.{value-room}

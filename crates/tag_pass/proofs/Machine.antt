@@ -4,19 +4,15 @@ use Prim.Native.Nat.{ℕ, _+_, _≤_, _<_}
 use mathlib.Core.Path.{_≡_, refl, _∙_, ap, subst}
 use mathlib.Core.Bool.{Bool, true, false, not}
 use mathlib.Core.List.{_∷_}
-use native.Mathlib.Numerals.{add-one}
 use lib.Dec.{T}
 use lib.ListN.{length, drop, getD, drop-of-length-le}
-use lib.Seq.{drop-cons}
 use Rattle.field.specs.Bytes.{Bytes}
 use Rattle.grammar.specs.Signs.{space}
 use Rattle.grammar.specs.Grammar.{Ends, Run, run-ends, run-on, Spaces, no-space, space-on}
 use Rattle.grammar.specs.Reader.{State, refused, no-reading, at-end, step, outcome}
 use Rattle.grammar.proofs.Complete.{go, refused-never}
 use Rattle.read_tag.specs.Runs.{Ran}
-
-pub next : (s : Bytes) (k : ℕ) → k < length s → drop k s ≡ getD s k 0 ∷ drop (k + 1) s
-next s k h = rw (add-one k) (drop-cons s k 0 h)
+use Rattle.read_tag.proofs.RunLaws.{next}
 
 pub run-spaces : {s w r : Bytes} → Run space s w r → Spaces s r
 run-spaces (run-ends e) = no-space

@@ -35,7 +35,8 @@ use Rattle.tag_pass.specs.Worlds.{World, more, shallow-name, tag-world, 
 use Rattle.tag_pass.specs.States.{TagName, no-name, name-at, Named, Stands, Next, next-ended, next-refused}
 use Rattle.tag_pass.specs.Turns.{at-mode, at-more, at-begin, at-end-of, name-code, AttributeTurn, SlashedTurn, SpreadTurn, TagTurn, ClosingTurn, NamedTurn, FragmentTurn, Patched, TagEnded, ClosingCompared}
 use Rattle.tag_pass.specs.declared.state.Reading.{Reading}
-use Rattle.tag_pass.proofs.Machine.{next, spaces, not-space, steps, stuck, out-of}
+use Rattle.read_tag.proofs.RunLaws.{next}
+use Rattle.tag_pass.proofs.Machine.{spaces, not-space, steps, stuck, out-of}
 use Rattle.tag_pass.proofs.WorldLaws.{world-is, no-children-yet, tag-ended}
 use Rattle.tag_pass.proofs.Sizes.{name-size}
 use Rattle.tag_pass.proofs.AttributeLaws.{found, deep-enough}
