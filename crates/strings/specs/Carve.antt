@@ -53,8 +53,9 @@ carve (chars b ∷ ps) w = carve ps (put-on b w)
 carve (gap p ∷ ps) w = carve ps (close w)
 carve (mark f ∷ ps) w = carve ps (flagged (grave f) w)
 
+-- room for the open string, and for a kind for each gap before it
 abbrev pub Low : Carved → Type 0
-Low w = end (w .st) < 2 ^ 63
+Low w = end (w .st) + w .st .gaps < 2 ^ 63
 
 -- ---- what the helper functions answer
 

@@ -71,6 +71,7 @@ fn open_tag<'a>(out: &mut [u8], st: Open, n: &'a [u8], rest: &'a [u8]) -> Open
     Open {
         head: p.head,
         len: p.len,
+        gaps: p.gaps,
         due: tag_due(p.due, n, rest),
     }
 }
