@@ -10,7 +10,7 @@ use lib.Dec.{T, ltb, eqb}
 use lib.ListN.{take, drop}
 use borrow.Author.Tests.{eq-eqb, ne-eqb, eqb-true, eqb-false}
 use Rattle.field.specs.Bytes.{Bytes}
-use Rattle.field.specs.Row.{Row, end, loose, field, read, Ended, Inside, only-bytes, fields-after, inside, opened, Next, nothing, no-field, next, next-of, built}
+use Rattle.field.specs.Row.{Row, end, loose, field, read, Ended, Inside, only-bytes, fields-after, counted, counted-front, inside, opened, Next, nothing, no-field, next, next-of, built}
 use Rattle.field.specs.Front.{tag-of, body-of, behind-of, tag-by, behind-by}
 use Rattle.field.proofs.RowLaws.{read-step, read-nil}
 use Rattle.field.proofs.FrontLaws.{read-at, leaf-at, nest-at}
@@ -46,6 +46,7 @@ module _ (P : Row → Type 0) where
         on : (c : Inside) → P (opened c read t (body-of s) (behind-of s))
         on only-bytes = k _ _
         on (fields-after n) = k _ _
+        on (counted n) = k _ _
 
     -- the same, or no field
     pub any-front : P end → ((b : Bytes) → P (loose b)) → ((f : Bytes) (i : Row) → P (field t f i (read (behind-of s)))) → P (read s)
@@ -60,6 +61,7 @@ module _ (P : Row → Type 0) where
             in-field : (c : Inside) → P (opened c read u w r)
             in-field only-bytes = subst (λ (x : ℕ). P (field x w end (read r))) q (g _ _)
             in-field (fields-after n) = subst (λ (x : ℕ). P (field x (take n w) (read (drop n w)) (read r))) q (g _ _)
+            in-field (counted n) = subst (λ (x : ℕ). P (field x (take (counted-front n w) w) (read (drop (counted-front n w) w)) (read r))) q (g _ _)
 
 -- what lies behind the first field is read from what lies behind its bytes
 pub behind-name-at : (s : Bytes) → behind-name (read s) ≡ read (behind-of s)
@@ -74,6 +76,7 @@ behind-name-at s = ap behind-name (read-step s) ∙ on (next-of s)
         in-field : (c : Inside) → behind-name (opened c read t w r) ≡ read r
         in-field only-bytes = refl
         in-field (fields-after n) = refl
+        in-field (counted n) = refl
 
 pub value-in-behind : (r : Row) → value-in r ≡ value-behind (behind-name r)
 unfolding value-in value-behind behind-name

@@ -10,7 +10,7 @@ use lib.Dec.{leb, eqb}
 use lib.ListN.{length}
 use borrow.Author.Tests.{le-leb, lt-leb, ne-eqb}
 use Rattle.field.specs.Bytes.{Bytes}
-use Rattle.field.specs.Row.{Row, end, loose, field, read, Ended, Inside, only-bytes, fields-after, inside, opened, Next, nothing, no-field, next, next-of, built}
+use Rattle.field.specs.Row.{Row, end, loose, field, read, Ended, Inside, only-bytes, fields-after, counted, counted-front, inside, opened, Next, nothing, no-field, next, next-of, built}
 use Rattle.field.specs.Front.{tag-of, body-of, behind-of, behind-by}
 use Rattle.field.proofs.RowLaws.{read-step, next-sizes}
 use Rattle.field.proofs.FrontLaws.{read-empty, nest-at}
@@ -179,6 +179,7 @@ element-then depth s u = record { then-is = rw u (rw (read-step s) (on (next-of 
     in-field : (c : Inside) (t : ℕ) (w r : Bytes) → check-element depth (opened c read t w r) ≡ after (check-element-name depth (opened c read t w r)) λ _. check-attributes depth (read r)
     in-field only-bytes t w r = in-row (check-header (is-name-tag t) depth) _ _
     in-field (fields-after n) t w r = in-row (check-header (is-name-tag t) depth) _ _
+    in-field (counted n) t w r = in-row (check-header (is-name-tag t) depth) _ _
 
     on : (n : Next) → check-element depth (built read s n) ≡ after (check-element-name depth (built read s n)) λ _. check-attributes depth (read (behind-by n))
     on nothing = refl

@@ -9,7 +9,7 @@ use lib.Dec.{leb, eqb}
 use lib.ListN.{length}
 use borrow.Author.Tests.{le-leb, lt-leb, ne-eqb}
 use Rattle.field.specs.Bytes.{Bytes}
-use Rattle.field.specs.Row.{Row, end, loose, field, read, Ended, Inside, only-bytes, fields-after, inside, opened, Next, nothing, no-field, next, next-of, built}
+use Rattle.field.specs.Row.{Row, end, loose, field, read, Ended, Inside, only-bytes, fields-after, counted, counted-front, inside, opened, Next, nothing, no-field, next, next-of, built}
 use Rattle.field.specs.Front.{tag-of, body-of, behind-of, behind-by}
 use Rattle.field.proofs.RowLaws.{read-step, next-nothing}
 use Rattle.field.proofs.FrontLaws.{read-at, leaf-at, read-empty, read-torn}
@@ -60,6 +60,7 @@ not-end s h = subst NotEnd (sym (read-step s)) (on (next-of s) refl)
     in-field : (c : Inside) (t : ℕ) (w r : Bytes) → NotEnd (opened c read t w r)
     in-field only-bytes t w r = tt
     in-field (fields-after n) t w r = tt
+    in-field (counted n) t w r = tt
 
     on : (n : Next) → next-of s ≡ n → NotEnd (built read s n)
     on nothing e = h (ap length (next-nothing s e))
@@ -82,6 +83,7 @@ module _ (s : Bytes) where
       on : (c : Inside) → check-end (opened c read t (body-of s) (behind-of s)) ≡ Refused R.Misplaced
       on only-bytes = refl
       on (fields-after n) = refl
+      on (counted n) = refl
 
   pub missing-empty : length s ≡ 0 → Refused R.Misplaced ≡ check-missing (read s)
   unfolding check-missing
@@ -158,6 +160,7 @@ module _ (depth n : ℕ) (s t : Bytes) (l : n ≤ 8) (inv : check-counted 8 2 de
       on : (c : Inside) → check-counted (8 - n) (2 - n) depth (opened c read tag (body-of t) (behind-of t)) ≡ Refused R.Misplaced
       on only-bytes = counted-other (8 - n) (2 - n) depth tag (body-of t) end (read (behind-of t)) (ne-eqb tag 0x40 i)
       on (fields-after k) = counted-other (8 - n) (2 - n) depth tag _ _ (read (behind-of t)) (ne-eqb tag 0x40 i)
+      on (counted k) = counted-other (8 - n) (2 - n) depth tag _ _ (read (behind-of t)) (ne-eqb tag 0x40 i)
 
   module _ (k : tag ≡ 0x40) where
     at : check-counted 8 2 depth (read s) ≡ check-counted (8 - n) (2 - n) depth (field 0x40 (body-of t) end (read (behind-of t)))
@@ -210,6 +213,7 @@ module _ (depth : ℕ) (s : Bytes) (tag : ℕ) (e : tag ≡ tag-of s) where
       on : (c : Inside) → Refused R.Misplaced ≡ check-first depth (opened c read tag (body-of s) (behind-of s))
       on only-bytes = header-other (eqb tag 0x40) depth _ (ne-eqb tag 0x40 i)
       on (fields-after k) = header-other (eqb tag 0x40) depth _ (ne-eqb tag 0x40 i)
+      on (counted k) = header-other (eqb tag 0x40) depth _ (ne-eqb tag 0x40 i)
 
   module _ (k : tag ≡ 0x40) where
     first-at : check-first depth (read s) ≡ check-first depth (field 0x40 (body-of s) end (read (behind-of s)))
@@ -242,6 +246,7 @@ ident-then depth s v = rw (read-step s) (on (next-of s))
     in-field : (c : Inside) (t : ℕ) (w r : Bytes) → check-ident depth (opened c read t w r) v ≡ after (check-ident depth (opened c read t w r) λ _. Fine) λ _. v (read r)
     in-field only-bytes t w r = in-row (check-header (eqb t 0x40) depth) (check-name w) (v (read r))
     in-field (fields-after n) t w r = in-row (check-header (eqb t 0x40) depth) (check-name _) (v (read r))
+    in-field (counted n) t w r = in-row (check-header (eqb t 0x40) depth) (check-name _) (v (read r))
 
     on : (n : Next) → check-ident depth (built read s n) v ≡ after (check-ident depth (built read s n) λ _. Fine) λ _. v (read (behind-by n))
     on nothing = refl

@@ -8,7 +8,7 @@ use lib.Dec.{leb, eqb}
 use lib.ListN.{take, drop}
 use borrow.Author.Tests.{le-leb, lt-leb, leb-true, eqb-true, eqb-false}
 use Rattle.field.specs.Bytes.{Bytes}
-use Rattle.field.specs.Row.{Row, end, loose, field, read, Ended, Inside, only-bytes, fields-after, inside, opened}
+use Rattle.field.specs.Row.{Row, end, loose, field, read, Ended, Inside, only-bytes, fields-after, counted, counted-front, inside, opened}
 use Rattle.field.specs.Front.{tag-of, body-of, behind-of}
 use Rattle.field.proofs.FrontLaws.{read-at}
 use Rattle.page.specs.Refusal.{after}
@@ -63,10 +63,12 @@ next-at e d = record { then-is = past e d }
 abbrev pub front : Inside → Bytes → Bytes
 front only-bytes w = w
 front (fields-after n) w = take n w
+front (counted n) w = take (counted-front n w) w
 
 abbrev pub inner : Inside → Bytes → Row
 inner only-bytes w = end
 inner (fields-after n) w = read (drop n w)
+inner (counted n) w = read (drop (counted-front n w) w)
 
 pub row-at : (s : Bytes) (t : ℕ) → t ≡ tag-of s → (t ≡ 256 → ⊥) → read s ≡ field t (front (inside t) (body-of s)) (inner (inside t) (body-of s)) (read (behind-of s))
 unfolding opened
@@ -75,6 +77,7 @@ row-at s t e h = read-at s t e h ∙ on (inside t)
     on : (c : Inside) → opened c read t (body-of s) (behind-of s) ≡ field t (front c (body-of s)) (inner c (body-of s)) (read (behind-of s))
     on only-bytes = refl
     on (fields-after n) = refl
+    on (counted n) = refl
 
 -- two ways to write what a body is checked by, the same where the tag may stand
 module _ (ok : Bool) (depth : ℕ) (b b′ k : Verdict) (h : ok ≡ true → b ≡ b′) where

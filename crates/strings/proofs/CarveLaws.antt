@@ -39,7 +39,7 @@ pub carving : Action [] _++_ carve
 carving = by-steps carves
 
 place : Carved → ℕ
-place w = end (w .st)
+place w = end (w .st) + w .st .gaps
 
 part-grows : (a : Part) (w : Carved) → place w ≤ place (part a w)
 unfolding place
@@ -68,14 +68,14 @@ pub put-on-nil : (w : Carved) → put-on [] w ≡ w
 put-on-nil w =
     let e₁ : put (w .out) (end (w .st)) [] ≡ w .out = put-nil (w .out) (end (w .st)) in
     let e₂ : w .st .len + 0 ≡ w .st .len = add-zero (w .st .len) in
-    λ i. record { out = e₁ i; st = record { head = w .st .head; len = e₂ i; due = w .st .due } }
+    λ i. record { out = e₁ i; st = record { head = w .st .head; len = e₂ i; gaps = w .st .gaps; due = w .st .due } }
 
 pub put-on-append : (a b : Bytes) (w : Carved) → put-on b (put-on a w) ≡ put-on (a ++ b) w
 put-on-append a b w =
     let e₁ : put (put (w .out) (end (w .st)) a) (w .st .head + 3 + (w .st .len + length a)) b ≡ put (w .out) (end (w .st)) (a ++ b) =
     ap (λ (k : ℕ). put (put (w .out) (end (w .st)) a) k b) (omega arith) ∙ put-put (w .out) (end (w .st)) a b in
     let e₂ : w .st .len + length a + length b ≡ w .st .len + length (a ++ b) = omega (arith, length-append a b) in
-    λ i. record { out = e₁ i; st = record { head = w .st .head; len = e₂ i; due = w .st .due } }
+    λ i. record { out = e₁ i; st = record { head = w .st .head; len = e₂ i; gaps = w .st .gaps; due = w .st .due } }
 
 -- characters in two goes
 pub two-chars : (a b : Bytes) (w : Carved) → carve ((chars a ∷ []) ++ (chars b ∷ [])) w ≡ carve (chars (a ++ b) ∷ []) w
@@ -93,15 +93,15 @@ module _ (o : Bytes) (st : Open) where
   unfolding carve
   put-is {b} {o′} {e} {r} q w =
       let l : e - (st .head + 3) ≡ st .len + length b = omega (arith, w .end-is) in
-      ap (at o′) q ∙ (λ i. record { out = w .out-is i; st = record { head = st .head; len = l i; due = st .due } })
+      ap (at o′) q ∙ (λ i. record { out = w .out-is i; st = record { head = st .head; len = l i; gaps = st .gaps; due = st .due } })
 
   pub end-low : {b o′ : Bytes} {e : ℕ} → Wrote o (end st) b o′ e → st .head + 3 ≤ e
   end-low {b} w = omega (arith, w .end-is)
 
   -- the string is closed
   module _ {o′ : Bytes} {n : ℕ} (w : Wrote o (st .head) (head 0x81 (st .len)) o′ n) where
-    pub cut-is : {d : ℕ} → d ≡ graver (st .due) (long-due (ltb 65535 (st .len))) → at o′ (record { head = end st; len = 0; due = d }) ≡ close (at o st)
-    cut-is e = λ i. record { out = w .out-is i; st = record { head = end st; len = 0; due = e i } }
+    pub cut-is : {d : ℕ} → d ≡ graver (st .due) (long-due (ltb 65535 (st .len))) → at o′ (record { head = end st; len = 0; gaps = st .gaps + 1; due = d }) ≡ close (at o st)
+    cut-is e = λ i. record { out = w .out-is i; st = record { head = end st; len = 0; gaps = st .gaps + 1; due = e i } }
 
 -- a space and a cut
 abbrev pub spaced : Carved → Carved
@@ -122,8 +122,8 @@ module _ (o : Bytes) (st : Open) where
 
 -- ---- what is due
 
-due-is : (w : Carved) (d : ℕ) → w .st .due ≡ d → w ≡ record { out = w .out; st = record { head = w .st .head; len = w .st .len; due = d } }
-due-is w d e = λ i. record { out = w .out; st = record { head = w .st .head; len = w .st .len; due = e i } }
+due-is : (w : Carved) (d : ℕ) → w .st .due ≡ d → w ≡ record { out = w .out; st = record { head = w .st .head; len = w .st .len; gaps = w .st .gaps; due = d } }
+due-is w d e = λ i. record { out = w .out; st = record { head = w .st .head; len = w .st .len; gaps = w .st .gaps; due = e i } }
 
 pub flagged-none : (w : Carved) → flagged 0 w ≡ w
 flagged-none w = sym (due-is w (graver (w .st .due) 0) (sym (graver-none (w .st .due))))
@@ -152,9 +152,9 @@ module _ (n r : Bytes) where
   opening-low w l = l
 
   pub opening-is : (w : Carved) {o : Bytes} {s : Open} → at o s ≡ carve (chars (60 ∷ escape-html n) ∷ []) w → {d : ℕ} → d ≡ graver (s .due) (grave (flags-at n r)) →
-      at o (record { head = s .head; len = s .len; due = d }) ≡ carve (opening n r) w
+      at o (record { head = s .head; len = s .len; gaps = s .gaps; due = d }) ≡ carve (opening n r) w
   unfolding carve
   opening-is w {o} {s} e q =
-      (λ i. at o (record { head = s .head; len = s .len; due = q i }))
+      (λ i. at o (record { head = s .head; len = s .len; gaps = s .gaps; due = q i }))
       ∙ ap (flagged (grave (flags-at n r))) e
       ∙ sym (carve-flagged (grave (flags-at n r)) (chars (60 ∷ escape-html n) ∷ []) w)

@@ -9,3 +9,4 @@ pub mod TreeLaws
 pub mod AttrLaws
 pub mod MergedLaws
 pub mod ElementLaws
+pub mod RecordedLaws

@@ -38,9 +38,9 @@ use Rattle.strings.proofs.TreeLaws.{kids, held, kids-60, kids-52, kids-
 -- ---- put_run
 
 module _ (o : Bytes) (st : Open) (n : ℕ) (t : Bytes) where
-  pub run-long : 65535 < n → {d : ℕ} → d ≡ graver (st .due) 1 → at o (record { head = st .head; len = st .len; due = d }) ≡ put-again n t (at o st)
+  pub run-long : 65535 < n → {d : ℕ} → d ≡ graver (st .due) 1 → at o (record { head = st .head; len = st .len; gaps = st .gaps; due = d }) ≡ put-again n t (at o st)
   unfolding put-again
-  run-long h e = rw (lt-ltb 65535 n h) (λ i. at o (record { head = st .head; len = st .len; due = e i }))
+  run-long h e = rw (lt-ltb 65535 n h) (λ i. at o (record { head = st .head; len = st .len; gaps = st .gaps; due = e i }))
 
   pub run-short : n ≤ 65535 → put-again n t (at o st) ≡ carve (chars (jsx-text-to-str t true false) ∷ []) (at o st)
   unfolding put-again carve

@@ -37,15 +37,15 @@ abbrev pub end : Open → ℕ
 end s = s .head + 3 + s .len
 
 abbrev pub put-on : Bytes → Carved → Carved
-put-on b w = record { out = put (w .out) (end (w .st)) b; st = record { head = w .st .head; len = w .st .len + length b; due = w .st .due } }
+put-on b w = record { out = put (w .out) (end (w .st)) b; st = record { head = w .st .head; len = w .st .len + length b; gaps = w .st .gaps; due = w .st .due } }
 
--- the open string is closed, and another opened behind it
+-- the open string is closed, and another opened behind it, with a gap between
 abbrev pub close : Carved → Carved
-close w = record { out = put (w .out) (w .st .head) (head 0x81 (w .st .len)); st = record { head = end (w .st); len = 0; due = graver (w .st .due) (long-due (ltb 65535 (w .st .len))) } }
+close w = record { out = put (w .out) (w .st .head) (head 0x81 (w .st .len)); st = record { head = end (w .st); len = 0; gaps = w .st .gaps + 1; due = graver (w .st .due) (long-due (ltb 65535 (w .st .len))) } }
 
 -- something more is due
 abbrev pub flagged : ℕ → Carved → Carved
-flagged d w = record { out = w .out; st = record { head = w .st .head; len = w .st .len; due = graver (w .st .due) d } }
+flagged d w = record { out = w .out; st = record { head = w .st .head; len = w .st .len; gaps = w .st .gaps; due = graver (w .st .due) d } }
 
 unfoldable pub carve : List Part → Carved → Carved
 carve [] w = w
@@ -53,14 +53,15 @@ carve (chars b ∷ ps) w = carve ps (put-on b w)
 carve (gap p ∷ ps) w = carve ps (close w)
 carve (mark f ∷ ps) w = carve ps (flagged (grave f) w)
 
+-- room for the open string, and for a kind for each gap before it
 abbrev pub Low : Carved → Type 0
-Low w = end (w .st) < 2 ^ 63
+Low w = end (w .st) + w .st .gaps < 2 ^ 63
 
 -- ---- what the helper functions answer
 
 -- the open string when it ends at that place
 abbrev pub ended-at : Open → ℕ → Open
-ended-at s e = record { head = s .head; len = e - (s .head + 3); due = s .due }
+ended-at s e = record { head = s .head; len = e - (s .head + 3); gaps = s .gaps; due = s .due }
 
 -- what is found of the element with that name, with these fields behind it; the options do not matter to it
 abbrev pub flags-at : Bytes → Bytes → Flags

@@ -72,6 +72,7 @@ fn open_tag<'a>(out: &mut [u8], st: Open, n: &'a [u8], kind: u8, rest: &'a [u8])
     Open {
         head: p.head,
         len: p.len,
+        gaps: p.gaps,
         due: tag_due(p.due, kind, rest),
     }
 }

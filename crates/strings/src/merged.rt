@@ -38,6 +38,7 @@ fn put_run(out: &mut [u8], st: Open, scratch: &[u8], n: usize) -> Open
         return Open {
             head: st.head,
             len: st.len,
+            gaps: st.gaps,
             due: graver(st.due, LONG),
         };
     }

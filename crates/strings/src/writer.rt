@@ -11,10 +11,11 @@ use field::writer::put_bytes;
 use field::writer::put_head;
 use text::jsx_text::jsx_text_to_str;
 
-// Where its head stands, how long it is, and what is due.
+// Where its head stands, how long it is, how many gaps stand before it, and what is due.
 pub struct Open {
     pub head: usize,
     pub len: usize,
+    pub gaps: usize,
     pub due: u8,
 }
 
@@ -26,6 +27,7 @@ pub fn ended(st: Open, end: usize) -> Open
     Open {
         head: st.head,
         len: end - (st.head + 3),
+        gaps: st.gaps,
         due: st.due,
     }
 }
@@ -38,7 +40,7 @@ pub fn put_chars(out: &mut [u8], st: Open, b: &[u8]) -> Open
     ended(st, end)
 }
 
-// The open string is closed, and another opened behind it.
+// The open string is closed, and another opened behind it, with a gap between.
 pub fn cut(out: &mut [u8], st: Open) -> Open
     requires { ⌜ Low (close (at (now out) st)) ⌝ }
     ensures { λ r. ⌜ at (now (out .exit)) r ≡ close (at (now (out .entry)) st) ⌝ }
@@ -48,6 +50,7 @@ pub fn cut(out: &mut [u8], st: Open) -> Open
     Open {
         head: st.head + 3 + len,
         len: 0,
+        gaps: st.gaps + 1,
         due: with_body(st.due, len),
     }
 }

@@ -30,7 +30,7 @@ use Rattle.spec.specs.Visit.{visit-exprs, visit-inside, visit-after, visit-foun
 use Rattle.spec.specs.Transform.{stands, expr, raw-tag, items, pieces}
 use Rattle.spec.specs.declared.Flags.{Flags}
 use Rattle.walk.specs.See.{World, at, wrote, see, passed, act, to-page, begun, numbered, wrap, props-closed}
-use Rattle.walk.proofs.SeeLaws.{Split, wrote-then, wrote-last, fronted, see-none, see-front, see-rest, see-node, see-page, Grows}
+use Rattle.walk.proofs.SeeLaws.{Split, wrote-then, wrote-last, fronted, see-none, see-front, see-rest, see-node, see-page, see-templates-length, Grows}
 
 -- ---- rows in which tags stand
 
@@ -205,17 +205,17 @@ module _ (ps : List Part) (w : World) where
   bump : World → World
   bump x = at (x .templates) (x .page) (record { first = x .st .first + 1; later = x .st .later; templates = x .st .templates; page = x .st .page; seen = x .st .seen })
 
-  numbered-is : bump (fronted (big-endian 2 (w .st .first) []) w) ≡ numbered w
+  numbered-is : bump (fronted (big-endian 4 (w .st .first) []) w) ≡ numbered w
   unfolding bump big-endian
   numbered-is =
-      let n : w .st .page + 3 + 2 ≡ w .st .page + 5 = omega arith in
+      let n : w .st .page + 3 + 4 ≡ w .st .page + 7 = omega arith in
       λ i. at (w .templates) (numbered w .page) (record { first = w .st .first + 1; later = w .st .later; templates = w .st .templates; page = n i; seen = w .st .seen })
 
   pub act-gen-template : act (gen-template ps) w ≡ wrap 0x90 (w .st .page) (act (dynamic-exprs ps) (numbered w))
   unfolding act gen-template see bump
   act-gen-template =
       let d = dynamic-exprs ps (w .st .first + 1) in
-      let b = big-endian 2 (w .st .first) [] in
+      let b = big-endian 4 (w .st .first) [] in
       let x = wrap 0x90 (w .st .page) (see (d .value) (fronted b w)) in
       let n : w .st .first + (1 + d .taken) ≡ w .st .first + 1 + d .taken = omega arith in
       ap (passed (gen-template ps (w .st .first))) (see-front 0x90 b (d .value) w)
@@ -500,8 +500,8 @@ module _ (p : Pass Mid) (w : World) where
   act-first = refl
 
   pub act-templates-length : length (act p w .templates) ≡ length (w .templates)
-  unfolding act see
-  act-templates-length = length-put _ _ _
+  unfolding act
+  act-templates-length = see-templates-length (p (w .st .first) .value) w
 
   pub act-page-length : length (act p w .page) ≡ length (w .page)
   unfolding act see

@@ -97,12 +97,12 @@ module _ (n : ℕ) (o : Bytes) (st : Walk) where
 
 -- ---- a call of a template
 
-pub numbered-is : (o : Bytes) (st : Walk) {o′ : Bytes} {e : ℕ} → Wrote o (st .page + 3) (big-endian 2 (st .first) []) o′ e →
+pub numbered-is : (o : Bytes) (st : Walk) {o′ : Bytes} {e : ℕ} → Wrote o (st .page + 3) (big-endian 4 (st .first) []) o′ e →
     at [] o′ (record { first = st .first + 1; later = st .later; templates = st .templates; page = e; seen = st .seen }) ≡ numbered (at [] o st)
 unfolding big-endian
 numbered-is o st {o′} {e} w =
-    let k : length (big-endian 2 (st .first) []) ≡ 2 = refl in
-    let n : e ≡ st .page + 5 = omega (arith, w .end-is, k) in
+    let k : length (big-endian 4 (st .first) []) ≡ 4 = refl in
+    let n : e ≡ st .page + 7 = omega (arith, w .end-is, k) in
     λ i. at [] (w .out-is i) (record { first = st .first + 1; later = st .later; templates = st .templates; page = n i; seen = st .seen })
 
 -- ---- a leaf: its bytes are written, and then its head

@@ -4,7 +4,7 @@
 use mathlib.Core.Path.{_≡_, refl, sym, ap, ap₂, _∙_, subst}
 use Prim.Native.Nat.{ℕ, _+_, _-_, _≤_}
 use native.Mathlib.Omega.{arith}
-use mathlib.Core.List.{List, [], _∷_, _++_, append-nil, append-assoc}
+use mathlib.Core.List.{List, [], _∷_, _++_, append-nil}
 use mathlib.Core.Bool.{Bool, true, false, _&&_, _||_, or-assoc, or-true, or-false, false≢true}
 use lib.Dec.{eqb, ltb}
 use borrow.Author.Tests.{ne-eqb}
@@ -15,13 +15,15 @@ use Rattle.field.specs.Row.{Row, end, field, field-bytes, bytes, long-body}
 use Rattle.field.specs.Put.{put, head}
 use Rattle.field.proofs.PutLaws.{put-put, put-nil, put-back, length-put, length-field-bytes}
 use Rattle.spec.specs.Pass.{Template, Done, pure, both, raise, join, no-flags, Mid, none, node, raw, _+++_}
-use Rattle.spec.specs.Output.{leaf, string-node, null-node, strings-row, template-row}
+use Rattle.spec.specs.Output.{leaf, string-node, null-node}
 use Rattle.spec.specs.Visit as W
 use Rattle.spec.specs.Visit.{visit-exprs}
 use Rattle.spec.specs.Transform.{templates-row, stands}
 use Rattle.spec.specs.declared.Flags.{Flags}
 use Rattle.strings.specs.Due.{graver, long-due, grave}
+use Rattle.strings.specs.Recorded.{recorded}
 use Rattle.strings.proofs.DueLaws.{due-none, due-then, due-more, due-raised, left-grave, none-grave}
+use Rattle.strings.proofs.RecordedLaws.{size-append, long-append, recorded-append, recorded-length}
 use Rattle.walk.specs.declared.state.Walk.{Walk}
 use Rattle.walk.specs.See.{World, at, wrote, see, to-page, along, begun, numbered, wrap, begun-if, wrap-if, left, flushed, props-closed, Low}
 
@@ -45,25 +47,6 @@ or-cross true b x y = refl
 or-cross false true x y = sym (or-true x)
 or-cross false false x y = refl
 
--- ---- templates, one behind the other
-
-bytes-templates : (ts us : List Template) → bytes (templates-row (ts ++ us)) ≡ bytes (templates-row ts) ++ bytes (templates-row us)
-unfolding bytes templates-row template-row
-bytes-templates [] us = refl
-bytes-templates (t ∷ ts) us =
-    let f = field-bytes 0x80 (big-endian 2 (t .number) [] ++ bytes (strings-row (t .strings))) in
-    ap (λ (x : Bytes). f ++ x) (bytes-templates ts us) ∙ sym (append-assoc f (bytes (templates-row ts)) (bytes (templates-row us)))
-
-long-templates : (ts us : List Template) → long-body (templates-row (ts ++ us)) ≡ (long-body (templates-row ts) || long-body (templates-row us))
-unfolding long-body templates-row template-row
-long-templates [] us = refl
-long-templates (t ∷ ts) us =
-    let a = ltb 65535 (length (big-endian 2 (t .number) [] ++ bytes (strings-row (t .strings)))) in
-    let b = long-body (strings-row (t .strings)) in
-    let x = long-body (templates-row ts) in
-    let y = long-body (templates-row us) in
-    ap (λ (z : Bool). a || (b || z)) (long-templates ts us) ∙ ap (λ (z : Bool). a || z) (sym (or-assoc b x y)) ∙ sym (or-assoc a (b || x) y)
-
 -- ---- two visits in a row
 
 -- a row that is x and then y
@@ -84,11 +67,10 @@ split-field t f i r =
 module _ (c d : Done Row) (v : Row) (s : Split v (c .value) (d .value)) (w : World) where
   pub wrote-then : wrote (record { value = v; taken = c .taken + d .taken; templates = c .templates ++ d .templates; flags = join (c .flags) (d .flags) }) w ≡ wrote d (wrote c w)
   wrote-then =
-      let x = bytes (templates-row (c .templates)) in
-      let y = bytes (templates-row (d .templates)) in
-      let et : bytes (templates-row (c .templates ++ d .templates)) ≡ x ++ y = bytes-templates (c .templates) (d .templates) in
-      let ot : put (w .templates) (w .st .templates) (bytes (templates-row (c .templates ++ d .templates))) ≡ put (put (w .templates) (w .st .templates) x) (w .st .templates + length x) y = ap (put (w .templates) (w .st .templates)) et ∙ sym (put-put (w .templates) (w .st .templates) x y) in
-      let nt : w .st .templates + length (bytes (templates-row (c .templates ++ d .templates))) ≡ w .st .templates + length x + length y = omega (arith, ap length et, length-append x y) in
+      let x = length (bytes (templates-row (c .templates))) in
+      let y = length (bytes (templates-row (d .templates))) in
+      let ot : recorded (c .templates ++ d .templates) (w .templates) (w .st .templates) ≡ recorded (d .templates) (recorded (c .templates) (w .templates) (w .st .templates)) (w .st .templates + x) = recorded-append (c .templates) (d .templates) (w .templates) (w .st .templates) in
+      let nt : w .st .templates + length (bytes (templates-row (c .templates ++ d .templates))) ≡ w .st .templates + x + y = omega (arith, size-append (c .templates) (d .templates)) in
       let a = bytes (c .value) in
       let b = bytes (d .value) in
       let op : put (w .page) (w .st .page) (bytes v) ≡ put (put (w .page) (w .st .page) a) (w .st .page + length a) b = ap (put (w .page) (w .st .page)) (s .split-bytes) ∙ sym (put-put (w .page) (w .st .page) a b) in
@@ -96,7 +78,7 @@ module _ (c d : Done Row) (v : Row) (s : Split v (c .value) (d .value)) (w : Wor
       let nl : w .st .later + (c .taken + d .taken) ≡ w .st .later + c .taken + d .taken = omega arith in
       let mark : (m : Bool) (u : ℕ) → (m || stands u v) ≡ ((m || stands u (c .value)) || stands u (d .value)) = λ m u. ap (λ (z : Bool). m || z) (s .split-stands u) ∙ sym (or-assoc m (stands u (c .value)) (stands u (d .value))) in
       let long : (long-body (templates-row (c .templates ++ d .templates)) || long-body v) ≡ ((long-body (templates-row (c .templates)) || long-body (c .value)) || (long-body (templates-row (d .templates)) || long-body (d .value))) =
-      ap₂ (λ (p q : Bool). p || q) (long-templates (c .templates) (d .templates)) (s .split-long)
+      ap₂ (λ (p q : Bool). p || q) (long-append (c .templates) (d .templates)) (s .split-long)
       ∙ or-cross (long-body (templates-row (c .templates))) (long-body (templates-row (d .templates))) (long-body (c .value)) (long-body (d .value)) in
       let due = due-then (w .st .seen .due) (c .flags) (d .flags) (long-body (templates-row (c .templates)) || long-body (c .value)) (long-body (templates-row (d .templates)) || long-body (d .value)) long in
       λ i. record {
@@ -126,14 +108,14 @@ wrote-last v k ts f w =
     λ i. wrote (record { value = v; taken = n i; templates = append-nil ts i; flags = record { left = or-false (f .left) i; long = or-false (f .long) i; repeated = or-false (f .repeated) i; mixed = or-false (f .mixed) i } }) w
 
 pub see-none : (w : World) → see none w ≡ w
-unfolding see visit-exprs pure templates-row bytes long-body stands
+unfolding see visit-exprs pure recorded templates-row bytes long-body stands
 see-none w =
     let n : w .st .later + 0 ≡ w .st .later = omega arith in
     let t : w .st .templates + 0 ≡ w .st .templates = omega arith in
     let p : w .st .page + 0 ≡ w .st .page = omega arith in
     let s = w .st .seen in
     λ i. record {
-      templates = put-nil (w .templates) (w .st .templates) i;
+      templates = w .templates;
       page = put-nil (w .page) (w .st .page) i;
       st =
           record {
@@ -183,7 +165,7 @@ module _ (t : ℕ) (f : Bytes) (d : Done Row) (w : World) where
       ∙ due-more (s .due) (grave (d .flags)) (l || v) (ltb 65535 (length (f ++ b)))
       ∙ ap (λ (x : ℕ). graver (graver (s .due) (graver (grave (d .flags)) (long-due (l || v)))) (long-due (ltb 65535 x))) n in
       λ i. record {
-        templates = put (w .templates) (w .st .templates) (bytes (templates-row (d .templates)));
+        templates = recorded (d .templates) (w .templates) (w .st .templates);
         page = o i;
         st =
             record {
@@ -324,14 +306,14 @@ module _ (t : Bytes) where
   lift-world e = ap (λ (x : World). at t (x .page) (x .st)) e
 
   pub at-see : (m : Mid) → plain m ≡ true → (p : Bytes) (s : Walk) → at t (see m (at [] p s) .page) (see m (at [] p s) .st) ≡ see m (at t p s)
-  unfolding see templates-row bytes
+  unfolding see recorded
   at-see m h p s =
-      let k : put t (s .templates) (bytes (templates-row (visit-exprs m (s .later) .templates))) ≡ t = ap (λ (x : List Template). put t (s .templates) (bytes (templates-row x))) (plain-templates m h (s .later)) ∙ put-nil t (s .templates) in
+      let k : recorded (visit-exprs m (s .later) .templates) t (s .templates) ≡ t = ap (λ (x : List Template). recorded x t (s .templates)) (plain-templates m h (s .later)) in
       λ i. at (sym k i) (see m (at t p s) .page) (see m (at t p s) .st)
 
   at-left : (p : Bytes) (s : Walk) → at t (left (at [] p s) .page) (left (at [] p s) .st) ≡ left (at t p s)
-  unfolding left W.leave raise pure templates-row bytes
-  at-left p s = λ i. at (sym (put-nil t (s .templates)) i) (left (at t p s) .page) (left (at t p s) .st)
+  unfolding left W.leave raise pure recorded
+  at-left p s = refl
 
   at-pick : (b : Bool) (x y : World) → at t (pick b x y .page) (pick b x y .st) ≡ pick b (at t (x .page) (x .st)) (at t (y .page) (y .st))
   at-pick true x y = refl
@@ -427,7 +409,7 @@ see-page t f i r w =
 module _ (m : Mid) (w : World) where
   pub see-templates-length : length (see m w .templates) ≡ length (w .templates)
   unfolding see
-  see-templates-length = length-put _ _ _
+  see-templates-length = recorded-length (visit-exprs m (w .st .later) .templates) (w .templates) (w .st .templates)
 
   pub see-page-length : length (see m w .page) ≡ length (w .page)
   unfolding see

@@ -18,6 +18,7 @@ use Rattle.spec.specs.Visit as W
 use Rattle.spec.specs.Visit.{visit-exprs}
 use Rattle.spec.specs.Transform.{templates-row, stands}
 use Rattle.strings.specs.Due.{graver, long-due, grave}
+use Rattle.strings.specs.Recorded.{recorded}
 use Rattle.walk.specs.declared.state.Walk.{Walk}
 use Rattle.walk.specs.declared.state.Seen.{Seen}
 
@@ -45,7 +46,7 @@ noted d s =
 abbrev pub wrote : Done Row → World → World
 wrote d w =
     record {
-      templates = put (w .templates) (w .st .templates) (bytes (templates-row (d .templates)));
+      templates = recorded (d .templates) (w .templates) (w .st .templates);
       page = put (w .page) (w .st .page) (bytes (d .value));
       st =
           record {
@@ -93,8 +94,8 @@ abbrev pub numbered : World → World
 numbered w =
     record {
       templates = w .templates;
-      page = put (w .page) (w .st .page + 3) (big-endian 2 (w .st .first) []);
-      st = record { first = w .st .first + 1; later = w .st .later; templates = w .st .templates; page = w .st .page + 5; seen = w .st .seen };
+      page = put (w .page) (w .st .page + 3) (big-endian 4 (w .st .first) []);
+      st = record { first = w .st .first + 1; later = w .st .later; templates = w .st .templates; page = w .st .page + 7; seen = w .st .seen };
     }
 
 abbrev pub marked : ℕ → ℕ → Seen → Seen

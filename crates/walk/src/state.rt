@@ -20,8 +20,8 @@ use decisions::expr::put_number_bytes_at;
 use field::reader::body;
 use field::reader::tag_at;
 use field::writer::put_bytes;
+use field::writer::put_four;
 use field::writer::put_head;
-use field::writer::put_two;
 use strings::due::LEFT;
 use strings::due::graver;
 use strings::due::with_body;
@@ -204,7 +204,7 @@ pub fn begin_template(page: &mut [u8], st: Walk) -> Walk
 {
     let n = st.first;
     let mut w = st;
-    w.page = put_two(page, st.page + 3, n);
+    w.page = put_four(page, st.page + 3, n);
     w.first = n + 1;
     w
 }

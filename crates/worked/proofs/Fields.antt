@@ -9,7 +9,7 @@ use lib.Dec.{leb, eqb}
 use lib.ListN.{length, take, drop, take-append-drop}
 use borrow.Author.Tests.{eqb-true, eq-eqb, ne-eqb, leb-true, eqb-false}
 use Rattle.field.specs.Bytes.{Bytes, AllBytes, pick}
-use Rattle.field.specs.Row.{Row, end, loose, field, field-bytes, bytes, Inside, only-bytes, fields-after, inside, Next, nothing, no-field, next, next-of, opened, built, read, Ended}
+use Rattle.field.specs.Row.{Row, end, loose, field, field-bytes, bytes, Inside, only-bytes, fields-after, counted, counted-front, inside, Next, nothing, no-field, next, next-of, opened, built, read, Ended}
 use Rattle.field.proofs.NumberLaws.{all-drop}
 use Rattle.field.proofs.RowLaws.{read-step, read-nil, read-ind, next-nothing, bytes-read}
 use Rattle.page.specs.Number.{whole, number-bytes}
@@ -38,6 +38,9 @@ opened-front only-bytes t w r =
 opened-front (fields-after n) t w r =
     row-front t (take n w) (read (drop n w)) (read r)
     ∙ ap (λ (x : Row). bytes (worked-row (field t (take n w) (read (drop n w)) x)) ++ bytes (worked-row (read r))) (sym read-nil)
+opened-front (counted n) t w r =
+    row-front t (take (counted-front n w) w) (read (drop (counted-front n w) w)) (read r)
+    ∙ ap (λ (x : Row). bytes (worked-row (field t (take (counted-front n w) w) (read (drop (counted-front n w) w)) x)) ++ bytes (worked-row (read r))) (sym read-nil)
 
 pub worked-front : (s : Bytes) (t : ℕ) (w r : Bytes) → next-of s ≡ next t w r → worked-bytes s ≡ worked-field t w ++ worked-bytes r
 unfolding worked-bytes worked-field built
@@ -85,6 +88,8 @@ unfolding opened bytes
 leaf-body only-bytes t w a = ap (λ (x : Bytes). field-bytes t x ++ bytes (read [])) (append-nil w)
 leaf-body (fields-after n) t w a =
     ap (λ (x : Bytes). field-bytes t x ++ bytes (read [])) (ap (λ (x : Bytes). take n w ++ x) (bytes-read (drop n w) (all-drop n w a)) ∙ take-append-drop n w)
+leaf-body (counted n) t w a =
+    ap (λ (x : Bytes). field-bytes t x ++ bytes (read [])) (ap (λ (x : Bytes). take (counted-front n w) w ++ x) (bytes-read (drop (counted-front n w) w) (all-drop (counted-front n w) w a)) ∙ take-append-drop (counted-front n w) w)
 
 not-held : (t : ℕ) (f : Bytes) (i : Row) → holds t ≡ false → worked-row (field t f i (read [])) ≡ field t f i (read [])
 unfolding worked-row number-or holds
@@ -97,6 +102,7 @@ opened-not-held : (c : Inside) (t : ℕ) (w : Bytes) → holds t ≡ false → w
 unfolding opened
 opened-not-held only-bytes t w h = not-held t w end h
 opened-not-held (fields-after n) t w h = not-held t (take n w) (read (drop n w)) h
+opened-not-held (counted n) t w h = not-held t (take (counted-front n w) w) (read (drop (counted-front n w) w)) h
 
 pub worked-leaf : (t : ℕ) (w : Bytes) → holds t ≡ false → AllBytes w → field-bytes t w ≡ worked-field t w
 unfolding worked-field bytes

@@ -8,7 +8,7 @@ use lib.Dec.{eqb}
 use lib.ListN.{length, take, drop}
 use borrow.Author.Tests.{eqb-true, eq-eqb, ne-eqb}
 use Rattle.field.specs.Bytes.{Bytes}
-use Rattle.field.specs.Row.{Row, end, loose, field, Inside, only-bytes, fields-after, inside, opened, read, Ended}
+use Rattle.field.specs.Row.{Row, end, loose, field, Inside, only-bytes, fields-after, counted, counted-front, inside, opened, read, Ended}
 use Rattle.field.specs.Front.{tag-of, body-of, behind-of}
 use Rattle.field.proofs.FrontLaws.{read-at, leaf-at, nest-at}
 use Rattle.page.specs.Page.{Pieces, no-pieces, source-piece, tag-piece}
@@ -34,6 +34,7 @@ opened-skipped : (c : Inside) (t : ℕ) (w r : Bytes) → is-piece t ≡ false �
 unfolding opened
 opened-skipped only-bytes t w r e = skipped t w end (read r) e
 opened-skipped (fields-after n) t w r e = skipped t (take n w) (read (drop n w)) (read r) e
+opened-skipped (counted n) t w r e = skipped t (take (counted-front n w) w) (read (drop (counted-front n w) w)) (read r) e
 
 pub stands : (t : ℕ) → is-piece t ≡ false → t ≡ 256 → ⊥
 unfolding is-piece

@@ -10,7 +10,7 @@ use lib.ListN.{length, take, drop, length-append, take-append-drop}
 use borrow.Author.Tests.{eqb-true}
 use Rattle.field.specs.Bytes.{Bytes, pick}
 use Rattle.field.specs.Number.{big-endian}
-use Rattle.field.specs.Row.{Row, end, loose, field, bytes, Inside, only-bytes, fields-after, inside, next-of, nothing, no-field, next, opened, read}
+use Rattle.field.specs.Row.{Row, end, loose, field, bytes, Inside, only-bytes, fields-after, counted, counted-front, inside, next-of, nothing, no-field, next, opened, read}
 use Rattle.field.proofs.NumberLaws.{length-big-endian}
 use Rattle.field.proofs.RowLaws.{read-ind, read-nil, next-nothing, next-sizes, length-bytes}
 use Rattle.page.specs.Number.{whole, number-bytes}
@@ -39,6 +39,7 @@ opened-size : (c : Inside) (t : ℕ) (w r : Bytes) → length (bytes (opened c r
 unfolding opened bytes
 opened-size only-bytes t w r = omega (arith, length-bytes t w end (read r), length-read r)
 opened-size (fields-after n) t w r = omega (arith, length-bytes t (take n w) (read (drop n w)) (read r), length-read r, length-read (drop n w), part-size n w)
+opened-size (counted n) t w r = omega (arith, length-bytes t (take (counted-front n w) w) (read (drop (counted-front n w) w)) (read r), length-read r, length-read (drop (counted-front n w) w), part-size (counted-front n w) w)
 
 -- ---- a sum has at least four bytes with its header
 
