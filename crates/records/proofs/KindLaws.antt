@@ -148,6 +148,7 @@ behind-some q (c ∷ cs) t e = on (behind-some (sign q c) cs t) (behind-last cs)
         let s : cs ≡ t = cc in
         (ap (λ (x : ℕ). sign-after x cs) (ap (λ (b : Bool). pick b 2 (pick (eqb c 62) 0 (pick (eqb q 2) (pick (eqb c 47) 0 1) q))) m) ∙ ap (sign-after 2) s, ap behind-last (sym s) ∙ n)
     last false m n g = absurd (let z : none ≡ some t = g in let k : _≡_ {A = ℕ} 0 1 = cc in omega arith)
+
     on : (behind-last cs ≡ some t → (sign-after (sign q c) cs ≡ sign-after 2 t) × (behind-last t ≡ none)) → (x : Option Bytes) → behind-last cs ≡ x → (elim x [ some u ↦ some u | none ↦ pick (eqb c 60) (some cs) none ]) ≡ some t → (sign-after (sign q c) cs ≡ sign-after 2 t) × (behind-last t ≡ none)
     on ih (some u) m g = let s : u ≡ t = cc in ih (m ∙ ap some s)
     on ih none m g = last (eqb c 60) refl m g
@@ -160,6 +161,7 @@ no-open c cs e = on (behind-last cs) refl e
     last : (b : Bool) → eqb c 60 ≡ b → _≡_ {A = Option Bytes} (pick b (some cs) none) none → eqb c 60 ≡ false
     last true m g = absurd (let z : _≡_ {A = Option Bytes} (some cs) none = g in let k : _≡_ {A = ℕ} 0 1 = cc in omega arith)
     last false m g = m
+
     on : (x : Option Bytes) → behind-last cs ≡ x → _≡_ {A = Option Bytes} (elim x [ some u ↦ some u | none ↦ pick (eqb c 60) (some cs) none ]) none → (eqb c 60 ≡ false) × (behind-last cs ≡ none)
     on (some u) m g = absurd (let k : _≡_ {A = ℕ} 0 1 = cc in omega arith)
     on none m g = (last (eqb c 60) refl g, m)
@@ -199,9 +201,11 @@ behind-kind (c ∷ cs) e =
     kind-of : (b : Bool) → kind-at (pick b 0 1) ≡ kind-byte (not b && true)
     kind-of true = refl
     kind-of false = refl
+
     not-both : (b : Bool) → 2 ≡ kind-byte (not b && false)
     not-both true = refl
     not-both false = refl
+
     on : (a b : Bool) → sign-after 0 cs ≡ 0 → sign-after 1 cs ≡ pick (holds 62 cs) 0 1 → kind-at (sign-after (pick a 0 (pick b 0 1)) cs) ≡ kind-byte (not (a || holds 62 cs) && not b)
     on true b p q = ap kind-at p
     on false true p q = ap kind-at p ∙ not-both (holds 62 cs)
