@@ -2,12 +2,14 @@
 -- `accepted-outputs`, `later-one`. Assumes nothing.
 use mathlib.Core.Path.{_≡_, refl, sym, ap, ap₂, _∙_, subst}
 use mathlib.Core.Bool.{Bool, true, false, not}
-use Prim.Native.Nat.{ℕ, _-_, _≤_}
+use Prim.Native.Nat.{ℕ, _+_, _-_, _≤_}
 use native.Mathlib.Omega.{arith}
-use lib.Dec.{eqb, leb}
+use lib.Dec.{T, eqb, leb}
 use lib.ListN.{length, replicate}
+use borrow.Author.Tests.{not-true}
 use Rattle.field.specs.Bytes.{Bytes}
-use Rattle.field.specs.Row.{Row, read, bytes}
+use Rattle.field.specs.Row.{Row, read, bytes, long-body}
+use Rattle.field.specs.Put.{put}
 use Rattle.page.specs.Page.{Options}
 use Rattle.page.specs.Tree.{options-in, source-in}
 use Rattle.page.specs.Refusal.{after, unless}
@@ -18,7 +20,9 @@ use Rattle.page.specs.declared.Verdict.the-variants.{Fine, Refused}
 use Rattle.spec.specs.Pass.{Done}
 use Rattle.spec.specs.Transform.{transform, templates-row, page-out-row}
 use Rattle.spec.specs.Answer.{Written, Outcome, refused, accepted, check-outputs, decided, transformed, check-inputs, page-given, outcome, number, templates-bytes, page-bytes, templates, zeros, templates-left, page-left, scratch-left}
-use Rattle.spec.proofs.Answers.{inputs-fine}
+use Rattle.spec.proofs.Answers.{inputs-fine, outputs-fine, short-outputs}
+use Rattle.strings.specs.Recorded.{recorded}
+use Rattle.strings.proofs.RecordedLaws.{recorded-fits}
 use Rattle.walk.specs.declared.state.Walk.{Walk}
 use Rattle.walk.specs.See.{World, at}
 use Rattle.transform.specs.declared.Answer.{Answer}
@@ -72,6 +76,10 @@ module _ (w : Walk) (tr pr : ℕ) (b : Bytes) where
       (after-one Cleared _ _ (checked (not (eqb (w .seen .due) 1)) R.OutputTooLong refl)
       (after-one Cleared _ _ (checked (leb (w .templates) tr) R.TemplatesTooSmall refl) (unless-one Cleared (leb (w .page) pr) R.PageTooSmall refl)))))
       h
+
+holds : (b : Bool) → T b → b ≡ true
+holds true h = refl
+holds false h = absurd h
 
 -- zeros go by the length alone
 zeros-same : (b b′ : Bytes) → length b′ ≡ length b → zeros b′ ≡ zeros b
@@ -127,6 +135,16 @@ module _ (page options scratch t g : Bytes) (fine : check-inputs page options (l
           page-out-is = x .page-out-is ∙ zeros-same g g′ kg;
         })
 
+    -- where it is accepted nothing is too long and all of it fits: the templates stand as their records
+    templates-stand : v ≡ Fine → recorded (result .templates) t 0 ≡ put t 0 (bytes (templates-row (result .templates)))
+    templates-stand h =
+        let ts = templates-row (result .templates) in
+        let g′ = page-out-row opts-of result in
+        let x = outputs-fine (length t) (length g) (result .flags) ts g′ (all-verdict ∙ h) in
+        let n : long-body ts ≡ false = not-true (long-body ts) (holds (not (long-body ts)) (short-outputs (result .flags) ts g′ (x .short) .0)) in
+        let f : 0 + length (bytes ts) ≤ length t = omega (arith, x .templates-fit) in
+        recorded-fits (result .templates) t 0 f n
+
     pub accepted-outputs : v ≡ Fine → (scratch₁ : Bytes) → length scratch₁ ≡ length scratch → {s″ : Bytes} → s″ ≡ zeros scratch₁ →
         Answers (outcome page options (length scratch) (length t) (length g)) scratch t g (record { number = 0; «templates_bytes» = w .templates; «page_bytes» = w .page; templates = w .later - 1 }) s″ t′ g′
     unfolding decided number templates-bytes page-bytes templates templates-left page-left scratch-left
@@ -139,6 +157,6 @@ module _ (page options scratch t g : Bytes) (fine : check-inputs page options (l
           page-bytes-is = ap (λ (x : World). x .st .page) is;
           templates-is = omega (arith, ap (λ (x : World). x .st .later) is);
           scratch-is = z ∙ zeros-same scratch scratch₁ ks;
-          templates-out-is = ap (λ (x : World). x .templates) is;
+          templates-out-is = ap (λ (x : World). x .templates) is ∙ templates-stand h;
           page-out-is = ap (λ (x : World). x .page) is;
         })

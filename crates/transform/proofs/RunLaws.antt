@@ -33,6 +33,7 @@ use Rattle.spec.proofs.PageOut.{templates-related}
 use Rattle.decisions.specs.At.{opts}
 use Rattle.decisions.specs.Index.{names-of}
 use Rattle.strings.specs.Due.{graver, long-due, grave}
+use Rattle.strings.specs.Recorded.{recorded}
 use Rattle.strings.proofs.DueLaws.{none-graver}
 use Rattle.walk.specs.declared.state.Walk.{Walk}
 use Rattle.walk.specs.See.{World, at, see, wrote}
@@ -310,7 +311,7 @@ walked d r q =
     }
 
 abbrev pub world : Done Row → Row → ℕ → (t p : Bytes) → World
-world d r q t p = at (put t 0 (bytes (templates-row (d .templates)))) (put p q (bytes r)) (walked d r q)
+world d r q t p = at (recorded (d .templates) t 0) (put p q (bytes r)) (walked d r q)
 
 wrote-walked : (d : Done Row) (r : Row) (q : ℕ) (t p : Bytes) → Alike r (d .value) → wrote (valued r d) (at t p (started q)) ≡ world d r q t p
 wrote-walked d r q t p a =
@@ -323,7 +324,7 @@ wrote-walked d r q t p a =
 
     noted : ℕ → (x y z : Bool) → ℕ → World
     noted k x y z n =
-        at (put t 0 (bytes (templates-row (d .templates)))) (put p q (bytes r))
+        at (recorded (d .templates) t 0) (put p q (bytes r))
         (record {
           first = 1;
           later = 1 + d .taken;

@@ -24,6 +24,7 @@ use Rattle.spec.proofs.PageOut.{import-row, import-related}
 use Rattle.decisions.specs.At.{opts}
 use Rattle.decisions.specs.Index.{names-of}
 use Rattle.strings.specs.Due.{graver, due-if, long-due, grave}
+use Rattle.strings.specs.Recorded.{recorded}
 use Rattle.strings.proofs.DueLaws.{graver-left, none-graver, graver-assoc, long-then}
 use Rattle.walk.specs.declared.state.Walk.{Walk}
 use Rattle.walk.specs.See.{World, at, see, to-page}
@@ -39,12 +40,12 @@ abbrev placed-row : Done Row → Row
 placed-row d = with-templates (d .templates) (d .value)
 
 world-is : (o : Options) (d : Done Row) (r : Row) (q n : ℕ) (t p p′ : Bytes) → length (d .templates) ≡ d .taken → p′ ≡ put p 0 (bytes (page-out-row o d)) → n ≡ length (bytes (page-out-row o d)) →
-    at (put t 0 (bytes (templates-row (d .templates)))) p′ (to-page n (walked d r q)) ≡ written-page o d t p
+    at (recorded (d .templates) t 0) p′ (to-page n (walked d r q)) ≡ written-page o d t p
 world-is o d r q n t p p′ counted e k = ap (λ (x : Bytes). out x (d .taken) n) e ∙ ap₂ (out (put p 0 (bytes (page-out-row o d)))) (sym counted) k
   where
     out : Bytes → ℕ → ℕ → World
     out x l n =
-        at (put t 0 (bytes (templates-row (d .templates)))) x
+        at (recorded (d .templates) t 0) x
         (record { first = 1; later = 1 + l; templates = length (bytes (templates-row (d .templates))); page = n; seen = walked d r q .seen })
 
 -- ---- the options are those that 02 and 03 list; the last premises are `counted` and `called` of spec
@@ -97,7 +98,7 @@ module _ (skip props : Bytes) (r : Row) (is : Page) (e : (n : Bytes) → among n
         let h = put-in p a b (ap (λ (w : World). w .page) left ∙ ap (put p 0) (c .whole)) k end in
         let row : headed (source-in r) z a b ≡ bytes (page-out-row (options-in r) d) =
         ap (λ (s : Walk). headed (source-in r) s a b) state ∙ headed-row (source-in r) (walked d (d .value) 0) (d .templates) (d .value) a b later (walked-sum d (d .value) 0 called) (λ l. called-due (omega arith)) c in
-        let ts : t′ ≡ put t 0 (bytes (templates-row (d .templates))) = ap (λ (w : World). w .templates) left in
+        let ts : t′ ≡ recorded (d .templates) t 0 = ap (λ (w : World). w .templates) left in
         let st : y ≡ to-page (length (bytes (page-out-row (options-in r) d))) (walked d (d .value) 0) = h .state-is ∙ ap₂ to-page (ap length row) state in
         ap₂ (λ (x : Bytes) (s : Walk). at x p″ s) ts st
         ∙ world-is (options-in r) d (d .value) 0 (length (bytes (page-out-row (options-in r) d))) t p p″ counted (h .page-is ∙ ap (put p 0) row) refl

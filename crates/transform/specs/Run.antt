@@ -20,6 +20,7 @@ use Rattle.spec.specs.Transform as T
 use Rattle.spec.specs.Transform.{pieces, templates-row, page-out-row, stands}
 use Rattle.spec.specs.Answer.{Outcome, number, templates-bytes, page-bytes, templates, templates-left, page-left, scratch-left}
 use Rattle.strings.specs.Due.{graver, long-due, grave}
+use Rattle.strings.specs.Recorded.{recorded}
 use Rattle.walk.specs.declared.state.Walk.{Walk}
 use Rattle.walk.specs.See.{World, at, to-page}
 use Rattle.transform.specs.declared.Answer.{Answer}
@@ -115,10 +116,10 @@ pub record Headed (source : Bytes) (w : Walk) (o a b page : Bytes) (w′ : Walk)
   pub page-is : page ≡ put o 0 (headed source w a b)
   pub state-is : w′ ≡ to-page (length (headed source w a b)) w
 
--- both outputs of a result, written, and the state behind them
+-- both outputs of a result, as the walk leaves them, and the state behind them
 abbrev pub written-page : Options → Done Row → (templates page : Bytes) → World
 written-page o d t p =
-    at (put t 0 (bytes (templates-row (d .templates)))) (put p 0 (bytes (page-out-row o d)))
+    at (recorded (d .templates) t 0) (put p 0 (bytes (page-out-row o d)))
     (record {
       first = 1;
       later = 1 + length (d .templates);

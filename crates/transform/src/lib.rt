@@ -9,7 +9,6 @@ ghost use Rattle.transform.specs.Run.{Answers, verdict-of};
 
 mod given;
 mod module;
-mod moves;
 mod options;
 
 use given::write_given;

@@ -15,7 +15,6 @@ use types.Run.{OneOf, miss}
 use Rattle.field.specs.Bytes.{Bytes, pick}
 use Rattle.field.specs.Row.{Row, end, loose, field, read, bytes, long-body}
 use Rattle.field.specs.Front.{tag-of, body-of, behind-of}
-use Rattle.field.specs.Put.{put}
 use Rattle.field.proofs.PutLaws.{put-nil}
 use Rattle.page.specs.Number.{Number, whole, scaled, number-tag, minus-tag, number-in}
 use Rattle.page.specs.Page as P
@@ -31,6 +30,7 @@ use Rattle.spec.specs.Visit.{visit-exprs, visit-inside, visit-after, visit-foun
 use Rattle.spec.specs.Transform.{templates-row, stands, element-of, fragment-of, element-raw, shape-of, raw-tag, expr, children, child}
 use Rattle.decisions.specs.At.{opts, element-at, children-at, is-none, few, FirstChild}
 use Rattle.decisions.proofs.Series.{tested, any-front, children-61, expr-70, expr-71, expr-72, expr-74, expr-75, expr-76, expr-79, expr-7a, expr-7b, expr-30, expr-31}
+use Rattle.strings.specs.Recorded.{recorded}
 use Rattle.strings.proofs.TreeLaws.{held, kids-60, kids-52, kids-30, kids-31}
 use Rattle.records.specs.declared.Records.{Records}
 use Rattle.records.specs.Keep as K
@@ -86,7 +86,7 @@ module _ (p : Pass Mid) (w : World) where
       let s = w .st .seen in
       let n : w .st .page + 0 ≡ w .st .page = omega arith in
       λ i. record {
-        templates = put (w .templates) (w .st .templates) (bytes (templates-row (r .templates)));
+        templates = recorded (r .templates) (w .templates) (w .st .templates);
         page = put-nil (w .page) (w .st .page) i;
         st =
             record {
