@@ -1,22 +1,23 @@
 -- The row at the front of bytes by `front-of` and `inner-of`: what a walk over printed fields learns from its readers.
--- Main statements: `read-front`, `read-field`, `read-by`, `not-ended`, `inner-less`, `front-length-within`, `front-is`, `inner-is`.
+-- Main statements: `read-front`, `read-field`, `read-by`, `not-ended`, `inner-less`, `front-length-within`, `counted-is`, `front-is`, `inner-is`.
 -- Assumes nothing.
 use mathlib.Core.Path.{_≡_, refl, sym, ap, _∙_, subst}
 use mathlib.Core.Bool.{Bool, true, false}
-use Prim.Native.Nat.{ℕ, _-_, _≤_, _<_}
+use Prim.Native.Nat.{ℕ, _+_, _-_, _*_, _≤_, _<_}
 use native.Mathlib.Nat.{le-refl}
 use native.Mathlib.Omega.{arith}
-use mathlib.Core.List.{[]}
+use mathlib.Core.List.{[], _∷_}
 use lib.Dec.{leb}
-use lib.ListN.{length, take, drop, length-drop, drop-of-length-le}
+use lib.ListN.{length, take, drop, getD, length-drop, drop-of-length-le}
 use lib.Seq.{take-all, take-length, drop-length}
-use borrow.Author.Tests.{leb-true, leb-false}
+use borrow.Author.Tests.{leb-true, leb-false, lt-leb}
 use Rattle.field.specs.Bytes.{Bytes, pick}
-use Rattle.field.specs.Row.{Row, end, loose, field, Inside, only-bytes, fields-after, inside, Next, nothing, no-field, next, next-of, opened, built, read, Ended}
+use Rattle.field.specs.Number.{number-from}
+use Rattle.field.specs.Row.{Row, end, loose, field, Inside, only-bytes, fields-after, counted, counted-front, inside, Next, nothing, no-field, next, next-of, opened, built, read, Ended}
 use Rattle.field.specs.Front.{tag-of, body-of, behind-of, tag-by, body-by, behind-by}
 use Rattle.field.proofs.RowLaws.{read-step, read-nil}
 use Rattle.field.proofs.FrontLaws.{body-less}
-use Rattle.printing.specs.Front.{front-by, inner-by, front-of, inner-of, front-length}
+use Rattle.printing.specs.Front.{front-by, inner-by, front-of, inner-of, at-most, front-length}
 
 -- ---- a field stands in front
 
@@ -24,6 +25,7 @@ opened-parts : (c : Inside) (t : ℕ) (w r : Bytes) → opened c read t w r ≡ 
 unfolding opened
 opened-parts only-bytes t w r = ap (λ (i : Row). field t w i (read r)) (sym read-nil)
 opened-parts (fields-after n) t w r = refl
+opened-parts (counted n) t w r = refl
 
 front-next : (s : Bytes) (n : Next) → (Ended (built read s n) → ⊥) → built read s n ≡ field (tag-by n) (front-by (inside (tag-by n)) (body-by n)) (read (inner-by (inside (tag-by n)) (body-by n))) (read (behind-by n))
 unfolding built
@@ -45,6 +47,7 @@ field-by s (next t w r) h i = on (inside t) i
     on : (c : Inside) → Ended (opened c read t w r) → ⊥
     on only-bytes i = i
     on (fields-after n) i = i
+    on (counted n) i = i
 
 pub not-ended : (s : Bytes) → (tag-of s ≡ 256 → ⊥) → Ended (read s) → ⊥
 unfolding tag-of
@@ -72,33 +75,52 @@ read-by f he hl s = ap f (read-step s) ∙ on (next-of s)
 pub inner-within : (c : Inside) (w : Bytes) → length (inner-by c w) ≤ length w
 inner-within only-bytes w = omega arith
 inner-within (fields-after n) w = omega (arith, length-drop n w)
+inner-within (counted n) w = omega (arith, length-drop (counted-front n w) w)
 
 -- the fields as the reader hands them back
 pub inner-less : (s : Bytes) → (tag-of s ≡ 256 → ⊥) → {b : Bytes} → b ≡ inner-of s → length b < length s
 unfolding inner-of
 inner-less s h q = omega (arith, ap length q, inner-within (inside (tag-of s)) (body-of s), body-less s (tag-of s) refl h {b = body-of s} refl)
 
-pub front-length-within : (i : Inside) (n : ℕ) → front-length i n ≤ n
-front-length-within only-bytes n = le-refl n
-front-length-within (fields-after k) n = on (leb k n) refl
+at-most-within : (k n : ℕ) → at-most k n ≤ n
+at-most-within k n = on (leb k n) refl
   where
     on : (b : Bool) → leb k n ≡ b → pick b k n ≤ n
     on true e = leb-true k n e
     on false e = le-refl n
 
+pub front-length-within : (i : Inside) (w : Bytes) → front-length i w ≤ length w
+front-length-within only-bytes w = le-refl (length w)
+front-length-within (fields-after k) w = at-most-within k (length w)
+front-length-within (counted k) w = at-most-within (counted-front k w) (length w)
+
+-- a body that is too short for the count is all front, and elsewhere the count is its fifth and sixth byte
+pub counted-short : (w : Bytes) → length w < 6 → length w ≡ front-length (counted 4) w
+counted-short w h =
+    let l : length w < counted-front 4 w = omega arith in
+    rw (lt-leb (counted-front 4 w) (length w) l)
+
+pub counted-is : (w : Bytes) → 6 ≤ length w → 6 + (getD w 4 0 * 256 + getD w 5 0) ≡ counted-front 4 w
+unfolding number-from
+counted-is [] h = absurd (omega arith)
+counted-is (a ∷ []) h = absurd (omega arith)
+counted-is (a ∷ b ∷ []) h = absurd (omega arith)
+counted-is (a ∷ b ∷ c ∷ []) h = absurd (omega arith)
+counted-is (a ∷ b ∷ c ∷ d ∷ []) h = absurd (omega arith)
+counted-is (a ∷ b ∷ c ∷ d ∷ e ∷ []) h = absurd (omega arith)
+counted-is (a ∷ b ∷ c ∷ d ∷ e ∷ f ∷ w) h = omega arith
+
 -- ---- the two parts as the code cuts them: n is the front's length
 
-front-cut : (c : Inside) (w : Bytes) → take (front-length c (length w)) w ≡ front-by c w
-front-cut only-bytes w = take-length w
-front-cut (fields-after k) w = on (leb k (length w)) refl
+taken-cut : (k : ℕ) (w : Bytes) → take (at-most k (length w)) w ≡ take k w
+taken-cut k w = on (leb k (length w)) refl
   where
     on : (b : Bool) → leb k (length w) ≡ b → take (pick b k (length w)) w ≡ take k w
     on true e = refl
     on false e = take-length w ∙ sym (take-all k w (omega (arith, leb-false k (length w) e)))
 
-inner-cut : (c : Inside) (w : Bytes) → drop (front-length c (length w)) w ≡ inner-by c w
-inner-cut only-bytes w = drop-length w
-inner-cut (fields-after k) w = on (leb k (length w)) refl
+dropped-cut : (k : ℕ) (w : Bytes) → drop (at-most k (length w)) w ≡ drop k w
+dropped-cut k w = on (leb k (length w)) refl
   where
     on : (b : Bool) → leb k (length w) ≡ b → drop (pick b k (length w)) w ≡ drop k w
     on true e = refl
@@ -106,9 +128,19 @@ inner-cut (fields-after k) w = on (leb k (length w)) refl
         let l : length w ≤ k = omega (arith, leb-false k (length w) e) in
         drop-length w ∙ sym (drop-of-length-le w l)
 
-module _ (s b : Bytes) (t n : ℕ) (eb : b ≡ body-of s) (et : t ≡ tag-of s) (en : n ≡ front-length (inside t) (length b)) where
+front-cut : (c : Inside) (w : Bytes) → take (front-length c w) w ≡ front-by c w
+front-cut only-bytes w = take-length w
+front-cut (fields-after k) w = taken-cut k w
+front-cut (counted k) w = taken-cut (counted-front k w) w
+
+inner-cut : (c : Inside) (w : Bytes) → drop (front-length c w) w ≡ inner-by c w
+inner-cut only-bytes w = drop-length w
+inner-cut (fields-after k) w = dropped-cut k w
+inner-cut (counted k) w = dropped-cut (counted-front k w) w
+
+module _ (s b : Bytes) (t n : ℕ) (eb : b ≡ body-of s) (et : t ≡ tag-of s) (en : n ≡ front-length (inside t) b) where
   pub front-fits : n ≤ length b
-  front-fits = rw en (front-length-within (inside t) (length b))
+  front-fits = rw en (front-length-within (inside t) b)
 
   pub front-is : take n b ≡ front-of s
   unfolding front-of

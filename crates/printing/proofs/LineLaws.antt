@@ -94,10 +94,10 @@ line w i = ascii "const " ++ (template-name w ++ (ascii " = [" ++ (parted-text (
 module _ (s : Bytes) (t : ℕ) (e : t ≡ tag-of s) (h : t ≡ 256 → ⊥) {w i : Bytes} (ew : w ≡ front-of s) (ei : i ≡ inner-of s) where
   pub templates-at : {r : Bytes} → r ≡ behind-of s → templates-text (read s) ≡ line w i ++ templates-text (read r)
   unfolding templates-text
-  templates-at {r} er = ap templates-text (read-field s t e h ew ei er) ∙ ap (λ (x : Bytes). ascii "const $$_tpl_" ++ x) (line-end (decimal (number-of (take 2 w))) (parted-text (read i)) (templates-text (read r)))
+  templates-at {r} er = ap templates-text (read-field s t e h ew ei er) ∙ ap (λ (x : Bytes). ascii "const $$_tpl_" ++ x) (line-end (decimal (number-of (take 4 w))) (parted-text (read i)) (templates-text (read r)))
 
 length-line : (w i : Bytes) → length (line w i) ≡ 6 + (length (template-name w) + (4 + (length (parted-text (read i)) + 3)))
-length-line w i = omega (arith, length-append (decimal (number-of (take 2 w))) (ascii " = [" ++ (parted-text (read i) ++ (93 ∷ 59 ∷ 10 ∷ []))), length-append (parted-text (read i)) (93 ∷ 59 ∷ 10 ∷ []))
+length-line w i = omega (arith, length-append (decimal (number-of (take 4 w))) (ascii " = [" ++ (parted-text (read i) ++ (93 ∷ 59 ∷ 10 ∷ []))), length-append (parted-text (read i)) (93 ∷ 59 ∷ 10 ∷ []))
 
 -- the room of a turn of the loop
 pub templates-turn : {o₀ x o : Bytes} {n₀ n : ℕ} (t : Bytes) → Left o₀ n₀ x o n (templates-text (read t)) → (g : ℕ) → g ≡ tag-of t → (g ≡ 256 → ⊥) → {w i : Bytes} → w ≡ front-of t → i ≡ inner-of t → n + (6 + (length (template-name w) + (4 + (length (parted-text (read i)) + 3)))) < 2 ^ 63

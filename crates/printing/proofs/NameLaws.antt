@@ -1,5 +1,5 @@
 -- Names with points between, and the number in a template's name.
--- Main statements: `pointed-at`, `pointed-more-at`, `pointed-end`, `pointed-more-end`, `two-long`, `two-short`. Assumes nothing.
+-- Main statements: `pointed-at`, `pointed-more-at`, `pointed-end`, `pointed-more-end`, `four-long`, `four-short`. Assumes nothing.
 use mathlib.Core.Path.{_≡_, refl, sym, ap, _∙_}
 use Prim.Native.Nat.{ℕ, _≤_, _<_}
 use native.Mathlib.Omega.{arith}
@@ -35,9 +35,9 @@ pointed-more-end end i = refl
 pointed-more-end (loose b) i = refl
 pointed-more-end (field t f y r) i = absurd i
 
--- the number of a body of two bytes and more, and of a shorter one
-pub two-long : (f : Bytes) → 2 ≤ length f → number-of (take 8 (take 2 f)) ≡ number-of (take 2 f)
-two-long f h = ap number-of (take-all 8 (take 2 f) (omega (arith, length-take-le 2 f h)))
+-- the number of a front of four bytes and more, and of a shorter one
+pub four-long : (f : Bytes) → 4 ≤ length f → number-of (take 8 (take 4 f)) ≡ number-of (take 4 f)
+four-long f h = ap number-of (take-all 8 (take 4 f) (omega (arith, length-take-le 4 f h)))
 
-pub two-short : (f : Bytes) → length f < 2 → number-of (take 8 f) ≡ number-of (take 2 f)
-two-short f h = ap number-of (take-all 8 f (omega arith) ∙ sym (take-all 2 f (omega arith)))
+pub four-short : (f : Bytes) → length f < 4 → number-of (take 8 f) ≡ number-of (take 4 f)
+four-short f h = ap number-of (take-all 8 f (omega arith) ∙ sym (take-all 4 f (omega arith)))

@@ -60,7 +60,7 @@ length-pointed (loose b) = omega arith
 length-pointed (field t f i r) = omega (arith, length-append f (pointed-more r), length-bytes t f i r, length-pointed-more r)
 
 pub length-template-name : (f : Bytes) → length (template-name f) ≤ 27
-length-template-name f = omega (arith, length-decimal (number-of (take 2 f)))
+length-template-name f = omega (arith, length-decimal (number-of (take 4 f)))
 
 pub length-first-front : (r : Row) → length (first-front r) ≤ length (bytes r)
 length-first-front end = omega arith

@@ -19,8 +19,8 @@ use Rattle.printing.specs.Card.{quoted-byte, quoted-bytes, quoted, goes-
 
 -- the text of both outputs of the worked page
 worked-text :
-    page-text (read (fld 0x80 ((0 ∷ 1 ∷ []) ++ (fld 0x81 (ascii "<p class=\"t\">Hi ") ++ fld 0x81 (ascii "</p>")))))
-    (read (fld 0x82 (fld 0x81 (ascii "react/jsx-runtime") ++ (10 ∷ [])) ++ (fld 0x83 [] ++ fld 0x12 (fld 0x20 (ascii "const a = ") ++ (fld 0x90 ((0 ∷ 1 ∷ []) ++ fld 0x92 (fld 0x79 (fld 0x20 (ascii "n")))) ++ fld 0x20 (ascii ";"))))))
+    page-text (read (fld 0x84 ((0 ∷ 0 ∷ 0 ∷ 1 ∷ []) ++ ((0 ∷ 1 ∷ 2 ∷ []) ++ (fld 0x81 (ascii "<p class=\"t\">Hi ") ++ fld 0x81 (ascii "</p>"))))))
+    (read (fld 0x82 (fld 0x81 (ascii "react/jsx-runtime") ++ (10 ∷ [])) ++ (fld 0x83 [] ++ fld 0x12 (fld 0x20 (ascii "const a = ") ++ (fld 0x90 ((0 ∷ 0 ∷ 0 ∷ 1 ∷ []) ++ fld 0x92 (fld 0x79 (fld 0x20 (ascii "n")))) ++ fld 0x20 (ascii ";"))))))
     ≡ (ascii "import { jsxTemplate as _jsxTemplate, jsxEscape as _jsxEscape } from \"react/jsx-runtime\";" ++ (10 ∷ (ascii "const $$_tpl_1 = [\"<p class=\\\"t\\\">Hi \", \"</p>\"];" ++ (10 ∷ (ascii "const a = _jsxTemplate($$_tpl_1, _jsxEscape(n));" ++ (10 ∷ []))))))
 unfolding big-endian number-from field-bytes inside next-of opened built read-from read digits decimal render number-in choose boolean-in quoted-byte quoted-bytes goes-on is-identifier pointed-more pointed text-by all-text parted-text behind-text first-text second-text helper-text helpers-text import-text templates-text page-text
 worked-text = refl
@@ -36,13 +36,13 @@ reply-text x m e z =
     reply-number (refused n) = refl
     reply-number (accepted w) = refl
 
--- 01's worked card: const a = <p class="t">Hi {n}</p>; by its row of the table of marks, the sixteenth, so that the transform is not
+-- 01's worked card: const a = <p class="t">Hi {n}</p>; by its row of the table of marks, the eighteenth, so that the transform is not
 -- computed again
 pub worked :
     card (fld 0x01 (fld 0x12 (fld 0x20 (ascii "const a = ") ++ (fld 0x30 (fld 0x40 (ascii "p") ++ (fld 0x50 (fld 0x40 (ascii "class") ++ fld 0x51 (ascii "t")) ++ (fld 0x60 (ascii "Hi ") ++ fld 0x52 (fld 0x79 (fld 0x20 (ascii "n")))))) ++ fld 0x20 (ascii ";")))))
     ≡ (ascii "import { jsxTemplate as _jsxTemplate, jsxEscape as _jsxEscape } from \"react/jsx-runtime\";" ++ (10 ∷ (ascii "const $$_tpl_1 = [\"<p class=\\\"t\\\">Hi \", \"</p>\"];" ++ (10 ∷ (ascii "const a = _jsxTemplate($$_tpl_1, _jsxEscape(n));" ++ (10 ∷ []))))))
 unfolding card AllHold
-worked = reply-text _ _ (k-table .1 .1 .1 .1 .1 .1 .1 .1 .1 .1 .1 .1 .1 .1 .1 .0) refl ∙ worked-text
+worked = reply-text _ _ (k-table .1 .1 .1 .1 .1 .1 .1 .1 .1 .1 .1 .1 .1 .1 .1 .1 .1 .0) refl ∙ worked-text
 
 -- a call with properties, a spread, a hole, a member and a key; a choice and an attribute
 pub calls :

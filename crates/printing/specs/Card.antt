@@ -71,8 +71,9 @@ pointed end = []
 pointed (loose b) = []
 pointed (field t f i r) = f ++ pointed-more r
 
+-- by the four bytes in front (02, A6)
 abbrev pub template-name : Bytes → Bytes
-template-name f = ascii "$$_tpl_" ++ decimal (number-of (take 2 f))
+template-name f = ascii "$$_tpl_" ++ decimal (number-of (take 4 f))
 
 -- ---- expressions
 

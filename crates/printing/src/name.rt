@@ -44,8 +44,8 @@ pub fn put_template_name(out: &mut [u8], at: usize, f: &[u8]) -> usize
     ensures { λ r. ⌜ Wrote (now (out .entry)) at (template-name (now (f .entry))) (now (out .exit)) r ⌝ }
 {
     let a = put_bytes(out, at, b"$$_tpl_");
-    if 2 <= f.len() {
-        return put_decimal(out, a, number_in(&f[..2]));
+    if 4 <= f.len() {
+        return put_decimal(out, a, number_in(&f[..4]));
     }
     put_decimal(out, a, number_in(f))
 }

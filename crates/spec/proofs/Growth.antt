@@ -104,8 +104,8 @@ shape-fits (P.array-literal is) = omega arith
 shape-fits (P.other-expr ps) = omega arith
 shape-fits (P.tag-expr t) = omega arith
 
--- ---- the tree: a budget of 512 bytes for each byte of the page. The dearest is a literal in braces, with 36 · 12 by `shape-fits`; no
--- use of the law needs less
+-- ---- the tree: a budget of 512 bytes for each byte of the page. What costs most is a literal in braces, with 36 · 12 by `shape-fits`:
+-- 432 would do, 431 would not. No use of the law needs less than 512
 
 nothing-behind : Costs none 0
 nothing-behind = none-costs

@@ -1,7 +1,7 @@
 -- A template's record, by its layout: how long its front is, what the front says, and that it reads back from its bytes.
 -- Main statements: `record-shaped`, `record-back` for every layout, `back-80`, `back-84`; of an 84's front `front-number`, `front-count`,
 -- `front-kinds`. Assumes nothing.
-use Prim.Native.Nat.{ℕ, zero, suc, _+_, _≤_}
+use Prim.Native.Nat.{ℕ, suc, _+_, _≤_}
 use native.Mathlib.Omega.{arith}
 use mathlib.Core.Path.{_≡_, refl, sym, ap, ap₂, _∙_, subst}
 use mathlib.Core.Bool.{Bool, true, false, _&&_, _||_, not}
@@ -12,10 +12,10 @@ use lib.Seq.{take-at, take-all, drop-at}
 use borrow.Author.Tests.{le-leb}
 use Rattle.field.specs.Bytes.{Bytes, pick}
 use Rattle.field.specs.Number.{big-endian, number-of}
-use Rattle.field.specs.Row.{Row, end, loose, field, bytes, long-body, Inside, only-bytes, fields-after, counted, counted-front, inside-by, read-by}
+use Rattle.field.specs.Row.{Row, end, bytes, long-body, Inside, only-bytes, fields-after, counted, counted-front, inside-by, read-by}
 use Rattle.field.proofs.NumberLaws.{length-big-endian, big-endian-append, two-read}
 use Rattle.field.proofs.Reading.{FrontFits, ShapedBy, front-full, front-counted, back}
-use Rattle.spec.specs.Output.{Layout, layout-80, layout-84, kind-byte, kind-bytes, strings-row, record-front, record-row}
+use Rattle.spec.specs.Output.{Layout, layout-80, layout-84, kind-bytes, strings-row, record-front, record-row}
 use Rattle.spec.specs.Demand.{begins, count-in, kinds-behind}
 use Rattle.spec.proofs.Ledger.{neither}
 
