@@ -48,9 +48,9 @@ enum jsx_precompile_number {
 /* A refusal has its number and zeros. */
 typedef struct jsx_precompile_answer {
     uint32_t number;
-    size_t templates_bytes; /* written to templates_out */
-    size_t page_bytes;      /* written to page_out */
-    size_t templates;       /* how many there are */
+    size_t templates_bytes; /* written to templates_out: a field 84 for each template */
+    size_t page_bytes;      /* written to page_out: the import, the place of the templates, the items with their calls */
+    size_t templates;       /* how many there are, numbered from 1 */
 } jsx_precompile_answer;
 
 /* Takes the page apart into templates and calls of them. The options are fields 02 to 05 (docs/FORMAT.md), or no bytes:
@@ -59,7 +59,10 @@ typedef struct jsx_precompile_answer {
    meet. No pointer may be null, not even with a length of 0, and the five parts may not overlap. Half a megabyte of stack
    is enough.
 
-   Accepted: the outputs stand at the front of templates_out and page_out, the bytes behind them are as before.
+   Accepted: the outputs stand at the front of templates_out and page_out, the bytes behind them are as before. A
+   template is 84, a length of two bytes, its number of four, how many dynamic expressions it has, in two, a byte for each
+   of these, 1 of an attribute and 2 of a child, and its static strings, one more, each 81, a length of two bytes and its
+   text. A call of it is 90, a length of two bytes, the number of four, and its dynamic expressions (docs/FORMAT.md).
    Refused: both are all zero. The scratch is all zero after every call but SCRATCH_TOO_SMALL, which leaves it.
    TEMPLATES_TOO_SMALL and PAGE_TOO_SMALL: lend more and call again. */
 jsx_precompile_answer jsx_precompile_transform(

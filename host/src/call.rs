@@ -40,11 +40,11 @@ unsafe extern "C" {
 pub struct Answer {
     /// 0 where the page was taken, else that of a [`Refusal`].
     pub number: u32,
-    /// The bytes written to templates out.
+    /// The bytes written to templates out: a field 84 for each template.
     pub templates_bytes: usize,
-    /// The bytes written to page out.
+    /// The bytes written to page out: the import, the place of the templates, and the items with their calls.
     pub page_bytes: usize,
-    /// How many templates there are.
+    /// How many templates there are, numbered from 1.
     pub templates: usize,
 }
 
@@ -83,7 +83,7 @@ impl Answer {
 /// let (mut scratch, mut templates, mut out) = (vec![0; 65_536], [0; 100], [0; 100]);
 /// let answer = transform_into(&page, &[], &mut scratch, &mut templates, &mut out);
 /// assert_eq!((answer.number, answer.templates), (0, 1));
-/// assert_eq!(templates[..answer.templates_bytes], *b"\x80\0\x09\0\x01\x81\0\x04<br>");
+/// assert_eq!(templates[..answer.templates_bytes], *b"\x84\0\x0d\0\0\0\x01\0\0\x81\0\x04<br>");
 /// ```
 pub fn transform_into(
     page: &[u8],

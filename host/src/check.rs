@@ -2,7 +2,7 @@
 //! (torn, then misplaced), then its depth, then its body; a missing field where what should hold it ends.
 
 use crate::decimal::{Decimal, DecimalError};
-use crate::field::{HEADER, around, tag_name};
+use crate::field::{HEADER, NUMBER_AND_COUNT, OLD_TEMPLATE, TEMPLATE, around, tag_name};
 use crate::limits::*;
 use crate::path::Path;
 use crate::refusal::Refusal;
@@ -100,13 +100,15 @@ struct Row {
     count: usize,
     last: u8,
     has_templates_place: bool,
+    /// How many static strings an 84 has.
+    strings: usize,
     /// The field that is being read, once its header is whole.
     open: Option<usize>,
 }
 
 impl Row {
     fn new(holder: u8, holder_at: usize, next: usize, end: usize) -> Row {
-        Row { holder, holder_at, next, end, count: 0, last: 0, has_templates_place: false, open: None }
+        Row { holder, holder_at, next, end, count: 0, last: 0, has_templates_place: false, strings: 0, open: None }
     }
 }
 
@@ -188,17 +190,30 @@ fn field(input: Input, bytes: &[u8], row: &mut Row, depth: usize) -> Result<Opti
     row.last = tag;
     row.has_templates_place |= tag == 0x83;
     let (start, end) = (at + HEADER, at + HEADER + length);
-    let Some((front, back)) = around(tag) else {
+    let Some((front, back)) = around(tag, &bytes[start..end]) else {
         return leaf(tag, row.holder, &bytes[start..end], start).map(|()| None);
     };
     if length < front + back {
-        let reason = format!("{} of {length} bytes lacks its number", named(tag));
-        return fault(start, Refusal::Misplaced, reason);
+        let lacking = match tag {
+            TEMPLATE if length < NUMBER_AND_COUNT => "its number and count".to_string(),
+            TEMPLATE => format!("its {} kinds", front - NUMBER_AND_COUNT),
+            _ => "its number".to_string(),
+        };
+        return fault(start, Refusal::Misplaced, format!("{} of {length} bytes lacks {lacking}", named(tag)));
     }
     if tag == 0x82 && !(1..=15).contains(&bytes[end - 1]) {
         return fault(end - 1, Refusal::Misplaced, format!("{} is no sum of helpers", bytes[end - 1]));
     }
-    Ok(Some(Row::new(tag, at, start + front, end - back)))
+    let mut inner = Row::new(tag, at, start + front, end - back);
+    if tag == TEMPLATE {
+        let kinds = &bytes[start + NUMBER_AND_COUNT..start + front];
+        if let Some(bad) = kinds.iter().position(|kind| !matches!(kind, 1 | 2)) {
+            let reason = format!("{} is no kind (1 of an attribute, 2 of a child)", kinds[bad]);
+            return fault(start + NUMBER_AND_COUNT + bad, Refusal::Misplaced, reason);
+        }
+        inner.strings = kinds.len() + 1;
+    }
+    Ok(Some(inner))
 }
 
 fn named(tag: u8) -> String {
@@ -230,7 +245,8 @@ enum Takes {
     Value,
     Expression,
     ArrayItems,
-    Template,
+    /// Those like this tag, or of either kind.
+    Template(u8),
     StaticString,
     ItemsOut {
         first: bool,
@@ -258,7 +274,7 @@ fn place(input: Input, row: &Row) -> Place {
     match (row.holder, input) {
         (0, Input::Page) => these(&[(Page, true)]),
         (0, Input::Options) => any(Options(row.last)),
-        (0, Input::Templates) => any(Template),
+        (0, Input::Templates) => any(Template(row.last)),
         (0, Input::PageOut) => any(ItemsOut { first: row.count == 0, templates_place: !row.has_templates_place }),
         (0x01, _) => any(Items),
         (0x02 | 0x03, _) => any(Names),
@@ -272,7 +288,8 @@ fn place(input: Input, row: &Row) -> Place {
         (0x52, _) => these(&[(Expression, false)]),
         (0x53 | 0x61 | 0x77 | 0x92, _) => these(&[(expression, true)]),
         (0x76, _) => any(if out { ArrayItemsOut } else { ArrayItems }),
-        (0x80, _) => Place { takes: StaticString, needed: row.count == 0 },
+        (OLD_TEMPLATE, _) => Place { takes: StaticString, needed: row.count == 0 },
+        (TEMPLATE, _) if row.count < row.strings => Place { takes: StaticString, needed: true },
         (0x82, _) => these(&[(StaticString, true)]),
         (0x90, _) => any(ExpressionOut),
         (0x91 | 0x96, _) => these(&[(StaticString, true), (ExpressionOut, true)]),
@@ -300,7 +317,8 @@ impl Takes {
             Value => matches!(tag, 0x51 | 0x52 | 0x30 | 0x31),
             Expression => matches!(tag, 0x70..=0x76 | 0x79..=0x7b | 0x30 | 0x31),
             ArrayItems => matches!(tag, 0x77 | 0x78) || Expression.tag(tag),
-            Template => tag == 0x80,
+            Template(0) => matches!(tag, TEMPLATE | OLD_TEMPLATE),
+            Template(last) => tag == last,
             StaticString => tag == 0x81,
             ItemsOut { first, templates_place } => {
                 Items.tag(tag) || tag == 0x82 && first || tag == 0x83 && templates_place
@@ -335,7 +353,9 @@ impl Takes {
             Value => "a value (51, 52, 30 or 31)",
             Expression => "an expression (70 to 76, 79 to 7b, 30 or 31)",
             ArrayItems => "items of an array (an expression, 77 or 78)",
-            Template => "templates (80)",
+            Template(0) => "templates (84, or 80 of old)",
+            Template(OLD_TEMPLATE) => "templates like the first (80)",
+            Template(_) => "templates like the first (84)",
             StaticString => "a string (81)",
             ItemsOut { .. } => "items (82 first, 83 once, 10 to 13)",
             PiecesOut => "pieces (20, an expression)",

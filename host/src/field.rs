@@ -27,18 +27,19 @@ pub struct Field<'a> {
 pub(crate) const HEADER: usize = 3;
 
 impl<'a> Field<'a> {
-    /// The fields in the body: of an 80 or 90 those behind its number, of an 82 those before its sum, of a leaf none.
+    /// The fields in the body: of an 80 or 90 those behind its number, of an 84 those behind its kinds, of an 82 those
+    /// before its sum, of a leaf none.
     ///
     /// ```
     /// use jsx_precompile::field::Fields;
     ///
-    /// let template = Fields::new(&[0x80, 0, 6, 0, 1, 0x81, 0, 1, b'x']).next().unwrap();
+    /// let template = Fields::new(&[0x84, 0, 10, 0, 0, 0, 1, 0, 0, 0x81, 0, 1, b'x']).next().unwrap();
     /// let string = template.inner().next().unwrap();
-    /// assert_eq!((string.tag, string.at, string.body), (0x81, 5, &b"x"[..]));
+    /// assert_eq!((string.tag, string.at, string.body), (0x81, 9, &b"x"[..]));
     /// assert_eq!(string.inner().next(), None);
     /// ```
     pub fn inner(&self) -> Fields<'a> {
-        let (front, back) = around(self.tag).unwrap_or((self.body.len(), 0));
+        let (front, back) = around(self.tag, self.body).unwrap_or((self.body.len(), 0));
         let end = self.body.len().saturating_sub(back);
         let start = front.min(end);
         Fields { bytes: &self.body[start..end], at: self.at + HEADER + start }
@@ -55,11 +56,37 @@ impl<'a> Field<'a> {
         tag_name(self.tag)
     }
 
-    /// The two-byte number at the front of an 80 or 90.
-    pub(crate) fn number(&self) -> u16 {
-        match self.body {
-            [high, low, ..] => u16::from_be_bytes([*high, *low]),
-            _ => 0,
+    /// The number at the front of an 84 or 90, four bytes, or of an 80, two bytes.
+    ///
+    /// ```
+    /// use jsx_precompile::field::Fields;
+    ///
+    /// assert_eq!(Fields::new(&[0x90, 0, 4, 0, 1, 0, 2]).next().unwrap().number(), Some(65_538));
+    /// assert_eq!(Fields::new(&[0x80, 0, 5, 1, 2, 0x81, 0, 0]).next().unwrap().number(), Some(258));
+    /// assert_eq!(Fields::new(&[0x31, 0, 0]).next().unwrap().number(), None);
+    /// ```
+    pub fn number(&self) -> Option<u32> {
+        match (self.tag, self.body) {
+            (TEMPLATE | 0x90, [a, b, c, d, ..]) => Some(u32::from_be_bytes([*a, *b, *c, *d])),
+            (OLD_TEMPLATE, [high, low, ..]) => Some(u16::from_be_bytes([*high, *low]).into()),
+            _ => None,
+        }
+    }
+
+    /// The kinds of an 84's dynamic expressions, a byte each: 1 of an attribute, 2 of a child.
+    ///
+    /// ```
+    /// use jsx_precompile::field::Fields;
+    ///
+    /// let template = Fields::new(b"\x84\0\x11\0\0\0\x01\0\x02\x01\x02\x81\0\0\x81\0\0\x81\0\0").next().unwrap();
+    /// assert_eq!(template.kinds(), Some(&[1, 2][..]));
+    /// ```
+    pub fn kinds(&self) -> Option<&'a [u8]> {
+        match (self.tag, self.body) {
+            (TEMPLATE, [_, _, _, _, high, low, kinds @ ..]) => {
+                kinds.get(..usize::from(u16::from_be_bytes([*high, *low])))
+            }
+            _ => None,
         }
     }
 
@@ -145,12 +172,26 @@ impl<'a> Iterator for Fields<'a> {
     }
 }
 
-/// Of a tag whose body has fields: how many bytes stand before them, and how many behind.
-pub(crate) fn around(tag: u8) -> Option<(usize, usize)> {
+/// A template as the library writes it.
+pub(crate) const TEMPLATE: u8 = 0x84;
+
+/// A template as it was written before its dynamic expressions had kinds.
+pub(crate) const OLD_TEMPLATE: u8 = 0x80;
+
+/// The bytes of an 84's number and count.
+pub(crate) const NUMBER_AND_COUNT: usize = 6;
+
+/// Of a field whose body has fields: how many bytes stand before them, and how many behind.
+pub(crate) fn around(tag: u8, body: &[u8]) -> Option<(usize, usize)> {
     match tag {
         0x01..=0x03 | 0x10..=0x12 | 0x30 | 0x31 | 0x41 | 0x42 | 0x50 | 0x52 | 0x53 | 0x61 => Some((0, 0)),
         0x76 | 0x77 | 0x79 | 0x91..=0x96 => Some((0, 0)),
-        0x80 | 0x90 => Some((2, 0)),
+        OLD_TEMPLATE => Some((2, 0)),
+        TEMPLATE => {
+            let count = body.get(4..NUMBER_AND_COUNT).map_or(0, |two| u16::from_be_bytes([two[0], two[1]]));
+            Some((NUMBER_AND_COUNT + usize::from(count), 0))
+        }
+        0x90 => Some((4, 0)),
         0x82 => Some((0, 1)),
         _ => None,
     }
@@ -199,10 +240,11 @@ pub fn tag_name(tag: u8) -> Option<&'static str> {
         0x79 => "other expression",
         0x7a => "decimal",
         0x7b => "minus decimal",
-        0x80 => "template",
+        OLD_TEMPLATE => "old template",
         0x81 => "static string",
         0x82 => "import",
         0x83 => "templates go here",
+        TEMPLATE => "template",
         0x90 => "jsxTemplate",
         0x91 => "jsxAttr",
         0x92 => "jsxEscape",

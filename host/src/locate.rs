@@ -134,7 +134,7 @@ type Written = Result<(), WriteError>;
 
 /// The field with the tags before `cut` as they are, and the hollow one without those in it.
 fn copy(field: Field, cut: usize, hollow: Option<usize>, writer: &mut Writer) -> Written {
-    if around(field.tag).is_none() {
+    if around(field.tag, field.body).is_none() {
         return writer.leaf(field.tag, field.body);
     }
     let holds_pieces = matches!(field.tag, 0x10..=0x12 | 0x79);

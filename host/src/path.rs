@@ -117,7 +117,7 @@ const MOST_LETTERS: usize = 40;
 pub(crate) fn label(field: &Field) -> Option<String> {
     let name = match field.tag {
         0x30 | 0x50 | 0x91 | 0x94 | 0x96 => name(&field.inner().next()?)?,
-        0x80 | 0x90 => field.number().to_string(),
+        0x80 | 0x84 | 0x90 => field.number()?.to_string(),
         _ => return None,
     };
     let shown: String = name.chars().take(MOST_LETTERS).flat_map(char::escape_debug).collect();

@@ -97,6 +97,25 @@ jsx-precompile: examples/k7-left.page: page, byte 22, 01 > 12[0] > 31 > 31: 10 (
     assert!(status == 2 && said.contains("jsx-precompile: no such file: "), "{said}");
 }
 
+/// What the READMEs show of templates.
+#[test]
+fn templates_in_the_readmes() {
+    for (name, readme, whole) in
+        [("hall", include_str!("../README.md"), true), ("worked", include_str!("../../README.md"), false)]
+    {
+        let [templates, page] = [room(&format!("{name}.templates")), room(&format!("{name}.out"))];
+        let built = ["build", "--templates", &templates, "--page", &page, &format!("examples/{name}.page")];
+        assert_eq!(run(&built, b""), (0, String::new(), String::new()));
+        let (status, shown, said) = run(&["show", &templates], b"");
+        assert_eq!((status, &*said), (0, ""));
+        let (tree, _) = shown.trim_end().rsplit_once('\n').expect("lines, and the count of them");
+        assert!(
+            readme.contains(if whole { &shown } else { tree }),
+            "a README shows other templates of {name}: {shown}"
+        );
+    }
+}
+
 #[test]
 fn tag() {
     let field = "3000054000026272";

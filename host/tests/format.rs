@@ -124,7 +124,10 @@ fn field_words(field: Field, words: &mut Vec<String>) {
     let inner = field.inner();
     let front = inner.place() - field.at - 3;
     let back = front + inner.rest().len();
-    words.extend([hex(&[field.tag]), format!("{:04x}", field.body.len()), hex(&field.body[..front])]);
+    words.extend([hex(&[field.tag]), format!("{:04x}", field.body.len())]);
+    // Of a template its number, its count and its kinds.
+    let parts = if field.kinds().is_some() { vec![0, 4, 6, front] } else { vec![0, front] };
+    words.extend(parts.windows(2).map(|part| hex(&field.body[part[0]..part[1]])));
     inner.for_each(|field| field_words(field, words));
     words.push(hex(&field.body[back..]));
 }
@@ -292,7 +295,7 @@ fn a_page_too_long_in_the_output() {
         );
         answered(&field(0x01, &[&field(0x12, &[&tag])]), &[]).number
     };
-    assert_eq!((number(6_552), number(6_553)), (0, Refusal::OutputTooLong.number()));
+    assert_eq!((number(6_551), number(6_552)), (0, Refusal::OutputTooLong.number()));
 }
 
 /// The bytes of a series, by each 74 and 79 at any depth: its own text.

@@ -273,7 +273,8 @@ fn buffers_that_grow() {
 fn outputs_longer_than_the_first_guess() {
     let page = page_of(element("p", &[text(&"\"".repeat(10_000))]));
     let forms = jsx_precompile::transform(&page, &Options::new()).expect("it is taken");
-    assert_eq!(forms.templates_bytes().len(), 5 + 3 + "<p></p>".len() + 10_000 * "&quot;".len());
+    // Two headers, the number and the count stand around the string.
+    assert_eq!(forms.templates_bytes().len(), 3 + 6 + 3 + "<p></p>".len() + 10_000 * "&quot;".len());
     let long = Options::new().import_source("s".repeat(70_000));
     assert_eq!(jsx_precompile::transform(&page, &long).unwrap_err().refusal, Refusal::InputTooLong);
     let empty = Options::new().import_source("");

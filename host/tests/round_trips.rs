@@ -3,7 +3,7 @@
 mod rebuild;
 
 use jsx_precompile::limits::*;
-use jsx_precompile::out::{Call, Expression, PageOut, Templates};
+use jsx_precompile::out::{Call, Expression, PageOut, Template, Templates};
 use jsx_precompile::page::{self, ArrayItem, Element, Fragment, Item, Page};
 use jsx_precompile::{Options, Refusal, WriteError, transform};
 use oracle::answer::{MOST_OPTIONS, MOST_PAGE};
@@ -78,7 +78,9 @@ fn outputs() {
         assert_eq!(rebuild::templates(shelf.clone()), forms.templates_bytes(), "seed {seed}");
         assert_eq!(rebuild::page(page), forms.page_bytes(), "seed {seed}");
 
-        let strings: HashMap<u16, usize> = shelf.map(|one| (one.number(), one.strings().count())).collect();
+        let gaps = |one: &Template| one.kinds().map_or(0, |kinds| kinds.len());
+        assert!(shelf.clone().all(|one| one.strings().count() == gaps(&one) + 1), "seed {seed}");
+        let strings: HashMap<u32, usize> = shelf.map(|one| (one.number(), one.strings().count())).collect();
         assert_eq!(strings.len(), forms.count(), "seed {seed}");
         let mut called = HashMap::new();
         let mut sum = 0;

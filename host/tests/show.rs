@@ -59,23 +59,23 @@ fn a_file() {
 
 #[test]
 fn both_outputs() {
-    let templates = "80001c00018100103c7020636c6173733d2274223e4869208100043c2f703e";
-    let expected = r#"     0  80 template 1
-     5    81 static string "<p class=\"t\">Hi "
-    24    81 static string "</p>"
-templates out: 31 bytes, 3 fields, 2 deep
+    let templates = "84002100000001000102 8100103c7020636c6173733d2274223e486920 8100043c2f703e".replace(' ', "");
+    let expected = r#"     0  84 template 1: child
+    10    81 static string "<p class=\"t\">Hi "
+    29    81 static string "</p>"
+templates out: 36 bytes, 3 fields, 2 deep
 "#;
     assert_eq!(shown(&[], templates.as_bytes(), 0), expected);
-    let out = "82001581001172656163742f6a73782d72756e74696d650a830000120012900008000192000373000070000474727565";
+    let out = "82001581001172656163742f6a73782d72756e74696d650a83000012001490000a0000000192000373000070000474727565";
     let expected = r#"     0  82 import 10: jsxTemplate, jsxEscape
      3    81 static string "react/jsx-runtime"
     24  83 templates go here
     27  12 statement
     30    90 jsxTemplate 1
-    35      92 jsxEscape
-    38        73 null
-    41    70 string "true"
-page out: 48 bytes, 8 fields, 4 deep
+    37      92 jsxEscape
+    40        73 null
+    43    70 string "true"
+page out: 50 bytes, 8 fields, 4 deep
 "#;
     assert_eq!(shown(&[], out.as_bytes(), 0), expected);
 }
@@ -121,9 +121,36 @@ fn damaged_pages() {
     assert!(damaged(b"01000007").1.ends_with("page, byte 3: 3 (torn): 1 bytes follow the page\n"));
     assert_eq!(damaged(b"").0, "     0  ^ 3 (torn): an empty page\n");
     // not UTF-8, in an output
-    let (tree, said) = damaged(b"80000600018100 01ff");
-    assert!(tree.contains("     5    81 static string not UTF-8: ff\n     8    ^ 6 (bad letters): byte ff"), "{tree}");
-    assert!(said.contains("templates out, byte 8, 80 1 > 81: 6 (bad letters)"), "{said}");
+    let (tree, said) = damaged(b"84000a000000010000 81000 1ff");
+    assert!(tree.contains("     9    81 static string not UTF-8: ff\n    12    ^ 6 (bad letters): byte ff"), "{tree}");
+    assert!(said.contains("templates out, byte 12, 84 1 > 81: 6 (bad letters)"), "{said}");
+}
+
+/// What tells attributes from children, and the templates of before.
+#[test]
+fn kinds() {
+    let gaps = |kinds: &[u8]| {
+        let (strings, count) = ([0x81, 0, 0].repeat(kinds.len() + 1), [0, kinds.len() as u8]);
+        let body = [&[0, 1, 0, 2], &count[..], kinds, &strings].concat();
+        [&[0x84, 0, body.len() as u8][..], &body].concat()
+    };
+    assert!(
+        shown(&[], &gaps(&[1, 2, 2, 1]), 0)
+            .starts_with("     0  84 template 65538: attribute, child, child, attribute\n")
+    );
+    assert!(shown(&[], &gaps(&[]), 0).starts_with("     0  84 template 65538\n"));
+    assert!(shown(&[], &gaps(&[1; 11]), 0).contains(", attribute... (11 in all)\n"));
+    assert!(!shown(&["--whole"], &gaps(&[1; 11]), 0).contains("..."));
+    let (tree, said) = damaged(&gaps(&[1, 3]));
+    assert!(
+        tree.starts_with("     0  84 template 65538: attribute, no kind 3\n    10  ^ 4 (misplaced): 3 is no kind"),
+        "{tree}"
+    );
+    assert!(said.contains("templates out, byte 10, 84 65538: 4 (misplaced): 3 is no kind"), "{said}");
+    let (tree, _) = damaged(b"84000500000001ff");
+    assert!(tree.starts_with("     0  84 template"), "{tree}");
+    let old = b"80000900018100043c62723e";
+    assert!(shown(&[], old, 0).starts_with("     0  80 old template 1\n     5    81 static string \"<br>\"\n"));
 }
 
 #[test]

@@ -58,7 +58,7 @@ fn template(out: &mut Vec<u8>, template: &Node) {
 }
 
 fn template_name(out: &mut Vec<u8>, node: &Node) {
-    out.extend(format!("$$_tpl_{}", u16::from_be_bytes([node.bytes[0], node.bytes[1]])).bytes());
+    out.extend(format!("$$_tpl_{}", node.number()).bytes());
 }
 
 fn row(out: &mut Vec<u8>, nodes: &[Node], mut each: impl FnMut(&mut Vec<u8>, &Node)) {

@@ -1,5 +1,5 @@
 //! Demand 3 in 01's words, as checks on the bytes of both outputs up to their written ends. Nothing but the bytes is
-//! looked at.
+//! looked at. 02, A6: where 01 says 80 it is 84, and each kind agrees with where its gap lies.
 
 use crate::field::{self, Node};
 use crate::generate::rng::Rng;
@@ -17,9 +17,9 @@ fn check(templates: &[u8], page: &[u8], count: usize, rng: &mut Rng) -> Result<(
     ensure(shelf.len() == count, || format!("{} templates, {count} answered", shelf.len()))?;
     let calls = calls(&page);
     numbers(&shelf, &calls)?;
-    let by_number: HashMap<&[u8], &Node> = calls.iter().map(|call| (&call.bytes[..], *call)).collect();
+    let by_number: HashMap<u32, &Node> = calls.iter().map(|call| (call.number(), *call)).collect();
     for template in &shelf {
-        one_template(template, by_number[&template.bytes[..]], rng)?;
+        one_template(template, by_number[&template.number()], rng)?;
     }
     places(&page, count)?;
     helpers(&page)
@@ -30,7 +30,7 @@ fn ensure(holds: bool, words: impl FnOnce() -> String) -> Result<(), String> {
 }
 
 fn is_template(node: &Node) -> bool {
-    node.tag == 0x80 && node.inner.iter().all(|n| n.tag == 0x81)
+    node.tag == 0x84 && node.inner.iter().all(|n| n.tag == 0x81)
 }
 
 /// Every 90 at any depth.
@@ -52,35 +52,36 @@ fn each<'a>(row: &'a [Node], mut f: impl FnMut(&'a Node)) {
 
 /// The numbers 1 to the count are recorded once each and called once each, and no other.
 fn numbers(shelf: &[Node], calls: &[&Node]) -> Result<(), String> {
-    let sorted = |mut numbers: Vec<u16>| {
+    let sorted = |mut numbers: Vec<u32>| {
         numbers.sort();
         numbers
     };
-    let expected: Vec<u16> = (1..=shelf.len() as u16).collect();
-    let recorded = sorted(shelf.iter().map(number).collect());
+    let expected: Vec<u32> = (1..=shelf.len() as u32).collect();
+    let recorded = sorted(shelf.iter().map(Node::number).collect());
     ensure(recorded == expected, || format!("recorded {recorded:?}"))?;
-    let called = sorted(calls.iter().map(|call| number(call)).collect());
+    let called = sorted(calls.iter().map(|call| call.number()).collect());
     ensure(called == expected, || format!("called {called:?}"))
 }
 
-fn number(node: &Node) -> u16 {
-    u16::from_be_bytes([node.bytes[0], node.bytes[1]])
-}
-
-/// One static string more than gaps; each gap in its place; well nested when filled.
+/// As many kinds as gaps, and one static string more; each gap in its place, which its kind tells; well nested when
+/// filled.
 fn one_template(template: &Node, call: &Node, rng: &mut Rng) -> Result<(), String> {
     let strings: Vec<&[u8]> = template.inner.iter().map(|s| &s.bytes[..]).collect();
     let gaps = &call.inner;
-    let named = || format!("template {:?}", template.bytes);
+    let named = || format!("template {}", template.number());
+    // The number, the count and as many kinds: read so by `field::front`.
+    let kinds = &template.bytes[6..];
+    ensure(kinds.len() == gaps.len(), || format!("{}: {} kinds, {} gaps", named(), kinds.len(), gaps.len()))?;
     ensure(strings.len() == gaps.len() + 1, || format!("{}: {} strings, {} gaps", named(), strings.len(), gaps.len()))?;
     let mut joined = vec![];
     let mut filled = vec![];
-    for (string, gap) in strings.iter().zip(gaps) {
+    for ((string, gap), kind) in strings.iter().zip(gaps).zip(kinds) {
         joined.extend(*string);
         filled.extend(*string);
         let inside = inside_opening_tag(&joined);
         let attribute = matches!(gap.tag, 0x91 | 0x93);
         ensure(inside == attribute, || format!("{}: a {:02x} where inside is {inside}", named(), gap.tag))?;
+        ensure(*kind == if inside { 1 } else { 2 }, || format!("{}: kind {kind} where inside is {inside}", named()))?;
         if attribute { attribute_filling(rng, &mut filled) } else { child_filling(rng, &mut filled, 2) }
     }
     filled.extend(*strings.last().expect("one more than gaps"));

@@ -1,4 +1,5 @@
-//! 01, Form and call: the transformed module as shelf out (the templates) and page out, with 10 and 11.
+//! 01, Form and call: the transformed module as shelf out (the templates) and page out, with 10 and 11. 02, A6: a template
+//! is an 84, its kinds told by the Rust's own dynamic expressions.
 //!
 //! 11 is also given for a merged run over 65,535 bytes. Runs are inside the Rust and cannot be seen here, but bodies
 //! decide alone. A run that is flushed into a template is part of one static string; a run of a call that makes no
@@ -15,6 +16,7 @@ use crate::answer::Refusal;
 use crate::decimal::{DECIMAL, Decimal, MINUS_DECIMAL};
 use crate::field::{begin, finish};
 use crate::stand_ins::swc_ecma_ast::*;
+use std::collections::HashMap;
 
 /// What an accepted page gives, before it is known whether it fits the lent bytes.
 #[derive(Clone, Debug, PartialEq, Eq)]
@@ -28,16 +30,15 @@ pub struct Output {
 pub fn encode(module: &Module) -> Result<Output, Refusal> {
     let mut shelf = Writer::default();
     let mut page = Writer::default();
-    let mut count = 0;
+    let mut templates = vec![];
     for item in &module.body {
         match item {
             ModuleItem::ModuleDecl(ModuleDecl::Import(import)) => page.import(import),
             ModuleItem::Stmt(Stmt::Decl(Decl::Var(var))) => {
-                if count == 0 {
+                if templates.is_empty() {
                     page.field(0x83, |_| {});
                 }
-                count += 1;
-                shelf.template(var);
+                templates.push(var);
             }
             ModuleItem::ModuleDecl(ModuleDecl::ExportDecl(pieces) | ModuleDecl::ExportDefaultDecl(pieces)) => {
                 page.field(0x10, |w| w.pieces(pieces));
@@ -47,13 +48,17 @@ pub fn encode(module: &Module) -> Result<Output, Refusal> {
             ModuleItem::Stmt(Stmt::Empty(_)) => page.field(0x13, |_| {}),
         }
     }
+    // A call in a tag that is left was not seen, and its template's kinds are not known.
     if page.tag_left {
         return Err(Refusal::TagLeft);
+    }
+    for var in &templates {
+        shelf.template(var, &page.kinds);
     }
     if shelf.long || page.long {
         return Err(Refusal::OutputTooLong);
     }
-    Ok(Output { templates: shelf.out, page: page.out, count })
+    Ok(Output { templates: shelf.out, page: page.out, count: templates.len() })
 }
 
 #[derive(Default)]
@@ -61,6 +66,23 @@ struct Writer {
     out: Vec<u8>,
     long: bool,
     tag_left: bool,
+    /// By the number of a template, the kinds of its call's dynamic expressions.
+    kinds: HashMap<u32, Vec<u8>>,
+}
+
+/// 02, A6: where a dynamic expression belongs. A jsxAttr call or a boolean choice is an attribute's; all else is a child's.
+fn kind(gap: &ExprOrSpread) -> u8 {
+    match &*gap.expr {
+        Expr::Cond(_) => 1,
+        Expr::Call(call) if helper(call) == "_jsxAttr" => 1,
+        _ => 2,
+    }
+}
+
+fn helper(call: &CallExpr) -> &str {
+    let Callee::Expr(callee) = &call.callee;
+    let Expr::Ident(helper) = &**callee else { unreachable!("a helper is called by its name") };
+    &helper.sym
 }
 
 impl Writer {
@@ -74,24 +96,24 @@ impl Writer {
         self.field(tag, |w| w.out.extend(bytes));
     }
 
-    /// 80: the number in the binding's name, and the static strings.
-    fn template(&mut self, var: &VarDecl) {
+    /// 84: the number in the binding's name, the kinds of the call's dynamic expressions with their count, and the static
+    /// strings.
+    fn template(&mut self, var: &VarDecl, kinds: &HashMap<u32, Vec<u8>>) {
         let [VarDeclarator { name: Pat::Ident(name), init: Some(init), .. }] = &var.decls[..] else {
             unreachable!("a template is one binding with a value")
         };
         let Expr::Array(strings) = &**init else { unreachable!("a template's value is an array") };
-        self.field(0x80, |w| {
-            w.template_number(&name.id);
+        let number = template_number(&name.id);
+        let kinds = &kinds[&number];
+        let count = u16::try_from(kinds.len()).expect("a page has fewer gaps than bytes");
+        self.field(0x84, |w| {
+            w.out.extend(number.to_be_bytes());
+            w.out.extend(count.to_be_bytes());
+            w.out.extend(kinds);
             for string in strings.elems.iter().flatten() {
                 w.leaf(0x81, string_of(&string.expr).as_bytes());
             }
         });
-    }
-
-    fn template_number(&mut self, ident: &Ident) {
-        let digits = ident.sym.strip_prefix("$$_tpl_").expect("a template's name");
-        let number: u16 = digits.parse().expect("a page has fewer templates than bytes");
-        self.out.extend(number.to_be_bytes());
     }
 
     /// 82: the source, and the sum of the helpers.
@@ -175,13 +197,13 @@ impl Writer {
     }
 
     fn call(&mut self, call: &CallExpr) {
-        let Callee::Expr(callee) = &call.callee;
-        let Expr::Ident(helper) = &**callee else { unreachable!("a helper is called by its name") };
         let args = &call.args;
-        match &*helper.sym {
+        match helper(call) {
             "_jsxTemplate" => self.field(0x90, |w| {
                 let Expr::Ident(name) = &*args[0].expr else { unreachable!("a template is called by its name") };
-                w.template_number(name);
+                let number = template_number(name);
+                w.out.extend(number.to_be_bytes());
+                w.kinds.insert(number, args[1..].iter().map(kind).collect());
                 w.arguments(&args[1..]);
             }),
             "_jsxAttr" => self.field(0x91, |w| {
@@ -239,6 +261,12 @@ impl Writer {
             }
         }
     }
+}
+
+/// The number in a template's name.
+fn template_number(ident: &Ident) -> u32 {
+    let digits = ident.sym.strip_prefix("$$_tpl_").expect("a template's name");
+    digits.parse().expect("a page has fewer templates than bytes")
 }
 
 fn string_of(expr: &Expr) -> String {

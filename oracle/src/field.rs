@@ -23,8 +23,8 @@ pub fn finish(out: &mut [u8], at: usize) -> bool {
 pub enum Body {
     Bytes,
     Fields,
-    /// A two-byte number, then fields (80 and 90).
-    NumberThenFields,
+    /// A number and what else `front` counts, then fields (80, 84 and 90).
+    FrontThenFields,
     /// Fields, then one byte (82).
     FieldsThenByte,
     Unknown,
@@ -35,13 +35,26 @@ pub fn body_of(tag: u8) -> Body {
         0x01..=0x03 | 0x10..=0x12 | 0x30 | 0x31 | 0x41 | 0x42 | 0x50 | 0x52 | 0x53 | 0x61 => Body::Fields,
         0x76 | 0x77 | 0x79 | 0x91..=0x96 => Body::Fields,
         0x04 | 0x05 | 0x13 | 0x20 | 0x40 | 0x51 | 0x60 | 0x70..=0x75 | 0x78 | 0x7a | 0x7b | 0x81 | 0x83 => Body::Bytes,
-        0x80 | 0x90 => Body::NumberThenFields,
+        0x80 | 0x84 | 0x90 => Body::FrontThenFields,
         0x82 => Body::FieldsThenByte,
         _ => Body::Unknown,
     }
 }
 
-/// A field read as a tree. `bytes` is the body of a leaf, the number of an 80 or 90, or the byte of an 82.
+/// How many bytes stand before the fields of such a body: in an 80 a number of two bytes; in an 84 one of four, a count of
+/// two, and as many kinds; in a 90 a number of four.
+pub fn front(tag: u8, body: &[u8]) -> Option<usize> {
+    let length = match (tag, body) {
+        (0x80, _) => 2,
+        (0x84, [_, _, _, _, high, low, ..]) => 6 + usize::from(u16::from_be_bytes([*high, *low])),
+        (0x84, _) => return None,
+        _ => 4,
+    };
+    (length <= body.len()).then_some(length)
+}
+
+/// A field read as a tree. `bytes` is the body of a leaf, what stands before the fields of an 80, 84 or 90, or the byte of
+/// an 82.
 #[derive(Clone, Debug, PartialEq, Eq)]
 pub struct Node {
     pub tag: u8,
@@ -70,6 +83,12 @@ impl Node {
             out.extend(&self.bytes);
         }
         finish(out, at);
+    }
+
+    /// The number of an 80, 84 or 90.
+    pub fn number(&self) -> u32 {
+        let bytes = &self.bytes[..if self.tag == 0x80 { 2 } else { 4 }];
+        bytes.iter().fold(0, |number, byte| number << 8 | u32::from(*byte))
     }
 
     pub fn fields(&self) -> usize {
@@ -101,7 +120,10 @@ fn node(tag: u8, body: &[u8]) -> Option<Node> {
     Some(match body_of(tag) {
         Body::Bytes => Node::leaf(tag, body),
         Body::Fields => Node::row(tag, read(body)?),
-        Body::NumberThenFields => Node { tag, bytes: body.get(..2)?.to_vec(), inner: read(&body[2..])? },
+        Body::FrontThenFields => {
+            let (bytes, fields) = body.split_at(front(tag, body)?);
+            Node { tag, bytes: bytes.to_vec(), inner: read(fields)? }
+        }
         Body::FieldsThenByte => {
             let (byte, fields) = body.split_last()?;
             Node { tag, bytes: vec![*byte], inner: read(fields)? }

@@ -1,4 +1,4 @@
-//! Pages and options by hand, for tests and marks. Each function gives the bytes of one field.
+//! Pages, options and outputs by hand, for tests and marks. Each function gives the bytes of one field.
 
 use crate::decimal::Decimal;
 use crate::field::{begin, finish};
@@ -161,6 +161,23 @@ pub fn attributes_listed(names: &[&str]) -> Vec<u8> {
 
 pub fn import_source(text: &str) -> Vec<u8> {
     field(0x04, text.as_bytes())
+}
+
+/// 02, A6: an 84 with these kinds.
+pub fn template(number: u32, kinds: &[u8], strings: &[&str]) -> Vec<u8> {
+    let count = (kinds.len() as u16).to_be_bytes();
+    let strings: Vec<Vec<u8>> = strings.iter().map(|string| string_out(string)).collect();
+    field(0x84, &[&number.to_be_bytes(), &count[..], kinds, &strings.concat()].concat())
+}
+
+/// A 90.
+pub fn template_call(number: u32, gaps: &[Vec<u8>]) -> Vec<u8> {
+    field(0x90, &[&number.to_be_bytes()[..], &gaps.concat()].concat())
+}
+
+/// An 81.
+pub fn string_out(text: &str) -> Vec<u8> {
+    field(0x81, text.as_bytes())
 }
 
 /// 02, A12: sums are worked out.

@@ -1,7 +1,7 @@
 //! Any bytes as indented fields, one on a line, with what they are. What is no field is shown as bytes.
 
 use crate::decimal::Decimal;
-use crate::field::{Body, body_of};
+use crate::field::{Body, Node, body_of, front};
 use std::fmt::Write;
 
 pub fn show(bytes: &[u8]) -> String {
@@ -31,8 +31,12 @@ fn field(out: &mut String, tag: u8, body: &[u8], indent: usize) {
             line(out, indent, &head);
             fields(out, body, indent + 1);
         }
-        (Body::NumberThenFields, [high, low, inner @ ..]) => {
-            line(out, indent, &format!("{head} {}", u16::from_be_bytes([*high, *low])));
+        (Body::FrontThenFields, _) if front(tag, body).is_some() => {
+            let (bytes, inner) = body.split_at(front(tag, body).expect("there is one"));
+            let kinds: Vec<String> = bytes.iter().skip(6).map(kind).collect();
+            let colon = if kinds.is_empty() { "" } else { ": " };
+            let number = Node::leaf(tag, bytes).number();
+            line(out, indent, &format!("{head} {number}{colon}{}", kinds.join(", ")));
             fields(out, inner, indent + 1);
         }
         (Body::FieldsThenByte, [inner @ .., byte]) => {
@@ -41,6 +45,15 @@ fn field(out: &mut String, tag: u8, body: &[u8], indent: usize) {
         }
         (Body::Bytes, _) => line(out, indent, &format!("{head} {}", leaf(tag, body))),
         _ => line(out, indent, &format!("{head} {}", hex(body))),
+    }
+}
+
+/// 02, A6: which gap it is.
+fn kind(kind: &u8) -> String {
+    match kind {
+        1 => "attribute".into(),
+        2 => "child".into(),
+        other => format!("kind {other}"),
     }
 }
 
@@ -104,7 +117,7 @@ fn what(tag: u8) -> &'static str {
         0x79 => "other",
         0x7a => "decimal",
         0x7b => "minus decimal",
-        0x80 => "template",
+        0x80 | 0x84 => "template",
         0x81 => "string out",
         0x82 => "import",
         0x83 => "templates stand here",

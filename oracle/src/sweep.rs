@@ -37,6 +37,8 @@ pub struct Report {
     pub tags_in: [u64; 256],
     pub tags_out: [u64; 256],
     pub templates: u64,
+    /// Attribute gaps and child gaps of these (02, A6).
+    pub gaps: [u64; 2],
     /// Seeds whose result the patched copy gave, since the unchanged one stops; and how many of these were accepted.
     pub patched: u64,
     pub patched_accepted: u64,
@@ -61,6 +63,7 @@ impl Report {
             tags_in: [0; 256],
             tags_out: [0; 256],
             templates: 0,
+            gaps: [0; 2],
             patched: 0,
             patched_accepted: 0,
             kept: kept::Counts::default(),
@@ -78,6 +81,7 @@ impl Report {
         let mut line = |text: String| writeln!(out, "{text}").expect("a string can be written");
         let percent = |n: u64| 100.0 * n as f64 / self.seeds.max(1) as f64;
         line(format!("seeds {}, page bytes {}, templates {}", self.seeds, self.bytes, self.templates));
+        line(format!("attribute gaps {}, child gaps {}", self.gaps[0], self.gaps[1]));
         for (number, count) in self.given() {
             line(format!("answer {number:2} {count:9} {:6.2} %", percent(*count)));
         }
@@ -113,9 +117,10 @@ impl Report {
 
 impl Report {
     /// Where the seeds reached less than a generator must: in a million seeds every answer 100 times, 40 % accepted, 2 %
-    /// accepted by the patched copy, 1 % over 16 KB, 1 % deeper than 40, in each of A9's places 1,000 expressions lost,
-    /// in each place, of each kind and for each refusal 500 decimals, in each place and of each kind 300 sums, of each
-    /// kind 300 pages with an attribute twice and 100 with a void name in mixed case, every live arm 1,000 times and no dead one; as much less for fewer seeds.
+    /// accepted by the patched copy, 1 % over 16 KB, 1 % deeper than 40, of each kind 500,000 gaps, in each of A9's places
+    /// 1,000 expressions lost, in each place, of each kind and for each refusal 500 decimals, in each place and of each
+    /// kind 300 sums, of each kind 300 pages with an attribute twice and 100 with a void name in mixed case, every live arm
+    /// 1,000 times and no dead one; as much less for fewer seeds.
     pub fn shortfalls(&self) -> Vec<String> {
         let due = |in_a_million: u64| self.seeds * in_a_million / 1_000_000;
         let mut out = vec![];
@@ -131,6 +136,9 @@ impl Report {
         need("accepted by the patched copy".into(), self.patched_accepted, due(20_000));
         need("over 16 KB".into(), self.large, due(10_000));
         need("deeper than 40".into(), self.deep, due(10_000));
+        for (kind, gaps) in ["attribute", "child"].iter().zip(self.gaps) {
+            need(format!("{kind} gaps"), gaps, due(500_000));
+        }
         for place in PLACES {
             need(format!("lost as {place:?}"), self.kept.lost_in(place), due(1_000));
         }
@@ -219,6 +227,7 @@ fn one(seed: u64, settings: &Settings, report: &mut Report, lent: &mut Lent) {
     report.mixed_case.meet(&case.page, &case.options, &outcome);
     if let Ok(output) = &outcome {
         report.templates += output.count as u64;
+        count_gaps(&output.templates, &mut report.gaps);
         count_tags(&case.page, &mut report.tags_in);
         count_tags(&case.options, &mut report.tags_in);
         count_tags(&output.templates, &mut report.tags_out);
@@ -276,11 +285,21 @@ fn count_tags(bytes: &[u8], counts: &mut [u64; 256]) {
         let body = &behind[..length];
         match body_of(*tag) {
             Body::Fields => count_tags(body, counts),
-            Body::NumberThenFields => count_tags(&body[2..], counts),
+            Body::FrontThenFields => {
+                count_tags(&body[field::front(*tag, body).expect("an output is a row of fields")..], counts)
+            }
             Body::FieldsThenByte => count_tags(&body[..length - 1], counts),
             Body::Bytes | Body::Unknown => {}
         }
         rest = &behind[length..];
+    }
+}
+
+fn count_gaps(templates: &[u8], gaps: &mut [u64; 2]) {
+    for template in field::read(templates).expect("an output is a row of fields") {
+        for kind in &template.bytes[6..] {
+            gaps[usize::from(*kind) - 1] += 1;
+        }
     }
 }
 

@@ -47,12 +47,26 @@ fn with_page(change: impl Fn(&mut Vec<Node>)) -> Output {
 #[cfg_attr(not(jsx_source), ignore = "jsx_precompile.rs is not there")]
 fn each_damage_is_found() {
     assert_eq!(found(&sample()), None);
+    assert_eq!(read(&sample().templates).unwrap()[1].bytes, [0, 0, 0, 1, 0, 4, 1, 1, 2, 2]);
     // In the shelf: template 2 (`<i></i>`) is recorded before template 1. In the page: 82, 83, the statement.
     let outer = 1;
     let damaged = [
         with_shelf(|s| s.truncate(1)),
-        with_shelf(|s| s[0].bytes = vec![0, 1]),
-        with_shelf(|s| s[0].bytes = vec![0, 3]),
+        with_shelf(|s| s[0].tag = 0x80),
+        with_shelf(|s| s[0].bytes = vec![0, 0, 0, 1, 0, 0]),
+        with_shelf(|s| s[0].bytes = vec![0, 0, 0, 3, 0, 0]),
+        with_shelf(|s| s[0].bytes = vec![0, 1, 0, 2, 0, 0]),
+        with_shelf(|s| s[0].bytes = vec![1, 0, 0, 2, 0, 0]),
+        with_shelf(|s| s[0].bytes = vec![0, 0, 0, 2, 0, 1, 2]),
+        with_shelf(|s| s[0].bytes = vec![0, 2]),
+        with_shelf(|s| s[outer].bytes = vec![0, 0, 0, 1, 0, 3, 1, 1, 2]),
+        with_shelf(|s| s[outer].bytes = vec![0, 0, 0, 1, 0, 4, 2, 1, 2, 2]),
+        with_shelf(|s| s[outer].bytes = vec![0, 0, 0, 1, 0, 4, 1, 2, 2, 2]),
+        with_shelf(|s| s[outer].bytes = vec![0, 0, 0, 1, 0, 4, 1, 1, 1, 2]),
+        with_shelf(|s| s[outer].bytes = vec![0, 0, 0, 1, 0, 4, 1, 1, 2, 1]),
+        with_shelf(|s| s[outer].bytes = vec![0, 0, 0, 1, 0, 4, 1, 1, 2, 0]),
+        with_shelf(|s| s[outer].bytes = vec![0, 0, 0, 1, 0, 4, 1, 1, 2, 3]),
+        with_shelf(|s| s[outer].bytes = vec![0, 0, 0, 1, 0, 5, 1, 1, 2, 2, 2]),
         with_shelf(|s| s.push(s[0].clone())),
         with_shelf(|s| drop(s[outer].inner.pop())),
         with_shelf(|s| s[outer].inner.push(Node::leaf(0x81, b""))),
@@ -69,6 +83,8 @@ fn each_damage_is_found() {
         with_page(|p| p.swap(1, 2)),
         with_page(|p| p.push(p[2].clone())),
         with_page(|p| p[2].inner.clear()),
+        with_page(|p| p[2].inner[0].bytes = vec![1, 0, 0, 1]),
+        with_page(|p| p[2].inner[0].bytes = vec![0, 1]),
         with_page(|p| p[2].inner[0].inner.swap(0, 2)),
         with_page(|p| p[2].inner[0].inner[2].tag = 0x91),
         with_page(|p| p[2].inner[0].inner[0].tag = 0x76),

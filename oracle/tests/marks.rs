@@ -14,6 +14,10 @@ fn every_mark_has_its_answer() {
         let (mut scratch, mut templates, mut page) = (vec![7; case.scratch], vec![7; templates], vec![7; page]);
         let answer = judge(&case.page, &case.options, &mut scratch, &mut templates, &mut page);
         assert_eq!(answer.number, mark.number, "{}", mark.name);
+        if let Some(written) = &mark.written {
+            let found = [&templates[..answer.templates_bytes], &page[..answer.page_bytes]];
+            assert_eq!(found, [&written[0][..], &written[1][..]], "{}", mark.name);
+        }
         let Some(printed) = &mark.printed else { continue };
         let text = oracle::card::printed(&templates[..answer.templates_bytes], &page[..answer.page_bytes]);
         assert_eq!(&String::from_utf8(text).unwrap(), printed, "{}", mark.name);

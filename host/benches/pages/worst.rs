@@ -5,7 +5,7 @@ use oracle::answer::{MOST_OPTIONS, MOST_PAGE};
 use oracle::make::*;
 
 pub fn sets() -> Vec<Set> {
-    [attributes(), listed(), texts(), tags(), chains(), deep(), fragments()].into_iter().flatten().collect()
+    [attributes(), listed(), texts(), tags(), gaps(), chains(), deep(), fragments()].into_iter().flatten().collect()
 }
 
 const ROOM: usize = MOST_PAGE - 3;
@@ -137,7 +137,19 @@ fn texts() -> Vec<Set> {
     ]
 }
 
-/// Many tags side by side.
+/// One template with many gaps, of children or of both kinds; 'attributes, no value' has thousands of attributes.
+fn gaps() -> Vec<Set> {
+    let b = |one: &[Vec<u8>]| element("b", &fill(20, &one.concat()));
+    let valueless = || element("i", &[attribute("a")]);
+    vec![
+        tag("gaps, null", b(&[braces(null())])),
+        tag("gaps, expressions", b(&[braces(e())])),
+        tag("gaps, attributes of elements", b(&[valueless()])),
+        tag("gaps, both kinds", b(&[valueless(), braces(null())])),
+    ]
+}
+
+/// Many tags side by side. 'templates' has 4,677 of them, the most that 32 KB hold but for a few.
 fn tags() -> Vec<Set> {
     let pieces = |name: &str, tag: Vec<u8>| one(name, page(&[statement(&fill(20, &tag))]));
     let f = |children: &[Vec<u8>]| element("F", children);

@@ -38,8 +38,8 @@ use print::Print;
 /// use jsx_precompile::javascript::Printer;
 /// use jsx_precompile::out::{PageOut, Templates};
 ///
-/// let templates = Templates::read(b"\x80\0\x09\0\x01\x81\0\x04<br>")?;
-/// let page = PageOut::read(b"\x82\0\x05\x81\0\x01s\x02\x83\0\0\x12\0\x05\x90\0\x02\0\x01")?;
+/// let templates = Templates::read(b"\x84\0\x0d\0\0\0\x01\0\0\x81\0\x04<br>")?;
+/// let page = PageOut::read(b"\x82\0\x05\x81\0\x01s\x02\x83\0\0\x12\0\x07\x90\0\x04\0\0\0\x01")?;
 /// let expected = "import { jsxTemplate as _jsxTemplate } from \"s\";
 /// const $$_tpl_1 = [\"<br>\"];
 /// _jsxTemplate($$_tpl_1)
@@ -132,7 +132,7 @@ impl<'a> Printer<'a> {
     /// assert_eq!(Printer::new(Templates::read(&[])?, page).template_name(1), "$$$_tpl_1");
     /// # Ok::<(), jsx_precompile::Fault>(())
     /// ```
-    pub fn template_name(&self, number: u16) -> String {
+    pub fn template_name(&self, number: u32) -> String {
         self.names.template(number)
     }
 }
@@ -170,7 +170,7 @@ impl Names {
         place.map_or(helper.name(), |place| &self.helpers[place])
     }
 
-    fn template(&self, number: u16) -> String {
+    fn template(&self, number: u32) -> String {
         format!("{}{number}", self.templates)
     }
 }

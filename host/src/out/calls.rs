@@ -35,7 +35,7 @@ impl Call<'_> {
     /// ```
     /// use jsx_precompile::out::{Helper, PageOut};
     ///
-    /// let call = PageOut::read(b"\x12\0\x05\x90\0\x02\0\x01")?.calls().next().unwrap();
+    /// let call = PageOut::read(b"\x12\0\x07\x90\0\x04\0\0\0\x01")?.calls().next().unwrap();
     /// assert_eq!(call.helper(), Some(Helper::JsxTemplate));
     /// # Ok::<(), jsx_precompile::Fault>(())
     /// ```
@@ -55,7 +55,7 @@ impl Call<'_> {
 /// ```
 /// use jsx_precompile::out::{Call, Expression, PageOut};
 ///
-/// let page = PageOut::read(b"\x12\0\x08\x90\0\x05\0\x07\x73\0\0")?;
+/// let page = PageOut::read(b"\x12\0\x0a\x90\0\x07\0\0\0\x07\x73\0\0")?;
 /// let Some(Call::Template(call)) = page.calls().next() else { panic!() };
 /// assert_eq!(call.number(), 7);
 /// assert!(call.expressions().eq([Expression::Null]));
@@ -70,12 +70,12 @@ impl<'a> TemplateCall<'a> {
     /// ```
     /// use jsx_precompile::out::{Call, PageOut};
     ///
-    /// let page = PageOut::read(b"\x12\0\x05\x90\0\x02\0\x07")?;
+    /// let page = PageOut::read(b"\x12\0\x07\x90\0\x04\0\0\0\x07")?;
     /// assert!(matches!(page.calls().next(), Some(Call::Template(call)) if call.number() == 7));
     /// # Ok::<(), jsx_precompile::Fault>(())
     /// ```
-    pub fn number(&self) -> u16 {
-        self.0.number()
+    pub fn number(&self) -> u32 {
+        self.0.number().unwrap_or_default()
     }
 
     /// The dynamic expressions, which document 01 calls gaps: they go between the template's static strings.
@@ -83,7 +83,7 @@ impl<'a> TemplateCall<'a> {
     /// ```
     /// use jsx_precompile::out::{Call, PageOut};
     ///
-    /// let page = PageOut::read(b"\x12\0\x05\x90\0\x02\0\x07")?;
+    /// let page = PageOut::read(b"\x12\0\x07\x90\0\x04\0\0\0\x07")?;
     /// assert!(matches!(page.calls().next(), Some(Call::Template(call)) if call.expressions().count() == 0));
     /// # Ok::<(), jsx_precompile::Fault>(())
     /// ```
@@ -96,7 +96,7 @@ impl<'a> TemplateCall<'a> {
     /// ```
     /// use jsx_precompile::out::{Call, PageOut};
     ///
-    /// let page = PageOut::read(b"\x12\0\x0a\x90\0\x07\0\x01\x90\0\x02\0\x02")?;
+    /// let page = PageOut::read(b"\x12\0\x0e\x90\0\x0b\0\0\0\x01\x90\0\x04\0\0\0\x02")?;
     /// let Some(Call::Template(outer)) = page.calls().next() else { panic!() };
     /// let Some(Call::Template(inner)) = outer.calls().next() else { panic!() };
     /// assert_eq!((outer.number(), inner.number()), (1, 2));

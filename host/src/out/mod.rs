@@ -37,7 +37,7 @@ use std::fmt;
 /// ```
 /// use jsx_precompile::out::{Series, Templates};
 ///
-/// let template = Templates::read(b"\x80\0\x0a\0\x01\x81\0\x01a\x81\0\x01b")?.next().unwrap();
+/// let template = Templates::read(b"\x84\0\x0f\0\0\0\x01\0\x01\x02\x81\0\x01a\x81\0\x01b")?.next().unwrap();
 /// let strings: Series<&str> = template.strings();
 /// assert_eq!(strings.clone().count(), 2);
 /// assert_eq!(strings.collect::<String>(), "ab");
@@ -92,13 +92,17 @@ impl<T> Eq for Series<'_, T> {}
 pub struct Templates<'a>(Series<'a, Template<'a>>);
 
 impl<'a> Templates<'a> {
-    /// The templates that these bytes are; where they are none, the place and the reason.
+    /// The templates that these bytes are; where they are none, the place and the reason. They are all 84s, or all 80s:
+    /// these were written before dynamic expressions had kinds, and are still read.
     ///
     /// ```
     /// use jsx_precompile::out::Templates;
     ///
+    /// assert_eq!(Templates::read(b"\x84\0\x0d\0\0\0\x01\0\0\x81\0\x04<br>")?.count(), 1);
+    /// assert_eq!(Templates::read(b"\x84\0\x0d\0\0\0\x01\0\0").unwrap_err().at, 0);
     /// assert_eq!(Templates::read(b"\x80\0\x09\0\x01\x81\0\x04<br>")?.count(), 1);
-    /// assert_eq!(Templates::read(b"\x80\0\x09\0\x01").unwrap_err().at, 0);
+    /// let fault = Templates::read(b"\x84\0\x0a\0\0\0\x01\0\x01\x02\x81\0\0").unwrap_err();
+    /// assert_eq!(fault.reason, "84 (template) ends where a string (81) must stand"); // one more than kinds
     /// # Ok::<(), jsx_precompile::Fault>(())
     /// ```
     pub fn read(bytes: &'a [u8]) -> Result<Templates<'a>, Fault> {
@@ -120,12 +124,12 @@ impl<'a> Iterator for Templates<'a> {
     }
 }
 
-/// A template: the HTML around dynamic expressions. Document 01's field 80.
+/// A template: the HTML around dynamic expressions. Document 02's field 84, or document 01's field 80.
 ///
 /// ```
 /// use jsx_precompile::out::Templates;
 ///
-/// let template = Templates::read(b"\x80\0\x09\0\x01\x81\0\x04<br>")?.next().unwrap();
+/// let template = Templates::read(b"\x84\0\x0d\0\0\0\x01\0\0\x81\0\x04<br>")?.next().unwrap();
 /// assert_eq!((template.number(), template.strings().next()), (1, Some("<br>")));
 /// # Ok::<(), jsx_precompile::Fault>(())
 /// ```
@@ -138,11 +142,32 @@ impl<'a> Template<'a> {
     /// ```
     /// use jsx_precompile::out::Templates;
     ///
-    /// assert_eq!(Templates::read(b"\x80\0\x05\0\x07\x81\0\0")?.next().unwrap().number(), 7);
+    /// assert_eq!(Templates::read(b"\x84\0\x09\0\0\0\x07\0\0\x81\0\0")?.next().unwrap().number(), 7);
     /// # Ok::<(), jsx_precompile::Fault>(())
     /// ```
-    pub fn number(&self) -> u16 {
-        self.0.number()
+    pub fn number(&self) -> u32 {
+        self.0.number().unwrap_or_default()
+    }
+
+    /// Of each of its dynamic expressions, from front to back, whether it is an attribute's or a child; none of a
+    /// template that was written before templates told it (80).
+    ///
+    /// ```
+    /// use jsx_precompile::out::{Kind, Templates};
+    /// use jsx_precompile::{Options, page::{Element, Expression, Item, Page}, transform};
+    ///
+    /// // <p title={t}>{n}</p>
+    /// let tag = Element::new("p").attribute("title", Expression::source("t")).child(Expression::source("n"));
+    /// let forms = transform(&Page::new([Item::statement([tag.into()])]).to_bytes()?, &Options::new())?;
+    /// let kinds = forms.templates().next().unwrap().kinds().unwrap();
+    /// assert!(kinds.eq([Kind::Attribute, Kind::Child]));
+    ///
+    /// let old = Templates::read(b"\x80\0\x05\0\x01\x81\0\0")?.next().unwrap();
+    /// assert_eq!(old.kinds(), None);
+    /// # Ok::<(), Box<dyn std::error::Error>>(())
+    /// ```
+    pub fn kinds(&self) -> Option<Kinds<'a>> {
+        self.0.kinds().map(Kinds)
     }
 
     /// Its static strings, one more than a call of it has dynamic expressions.
@@ -150,12 +175,93 @@ impl<'a> Template<'a> {
     /// ```
     /// use jsx_precompile::out::Templates;
     ///
-    /// let template = Templates::read(b"\x80\0\x0a\0\x01\x81\0\x01a\x81\0\x01b")?.next().unwrap();
+    /// let template = Templates::read(b"\x84\0\x0f\0\0\0\x01\0\x01\x02\x81\0\x01a\x81\0\x01b")?.next().unwrap();
     /// assert_eq!(template.strings().collect::<Vec<_>>(), ["a", "b"]);
     /// # Ok::<(), jsx_precompile::Fault>(())
     /// ```
     pub fn strings(&self) -> Series<'a, &'a str> {
         texts(self.0)
+    }
+}
+
+/// Where a dynamic expression stands in its template's HTML.
+///
+/// ```
+/// use jsx_precompile::out::Kind;
+///
+/// assert_eq!((Kind::Child as u8, Kind::Child.name()), (2, "child"));
+/// ```
+#[derive(Clone, Copy, Debug, PartialEq, Eq, PartialOrd, Ord, Hash)]
+#[repr(u8)]
+pub enum Kind {
+    /// In an opening tag: a call of `jsxAttr`, or a choice.
+    Attribute = 1,
+    /// Among children: any other expression.
+    Child = 2,
+}
+
+impl Kind {
+    /// The kind with this byte.
+    ///
+    /// ```
+    /// use jsx_precompile::out::Kind;
+    ///
+    /// assert_eq!([0, 1, 2, 3].map(Kind::from_byte), [None, Some(Kind::Attribute), Some(Kind::Child), None]);
+    /// ```
+    pub fn from_byte(byte: u8) -> Option<Kind> {
+        match byte {
+            1 => Some(Kind::Attribute),
+            2 => Some(Kind::Child),
+            _ => None,
+        }
+    }
+
+    /// A word for it.
+    ///
+    /// ```
+    /// assert_eq!(jsx_precompile::out::Kind::Attribute.name(), "attribute");
+    /// ```
+    pub fn name(self) -> &'static str {
+        match self {
+            Kind::Attribute => "attribute",
+            Kind::Child => "child",
+        }
+    }
+}
+
+/// The kinds of a template's dynamic expressions, as [`Template::kinds`] gives them.
+///
+/// ```
+/// use jsx_precompile::out::{Kind, Kinds, Templates};
+///
+/// let template = Templates::read(b"\x84\0\x0f\0\0\0\x01\0\x01\x02\x81\0\x01a\x81\0\x01b")?.next().unwrap();
+/// let mut kinds: Kinds = template.kinds().unwrap();
+/// assert_eq!((kinds.len(), kinds.next(), kinds.next()), (1, Some(Kind::Child), None));
+/// # Ok::<(), jsx_precompile::Fault>(())
+/// ```
+#[derive(Clone, PartialEq, Eq)]
+pub struct Kinds<'a>(&'a [u8]);
+
+impl Iterator for Kinds<'_> {
+    type Item = Kind;
+
+    fn next(&mut self) -> Option<Kind> {
+        let (first, rest) = self.0.split_first()?;
+        self.0 = rest;
+        // Whoever reads has checked that there is no other.
+        Some(if *first == Kind::Attribute as u8 { Kind::Attribute } else { Kind::Child })
+    }
+
+    fn size_hint(&self) -> (usize, Option<usize>) {
+        (self.0.len(), Some(self.0.len()))
+    }
+}
+
+impl ExactSizeIterator for Kinds<'_> {}
+
+impl fmt::Debug for Kinds<'_> {
+    fn fmt(&self, f: &mut fmt::Formatter<'_>) -> fmt::Result {
+        f.debug_list().entries(self.clone()).finish()
     }
 }
 
@@ -323,7 +429,7 @@ impl<'a> Item<'a> {
     /// ```
     /// use jsx_precompile::out::PageOut;
     ///
-    /// let page = PageOut::read(b"\x13\0\0\x12\0\x05\x90\0\x02\0\x01")?;
+    /// let page = PageOut::read(b"\x13\0\0\x12\0\x07\x90\0\x04\0\0\0\x01")?;
     /// assert!(page.items().map(|item| item.calls().count()).eq([0, 1]));
     /// # Ok::<(), jsx_precompile::Fault>(())
     /// ```
@@ -546,6 +652,6 @@ fn array_item(field: Field) -> ArrayItem {
 }
 
 debug! {
-    Template { number, strings }
+    Template { number, kinds, strings }
     PageOut { items }
 }

@@ -7,7 +7,11 @@ use oracle::make::{field, row};
 pub fn templates(templates: Templates) -> Vec<u8> {
     let one = |template: Template| {
         let strings: Vec<u8> = template.strings().flat_map(|string| field(0x81, string.as_bytes())).collect();
-        field(0x80, &[&template.number().to_be_bytes()[..], &strings].concat())
+        let number = template.number().to_be_bytes();
+        let Some(kinds) = template.kinds() else { return field(0x80, &[&number[2..], &strings].concat()) };
+        let count = u16::try_from(kinds.len()).expect("a count").to_be_bytes();
+        let kinds: Vec<u8> = kinds.map(|kind| kind as u8).collect();
+        field(0x84, &[&number[..], &count, &kinds, &strings].concat())
     };
     templates.flat_map(one).collect()
 }

@@ -43,12 +43,16 @@ fn many_brackets(rng: &mut Rng) -> Vec<u8> {
     page_of(fragment(&[braces(code(&["(".repeat(open), inside.to_string(), ")".repeat(closed)].concat()))]))
 }
 
-/// `<p>` with text whose static string is within three of the longest, 65,530 (number and header stand in the 80 too).
+/// `<p>` with a text and up to three gaps, whose template is within three of the longest body, 65,535: an 84 has six bytes
+/// of number and count, a kind for each gap, and a header for each static string.
 fn near_static_string(rng: &mut Rng) -> Vec<u8> {
-    let wanted = 65_530 - 3 + rng.below(7);
+    let gaps = rng.below(4);
+    let wanted = 65_535 - 3 + rng.below(7) - (6 + gaps + 3 * (gaps + 1));
     let escaped = 10_900;
     let plain = wanted - "<p></p>".len() - 6 * escaped;
-    page_of(element("p", &[text(&("\"".repeat(escaped) + &"x".repeat(plain)))]))
+    let mut children = vec![text(&("\"".repeat(escaped) + &"x".repeat(plain)))];
+    children.extend((0..gaps).map(|_| braces(code("x"))));
+    page_of(element("p", &children))
 }
 
 /// A call with a string whose statement is within three of the longest.

@@ -67,21 +67,35 @@ fn lengths() -> Vec<Mark> {
     marks
 }
 
-/// The longest static string, item body and string of an output, and one byte more.
+/// The longest static string, item body and string of an output, and one byte more. Of an 84 (02, A6) six bytes are its
+/// number and its count, and a kind and a header go with each gap.
 fn outputs() -> Vec<Mark> {
     let escaped = |bytes: usize| "\"".repeat(bytes / 6) + &"x".repeat(bytes % 6);
     let template = |length: usize| page_of(element("p", &[text(&escaped(length - 7))]));
     // 12, 94, 40, 95, 96, 81 and 70 stand around the string: 29 bytes within the item.
     let item = |length: usize| page_of(element("Foo", &[braces(string(&escaped(length - 29))), text("")]));
+    let gapped = |length: usize| {
+        page_of(element("p", &[text(&escaped(length - 7)), braces(code("x")), braces(code("y")), braces(code("z"))]))
+    };
+    // And 90 with its number.
+    let call = |length: usize| {
+        let inner = element("Foo", &[braces(string(&escaped(length - 36))), text("")]);
+        page_of(element("p", &[inner]))
+    };
     let twice = [text("a"), braces(string(&"\"".repeat(6_600))), element("i", &[])];
     let mut marks = vec![mark("run-merged-twice", page_of(element("Foo", &twice)), vec![], 11)];
-    for length in 65_528..=65_532 {
-        let number = if length <= 65_530 { 0 } else { 11 };
+    for length in 65_524..=65_531 {
+        let number = if length <= 65_526 { 0 } else { 11 };
         marks.push(mark(&format!("static-string-{length}"), template(length), vec![], number));
+    }
+    for length in 65_512..=65_516 {
+        let number = if length <= 65_514 { 0 } else { 11 };
+        marks.push(mark(&format!("static-strings-{length}"), gapped(length), vec![], number));
     }
     for length in 65_533..=65_537 {
         let number = if length <= 65_535 { 0 } else { 11 };
         marks.push(mark(&format!("item-{length}"), item(length), vec![], number));
+        marks.push(mark(&format!("item-with-a-template-{length}"), call(length), vec![], number));
     }
     marks
 }
@@ -93,6 +107,7 @@ fn lent() -> Vec<Mark> {
         case: Case { page: page.clone(), options: vec![], scratch, templates_room, page_room },
         number,
         printed: None,
+        written: None,
     };
     let enough = LEAST_SCRATCH;
     let options = import_source(&"s".repeat(MOST_OPTIONS));
@@ -109,6 +124,6 @@ fn lent() -> Vec<Mark> {
         with("page-short", enough, Room::Exact, Room::Less(1), 13),
         with("page-none", enough, Room::More(9), Room::None, 13),
         with("both-short", enough, Room::Less(1), Room::Less(1), 12),
-        Mark { name: "short-before-thick".into(), case: thick, number: 1, printed: None },
+        Mark { name: "short-before-thick".into(), case: thick, number: 1, printed: None, written: None },
     ]
 }

@@ -21,6 +21,8 @@ pub struct Mark {
     pub number: u32,
     /// The printed text of both outputs, where it is written down.
     pub printed: Option<String>,
+    /// The bytes of templates out and page out, where they are written down.
+    pub written: Option<[Vec<u8>; 2]>,
 }
 
 pub fn all() -> Vec<Mark> {
@@ -31,7 +33,7 @@ pub fn all() -> Vec<Mark> {
 /// A page that is refused, or taken without its text being written down.
 fn mark(name: &str, page: Vec<u8>, options: Vec<u8>, number: u32) -> Mark {
     let case = Case { page, options, scratch: LEAST_SCRATCH, templates_room: Room::More(3), page_room: Room::More(2) };
-    Mark { name: name.to_string(), case, number, printed: None }
+    Mark { name: name.to_string(), case, number, printed: None, written: None }
 }
 
 /// A page that is taken, and what is then printed. The sum tells the helpers on the first line.

@@ -70,8 +70,8 @@ fn counted(count: usize, what: &str) -> String {
 struct View<'a> {
     printer: Printer<'a>,
     /// What fills each template.
-    fillings: HashMap<u16, Vec<Expression<'a>>>,
-    callers: HashMap<u16, Caller>,
+    fillings: HashMap<u32, Vec<Expression<'a>>>,
+    callers: HashMap<u32, Caller>,
 }
 
 /// Where a template is called.
@@ -79,7 +79,7 @@ struct Caller {
     /// The item, counted from 0 without the import and the templates.
     item: usize,
     /// The template that the call fills.
-    template: Option<u16>,
+    template: Option<u32>,
 }
 
 impl<'a> View<'a> {
@@ -105,16 +105,15 @@ impl<'a> View<'a> {
 
     fn template(&self, template: &Template) -> String {
         let number = template.number();
-        let mut fillings = self.fillings.get(&number).into_iter().flatten();
+        let fillings = self.fillings.get(&number).into_iter().flatten();
+        let mut gaps = template.kinds().into_iter().flatten().zip(fillings);
         let mut text = String::new();
         for string in template.strings() {
             text += &format!("<span class=\"static\">{}</span>", escaped(string));
-            if let Some(filling) = fillings.next() {
-                // A dynamic expression lies in an opening tag exactly when it is one of these two.
-                let in_tag = matches!(filling, Expression::Call(Call::Attr(_) | Call::Choice(_)));
-                let kind = if in_tag { "attribute" } else { "child" };
+            if let Some((kind, filling)) = gaps.next() {
                 text += &format!(
-                    "<span class=\"{kind}\">{}</span>",
+                    "<span class=\"{}\">{}</span>",
+                    kind.name(),
                     self.linked(&self.printer.expression(filling.clone()), false)
                 );
             }
@@ -170,7 +169,7 @@ impl<'a> View<'a> {
 }
 
 /// Where each template is called.
-fn callers(page: PageOut) -> HashMap<u16, Caller> {
+fn callers(page: PageOut) -> HashMap<u32, Caller> {
     let mut callers = HashMap::new();
     let items = page.items().filter(|item| !matches!(item, Item::Import(_) | Item::Templates));
     for (item, calls) in items.map(|item| item.calls()).enumerate() {

@@ -1,7 +1,7 @@
 //! `show`: bytes as an indented tree of fields, the place of each, its tag, what the tag means, and its text.
 
 use jsx_precompile::field::{Field, Fields};
-use jsx_precompile::out::{Import, PageOut, Templates};
+use jsx_precompile::out::{Import, Kind, PageOut, Templates};
 use jsx_precompile::page::Page;
 use jsx_precompile::{Decimal, Fault, Input, Options};
 
@@ -9,7 +9,7 @@ use jsx_precompile::{Decimal, Fault, Input, Options};
 pub fn told_by(bytes: &[u8]) -> Input {
     match bytes.first() {
         Some(0x02..=0x05) => Input::Options,
-        Some(0x80) => Input::Templates,
+        Some(0x80 | 0x84) => Input::Templates,
         Some(0x10..=0x13 | 0x82 | 0x83) => Input::PageOut,
         _ => Input::Page,
     }
@@ -101,7 +101,11 @@ fn line(field: &Field, whole: bool) -> String {
         (0x7a | 0x7b, [digits @ .., places]) if digits.len() == 8 => decimal(digits, *places),
         (0x72, [0]) => "false".to_string(),
         (0x72, [1]) => "true".to_string(),
-        (0x80 | 0x90, [high, low, ..]) => u16::from_be_bytes([*high, *low]).to_string(),
+        (0x80 | 0x84 | 0x90, _) => match (field.number(), field.kinds()) {
+            (Some(number), None | Some([])) => number.to_string(),
+            (Some(number), Some(kinds)) => format!("{number}: {}", listed(kinds, whole)),
+            (None, _) => hex(body, whole),
+        },
         (0x82, [.., sum]) => {
             let names: Vec<_> = Import { source: "", sum: *sum }.helpers().map(|helper| helper.name()).collect();
             format!("{sum}: {}", names.join(", "))
@@ -115,6 +119,14 @@ fn line(field: &Field, whole: bool) -> String {
 
 fn number(eight: &[u8]) -> u64 {
     eight.iter().fold(0, |number, byte| number << 8 | u64::from(*byte))
+}
+
+/// The kinds of dynamic expressions.
+fn listed(kinds: &[u8], whole: bool) -> String {
+    let name = |byte: &u8| Kind::from_byte(*byte).map_or(format!("no kind {byte}"), |kind| kind.name().to_string());
+    let shown = if whole { kinds } else { &kinds[..kinds.len().min(CUT / 10)] };
+    let names = shown.iter().map(name).collect::<Vec<_>>().join(", ");
+    if shown.len() < kinds.len() { format!("{names}... ({} in all)", kinds.len()) } else { names }
 }
 
 /// As it is written, where it is within its limits; and what is held, since zeros at the end are not written.
