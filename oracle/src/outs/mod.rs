@@ -3,11 +3,13 @@
 //!
 //! `templates` and `page` read both outs with their refusals and write them again; the calls stand on these two.
 
+pub mod convert;
 pub mod grammar;
 pub mod marks;
 pub mod page;
 pub mod row;
 pub mod templates;
+pub mod vectors;
 
 /// Why a call is refused. The order in which that is looked for is each call's own.
 #[derive(Clone, Copy, Debug, PartialEq, Eq, PartialOrd, Ord)]

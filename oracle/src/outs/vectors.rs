@@ -1,0 +1,44 @@
+//! Stored answers, one call on a line, words parted by one space, bytes as small hex digits, `-` where there are none.
+
+use super::convert::{Converted, Way, downgrade, upgrade};
+use crate::vectors::unhex;
+
+/// What lies in each lent byte before a call: of templates out and HTML, and of page out.
+pub const TEMPLATES_BEFORE: u8 = 0xa5;
+pub const PAGE_BEFORE: u8 = 0x5a;
+
+/// What was found on a line: the number that it has stored, and where the judge parts from it.
+pub struct Found {
+    pub number: u32,
+    pub difference: Option<String>,
+}
+
+fn found<T: PartialEq + std::fmt::Debug>(number: u32, judge: T, stored: T) -> Option<Found> {
+    let difference = (judge != stored).then(|| format!("judge {judge:02x?}, stored {stored:02x?}"));
+    Some(Found { number, difference })
+}
+
+/// A lent buffer after a call: taken, what was written and the bytes behind it; refused, zeros.
+fn after(number: u32, before: u8, lent: usize, written: &[u8]) -> Vec<u8> {
+    let mut bytes = vec![if number == 0 { before } else { 0 }; lent];
+    bytes[..written.len()].copy_from_slice(written);
+    bytes
+}
+
+/// seed up|down templates page templates-lent page-lent number templates-bytes page-bytes TEMPLATES PAGE
+pub fn convert(line: &str) -> Option<Found> {
+    let words: Vec<&str> = line.split(' ').collect();
+    let [_, way, templates, page, lent, page_lent, number, bytes, page_bytes, written, page_written] = words[..] else {
+        return None;
+    };
+    let way = if way == "up" { Way::Up } else { Way::Down };
+    let number = number.parse().ok()?;
+    let (lent, page_lent): (usize, usize) = (lent.parse().ok()?, page_lent.parse().ok()?);
+    let stored = Converted { number, templates_bytes: bytes.parse().ok()?, page_bytes: page_bytes.parse().ok()? };
+    let (mut out, mut page_out) = (vec![TEMPLATES_BEFORE; lent], vec![PAGE_BEFORE; page_lent]);
+    let call = if way == Way::Up { upgrade } else { downgrade };
+    let answer = call(&unhex(templates)?, &unhex(page)?, &mut out, &mut page_out);
+    let stored_out = after(number, TEMPLATES_BEFORE, lent, &unhex(written)?);
+    let stored_page = after(number, PAGE_BEFORE, page_lent, &unhex(page_written)?);
+    found(number, (answer, out, page_out), (stored, stored_out, stored_page))
+}
