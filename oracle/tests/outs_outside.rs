@@ -32,3 +32,9 @@ fn answers_alike(file: &str, judge: impl Fn(&str) -> Option<Found>, numbers: &[u
 fn converted_alike() {
     answers_alike("convert.txt", vectors::convert, &[0, 3, 4, 5, 6, 7, 12, 13, 17]);
 }
+
+/// 02, A11.
+#[test]
+fn found_alike() {
+    answers_alike("lookup.txt", vectors::lookup, &[0, 3, 4, 6, 20]);
+}

@@ -1,6 +1,7 @@
 //! Stored answers, one call on a line, words parted by one space, bytes as small hex digits, `-` where there are none.
 
 use super::convert::{Converted, Way, downgrade, upgrade};
+use super::find::{ABSENT, MOST_NUMBERS, Places, find};
 use crate::vectors::unhex;
 
 /// What lies in each lent byte before a call: of templates out and HTML, and of page out.
@@ -41,4 +42,20 @@ pub fn convert(line: &str) -> Option<Found> {
     let stored_out = after(number, TEMPLATES_BEFORE, lent, &unhex(written)?);
     let stored_page = after(number, PAGE_BEFORE, page_lent, &unhex(page_written)?);
     found(number, (answer, out, page_out), (stored, stored_out, stored_page))
+}
+
+/// seed templates numbers number records places
+pub fn lookup(line: &str) -> Option<Found> {
+    let [_, templates, numbers, number, records, places] = line.split(' ').collect::<Vec<_>>()[..] else {
+        return None;
+    };
+    let listed =
+        |words: &str| -> Vec<String> { words.split(',').filter(|word| *word != "-").map(str::to_string).collect() };
+    let numbers: Vec<u32> = listed(numbers).iter().map(|word| word.parse().ok()).collect::<Option<_>>()?;
+    let number = number.parse().ok()?;
+    let mut stored = Places { number, records: records.parse().ok()?, places: [ABSENT; MOST_NUMBERS] };
+    for (place, word) in stored.places.iter_mut().zip(listed(places)) {
+        *place = if word == "x" { ABSENT } else { word.parse().ok()? };
+    }
+    found(number, find(&unhex(templates)?, &numbers), stored)
 }
