@@ -33,6 +33,12 @@ fn converted_alike() {
     answers_alike("convert.txt", vectors::convert, &[0, 3, 4, 5, 6, 7, 12, 13, 17]);
 }
 
+/// 02, A8.
+#[test]
+fn filled_alike() {
+    answers_alike("fill.txt", vectors::filling, &[0, 3, 4, 6, 8, 13, 18]);
+}
+
 /// 02, A11.
 #[test]
 fn found_alike() {

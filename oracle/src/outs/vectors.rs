@@ -1,6 +1,7 @@
 //! Stored answers, one call on a line, words parted by one space, bytes as small hex digits, `-` where there are none.
 
 use super::convert::{Converted, Way, downgrade, upgrade};
+use super::fill::{Filled, fill};
 use super::find::{ABSENT, MOST_NUMBERS, Places, find};
 use crate::vectors::unhex;
 
@@ -42,6 +43,16 @@ pub fn convert(line: &str) -> Option<Found> {
     let stored_out = after(number, TEMPLATES_BEFORE, lent, &unhex(written)?);
     let stored_page = after(number, PAGE_BEFORE, page_lent, &unhex(page_written)?);
     found(number, (answer, out, page_out), (stored, stored_out, stored_page))
+}
+
+/// seed templates order out-lent number bytes HTML
+pub fn filling(line: &str) -> Option<Found> {
+    let [_, templates, order, lent, number, bytes, html] = line.split(' ').collect::<Vec<_>>()[..] else { return None };
+    let (number, lent) = (number.parse().ok()?, lent.parse().ok()?);
+    let mut out = vec![TEMPLATES_BEFORE; lent];
+    let answer = fill(&unhex(templates)?, &unhex(order)?, &mut out);
+    let stored = Filled { number, html_bytes: bytes.parse().ok()? };
+    found(number, (answer, out), (stored, after(number, TEMPLATES_BEFORE, lent, &unhex(html)?)))
 }
 
 /// seed templates numbers number records places
