@@ -44,3 +44,9 @@ fn filled_alike() {
 fn found_alike() {
     answers_alike("lookup.txt", vectors::lookup, &[0, 3, 4, 6, 20]);
 }
+
+/// 02, A13.
+#[test]
+fn catalogued_alike() {
+    answers_alike("catalogue.txt", vectors::catalogue_call, &[0, 3, 4, 5, 6, 7, 17, 21, 22, 23]);
+}

@@ -3,6 +3,7 @@
 //!
 //! `templates` and `page` read both outs with their refusals and write them again; the calls stand on these two.
 
+pub mod catalogue;
 pub mod convert;
 pub mod fill;
 pub mod find;

@@ -1,5 +1,6 @@
 //! Stored answers, one call on a line, words parted by one space, bytes as small hex digits, `-` where there are none.
 
+use super::catalogue::{self, Catalogued};
 use super::convert::{Converted, Way, downgrade, upgrade};
 use super::fill::{Filled, fill};
 use super::find::{ABSENT, MOST_NUMBERS, Places, find};
@@ -69,4 +70,45 @@ pub fn lookup(line: &str) -> Option<Found> {
         *place = if word == "x" { ABSENT } else { word.parse().ok()? };
     }
     found(number, find(&unhex(templates)?, &numbers), stored)
+}
+
+/// seed call CATALOGUE number AFTER, before A14
+pub fn catalogue_call(line: &str) -> Option<Found> {
+    let [_, call, before, number, after] = line.split(' ').collect::<Vec<_>>()[..] else { return None };
+    let mut bytes = unhex(before)?;
+    let answer = match Called::parse(call)? {
+        Called::Arrive { name, templates, page, .. } => catalogue::add(&mut bytes, name, &templates, &page),
+        Called::Leave { name } => catalogue::remove(&mut bytes, name),
+    };
+    stored_catalogue(number.parse().ok()?, answer, bytes, unhex(after)?, false)
+}
+
+/// The stored answers say nothing of used bytes and pages: these are counted in the catalogue that they have.
+fn stored_catalogue(number: u32, answer: Catalogued, bytes: Vec<u8>, after: Vec<u8>, housed: bool) -> Option<Found> {
+    let (used, pages) = match catalogue::read(&after, housed) {
+        Some(pages) if number == 0 => (pages.iter().map(|page| page.bytes()).sum(), pages.len()),
+        _ => (0, 0),
+    };
+    found(number, (answer, bytes), (Catalogued { number, used, pages }, after))
+}
+
+/// A call of the catalogue: `arrive:name:house:TEMPLATES:PAGE` or `leave:name`.
+enum Called {
+    Arrive { name: u32, house: u32, templates: Vec<u8>, page: Vec<u8> },
+    Leave { name: u32 },
+}
+
+impl Called {
+    fn parse(word: &str) -> Option<Called> {
+        match word.split(':').collect::<Vec<_>>()[..] {
+            ["arrive", name, house, templates, page] => Some(Called::Arrive {
+                name: name.parse().ok()?,
+                house: house.parse().ok()?,
+                templates: unhex(templates)?,
+                page: unhex(page)?,
+            }),
+            ["leave", name] => Some(Called::Leave { name: name.parse().ok()? }),
+            _ => None,
+        }
+    }
 }
