@@ -50,3 +50,9 @@ fn found_alike() {
 fn catalogued_alike() {
     answers_alike("catalogue.txt", vectors::catalogue_call, &[0, 3, 4, 5, 6, 7, 17, 21, 22, 23]);
 }
+
+/// 02, A14.
+#[test]
+fn shared_alike() {
+    answers_alike("shares.txt", vectors::shares_call, &[0, 3, 4, 5, 6, 7, 17, 21, 22, 24, 25, 26]);
+}

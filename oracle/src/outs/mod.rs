@@ -11,6 +11,7 @@ pub mod grammar;
 pub mod marks;
 pub mod page;
 pub mod row;
+pub mod shares;
 pub mod templates;
 pub mod vectors;
 

@@ -4,6 +4,7 @@ use super::catalogue::{self, Catalogued};
 use super::convert::{Converted, Way, downgrade, upgrade};
 use super::fill::{Filled, fill};
 use super::find::{ABSENT, MOST_NUMBERS, Places, find};
+use super::shares;
 use crate::vectors::unhex;
 
 /// What lies in each lent byte before a call: of templates out and HTML, and of page out.
@@ -81,6 +82,23 @@ pub fn catalogue_call(line: &str) -> Option<Found> {
         Called::Leave { name } => catalogue::remove(&mut bytes, name),
     };
     stored_catalogue(number.parse().ok()?, answer, bytes, unhex(after)?, false)
+}
+
+/// seed call guarantees mosts CATALOGUE number AFTER
+pub fn shares_call(line: &str) -> Option<Found> {
+    let [_, call, guaranteed, most, before, number, after] = line.split(' ').collect::<Vec<_>>()[..] else {
+        return None;
+    };
+    let numbers = |word: &str| word.split(',').map(|word| word.parse().ok()).collect::<Option<Vec<u32>>>();
+    let shares: Vec<u32> = numbers(guaranteed)?.into_iter().zip(numbers(most)?).flat_map(<[u32; 2]>::from).collect();
+    let mut bytes = unhex(before)?;
+    let answer = match Called::parse(call)? {
+        Called::Arrive { name, house, templates, page } => {
+            shares::add(&mut bytes, name, house, &shares, &templates, &page)
+        }
+        Called::Leave { name } => shares::remove(&mut bytes, name),
+    };
+    stored_catalogue(number.parse().ok()?, answer, bytes, unhex(after)?, true)
 }
 
 /// The stored answers say nothing of used bytes and pages: these are counted in the catalogue that they have.
