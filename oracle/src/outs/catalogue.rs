@@ -81,23 +81,28 @@ pub fn read(catalogue: &[u8], housed: bool) -> Option<Vec<Page>> {
     if catalogue.len() > MOST_CATALOGUE {
         return None;
     }
-    let mut pages: Vec<Page> = vec![];
-    let mut before = 0;
-    let mut rest = catalogue;
-    while rest.first() == Some(&PAGE) {
-        let (page, behind) = first_page(rest, housed, before)?;
-        before += page.templates.len() as u32;
-        pages.push(page);
-        rest = behind;
-    }
+    let (pages, rest) = row_of(catalogue, housed);
     let names = sorted(pages.iter().map(|page| page.name).collect());
     let once = names.is_sorted_by(|one, next| one < next);
     (once && rest.iter().all(|byte| *byte == 0)).then_some(pages)
 }
 
-/// The page behind a 97, and what follows it.
+/// The row of pages, and what follows from the first byte on that begins none.
+pub fn row_of(catalogue: &[u8], housed: bool) -> (Vec<Page>, &[u8]) {
+    let mut pages: Vec<Page> = vec![];
+    let mut before = 0;
+    let mut rest = catalogue;
+    while let Some((page, behind)) = first_page(rest, housed, before) {
+        before += page.templates.len() as u32;
+        pages.push(page);
+        rest = behind;
+    }
+    (pages, rest)
+}
+
+/// A page that begins here with so many templates before it, and what follows it.
 fn first_page(rest: &[u8], housed: bool, before: u32) -> Option<(Page, &[u8])> {
-    let (name, rest) = four(&rest[1..])?;
+    let (name, rest) = four(rest.strip_prefix(&[PAGE])?)?;
     let (house, rest) = match rest {
         [house @ 1..=16, rest @ ..] if housed => (Some(*house), rest),
         _ if housed => return None,

@@ -4,14 +4,19 @@
 //! `templates` and `page` read both outs with their refusals and write them again; the calls stand on these two.
 
 pub mod catalogue;
+pub mod compare;
 pub mod convert;
 pub mod fill;
 pub mod find;
+pub mod generate;
 pub mod grammar;
 pub mod marks;
 pub mod page;
+pub mod reached;
 pub mod row;
 pub mod shares;
+pub mod shrink;
+pub mod sweep;
 pub mod templates;
 pub mod vectors;
 
