@@ -37,7 +37,7 @@ fn histories_of_a_catalogue() {
 
 #[test]
 fn histories_with_shares() {
-    reaches(&sweep::histories(true, 0, 3_000), &Reached::due_of_catalogue(true));
+    reaches(&sweep::histories(true, 0, 2_000), &Reached::due_of_catalogue(true));
 }
 
 #[test]

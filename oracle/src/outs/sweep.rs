@@ -1,13 +1,13 @@
 //! Many seeds of each call in a row, and what they reached. What A7 and A13 promise of all calls is asked of each.
 
-use super::catalogue::{self, Catalogued, Page};
+use super::catalogue::{self, Page};
 use super::convert::{self, Way};
 use super::fill;
 use super::find::find;
 use super::generate::history::{Call, history, run};
 use super::generate::{convert_case, fill_case, find_case};
+use super::promises::{Guarantees, apart};
 use super::reached::Reached;
-use super::shares::{read_shares, used};
 
 pub fn conversions(first: u64, count: u64) -> Reached {
     let mut reached = Reached::default();
@@ -69,10 +69,11 @@ pub fn histories(housed: bool, first: u64, count: u64) -> Reached {
     let mut reached = Reached::default();
     for seed in first..first + count {
         let history = history(seed, housed);
-        let mut shares = history.catalogue.iter().all(|byte| *byte == 0).then(Shares::default);
+        let mut shares = history.catalogue.iter().all(|byte| *byte == 0).then(Guarantees::default);
         run(&history, |step, before, after, answer| {
             reached.meet_catalogue(housed, step, before, answer);
             if housed && step.damage.is_none() {
+                apart(&step.call, before, after, answer, &mut reached);
                 shares = shares.take().and_then(|held| held.and(&step.call, before, answer, &mut reached));
             }
             if answer.number != 0 {
@@ -92,33 +93,6 @@ pub fn histories(housed: bool, first: u64, count: u64) -> Reached {
         });
     }
     reached
-}
-
-/// The shares of all arrivals so far, the refused ones apart: as long as they are the same, what A14 guarantees must hold.
-#[derive(Default)]
-struct Shares(Option<Vec<u32>>);
-
-impl Shares {
-    /// With one call more; none where the shares have changed.
-    fn and(self, call: &Call, before: &[u8], answer: Catalogued, reached: &mut Reached) -> Option<Shares> {
-        let Call::Add { name, house, shares, templates, page } = call else { return Some(self) };
-        let Ok(read) = read_shares(shares, before.len()) else { return Some(self) };
-        if self.0.as_ref().is_some_and(|held| held != shares) {
-            return None;
-        }
-        let pages = catalogue::read(before, true).expect("a sound catalogue");
-        let new = pages.iter().all(|page| page.name != *name) && (1..=16).contains(house);
-        if let (true, Ok(mut page)) = (new, Page::arriving(*name, None, templates, page)) {
-            page.house = Some(*house as u8);
-            let within =
-                used(&pages, *house as u8) + page.bytes() as u64 <= u64::from(read[*house as usize - 1].guaranteed);
-            if within {
-                assert_eq!(answer.number, 0, "a page within its guarantee");
-                reached.met("shares: a guarantee is kept");
-            }
-        }
-        Some(Shares(Some(shares.clone())))
-    }
 }
 
 fn bytes(pages: &[Page]) -> usize {

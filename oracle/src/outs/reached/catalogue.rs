@@ -44,7 +44,9 @@ const BOTH: [&str; 31] = [
 
 const WITHOUT: [&str; 2] = ["arrival: 23", "arrival: 21 before 23"];
 
-const SHARES: [&str; 17] = [
+const SHARES: [&str; 19] = [
+    "another house is gone",
+    "another house in another order",
     "a guarantee is kept",
     "4 its house",
     "arrival: 26 house 0",
