@@ -103,11 +103,24 @@ pub fn find_case(seed: u64) -> FindCase {
         let templates: Vec<_> = (0..rng.within(100, 400)).map(|_| numbered(rng, 500)).collect();
         super::templates::write(&templates, Layout::New).expect("short strings")
     } else {
-        outs(rng, Layout::New).0
+        recorded(rng)
     };
     let recorded: Vec<u32> = super::templates::read(&templates, Layout::New)
         .map_or(vec![], |templates| templates.iter().map(|template| template.number).collect());
     FindCase { templates, numbers: order::asked(rng, &recorded) }
+}
+
+/// Templates out of a pair. Many pairs have none; most of these get some.
+fn recorded(rng: &mut Rng) -> Vec<u8> {
+    let (templates, _) = outs(rng, Layout::New);
+    if !templates.is_empty() || rng.chance(10) {
+        return templates;
+    }
+    let mut templates: Vec<_> = (0..rng.within(1, 6)).map(|_| pair::template(rng)).collect();
+    for template in &mut templates {
+        template.number = rng.below(40) as u32;
+    }
+    super::templates::write(&templates, Layout::New).expect("short strings")
 }
 
 /// A short template with a number below this.
@@ -132,7 +145,7 @@ impl FillCase {
 
 pub fn fill_case(seed: u64) -> FillCase {
     let rng = &mut Rng::new(seed ^ 0x8888);
-    let (templates, _) = outs(rng, Layout::New);
+    let templates = recorded(rng);
     let order = order::order(rng, &super::templates::read(&templates, Layout::New).unwrap_or_default());
     FillCase { templates, order, room: room(rng) }
 }
