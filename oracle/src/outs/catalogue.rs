@@ -26,6 +26,8 @@ pub struct Page {
     pub house: Option<u8>,
     pub templates: Vec<Template>,
     pub parts: Vec<Part>,
+    /// How long both outs are.
+    outs: usize,
 }
 
 impl Page {
@@ -36,6 +38,7 @@ impl Page {
 
     /// A page whose numbers follow on so many templates before it.
     fn standing(name: u32, house: Option<u8>, templates: &[u8], page: &[u8], before: u32) -> Read<Page> {
+        let outs = templates.len() + page.len();
         let templates = templates::read(templates, Layout::New)?;
         let parts = page::read(page, Layout::New)?;
         let templates = with_kinds(&templates, Layout::New)?;
@@ -43,7 +46,7 @@ impl Page {
         let due: Vec<u32> = (1..=templates.len() as u32).map(|number| before + number).collect();
         let recorded = templates.iter().map(|template| template.number).collect();
         ensure(sorted(recorded) == due && sorted(page::called(&parts)) == due, Refusal::Disagreeing)?;
-        Ok(Page { name, house, templates, parts }.renumbered(|number| number - before))
+        Ok(Page { name, house, templates, parts, outs }.renumbered(|number| number - before))
     }
 
     fn renumbered(mut self, change: impl Fn(u32) -> u32) -> Page {
@@ -67,7 +70,8 @@ impl Page {
 
     /// Its bytes in the catalogue, counted from its 97.
     pub fn bytes(&self) -> usize {
-        self.written(0).len()
+        // The 97, the name, the house and two lengths.
+        1 + 4 + usize::from(self.house.is_some()) + 8 + self.outs
     }
 }
 
