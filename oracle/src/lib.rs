@@ -20,6 +20,7 @@ pub mod judge;
 pub mod kept;
 pub mod make;
 pub mod marks;
+pub mod outs;
 pub mod reached;
 pub mod serialized;
 pub mod show;
