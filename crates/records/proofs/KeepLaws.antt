@@ -4,11 +4,9 @@ use mathlib.Core.Path.{_≡_, refl, sym, ap, ap₂, _∙_, subst}
 use Prim.Native.Nat.{ℕ, _+_}
 use native.Mathlib.Omega.{arith}
 use mathlib.Core.List.{List, [], _∷_, _++_}
-use mathlib.Core.Bool.{Bool, true, false, _||_}
-use lib.ListN.{length, length-append}
+use mathlib.Core.Bool.{Bool, false, _||_}
+use lib.ListN.{length}
 use Rattle.field.specs.Row.{bytes, long-body}
-use Rattle.field.specs.Put.{put}
-use Rattle.field.proofs.PutLaws.{put-put, put-nil, length-put}
 use Rattle.field.proofs.Actions.{Action, Lows}
 use Rattle.spec.specs.Pass.{Template, Done, Pass, pure, map, both, raise, join, long-if, Mid, none, _+++_, Part, chars, gap, mark, marks}
 use Rattle.spec.specs.Output.{strings-after, kinds-of, dynamic-exprs, template-row, gen-template}
@@ -16,10 +14,11 @@ use Rattle.spec.specs.Merge.{Entry}
 use Rattle.spec.specs.Children.{entry-pass, entries-pass}
 use Rattle.spec.specs.Transform.{templates-row}
 use Rattle.strings.specs.Due.{graver, long-due, grave}
+use Rattle.strings.specs.Recorded.{recorded-one, recorded}
+use Rattle.strings.proofs.RecordedLaws.{size-append, long-append, recorded-append, recorded-length, recorded-one-is, recorded-kinds}
 use Rattle.strings.proofs.DueLaws.{grave-join, long-grave, due-none, due-then, due-template}
-use Rattle.records.specs.Keep.{Kept, at, add, keep, write, bumped, Low}
+use Rattle.records.specs.Keep.{Kept, at, add, keep, write, bumped, template-of, Low}
 use Rattle.records.specs.declared.Records.{Records}
-use Rattle.records.proofs.Templates.{bytes-append, long-append}
 
 -- ---- passes in a row
 
@@ -27,10 +26,9 @@ add-join : (c d : Done Mid) (v : Mid) (w : Kept) → add (record { value = v; ta
 add-join c d v w =
     let x = bytes (templates-row (c .templates)) in
     let y = bytes (templates-row (d .templates)) in
-    let e : bytes (templates-row (c .templates ++ d .templates)) ≡ x ++ y = bytes-append (c .templates) (d .templates) in
-    let o : put (w .out) (w .st .place) (bytes (templates-row (c .templates ++ d .templates))) ≡ put (put (w .out) (w .st .place) x) (w .st .place + length x) y = ap (put (w .out) (w .st .place)) e ∙ sym (put-put (w .out) (w .st .place) x y) in
+    let o = recorded-append (c .templates) (d .templates) (w .out) (w .st .place) in
     let n : w .st .next + (c .taken + d .taken) ≡ w .st .next + c .taken + d .taken = omega arith in
-    let p : w .st .place + length (bytes (templates-row (c .templates ++ d .templates))) ≡ w .st .place + length x + length y = omega (arith, ap length e, length-append x y) in
+    let p : w .st .place + length (bytes (templates-row (c .templates ++ d .templates))) ≡ w .st .place + length x + length y = omega (arith, size-append (c .templates) (d .templates)) in
     let b = due-then (w .st .due) (c .flags) (d .flags) (long-body (templates-row (c .templates))) (long-body (templates-row (d .templates))) (long-append (c .templates) (d .templates)) in
     λ i. at (o i) (record { next = n i; place = p i; due = b i })
 
@@ -41,11 +39,11 @@ keep-both f p q w = add-join (p (w .st .next)) (q (w .st .next + p (w .st .next)
 -- ---- passes that record nothing, or what others record
 
 pub keep-pure : (m : Mid) (w : Kept) → keep (pure m) w ≡ w
-unfolding keep pure templates-row bytes long-body
+unfolding keep pure templates-row bytes long-body recorded
 keep-pure m w =
     let n : w .st .next + 0 ≡ w .st .next = omega arith in
     let p : w .st .place + 0 ≡ w .st .place = omega arith in
-    λ i. at (put-nil (w .out) (w .st .place) i) (record { next = n i; place = p i; due = due-none (w .st .due) i })
+    λ i. at (w .out) (record { next = n i; place = p i; due = due-none (w .st .due) i })
 
 pub keep-map : (f : Mid → Mid) (p : Pass Mid) (w : Kept) → keep (map f p) w ≡ keep p w
 unfolding keep map
@@ -67,10 +65,13 @@ module _ (run : Bool) (ps : List Part) (w : Kept) where
       let u : List Template = record { number = w .st .next; strings = strings-after [] ps; kinds = kinds-of (d .value) } ∷ [] in
       let x = bytes (templates-row (d .templates)) in
       let y = bytes (templates-row u) in
-      let e : bytes (templates-row (d .templates ++ u)) ≡ x ++ y = bytes-append (d .templates) u in
-      let o : put (w .out) (w .st .place) (bytes (templates-row (d .templates ++ u))) ≡ put (put (w .out) (w .st .place) x) (w .st .place + length x) y = ap (put (w .out) (w .st .place)) e ∙ sym (put-put (w .out) (w .st .place) x y) in
+      let v = recorded (d .templates) (w .out) (w .st .place) in
+      let o : recorded (d .templates ++ u) (w .out) (w .st .place) ≡ recorded-one (template-of (w .st .next) ps) v (w .st .place + length x) =
+      recorded-append (d .templates) u (w .out) (w .st .place)
+      ∙ recorded-one-is (record { number = w .st .next; strings = strings-after [] ps; kinds = kinds-of (d .value) }) v (w .st .place + length x)
+      ∙ recorded-kinds (w .st .next) (strings-after [] ps) (kinds-of (d .value)) [] v (w .st .place + length x) in
       let n : w .st .next + (1 + d .taken) ≡ w .st .next + 1 + d .taken = omega arith in
-      let p : w .st .place + length (bytes (templates-row (d .templates ++ u))) ≡ w .st .place + length x + length y = omega (arith, ap length e, length-append x y) in
+      let p : w .st .place + length (bytes (templates-row (d .templates ++ u))) ≡ w .st .place + length x + length y = omega (arith, size-append (d .templates) u) in
       let l = long-body (templates-row (d .templates)) in
       let m = long-body (templates-row u) in
       let q : graver (w .st .due) (graver (grave (join (long-if run) (join (marks ps) (d .flags)))) (long-due (long-body (templates-row (d .templates ++ u))))) ≡ graver (graver (w .st .due) (graver (grave (d .flags)) (long-due l))) (graver (grave (marks ps)) (long-due (run || m))) =
@@ -124,7 +125,7 @@ write-low n run ps w l = record { low-next = l .low-next; low-place = omega (ari
 
 pub keep-length : (p : Pass Mid) (w : Kept) → length (keep p w .out) ≡ length (w .out)
 unfolding keep
-keep-length p w = length-put (w .out) (w .st .place) (bytes (templates-row (p (w .st .next) .templates)))
+keep-length p w = recorded-length (p (w .st .next) .templates) (w .out) (w .st .place)
 
 pub parts-low : Lows Low (λ (ps : List Part). keep (dynamic-exprs ps))
 parts-low = record { back = λ ps w l. keep-low (dynamic-exprs ps) w l }

@@ -1,7 +1,7 @@
 -- The kinds of a template's gaps: what the text leaves behind, read from the back; and the strings as they stand in a buffer, whose kinds are
--- those of demand 3's places. Main statements: `sign-append`, `sign-free`, `sign-inside`, `kinds-standing`. Assumes nothing.
+-- those of demand 3's places. Main statements: `sign-append`, `sign-inside`, `kinds-standing`, `after-field`, `all-written`. Assumes nothing.
 use mathlib.Core.Path.{_≡_, refl, sym, ap, ap₂, _∙_, subst}
-use Prim.Native.Nat.{ℕ, zero, suc, _+_, _-_, _≤_, _<_}
+use Prim.Native.Nat.{ℕ, suc, _+_, _-_, _≤_, _<_}
 use native.Mathlib.Omega.{arith}
 use native.Mathlib.Nat.{le-refl}
 use mathlib.Core.Bool.{Bool, true, false, _&&_, _||_, not}
@@ -10,7 +10,7 @@ use mathlib.Core.Option.{Option, none, some}
 use lib.Dec.{T, eqb}
 use lib.ListN.{length, set, take, drop, getD, length-append, length-take, length-drop, length-set, take-append-drop, drop-of-length-le}
 use lib.Seq.{drop-cons, drop-length, drop-drop, drop-set-lt, take-all}
-use borrow.Author.Tests.{eq-eqb, ne-eqb, eqb-true, eqb-false}
+use borrow.Author.Tests.{eq-eqb, ne-eqb}
 use Rattle.field.specs.Bytes.{Bytes, pick}
 use Rattle.field.specs.Row.{bytes, field-bytes}
 use Rattle.field.specs.Front.{body-of, behind-of}
@@ -221,10 +221,10 @@ sign-inside w = on (behind-last w) refl
 
 -- ---- the strings of a template, as they stand
 
-pub length-kinds : (g q : ℕ) (s : Bytes) → length (kinds-at g q s) ≡ g
-unfolding kinds-at
-length-kinds zero q s = refl
-length-kinds (suc g) q s = ap suc (length-kinds g (sign-after q (body-of s)) (behind-of s))
+pub length-kind-bytes : (ks : List Bool) → length (kind-bytes ks) ≡ length ks
+unfolding kind-bytes
+length-kind-bytes [] = refl
+length-kind-bytes (k ∷ ks) = ap suc (length-kind-bytes ks)
 
 -- a dynamic expression between any two
 pub length-places : (j s : Bytes) (ss : List Bytes) → suc (length (places-after j (s ∷ ss))) ≡ length (s ∷ ss)

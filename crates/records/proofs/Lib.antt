@@ -1,4 +1,6 @@
 -- Laws of recording.
+pub mod KindLaws
+pub mod MoveLaws
 pub mod Templates
 pub mod KeepLaws
 pub mod ChildLaws

@@ -9,7 +9,7 @@ use lib.ListN.{length, set, take, drop, getD, length-drop}
 use lib.Seq.{take-nil, drop-nil, drop-cons, drop-drop, take-take, take-add, length-take-le}
 use Rattle.field.specs.Bytes.{Bytes}
 use Rattle.field.specs.Put.{put}
-use Rattle.field.proofs.PutLaws.{length-put, put-nil, put-one, put-put, put-back, put-clip}
+use Rattle.field.proofs.PutLaws.{length-put, put-nil, put-one, put-back, put-clip}
 
 -- ---- what stands after a write
 

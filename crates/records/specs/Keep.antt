@@ -13,6 +13,7 @@ use Rattle.spec.specs.Output.{strings-after, template-row}
 use Rattle.spec.specs.Transform.{templates-row}
 use Rattle.strings.specs.Due.{graver, long-due, grave}
 use Rattle.strings.specs.Carve as C
+use Rattle.strings.specs.declared.writer.Open.{Open}
 use Rattle.strings.specs.Recorded.{recorded-one, recorded}
 use Rattle.records.specs.declared.Records.{Records}
 use Rattle.records.specs.Kinds.{kinds-at}
@@ -59,23 +60,32 @@ write n run ps w =
     }
 
 -- its beginning: an open string behind the room for its head, its number and the count of its gaps
+abbrev pub begun : Records → Open
+begun s = record { head = s .place + 9; len = 0; gaps = 0; due = s .due }
+
 abbrev pub begin : Kept → C.Carved
-begin w = C.at (w .out) (record { head = w .st .place + 9; len = 0; gaps = 0; due = w .st .due })
+begin w = C.at (w .out) (begun (w .st))
 
--- with g gaps, and c what is left when its last string is closed: how long its body is
-abbrev pub size-at : Records → ℕ → C.Carved → ℕ
-size-at s g c = c .st .head + g - (s .place + 3)
+-- at a place, with g gaps and its last string ended at last: how long its body is
+abbrev pub size-at : ℕ → ℕ → ℕ → ℕ
+size-at place last g = last + g - (place + 3)
 
--- the strings moved up by a byte for each gap, and the kinds before them
-abbrev pub kinded : Records → ℕ → C.Carved → Bytes
-kinded s g c =
-    put (put (c .out) (s .place + 9 + g) (take (c .st .head - (s .place + 9)) (drop (s .place + 9) (c .out)))) (s .place + 9)
-    (kinds-at g 0 (drop (s .place + 9) (c .out)))
+-- the strings moved up by a byte for each gap
+abbrev pub moved-up : ℕ → ℕ → ℕ → Bytes → Bytes
+moved-up place last g o = put o (place + 9 + g) (take (last - (place + 9)) (drop (place + 9) o))
 
--- its end: the kinds, where all of it stands, and what comes before them
+-- and the kinds before them, found in them
+abbrev pub kinded : ℕ → ℕ → ℕ → Bytes → Bytes
+kinded place last g o = put (moved-up place last g o) (place + 9) (kinds-at g 0 (drop (place + 9 + g) (moved-up place last g o)))
+
+-- where all of it stands
+abbrev pub kinded-if : ℕ → ℕ → ℕ → Bytes → Bytes
+kinded-if place last g o = pick (leb (size-at place last g) 65535 && leb (last + g) (length o)) (kinded place last g o) o
+
+-- its end, with g gaps, and c what is left when its last string is closed: the kinds, and what comes before them
 abbrev pub end-at : ℕ → Records → ℕ → C.Carved → Kept
 end-at n s g c =
     record {
-      out = put (pick (leb (size-at s g c) 65535 && leb (c .st .head + g) (length (c .out))) (kinded s g c) (c .out)) (s .place) (head 0x84 (size-at s g c) ++ big-endian 4 n (big-endian 2 g []));
-      st = record { next = s .next; place = c .st .head + g; due = graver (c .st .due) (long-due (ltb 65535 (size-at s g c))) };
+      out = put (kinded-if (s .place) (c .st .head) g (c .out)) (s .place) (head 0x84 (size-at (s .place) (c .st .head) g) ++ big-endian 4 n (big-endian 2 g []));
+      st = record { next = s .next; place = c .st .head + g; due = graver (c .st .due) (long-due (ltb 65535 (size-at (s .place) (c .st .head) g))) };
     }

@@ -1,6 +1,6 @@
 // The kinds of a template's gaps, found in its static strings as they stand in the buffer: 1 inside an opening tag, 2 elsewhere.
 ghost use mathlib.Core.Path.{_≡_};
-ghost use Prim.Native.Nat.{_+_, _≤_, _<_, _^_};
+ghost use Prim.Native.Nat.{_+_, _≤_};
 ghost use lib.Dec.{T};
 ghost use lib.ListN.{length, drop};
 ghost use Rattle.field.specs.Put.{put};

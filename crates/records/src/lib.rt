@@ -1,4 +1,5 @@
-// The record walk: the templates of a first pass, an inner one before the outer one.
+// The record walk: the templates of a first pass, an inner one before the outer one. A template is written whole once its strings stand,
+// since the kinds of its gaps are found in them.
 ghost use mathlib.Core.Path.{_≡_};
 ghost use mathlib.Core.Bool.{true, false};
 ghost use mathlib.Core.List.{[]};
@@ -10,7 +11,13 @@ ghost use Rattle.spec.specs.Output.{dynamic-exprs, gen-template};
 ghost use Rattle.spec.specs.Children.{children-to-string, children-to-expr, serialize-jsx, entries, entries-pass, found-pass};
 ghost use Rattle.decisions.specs.At.{element-at, children-at, serializable};
 ghost use Rattle.strings.specs.Carve as C;
-ghost use Rattle.records.specs.Keep.{at, keep, write, begin, end-at, bumped, Low};
+ghost use Rattle.records.specs.Keep.{at, keep, write, begun, kinded-if, end-at, bumped, Low};
+
+mod kinds;
+pub mod moves;
+
+use crate::kinds::put_kinds;
+use crate::moves::move_up;
 use decisions::children::becomes_template;
 use decisions::children::child_count;
 use decisions::children::children_at;
@@ -19,12 +26,12 @@ use decisions::element::is_serializable;
 use field::reader::behind;
 use field::reader::body;
 use field::reader::tag_at;
+use field::writer::put_four;
 use field::writer::put_head;
 use field::writer::put_two;
 use names::is_void_element;
 use strings::Open;
 use strings::children_strings;
-use strings::cut;
 use strings::due::with_body;
 use strings::merged_children_strings;
 use strings::tag_strings;
@@ -36,30 +43,56 @@ pub struct Records {
     pub due: u8,
 }
 
-fn opened(out: &mut [u8], n: usize, st: Records) -> Open
-    requires { ⌜ st .place + 3 < 2 ^ 63 ⌝ }
-    ensures { λ r. ⌜ C.at (now (out .exit)) r ≡ begin n (at (now (out .entry)) st) ⌝ }
+// Behind the room for its head, its number and the count of its gaps.
+fn opened(st: Records) -> Open
+    requires { ⌜ st .place + 9 < 2 ^ 63 ⌝ }
+    ensures { λ r. ⌜ r ≡ begun st ⌝ }
 {
-    put_two(out, st.place + 3, n);
     Open {
-        head: st.place + 5,
+        head: st.place + 9,
         len: 0,
+        gaps: 0,
         due: st.due,
     }
 }
 
-fn closed(out: &mut [u8], st: Records, open: Open) -> Records
-    requires { ⌜ (st .place + 3 ≤ C.end «open») × C.Low (C.close (C.at (now out) «open»)) ⌝ }
-    ensures { λ r. ⌜ at (now (out .exit)) r ≡ end-at st (C.close (C.at (now (out .entry)) «open»)) ⌝ }
+// The kinds are found in the strings, which make room for them. Where they do not fit or are too long, the page is refused.
+fn put_gaps(out: &mut [u8], place: usize, end: usize, gaps: usize)
+    requires { ⌜ (place + 9 ≤ end) × (end + gaps < 2 ^ 63) ⌝ }
+    ensures { λ _. ⌜ now (out .exit) ≡ kinded-if place end gaps (now (out .entry)) ⌝ }
 {
-    let c = cut(out, open);
-    let end = c.head;
-    let len = end - (st.place + 3);
-    put_head(out, st.place, 0x80, len);
+    if gaps == 0 {
+        return;
+    }
+    if 65535 < end + gaps - (place + 3) {
+        return;
+    }
+    if out.len() < end + gaps {
+        return;
+    }
+    let at = place + 9;
+    move_up(out, at, end, gaps);
+    put_kinds(out, at, at + gaps, gaps);
+}
+
+fn closed(out: &mut [u8], n: usize, st: Records, open: Open) -> Records
+    requires { ⌜ (st .place + 9 ≤ C.end «open») × C.Low (C.at (now out) «open») ⌝ }
+    ensures { λ r. ⌜ at (now (out .exit)) r ≡ end-at n st («open» .gaps) (C.close (C.at (now (out .entry)) «open»)) ⌝ }
+{
+    let place = st.place;
+    let gaps = open.gaps;
+    let len = open.len;
+    put_head(out, open.head, 0x81, len);
+    let end = open.head + 3 + len;
+    put_gaps(out, place, end, gaps);
+    let size = end + gaps - (place + 3);
+    put_head(out, place, 0x84, size);
+    put_four(out, place + 3, n);
+    put_two(out, place + 7, gaps);
     Records {
         next: st.next,
-        place: end,
-        due: with_body(c.due, len),
+        place: end + gaps,
+        due: with_body(with_body(open.due, len), size),
     }
 }
 
@@ -75,9 +108,9 @@ fn write_element<'a>(
     requires { ⌜ (serializable (now skip) (now b) ≡ true) × Low (write n false (element-at (now skip) (now props) (now b) .to-string-vec) (at (now out) st)) ⌝ }
     ensures { λ r. ⌜ at (now (out .exit)) r ≡ write n false (element-at (now (skip .entry)) (now (props .entry)) (now (b .entry)) .to-string-vec) (at (now (out .entry)) st) ⌝ }
 {
-    let a = opened(out, n, st);
+    let a = opened(st);
     let c = tag_strings(skip, props, b, out, a);
-    closed(out, st, c)
+    closed(out, n, st, c)
 }
 
 fn write_children<'a>(
@@ -91,9 +124,9 @@ fn write_children<'a>(
     requires { ⌜ Low (write n false (children-to-string false (children-at (now skip) (now props) (read (now s)))) (at (now out) st)) ⌝ }
     ensures { λ r. ⌜ at (now (out .exit)) r ≡ write n false (children-to-string false (children-at (now (skip .entry)) (now (props .entry)) (read (now (s .entry))))) (at (now (out .entry)) st) ⌝ }
 {
-    let a = opened(out, n, st);
+    let a = opened(st);
     let c = children_strings(skip, props, s, false, out, a);
-    closed(out, st, c)
+    closed(out, n, st, c)
 }
 
 fn write_merged<'a>(
@@ -108,9 +141,9 @@ fn write_merged<'a>(
     requires { ⌜ (65536 ≤ length (now scratch)) × ((length (now s) < 2 ^ 32) × Low (write n (long-run (merge false false [] (children-at (now skip) (now props) (read (now s))))) (children-to-string false (short-runs (merge false false [] (children-at (now skip) (now props) (read (now s)))))) (at (now out) st))) ⌝ }
     ensures { λ r. ⌜ at (now (out .exit)) r ≡ write n (long-run (merge false false [] (children-at (now (skip .entry)) (now (props .entry)) (read (now (s .entry)))))) (children-to-string false (short-runs (merge false false [] (children-at (now (skip .entry)) (now (props .entry)) (read (now (s .entry))))))) (at (now (out .entry)) st) ⌝ }
 {
-    let a = opened(out, n, st);
+    let a = opened(st);
     let c = merged_children_strings(skip, props, s, scratch, out, a);
-    closed(out, st, c)
+    closed(out, n, st, c)
 }
 
 fn taken(st: Records) -> Records

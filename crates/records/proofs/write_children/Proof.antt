@@ -10,22 +10,22 @@ use Rattle.records.proofs.write_children.Tie as tie
 
 opened-requires : tie.Need-opened-requires
 opened-requires c κs =
-    let a = c .before .before .before .before .before in
+    let a = c .before .before .before .before in
     let ps = children-to-string false (children-at (a .args .skip .now) (a .args .props .now) (read (a .args .s .now))) in
     begin-low (a .args .n) false ps (a .args .out .now) (a .args .st) (a .pre)
 
 children-strings-requires : tie.Need-children-strings-requires
 children-strings-requires c κs =
-    let a = c .before .before .before .before .before .before .before .before .before in
+    let a = c .before .before .before .before .before .before in
     let ps = children-to-string false (children-at (a .args .skip .now) (a .args .props .now) (read (a .args .s .now))) in
-    carve-low (a .args .n) false ps (a .args .out .now) (a .args .st) (c .before .before .before .opened .ensures) (a .pre)
+    carve-low (a .args .n) false ps (a .args .out .now) (a .args .st) (c .before .opened .ensures) (a .pre)
 
 closed-requires : tie.Need-closed-requires
 closed-requires c κs =
-    let a = c .before .before .before .before .before .before .before .before .before .before .before .before .before in
-    let ps = children-to-string false (children-at (a .args .skip .now) (a .args .props .now) (read (a .args .s .now))) in
     let i = c .before .before .before in
-    let o = i .before .before .before .before in
+    let o = i .before .before in
+    let a = o .before .before .before .before .before in
+    let ps = children-to-string false (children-at (a .args .skip .now) (a .args .props .now) (read (a .args .s .now))) in
     (plain-behind (a .args .n) ps (a .args .out .now) (a .args .st) (o .opened .ensures) (i .children-strings .ensures), plain-low (a .args .n) ps (a .args .out .now) (a .args .st) (o .opened .ensures) (i .children-strings .ensures) (a .pre))
 
 same-length : tie.Need-same-length
@@ -33,10 +33,10 @@ same-length c = search needs
 
 returns : tie.Need-returns
 returns c =
-    let a = c .before .before .before .before .before .before .before .before .before .before .before .before .before .before .before .before in
-    let ps = children-to-string false (children-at (a .args .skip .now) (a .args .props .now) (read (a .args .s .now))) in
     let i = c .before .before .before .before .before .before in
-    let o = i .before .before .before .before in
+    let o = i .before .before in
+    let a = o .before .before .before .before .before in
+    let ps = children-to-string false (children-at (a .args .skip .now) (a .args .props .now) (read (a .args .s .now))) in
     plain-written (a .args .n) ps (a .args .out .now) (a .args .st) (o .opened .ensures) (i .children-strings .ensures) (c .before .before .closed .ensures)
 
 pub write-children-spec : {M : Type 1} → statement M

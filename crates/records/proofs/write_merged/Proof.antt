@@ -12,22 +12,22 @@ use Rattle.records.proofs.write_merged.Tie as tie
 
 opened-requires : tie.Need-opened-requires
 opened-requires c κs =
-    let a = c .before .before .before .before .before .before in
+    let a = c .before .before .before .before .before in
     let ms = merge false false [] (children-at (a .args .skip .now) (a .args .props .now) (read (a .args .s .now))) in
     begin-low (a .args .n) (long-run ms) (children-to-string false (short-runs ms)) (a .args .out .now) (a .args .st) (a .pre .1 .1)
 
 merged-children-strings-requires : tie.Need-merged-children-strings-requires
 merged-children-strings-requires c κs =
-    let a = c .before .before .before .before .before .before .before .before .before .before .before in
+    let a = c .before .before .before .before .before .before .before .before in
     let ms = merge false false [] (children-at (a .args .skip .now) (a .args .props .now) (read (a .args .s .now))) in
-    ((a .pre .0, a .pre .1 .0), carve-low (a .args .n) (long-run ms) (children-to-string false (short-runs ms)) (a .args .out .now) (a .args .st) (c .before .before .before .before .opened .ensures) (a .pre .1 .1))
+    ((a .pre .0, a .pre .1 .0), carve-low (a .args .n) (long-run ms) (children-to-string false (short-runs ms)) (a .args .out .now) (a .args .st) (c .before .before .opened .ensures) (a .pre .1 .1))
 
 closed-requires : tie.Need-closed-requires
 closed-requires c κs =
-    let a = c .before .before .before .before .before .before .before .before .before .before .before .before .before .before .before .before .before in
-    let ms = merge false false [] (children-at (a .args .skip .now) (a .args .props .now) (read (a .args .s .now))) in
     let i = c .before .before .before .before .before in
-    let o = i .before .before .before .before .before in
+    let o = i .before .before .before in
+    let a = o .before .before .before .before .before .before in
+    let ms = merge false false [] (children-at (a .args .skip .now) (a .args .props .now) (read (a .args .s .now))) in
     (end-behind (a .args .n) (long-run ms) (children-to-string false (short-runs ms)) (a .args .out .now) (a .args .st) (o .opened .ensures) (i .merged-children-strings .ensures), end-low (a .args .n) (long-run ms) (children-to-string false (short-runs ms)) (a .args .out .now) (a .args .st) (o .opened .ensures) (i .merged-children-strings .ensures) (a .pre .1 .1))
 
 same-length : tie.Need-same-length
@@ -38,10 +38,10 @@ same-length-2 c = search needs
 
 returns : tie.Need-returns
 returns c =
-    let a = c .before .before .before .before .before .before .before .before .before .before .before .before .before .before .before .before .before .before .before .before in
-    let ms = merge false false [] (children-at (a .args .skip .now) (a .args .props .now) (read (a .args .s .now))) in
     let i = c .before .before .before .before .before .before .before .before in
-    let o = i .before .before .before .before .before in
+    let o = i .before .before .before in
+    let a = o .before .before .before .before .before .before in
+    let ms = merge false false [] (children-at (a .args .skip .now) (a .args .props .now) (read (a .args .s .now))) in
     written (a .args .n) (long-run ms) (children-to-string false (short-runs ms)) (a .args .out .now) (a .args .st) (o .opened .ensures) (i .merged-children-strings .ensures) (c .before .before .closed .ensures)
 
 pub write-merged-spec : {M : Type 1} → statement M

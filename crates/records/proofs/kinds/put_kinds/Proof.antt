@@ -1,5 +1,5 @@
 -- `put_kinds` meets its contract: i kinds are written, and the strings stand as they came. Assumes nothing.
-use Prim.Native.Nat.{_+_, _-_}
+use Prim.Native.Nat.{_-_}
 use native.Mathlib.Omega.{arith}
 use borrow.Author.Needs.{needs}
 use Rattle.records.proofs.KindLaws.{Written, none-written, past-field, after-field, after-none, all-written}
