@@ -1,7 +1,8 @@
 -- Names as they are read for HTML, byte by byte. Main statements: `left-starts`, `left-goes-on`, `left-ends`. Assumes nothing.
 use mathlib.Core.Path.{_≡_, refl, sym, ap, subst, _∙_}
 use mathlib.Core.Bool.{Bool, true, false, _&&_, _||_, not, and-false, and-eq-true-iff, or-false, false≢true}
-use Prim.Native.Nat.{ℕ, zero, suc, _+_, _-_, _*_, _%_, _≤_, _<_}
+use Prim.Native.Nat.{ℕ, zero, suc, _+_, _-_, _*_, _/_, _%_, _≤_, _<_, _^_}
+use native.Mathlib.Nat.{mod-lt, mul-le-mul-right}
 use native.Mathlib.Numerals.{add-one}
 use native.Mathlib.Omega.{arith}
 use mathlib.Core.List.{List, [], _∷_, _++_, append-nil, cons≢nil}
@@ -12,19 +13,18 @@ use borrow.Author.Tests.{eqb-true, eqb-false, leb-true, leb-false, ltb-true, ltb
 use Rattle.field.specs.Bytes.{Bytes, ascii, pick, same, among}
 use Rattle.field.specs.Row.{read}
 use Rattle.field.specs.Front.{tag-of, body-of, behind-of}
+use Rattle.field.proofs.FrontLaws.{behind-less}
 use Rattle.names.specs.Names.{AttrName, ident, namespaced, get-attr-name, normalize-dom-attr-name, rename-in, renamed, hyphenated-names, kept-names, parted, capital, small-letter, small-letters}
 use Rattle.names.specs.Table.{spelled-letter, spelled, by-mark}
 use Rattle.names.proofs.MarkLaws.{spelled-none, mark-other}
 use Rattle.names.proofs.NormalizeLaws.{over-lists, normalize-ind}
-use Rattle.names.proofs.CompareLaws.{same-eq, capital-below, capital-above, capital-within}
-use Rattle.decisions.specs.Repeats.{joined, signed-letter, left-in, left, code, tail, code-at, past, html-name, html-names, repeats, hash-on, name-hash, low-half, high-half, last-letter, letter-key, Keyed, untold, told, noted-at, Told}
+use Rattle.names.proofs.CompareLaws.{same-eq, capital-below, capital-above, capital-within, length-small, letter-at}
+use Rattle.decisions.specs.Repeats.{joined, signed-letter, left-in, left, code, tail, code-at, past, html-name, html-names, repeats, hash-on, name-hash, low-half, high-half, key-by, last-letter, letter-key, Keyed, untold, told, noted-at}
 use Rattle.names.proofs.NamespacedLaws.{namespaced-xlink, namespaced-other, small-append}
 use Rattle.page.specs.Tree.{texts-in, first-in, second-in, attributes-in, attr-name-in}
 use Rattle.decisions.proofs.IndexLaws.{among-append}
 use Rattle.decisions.proofs.Series.{attr-name-40, attr-name-42, attr-name-other, attributes-50, attributes-53, attributes-other}
 use Rattle.decisions.specs.declared.repeats.Place.{Place}
-use Rattle.decisions.specs.declared.repeats.Few.{Few}
-use Rattle.decisions.specs.declared.repeats.Few.the-variants as F
 
 -- ---- is_signed
 
@@ -528,7 +528,7 @@ unfolding code hash-on
 hash-end h [] e = refl
 hash-end h (c ∷ a) e = absurd (omega (arith, e))
 
-pub hash-code : (h : ℕ) (a : Bytes) → (code a ≡ 0 → ⊥) → hash-on ((h * 31 + code a % 65536) % 4294967296) (tail a) ≡ hash-on h a
+pub hash-code : (h : ℕ) (a : Bytes) → (code a ≡ 0 → ⊥) → hash-on ((h * 37 + code a % 65536) % 4294967296) (tail a) ≡ hash-on h a
 unfolding code hash-on tail
 hash-code h [] n = absurd (n refl)
 hash-code h (c ∷ a) n = refl
@@ -541,7 +541,7 @@ module _ (s : ℕ) (p : Bytes) (two : Bool) (q : Bytes) where
     pub hash-ends : a ≡ 0 → h ≡ hash-on h (left s p two q x)
     hash-ends z = hash-end h _ (sym (e ∙ code-is s p two q (x .letter) (x .«behind_sign»)) ∙ z)
 
-    pub hash-goes : (a ≡ 0 → ⊥) → {x′ : Place} → x′ ≡ past s p x → hash-on ((h * 31 + a % 65536) % 4294967296) (left s p two q x′) ≡ hash-on h (left s p two q x)
+    pub hash-goes : (a ≡ 0 → ⊥) → {x′ : Place} → x′ ≡ past s p x → hash-on ((h * 37 + a % 65536) % 4294967296) (left s p two q x′) ≡ hash-on h (left s p two q x)
     hash-goes n u = rw (u, rest-is s p two q (x .letter) (x .«behind_sign»), one) (hash-code h _ (λ z. n (one ∙ z)))
       where
         one : a ≡ code (left s p two q x)
@@ -618,37 +618,37 @@ not-noted key seen ns y i e f k = on (among y ns) refl
     on false g = refl
     on true g = absurd (eqb-false (getD seen i 0) 1 f (rw e (k y g)))
 
--- under both halves of its hash
-abbrev pub low-key : Bytes → ℕ
-low-key x = low-half (name-hash x)
+-- under both halves of its hash, in tables of n bytes
+abbrev pub low-key : ℕ → Bytes → ℕ
+low-key n x = low-half n (name-hash x)
 
-abbrev pub high-key : Bytes → ℕ
-high-key x = high-half (name-hash x)
+abbrev pub high-key : ℕ → Bytes → ℕ
+high-key n x = high-half n (name-hash x)
 
-pub may-not : (low high : List ℕ) (ns : List Bytes) (y : Bytes) (h : ℕ) {r : Bool} → Noted low-key low ns → Noted high-key high ns → h ≡ name-hash y → r ≡ (eqb (getD low (low-half h) 0) 1 && eqb (getD high (high-half h) 0) 1) → r ≡ false → among y ns ≡ false
-may-not low high ns y h {r} a b e f g = on (eqb (getD low (low-half h) 0) 1) refl (eqb (getD high (high-half h) 0) 1) refl (sym f ∙ g)
+pub may-not : (n : ℕ) (low high : List ℕ) (ns : List Bytes) (y : Bytes) (h : ℕ) {r : Bool} → Noted (low-key n) low ns → Noted (high-key n) high ns → h ≡ name-hash y → r ≡ (eqb (getD low (low-half n h) 0) 1 && eqb (getD high (high-half n h) 0) 1) → r ≡ false → among y ns ≡ false
+may-not n low high ns y h {r} a b e f g = on (eqb (getD low (low-half n h) 0) 1) refl (eqb (getD high (high-half n h) 0) 1) refl (sym f ∙ g)
   where
-    on : (u : Bool) → eqb (getD low (low-half h) 0) 1 ≡ u → (v : Bool) → eqb (getD high (high-half h) 0) 1 ≡ v → (u && v) ≡ false → among y ns ≡ false
+    on : (u : Bool) → eqb (getD low (low-half n h) 0) 1 ≡ u → (v : Bool) → eqb (getD high (high-half n h) 0) 1 ≡ v → (u && v) ≡ false → among y ns ≡ false
     on true p true q z = absurd (false≢true (sym z))
-    on true p false q z = not-noted high-key high ns y (high-half h) (ap high-half e) q b
-    on false p v q z = not-noted low-key low ns y (low-half h) (ap low-half e) p a
+    on true p false q z = not-noted (high-key n) high ns y (high-half n h) (ap (high-half n) e) q b
+    on false p v q z = not-noted (low-key n) low ns y (low-half n h) (ap (low-half n) e) p a
 
 pub noted-next : (key : Bytes → ℕ) (seen seen′ : List ℕ) (N : List Bytes) (k : ℕ) (x : Bytes) (r : List Bytes) (i : ℕ) → drop k N ≡ x ∷ r → i ≡ key x → i < length seen → seen′ ≡ set seen i 1 → Noted key seen (take k N) → Noted key seen′ (take (k + 1) N)
 noted-next key seen seen′ N k x r i e f l g n =
     let m : Noted key (set seen i 1) (take k N ++ (x ∷ [])) = noted-more key seen (take k N) x i f l n in
     subst (λ (s : List ℕ). Noted key s (take (k + 1) N)) (sym g) (subst (λ (ns : List Bytes). Noted key (set seen i 1) ns) (sym (list-front N k x r e)) m)
 
-pub noted-length : (seen seen′ : List ℕ) (i : ℕ) → seen′ ≡ set seen i 1 → length seen ≡ 65536 → length seen′ ≡ 65536
+pub noted-length : (seen seen′ : List ℕ) (i : ℕ) {n : ℕ} → seen′ ≡ set seen i 1 → length seen ≡ n → length seen′ ≡ n
 noted-length seen seen′ i e h = rw (e, length-set seen i 1, h)
 
-pub half-low : (h : ℕ) → low-half h < 65536
-half-low h = omega arith
+pub half-low : (n h : ℕ) → 0 < n → low-half n h < n
+half-low n h p = mod-lt h p
 
-pub half-high : (h : ℕ) → high-half h < 65536
-half-high h = omega arith
+pub half-high : (n h : ℕ) → 0 < n → high-half n h < n
+half-high n h p = mod-lt (h / 65536) p
 
-pub none-noted : (seen : List ℕ) → seen ≡ replicate 65536 0 → length seen ≡ 65536
-none-noted seen e = rw e (length-replicate {A = ℕ} 65536 0)
+pub table-length : (n : ℕ) {seen : List ℕ} → seen ≡ replicate n 0 → length seen ≡ n
+table-length n e = rw e (length-replicate {A = ℕ} n 0)
 
 -- ---- keys
 
@@ -660,61 +660,93 @@ small-mod c = on (capital c)
     on true = omega arith
     on false = refl
 
-small-even : (c : ℕ) → small-letter c % 2 ≡ c % 2
+small-high : (d : ℕ) → 97 ≤ d → small-letter d ≡ d
 unfolding small-letter
-small-even c = on (capital c)
-  where
-    on : (b : Bool) → pick b (c + 32) c % 2 ≡ c % 2
-    on true = omega arith
-    on false = refl
+small-high d h = rw (capital-above d (omega (arith, h)))
 
-last-small : (c : ℕ) (cs : Bytes) → last-letter (small-letter c) (small-letters cs) % 32 ≡ last-letter c cs % 32
-unfolding last-letter small-letters
-last-small c [] = small-mod c
-last-small c (d ∷ ds) = last-small d ds
+letter-mod : (n : Bytes) (i : ℕ) → i < length n → getD (small-letters n) i 0 % 32 ≡ getD n i 0 % 32
+letter-mod n i h = ap (λ (c : ℕ). c % 32) (letter-at true n i h) ∙ small-mod (getD n i 0)
 
-letter-key-small : (n : Bytes) → letter-key (small-letters n) ≡ letter-key n
-unfolding letter-key small-letters
-letter-key-small [] = refl
-letter-key-small (c ∷ cs) = rw (last-small c cs, small-even c)
+last-small : (n : Bytes) → 97 ≤ last-letter n → last-letter (small-letters n) ≡ last-letter n
+unfolding small-letters
+last-small [] h = refl
+last-small (c ∷ cs) h =
+    ap (λ (l : ℕ). getD (small-letters (c ∷ cs)) (l - 1) 0) (length-small (c ∷ cs))
+    ∙ letter-at true (c ∷ cs) (length (c ∷ cs) - 1) (omega arith)
+    ∙ small-high (last-letter (c ∷ cs)) h
 
-key-listed : over-lists (λ w v. same w (ascii "className") || eqb (letter-key v) (letter-key w)) ≡ true
-unfolding letter-key last-letter same renamed hyphenated-names kept-names parted
+-- the key, by letters modulo 32
+abbrev key-of-three : ℕ → ℕ → ℕ → ℕ
+key-of-three a b d = ((a * 4 + 27) * (d + 14) + b * 5) % 64
+
+letter-key-small : (n : Bytes) → 97 ≤ last-letter n → letter-key (small-letters n) ≡ letter-key n
+unfolding letter-key small-letters small-letter
+letter-key-small [] h = refl
+letter-key-small (c ∷ cs) h =
+    let n = c ∷ cs in
+    let p = getD (1 ∷ small-letters n) (length (small-letters n) - 1) 0 in
+    ap (λ (a : ℕ). key-of-three a (p % 32) (last-letter (small-letters n))) (letter-mod n 0 (omega arith))
+    ∙ ap (λ (d : ℕ). key-of-three (getD n 0 0 % 32) (p % 32) d) (last-small n h)
+    ∙ ap (λ (l : ℕ). key-of-three (getD n 0 0 % 32) (getD (1 ∷ small-letters n) (l - 1) 0 % 32) (last-letter n)) (length-small n)
+    ∙ ap (λ (b : ℕ). key-of-three (getD n 0 0 % 32) b (last-letter n)) (letter-mod (1 ∷ n) (length n - 1) (omega arith))
+
+-- the rule over all names that do not simply go to small letters
+key-listed : over-lists (λ w v. ltb (last-letter w) 97 || eqb (letter-key (small-letters v)) (letter-key w)) ≡ true
+unfolding letter-key renamed hyphenated-names kept-names parted small-letters small-letter
 key-listed = refl
 
-key-normal : (n : Bytes) → same n (ascii "className") ≡ false → letter-key (html-name (ident n)) ≡ letter-key n
+key-normal : (n : Bytes) → 97 ≤ last-letter n → letter-key (html-name (ident n)) ≡ letter-key n
 unfolding html-name get-attr-name
-key-normal n h = letter-key-small (normalize-dom-attr-name n) ∙ on
+key-normal n h = eqb-true (letter-key (small-letters (normalize-dom-attr-name n))) (letter-key n) (ap (λ (b : Bool). b || eqb (letter-key (small-letters (normalize-dom-attr-name n))) (letter-key n)) (sym high) ∙ normalize-ind f key-listed n (λ l. other))
   where
+    high : ltb (last-letter n) 97 ≡ false
+    high = le-ltb (last-letter n) 97 h
+
     f : Bytes → Bytes → Bool
-    f w v = same w (ascii "className") || eqb (letter-key v) (letter-key w)
+    f w v = ltb (last-letter w) 97 || eqb (letter-key (small-letters v)) (letter-key w)
+
+    lowered : 97 ≤ last-letter (small-letters n)
+    lowered = rw (last-small n h) h
 
     other : f n (small-letters n) ≡ true
-    other = ap (λ (b : Bool). b || eqb (letter-key (small-letters n)) (letter-key n)) h ∙ eq-eqb (letter-key (small-letters n)) (letter-key n) (letter-key-small n)
+    other = ap (λ (b : Bool). b || eqb (letter-key (small-letters (small-letters n))) (letter-key n)) high ∙ eq-eqb (letter-key (small-letters (small-letters n))) (letter-key n) (letter-key-small (small-letters n) lowered ∙ letter-key-small n h)
 
-    on : letter-key (normalize-dom-attr-name n) ≡ letter-key n
-    on = eqb-true (letter-key (normalize-dom-attr-name n)) (letter-key n) (ap (λ (b : Bool). b || eqb (letter-key (normalize-dom-attr-name n)) (letter-key n)) (sym h) ∙ normalize-ind f key-listed n (λ l. other))
-
-class-key : (n : Bytes) → same n (ascii "className") ≡ true → letter-key (html-name (ident n)) ≡ 39
-unfolding html-name get-attr-name letter-key last-letter same normalize-dom-attr-name rename-in renamed small-letters small-letter
-class-key n h = ap (λ (m : Bytes). letter-key (html-name (ident m))) (same-eq n (ascii "className") h)
-
-last-at : (c : ℕ) (cs : Bytes) → last-letter c cs ≡ getD (c ∷ cs) (length cs) 0
-unfolding last-letter
-last-at c [] = refl
-last-at c (d ∷ ds) = last-at d ds
-
-key-letters : (n : Bytes) → (length n ≡ 0 → ⊥) → letter-key n ≡ getD n (length n - 1) 0 % 32 * 2 + getD n 0 0 % 2
+key-low : (n : Bytes) → letter-key n < 64
 unfolding letter-key
-key-letters [] h = absurd (h refl)
-key-letters (c ∷ cs) h = rw (last-at c cs, let e : length (c ∷ cs) - 1 ≡ length cs = omega arith in e)
+key-low n = mod-lt ((getD n 0 0 % 32 * 4 + 27) * (last-letter n + 14) + getD (1 ∷ n) (length n - 1) 0 % 32 * 5) (let l : 0 < 64 = omega arith in l)
 
-module _ (a b : Bytes) (t : ℕ) (e : t ≡ tag-of a) (k : t ≡ 0x40) (q : b ≡ body-of a) {v : Bool} (w : v ≡ same b (ascii "className")) where
-  pub keyed-class : v ≡ true → Keyed (html-name (attr-name-in (read a))) 39
-  keyed-class t′ = told {k = 39} (omega arith) (of-40 a t e letter-key k q (sym (class-key b (sym w ∙ t′))))
+-- the numbers that make it are small
+small-room : (n m : ℕ) → n ≤ m → m ≤ 40770 → n < 2 ^ 64
+small-room n m h k = omega (arith, h, k)
 
-  pub keyed-letters : v ≡ false → (length b ≡ 0 → ⊥) → (m : ℕ) → m ≡ getD b (length b - 1) 0 % 32 * 2 + getD b 0 0 % 2 → Keyed (html-name (attr-name-in (read a))) m
-  keyed-letters f n m h = told {k = m} (omega (arith, h)) (of-40 a t e letter-key k q (h ∙ sym (key-letters b n) ∙ sym (key-normal b (sym w ∙ f))))
+sum-room : (n m z : ℕ) → n ≤ m → m ≤ 40770 → z ≤ 155 → n + z < 2 ^ 64
+sum-room n m z h k l = omega (arith, h, k, l)
+
+pub key-room : {x y : ℕ} → x ≤ 151 → y ≤ 270 → x * y < 2 ^ 64
+key-room {x} {y} h k = small-room (x * y) (151 * y) (mul-le-mul-right y h) (omega (arith, k))
+
+pub key-sum-room : {x y z : ℕ} → x ≤ 151 → y ≤ 270 → z ≤ 155 → x * y + z < 2 ^ 64
+key-sum-room {x} {y} {z} h k l = sum-room (x * y) (151 * y) z (mul-le-mul-right y h) (omega (arith, k)) l
+
+-- of one letter, and of more
+pub key-of-one : (n : Bytes) → length n ≡ 1 → letter-key n ≡ key-by (last-letter n) 1 (last-letter n)
+unfolding letter-key
+key-of-one [] h = absurd (omega (arith, h))
+key-of-one (c ∷ []) h = refl
+key-of-one (c ∷ d ∷ cs) h = absurd (omega (arith, h))
+
+pub key-of-more : (n : Bytes) → (length n ≡ 0 → ⊥) → (length n ≡ 1 → ⊥) → letter-key n ≡ key-by (getD n 0 0) (getD n (length n - 2) 0) (last-letter n)
+unfolding letter-key
+key-of-more [] h k = absurd (h refl)
+key-of-more (c ∷ []) h k = absurd (k refl)
+key-of-more (c ∷ d ∷ cs) h k =
+    let n = c ∷ d ∷ cs in
+    let e : length n - 1 ≡ suc (length n - 2) = omega arith in
+    ap (λ (i : ℕ). key-by c (getD (1 ∷ n) i 0) (last-letter n)) e
+
+module _ (a b : Bytes) (t : ℕ) (e : t ≡ tag-of a) (k : t ≡ 0x40) (q : b ≡ body-of a) where
+  pub keyed : 97 ≤ last-letter b → (m : ℕ) → m ≡ letter-key b → Keyed (html-name (attr-name-in (read a))) m
+  keyed h m g = told {k = m} (subst (λ (x : ℕ). x < 64) (sym g) (key-low b)) (of-40 a t e letter-key k q (g ∙ sym (key-normal b h)))
 
 pub noted-in : (seen : List ℕ) (k : ℕ) → k < 64 → set seen k 1 ≡ noted-at seen k
 unfolding noted-at
@@ -724,7 +756,7 @@ pub noted-out : (seen : List ℕ) (k : ℕ) → 64 ≤ k → seen ≡ noted-at s
 unfolding noted-at
 noted-out seen k h = rw (le-ltb k 64 h)
 
--- ---- many_repeat calls itself once
+-- ---- by_tables calls itself once
 
 pub falls-once : (b : Bool) {n : ℕ} → pick b 1 0 ≡ n → b ≡ true → pick false 1 0 < n
 falls-once true e h = omega (arith, e)
@@ -747,16 +779,60 @@ keys-length seen seen′ k e h = e-length (ltb k 64) ∙ h
     e-length b = ap length e ∙ on (ltb k 64)
 
 -- a key that is not noted, where all names before it are
-pub key-may-not : (seen : List ℕ) (ns : List Bytes) (y : Bytes) (k : ℕ) {u r : Bool} → (u ≡ false → Noted letter-key seen ns) → Keyed y k → (r ≡ false → (u ≡ false) × (k < 64) × (eqb (getD seen k 0) 1 ≡ false)) → r ≡ false → among y ns ≡ false
-key-may-not seen ns y k {u} {r} n untold g f = absurd (let l : 64 < 64 = g f .1 in omega (arith, l))
-key-may-not seen ns y k {u} {r} n (told l e) g f = not-noted letter-key seen ns y k e (g f .2) (n (g f .0))
+pub key-may-not : (seen : List ℕ) (ns : List Bytes) (y : Bytes) (k : ℕ) → Noted letter-key seen ns → Keyed y k → (k < 64) × (eqb (getD seen k 0) 1 ≡ false) → among y ns ≡ false
+key-may-not seen ns y k n untold g = absurd (let l : 64 < 64 = g .0 in omega (arith, l))
+key-may-not seen ns y k n (told l e) g = not-noted letter-key seen ns y k e (g .1) n
 
-pub keys-next : (seen seen′ : List ℕ) (N : List Bytes) (k : ℕ) (x : Bytes) (r : List Bytes) (i : ℕ) (u : Bool) → drop k N ≡ x ∷ r → Keyed x i → length seen ≡ 64 → seen′ ≡ noted-at seen i → (u ≡ false → Noted letter-key seen (take k N)) → (u || eqb i 64) ≡ false → Noted letter-key seen′ (take (k + 1) N)
+pub keys-next : (seen seen′ : List ℕ) (N : List Bytes) (k : ℕ) (x : Bytes) (r : List Bytes) (i : ℕ) → drop k N ≡ x ∷ r → Keyed x i → i < 64 → length seen ≡ 64 → seen′ ≡ noted-at seen i → Noted letter-key seen (take k N) → Noted letter-key seen′ (take (k + 1) N)
 unfolding noted-at
-keys-next seen seen′ N k x r i true d untold s g n f = absurd (false≢true (sym f))
-keys-next seen seen′ N k x r i true d (told l e) s g n f = absurd (false≢true (sym f))
-keys-next seen seen′ N k x r i false d untold s g n f = absurd (false≢true (sym f))
-keys-next seen seen′ N k x r i false d (told l e) s g n f = noted-next letter-key seen seen′ N k x r i d e (omega (arith, l, s)) (g ∙ rw (lt-ltb i 64 l)) (n refl)
+keys-next seen seen′ N k x r i d untold f s g n = absurd (omega (arith, f))
+keys-next seen seen′ N k x r i d (told l e) f s g n = noted-next letter-key seen seen′ N k x r i d e (omega (arith, l, s)) (g ∙ rw (lt-ltb i 64 l)) n
+
+-- ---- an attribute further: what both loops keep, of the names N of s and those of t, which are left
+
+pub record Passed (s : Bytes) (k : ℕ) (t : Bytes) : Type 0 where
+  pub shorter : k + length t ≤ length s
+  pub behind : drop k (html-names (attributes-in (read s))) ≡ html-names (attributes-in (read t))
+  pub once : repeats (take k (html-names (attributes-in (read s)))) ≡ false
+
+pub passed-none : (s : Bytes) → Passed s 0 s
+passed-none s = record { shorter = omega arith; behind = refl; once = repeats-none }
+
+module _ {s : Bytes} {k : ℕ} {t : Bytes} (m : Passed s k t) {u : ℕ} (e : u ≡ tag-of t) where
+  abbrev all-names : List Bytes
+  all-names = html-names (attributes-in (read s))
+
+  pub passed-all : (u ≡ 0x50 → ⊥) → (u ≡ 0x53 → ⊥) → false ≡ repeats all-names
+  passed-all h l = all-passed all-names k (m .behind ∙ names-none t u e h l) (m .once)
+
+  pub passed-spread : u ≡ 0x53 → {r : Bytes} → r ≡ behind-of t → Passed s k r
+  passed-spread h q = record { shorter = omega (arith, m .shorter, behind-less t u e (λ z. omega (arith, h, z)) q); behind = m .behind ∙ names-at-53 t u e h q; once = m .once }
+
+  module _ (h : u ≡ 0x50) {a : Bytes} (p : a ≡ body-of t) where
+    abbrev name : Bytes
+    name = html-name (attr-name-in (read a))
+
+    at-name : {r : Bytes} → r ≡ behind-of t → drop k all-names ≡ name ∷ html-names (attributes-in (read r))
+    at-name q = m .behind ∙ names-at-50 t u e h p q
+
+    pub passed-found : {b : Bool} → b ≡ among name (take k all-names) → b ≡ true → true ≡ repeats all-names
+    passed-found f g = one-repeats all-names k name (html-names (attributes-in (read (behind-of t)))) (at-name refl) f g
+
+    module _ {r : Bytes} (q : r ≡ behind-of t) where
+      pub passed-less : length r < length t
+      passed-less = behind-less t u e (λ z. omega (arith, h, z)) q
+
+      pub passed-room : k + 1 ≤ length s
+      passed-room = omega (arith, m .shorter, passed-less)
+
+      pub passed-one : {b : Bool} → b ≡ among name (take k all-names) → b ≡ false → Passed s (k + 1) r
+      passed-one f g = record { shorter = omega (arith, m .shorter, passed-less); behind = list-behind all-names k name (html-names (attributes-in (read r))) (at-name q); once = none-repeats all-names k name (html-names (attributes-in (read r))) (at-name q) f g (m .once) }
+
+      pub passed-noted : (key : Bytes → ℕ) (seen seen′ : List ℕ) (i : ℕ) → i ≡ key name → i < length seen → seen′ ≡ set seen i 1 → Noted key seen (take k all-names) → Noted key seen′ (take (k + 1) all-names)
+      passed-noted key seen seen′ i f l g n = noted-next key seen seen′ all-names k name (html-names (attributes-in (read r))) i (at-name q) f l g n
+
+      pub passed-keyed : (seen seen′ : List ℕ) (i : ℕ) → Keyed name i → i < 64 → length seen ≡ 64 → seen′ ≡ noted-at seen i → Noted letter-key seen (take k all-names) → Noted letter-key seen′ (take (k + 1) all-names)
+      passed-keyed seen seen′ i f l z g n = keys-next seen seen′ all-names k name (html-names (attributes-in (read r))) i (at-name q) f l z g n
 
 -- ---- repeats: no attribute, or one
 
@@ -768,9 +844,3 @@ module _ (s : Bytes) (t : ℕ) (e : t ≡ tag-of s) where
   pub one-once : t ≡ 0x50 → (r : Bytes) (u : ℕ) → r ≡ behind-of s → u ≡ tag-of r → (u ≡ 0x53 → ⊥) → (u ≡ 0x50 → ⊥) → false ≡ repeats (html-names (attributes-in (read s)))
   unfolding repeats among
   one-once k r u q f a b = sym (ap repeats (names-at-50 s t e k {b = body-of s} refl q ∙ ap (λ (l : List Bytes). html-name (attr-name-in (read (body-of s))) ∷ l) (names-none r u f b a)))
-
-pub told-no : (b : Bool) (r : Few) → r ≡ F.No → Told b r → false ≡ b
-told-no b r e t = sym (subst (λ (x : Few). Told b x) e t)
-
-pub told-yes : (b : Bool) (r : Few) → r ≡ F.Yes → Told b r → true ≡ b
-told-yes b r e t = sym (subst (λ (x : Few). Told b x) e t)

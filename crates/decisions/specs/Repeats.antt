@@ -11,8 +11,6 @@ use Rattle.names.specs.Names.{AttrName, get-attr-name, capital, small-letter, s
 use Rattle.names.specs.Table.{spelled}
 use Rattle.page.specs.Page as P
 use Rattle.decisions.specs.declared.repeats.Place.{Place}
-use Rattle.decisions.specs.declared.repeats.Few.{Few}
-use Rattle.decisions.specs.declared.repeats.Few.the-variants as F
 
 -- normalised, in small letters
 unfoldable pub html-name : AttrName → Bytes
@@ -71,28 +69,30 @@ past s p x = pick (ltb (x .letter) (length p) && signed-letter s (getD p (x .let
 
 unfoldable pub hash-on : ℕ → Bytes → ℕ
 hash-on h [] = h
-hash-on h (c ∷ cs) = hash-on ((h * 31 + suc c % 65536) % 4294967296) cs
+hash-on h (c ∷ cs) = hash-on ((h * 37 + suc c % 65536) % 4294967296) cs
 
 abbrev pub name-hash : Bytes → ℕ
 name-hash n = hash-on 0 n
 
--- the two places under which a hash is noted
-abbrev pub low-half : ℕ → ℕ
-low-half h = h % 65536
+-- the two places under which a hash is noted, in tables of n bytes
+abbrev pub low-half : ℕ → ℕ → ℕ
+low-half n h = h % n
 
-abbrev pub high-half : ℕ → ℕ
-high-half h = h / 65536 % 65536
+abbrev pub high-half : ℕ → ℕ → ℕ
+high-half n h = h / 65536 % n
 
--- ---- keys, by the first letter and the last: normalising changes neither but by 32, `className` apart, and but for `htmlFor`, `xlinkHref` and
--- `xlink:href`, whose first letters are even as those of `for` and `href` are
+-- ---- keys, by the first letter, the last but one and the last. Where the last is a small letter, normalising changes these but by 32, and but
+-- for `className`, `htmlFor` and `xlinkHref`, whose keys are those of `class`, `for` and `href`
 
-unfoldable pub last-letter : ℕ → Bytes → ℕ
-last-letter c [] = c
-last-letter c (d ∷ ds) = last-letter d ds
+abbrev pub key-by : ℕ → ℕ → ℕ → ℕ
+key-by c p d = ((c % 32 * 4 + 27) * (d + 14) + p % 32 * 5) % 64
 
+abbrev pub last-letter : Bytes → ℕ
+last-letter n = getD n (length n - 1) 0
+
+-- of one letter, as if 1 stood before it
 unfoldable pub letter-key : Bytes → ℕ
-letter-key [] = 0
-letter-key (c ∷ cs) = last-letter c cs % 32 * 2 + c % 2
+letter-key n = key-by (getD n 0 0) (getD (1 ∷ n) (length n - 1) 0) (last-letter n)
 
 -- a key of a name, or 64
 pub data Keyed (n : Bytes) : ℕ → Type 0 where
@@ -101,9 +101,3 @@ pub data Keyed (n : Bytes) : ℕ → Type 0 where
 
 unfoldable pub noted-at : List ℕ → ℕ → List ℕ
 noted-at seen k = pick (ltb k 64) (set seen k 1) seen
-
--- what the code says of few attributes
-abbrev pub Told : Bool → Few → Type 0
-Told b F.No = b ≡ false
-Told b F.Yes = b ≡ true
-Told b F.Untold = Unit {0}

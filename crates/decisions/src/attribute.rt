@@ -65,10 +65,13 @@ pub fn second_name(s: &[u8]) -> &[u8]
     }
 }
 
-// Whether the attribute with these fields is listed in 03.
+// Whether the attribute with these fields is listed in 03. Most options list none.
 pub fn is_listed<'a>(props: &'a [u8], a: &'a [u8]) -> bool
     ensures { λ r. ⌜ r ≡ among (get-attr-name (attr-name-in (read (now (a .entry)))) false) (names-of (now (props .entry))) ⌝ }
 {
+    if props.len() == 0 {
+        return false;
+    }
     match tag_at(a) {
         0x40 => lists(props, body(a)),
         0x42 => {

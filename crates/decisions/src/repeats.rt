@@ -10,7 +10,7 @@ ghost use Rattle.names.specs.Names.{ident, namespaced, small-letter, small-lett
 ghost use lib.ListN.{length, getD, set, take, replicate};
 ghost use lib.Dec.{eqb};
 ghost use Rattle.page.specs.Tree.{attributes-in, attr-name-in};
-ghost use Rattle.decisions.specs.Repeats.{joined, signed-letter, code-at, past, html-name, html-names, repeats, name-hash, low-half, high-half, Keyed, noted-at, Told};
+ghost use Rattle.decisions.specs.Repeats.{joined, signed-letter, code-at, past, html-name, html-names, repeats, name-hash, Keyed, key-by, noted-at};
 use crate::attribute::first_name;
 use crate::attribute::second_name;
 use field::reader::behind;
@@ -18,7 +18,6 @@ use field::reader::body;
 use field::reader::tag_at;
 use names::find_mark;
 use names::is_xlink_href;
-use names::same_bytes;
 
 // A place in a name: a letter, and whether the sign before it has been read.
 pub struct Place {
@@ -253,7 +252,7 @@ fn hash_joined<'a>(s: u8, p: &'a [u8], two: bool, q: &'a [u8]) -> usize
         if a == 0 {
             return h;
         }
-        h = (h * 31 + a % 65536) % 4294967296;
+        h = (h * 37 + a % 65536) % 4294967296;
         x = next_place(s, p, x);
     }
 }
@@ -295,17 +294,15 @@ fn html_hash(a: &[u8]) -> usize
 }
 
 // A name is noted under both halves of its hash.
-fn is_noted<'a>(low: &'a [u8; 65536], high: &'a [u8; 65536], h: usize) -> bool
-    requires { ⌜ (length (now low) ≡ 65536) × (length (now high) ≡ 65536) ⌝ }
-    ensures { λ r. ⌜ r ≡ (eqb (getD (now (low .entry)) (low-half h) 0) 1 && eqb (getD (now (high .entry)) (high-half h) 0) 1) ⌝ }
+fn is_noted<'a>(low: &'a [u8], high: &'a [u8], i: usize, j: usize) -> bool
+    requires { ⌜ (i < length (now low)) × (j < length (now high)) ⌝ }
+    ensures { λ r. ⌜ r ≡ (eqb (getD (now (low .entry)) i 0) 1 && eqb (getD (now (high .entry)) j 0) 1) ⌝ }
 {
-    let i = h % 65536;
-    let j = h / 65536 % 65536;
     (low[i] == 1) & (high[j] == 1)
 }
 
-fn note(table: &mut [u8; 65536], i: usize)
-    requires { ⌜ (length (now table) ≡ 65536) × (i < 65536) ⌝ }
+fn note(table: &mut [u8], i: usize)
+    requires { ⌜ i < length (now table) ⌝ }
     ensures { λ r. ⌜ now (table .exit) ≡ set (now (table .entry)) i 1 ⌝ }
 {
     table[i] = 1;
@@ -324,10 +321,11 @@ fn earlier_may<'a>(s: &'a [u8], k: usize, a: &'a [u8], may: bool) -> bool
 
 // Whether two attributes in front of s have one name. Each name is noted as it comes, and only for one whose places are both taken are
 // those before it gone through: so thousands of attributes cost no search for each.
-fn by_hashes<'a>(s: &'a [u8], low: &'a mut [u8; 65536], high: &'a mut [u8; 65536]) -> bool
-    requires { ⌜ (now low ≡ replicate 65536 0) × (now high ≡ replicate 65536 0) ⌝ }
+fn by_hashes<'a>(s: &'a [u8], low: &'a mut [u8], high: &'a mut [u8]) -> bool
+    requires { ⌜ (0 < length (now low)) × (length (now high) ≡ length (now low)) ⌝ }
     ensures { λ r. ⌜ r ≡ repeats (html-names (attributes-in (read (now (s .entry))))) ⌝ }
 {
+    let n = low.len();
     let mut t = s;
     let mut k: usize = 0;
     loop {
@@ -335,12 +333,14 @@ fn by_hashes<'a>(s: &'a [u8], low: &'a mut [u8; 65536], high: &'a mut [u8; 65536
             0x50 => {
                 let a = body(t);
                 let h = html_hash(a);
-                let may = is_noted(low, high, h);
+                let i = h % n;
+                let j = h / 65536 % n;
+                let may = is_noted(low, high, i, j);
                 if earlier_may(s, k, a, may) {
                     return true;
                 }
-                note(low, h % 65536);
-                note(high, h / 65536 % 65536);
+                note(low, i);
+                note(high, j);
                 let r = behind(t);
                 t = r;
                 k += 1;
@@ -356,26 +356,79 @@ fn by_hashes<'a>(s: &'a [u8], low: &'a mut [u8; 65536], high: &'a mut [u8; 65536
     }
 }
 
-fn table() -> [u8; 65536]
+fn small_table() -> [u8; 512]
+    ensures { λ r. ⌜ r ≡ replicate 512 0 ⌝ }
+{
+    [0; 512]
+}
+
+fn middle_table() -> [u8; 4096]
+    ensures { λ r. ⌜ r ≡ replicate 4096 0 ⌝ }
+{
+    [0; 4096]
+}
+
+fn large_table() -> [u8; 65536]
     ensures { λ r. ⌜ r ≡ replicate 65536 0 ⌝ }
 {
     [0; 65536]
 }
 
-// The same with tables of its own. A function that calls itself is not merged into its caller: so the tables stand in no frame of the
-// walks, which nest.
-fn many_repeat(s: &[u8], first: bool) -> bool
+// How many attributes stand in front of s. It only chooses the tables, so nothing is said of it.
+fn count(s: &[u8]) -> usize {
+    let mut t = s;
+    let mut k: usize = 0;
+    loop {
+        match tag_at(t) {
+            0x50 => {
+                let r = behind(t);
+                t = r;
+                k += 1;
+            }
+            0x53 => {
+                let r = behind(t);
+                t = r;
+            }
+            _ => {
+                return k;
+            }
+        }
+    }
+}
+
+// The same with tables of its own, as large as so many attributes need: a table is cleared before it is used. A function that calls itself
+// is not merged into its caller: so the tables stand in no frame of the walks, which nest.
+fn by_tables(s: &[u8], k: usize, first: bool) -> bool
     ensures { λ r. ⌜ r ≡ repeats (html-names (attributes-in (read (now (s .entry))))) ⌝ }
 {
     if first {
-        return many_repeat(s, false);
+        return by_tables(s, k, false);
     }
-    let mut low = table();
-    let mut high = table();
+    if k <= 48 {
+        let mut low = small_table();
+        let mut high = small_table();
+        return by_hashes(s, &mut low, &mut high);
+    }
+    if k <= 300 {
+        let mut low = middle_table();
+        let mut high = middle_table();
+        return by_hashes(s, &mut low, &mut high);
+    }
+    let mut low = large_table();
+    let mut high = large_table();
     by_hashes(s, &mut low, &mut high)
 }
 
-// A number below 64 that is one for names that are one, from the first letter and the last as they are written; 64 where it is not told.
+// From the first letter c, the last but one p and the last d, a number below 64. In this form `className` and `class`, `htmlFor` and `for`,
+// `xlinkHref` and `href` come to one number, and the names that pages have most to different ones.
+fn key_by(c: u8, p: u8, d: u8) -> usize
+    ensures { λ r. ⌜ r ≡ key-by c p d ⌝ }
+{
+    (((c % 32) as usize * 4 + 27) * (d as usize + 14) + (p % 32) as usize * 5) % 64
+}
+
+// A number below 64 that is one for names that are one, from letters as they are written; 64 where it is not told: where the last is no
+// small letter, since before a capital a hyphen may be put in.
 fn key_of(a: &[u8]) -> usize
     ensures { λ r. ⌜ Keyed (html-name (attr-name-in (read (now (a .entry))))) r ⌝ }
 {
@@ -387,22 +440,21 @@ fn key_of(a: &[u8]) -> usize
     if l == 0 {
         return 64;
     }
-    if same_bytes(n, b"className") {
-        return 39;
-    }
-    let c = n[0];
     let d = n[l - 1];
-    (d % 32) as usize * 2 + (c % 2) as usize
+    if d < 97 {
+        return 64;
+    }
+    if l == 1 {
+        return key_by(d, 1, d);
+    }
+    key_by(n[0], n[l - 2], d)
 }
 
 // Whether a name of that key may have come before.
-fn may_be(seen: &[u8; 64], untold: bool, key: usize) -> bool
+fn may_be(seen: &[u8; 64], key: usize) -> bool
     requires { ⌜ length (now seen) ≡ 64 ⌝ }
-    ensures { λ r. ⌜ (r ≡ false → (untold ≡ false) × (key < 64) × (eqb (getD (now (seen .entry)) key 0) 1 ≡ false)) ⌝ }
+    ensures { λ r. ⌜ (r ≡ false → (key < 64) × (eqb (getD (now (seen .entry)) key 0) 1 ≡ false)) ⌝ }
 {
-    if untold {
-        return true;
-    }
     if 64 <= key {
         return true;
     }
@@ -418,34 +470,20 @@ fn note_key(seen: &mut [u8; 64], key: usize)
     }
 }
 
-pub enum Few {
-    No,
-    Yes,
-    // more than sixteen attributes: not told
-    Untold,
-}
-
-// Few attributes, as most elements have: by keys, which cost less than hashes.
-fn by_keys<'a>(s: &'a [u8], seen: &'a mut [u8; 64]) -> Few
+// Whether two attributes may have one name: by keys, which tell of most elements that none do.
+fn by_keys<'a>(s: &'a [u8], seen: &'a mut [u8; 64]) -> bool
     requires { ⌜ now seen ≡ replicate 64 0 ⌝ }
-    ensures { λ r. ⌜ Told (repeats (html-names (attributes-in (read (now (s .entry)))))) r ⌝ }
+    ensures { λ r. ⌜ (r ≡ false → repeats (html-names (attributes-in (read (now (s .entry))))) ≡ false) ⌝ }
 {
     let mut t = s;
     let mut k: usize = 0;
-    let mut untold = false;
     loop {
         match tag_at(t) {
             0x50 => {
-                if 16 <= k {
-                    return Few::Untold;
+                let key = key_of(body(t));
+                if may_be(seen, key) {
+                    return true;
                 }
-                let a = body(t);
-                let key = key_of(a);
-                let may = may_be(seen, untold, key);
-                if earlier_may(s, k, a, may) {
-                    return Few::Yes;
-                }
-                untold = untold | (key == 64);
                 note_key(seen, key);
                 let r = behind(t);
                 t = r;
@@ -456,7 +494,7 @@ fn by_keys<'a>(s: &'a [u8], seen: &'a mut [u8; 64]) -> Few
                 t = r;
             }
             _ => {
-                return Few::No;
+                return false;
             }
         }
     }
@@ -474,7 +512,7 @@ pub fn repeats(s: &[u8]) -> bool
 {
     let a = tag_at(s);
     if a == 0x53 {
-        return many_repeat(s, true);
+        return by_tables(s, count(s), true);
     }
     if a != 0x50 {
         return false;
@@ -482,15 +520,14 @@ pub fn repeats(s: &[u8]) -> bool
     let r = behind(s);
     let b = tag_at(r);
     if b == 0x53 {
-        return many_repeat(s, true);
+        return by_tables(s, count(s), true);
     }
     if b != 0x50 {
         return false;
     }
     let mut seen = keys();
-    match by_keys(s, &mut seen) {
-        Few::No => false,
-        Few::Yes => true,
-        Few::Untold => many_repeat(s, true),
+    if by_keys(s, &mut seen) {
+        return by_tables(s, count(s), true);
     }
+    false
 }
