@@ -1,8 +1,8 @@
 -- The laws of `read_tag`.
 pub mod RunLaws
-pub mod SmallLaws
 pub mod ProgressLaws
 pub mod FlagLaws
+pub mod SmallLaws
 pub mod SourceLaws
 pub mod EntityLaws
 pub mod TrimLaws

@@ -1,41 +1,58 @@
--- What small letters, and bytes before the slash, are and are not. Main statements: `small-text`, `small-source`, `small-read`, `low-read`.
--- Assumes nothing.
+-- Runs of text and source by the order of the code's tests: small letters, what stands behind them, what stands before the first sign, the rest.
+-- Main statements: `small-text` to `other-text`, `small-source` to `other-source`, `small-read`, `low-read`. Assumes nothing.
 use Prim.Native.Nat.{ℕ, _≤_, _<_}
 use mathlib.Core.Path.{_≡_, refl}
-use mathlib.Core.Bool.{Bool, true, false, _&&_, false≢true}
-use mathlib.Core.Logic.{_⊎_, inl, inr}
+use mathlib.Core.Bool.{Bool, true, false, _&&_, _||_, not, or-false}
 use native.Mathlib.Omega.{arith}
-use borrow.Author.Tests.{ne-eqb, leb-true}
-use lib.Dec.{leb, eqb}
+use borrow.Author.Tests.{ne-eqb}
+use lib.Dec.{eqb}
 use Rattle.grammar.specs.Signs.{text-byte, quote, source-byte}
 use Rattle.grammar.specs.Known.{not-read}
 use Rattle.read_tag.specs.Runs.{plain-text}
+use Rattle.read_tag.proofs.FlagLaws.{and-true}
 
-both-true : (a b : Bool) → a && b ≡ true → (a ≡ true) × (b ≡ true)
-both-true true b e = (refl, e)
-both-true false b e = absurd (false≢true e)
-
-small : (c : ℕ) → leb 97 c && leb c 122 ≡ true → (97 ≤ c) × (c ≤ 122)
-small c e = let p = both-true (leb 97 c) (leb c 122) e in (leb-true 97 c (p .0), leb-true c 122 (p .1))
-
-module _ (c : ℕ) (e : leb 97 c && leb c 122 ≡ true) where
-  apart : (k : ℕ) → (k < 97) ⊎ (122 < k) → eqb c k ≡ false
-  apart k (inl l) = ne-eqb c k (λ z. omega (arith, small c e))
-  apart k (inr l) = ne-eqb c k (λ z. omega (arith, small c e))
-
-  pub small-text : true ≡ plain-text c
+module _ (c : ℕ) where
+  pub small-text : 97 ≤ c → c ≤ 122 → true ≡ plain-text c
   unfolding plain-text text-byte
-  small-text = simp (apart 60 (inl (omega arith)), apart 62 (inl (omega arith)), apart 123 (inr (omega arith)), apart 125 (inr (omega arith)), apart 38 (inl (omega arith)))
+  small-text l h =
+      simp (ne-eqb c 60 (λ z. omega arith), ne-eqb c 62 (λ z. omega arith), ne-eqb c 123 (λ z. omega arith), ne-eqb c 125 (λ z. omega arith), ne-eqb c 38 (λ z. omega arith))
 
-  pub small-source : true ≡ source-byte c
+  pub high-text : 122 < c → not (eqb c 123 || eqb c 125) ≡ plain-text c
+  unfolding plain-text text-byte
+  high-text l = simp (ne-eqb c 60 (λ z. omega arith), ne-eqb c 62 (λ z. omega arith), ne-eqb c 38 (λ z. omega arith), and-true)
+
+  pub low-text : c < 38 → true ≡ plain-text c
+  unfolding plain-text text-byte
+  low-text l =
+      simp (ne-eqb c 60 (λ z. omega arith), ne-eqb c 62 (λ z. omega arith), ne-eqb c 123 (λ z. omega arith), ne-eqb c 125 (λ z. omega arith), ne-eqb c 38 (λ z. omega arith))
+
+  pub other-text : c < 97 → (not (eqb c 60 || eqb c 62) && not (eqb c 38)) ≡ plain-text c
+  unfolding plain-text text-byte
+  other-text l = simp (ne-eqb c 123 (λ z. omega arith), ne-eqb c 125 (λ z. omega arith), or-false)
+
+  pub small-source : 97 ≤ c → c ≤ 122 → true ≡ source-byte c
   unfolding source-byte quote
-  small-source =
-      simp (apart 60 (inl (omega arith)), apart 123 (inr (omega arith)), apart 125 (inr (omega arith)), apart 96 (inl (omega arith)), apart 92 (inl (omega arith)), apart 47 (inl (omega arith)), apart 34 (inl (omega arith)), apart 39 (inl (omega arith)))
+  small-source l h =
+      simp (ne-eqb c 60 (λ z. omega arith), ne-eqb c 123 (λ z. omega arith), ne-eqb c 125 (λ z. omega arith), ne-eqb c 96 (λ z. omega arith), ne-eqb c 92 (λ z. omega arith), ne-eqb c 47 (λ z. omega arith), ne-eqb c 34 (λ z. omega arith), ne-eqb c 39 (λ z. omega arith))
 
-pub small-read : (c : ℕ) → 97 ≤ c → false ≡ not-read c
-unfolding not-read
-small-read c l = simp (ne-eqb c 96 (λ z. omega arith), ne-eqb c 92 (λ z. omega arith), ne-eqb c 47 (λ z. omega arith), ne-eqb c 60 (λ z. omega arith))
+  pub high-source : 122 < c → not (eqb c 123 || eqb c 125) ≡ source-byte c
+  unfolding source-byte quote
+  high-source l =
+      simp (ne-eqb c 60 (λ z. omega arith), ne-eqb c 96 (λ z. omega arith), ne-eqb c 92 (λ z. omega arith), ne-eqb c 47 (λ z. omega arith), ne-eqb c 34 (λ z. omega arith), ne-eqb c 39 (λ z. omega arith), or-false)
 
-pub low-read : (c : ℕ) → c < 47 → false ≡ not-read c
-unfolding not-read
-low-read c l = simp (ne-eqb c 96 (λ z. omega arith), ne-eqb c 92 (λ z. omega arith), ne-eqb c 47 (λ z. omega arith), ne-eqb c 60 (λ z. omega arith))
+  pub low-source : c < 34 → true ≡ source-byte c
+  unfolding source-byte quote
+  low-source l =
+      simp (ne-eqb c 60 (λ z. omega arith), ne-eqb c 123 (λ z. omega arith), ne-eqb c 125 (λ z. omega arith), ne-eqb c 96 (λ z. omega arith), ne-eqb c 92 (λ z. omega arith), ne-eqb c 47 (λ z. omega arith), ne-eqb c 34 (λ z. omega arith), ne-eqb c 39 (λ z. omega arith))
+
+  pub other-source : c < 97 → not (eqb c 60 || eqb c 96 || eqb c 92 || eqb c 47 || (eqb c 34 || eqb c 39)) ≡ source-byte c
+  unfolding source-byte quote
+  other-source l = simp (ne-eqb c 123 (λ z. omega arith), ne-eqb c 125 (λ z. omega arith), or-false)
+
+  pub small-read : 97 ≤ c → false ≡ not-read c
+  unfolding not-read
+  small-read l = simp (ne-eqb c 96 (λ z. omega arith), ne-eqb c 92 (λ z. omega arith), ne-eqb c 47 (λ z. omega arith), ne-eqb c 60 (λ z. omega arith))
+
+  pub low-read : c < 47 → false ≡ not-read c
+  unfolding not-read
+  low-read l = simp (ne-eqb c 96 (λ z. omega arith), ne-eqb c 92 (λ z. omega arith), ne-eqb c 47 (λ z. omega arith), ne-eqb c 60 (λ z. omega arith))

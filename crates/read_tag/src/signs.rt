@@ -42,14 +42,20 @@ pub fn is_space(c: u8) -> bool
     (c == 9) | (c == 10) | (c == 13) | (c == 32)
 }
 
-// Text, up to an entity.
+// Text, up to an entity. Here and in source text small letters are told by two tests and white space by two: one test of both is dearer.
 pub fn is_plain_text(c: u8) -> bool
     ensures { λ r. ⌜ r ≡ plain-text c ⌝ }
 {
-    if (b'a' <= c) & (c <= b'z') {
+    if b'a' <= c {
+        if c <= b'z' {
+            return true;
+        }
+        return !((c == b'{') | (c == b'}'));
+    }
+    if c < b'&' {
         return true;
     }
-    !((c == b'<') | (c == b'>') | (c == b'{') | (c == b'}')) & !(c == b'&')
+    !((c == b'<') | (c == b'>')) & !(c == b'&')
 }
 
 // Characters of an attribute string in the quote q, up to an entity.
@@ -76,16 +82,16 @@ pub fn is_quote(c: u8) -> bool
 pub fn is_source(c: u8) -> bool
     ensures { λ r. ⌜ r ≡ source-byte c ⌝ }
 {
-    if (b'a' <= c) & (c <= b'z') {
+    if b'a' <= c {
+        if c <= b'z' {
+            return true;
+        }
+        return !((c == b'{') | (c == b'}'));
+    }
+    if c < b'"' {
         return true;
     }
-    !((c == b'<')
-        | (c == b'{')
-        | (c == b'}')
-        | (c == b'`')
-        | (c == b'\\')
-        | (c == b'/')
-        | ((c == b'"') | (c == b'\'')))
+    !((c == b'<') | (c == b'`') | (c == b'\\') | (c == b'/') | ((c == b'"') | (c == b'\'')))
 }
 
 // Behind the white space at i.
