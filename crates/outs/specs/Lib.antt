@@ -1,0 +1,4 @@
+-- What must be believed of templates out and page out as they are read back: their grammars, with what is refused and in which order.
+pub mod Held
+pub mod PageOut
+pub mod Templates
