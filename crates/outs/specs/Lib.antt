@@ -2,3 +2,4 @@
 pub mod Held
 pub mod PageOut
 pub mod Templates
+pub mod Renumber
