@@ -15,7 +15,7 @@ ORDER = [
     ("page", ["Number", "Tree", "Refusal", "Check", "Encode"]),
     ("sums", ["Choice", "Value", "Machine"]),
     ("worked", ["Worked"]),
-    ("spec", ["Pass", "Output", "Merge", "Attributes", "Children", "Visit", "Transform", "Answer"]),
+    ("spec", ["Words", "Pass", "Output", "Merge", "Attributes", "Children", "Visit", "Transform", "Answer"]),
 ]
 # the same for the answer to tag text
 TAG_ORDER = [
@@ -26,7 +26,7 @@ TAG_ORDER = [
     ("tag_tree", ["PageTag", "TagAnswer"]),
 ]
 # names of types, which nothing has to unfold
-TYPES = {"AllBytes"}
+TYPES = {"AllBytes", "WellNestedBy", "Fits", "AllFit"}
 # crates whose names other crates have too: theirs are written behind the name of their file
 QUALIFIED = {"sums"}
 

@@ -10,8 +10,8 @@ use lib.Dec.{T, eqb, eqb→eq}
 use lib.ListN.{length}
 use Rattle.field.specs.Bytes.{Bytes}
 use Rattle.field.specs.Number.{big-endian}
-use Rattle.field.specs.Row.{Row, end, field, Inside, only-bytes, fields-after, inside}
-use Rattle.field.proofs.RowLaws.{Shaped, FrontFits, front-full}
+use Rattle.field.specs.Row.{Row, end, field, Inside, only-bytes, fields-after, counted, counted-front, inside}
+use Rattle.field.proofs.RowLaws.{Shaped, FrontFits, front-full, front-counted}
 use Rattle.spec.specs.declared.Flags.{Flags}
 use Rattle.spec.specs.Pass.{Template, Done, Pass, pure, both, bind, raise, Mid, none, node, raw, _⧺_, Part, chars, gap, mark, marks, join}
 use Rattle.spec.specs.Output.{gen-template, dynamic-exprs, strings-after, kinds-of}
@@ -47,6 +47,7 @@ formed-fits only-bytes f none n h = tt
 formed-fits only-bytes f (node t g i r) n h = absurd h
 formed-fits only-bytes f (raw q r) n h = absurd h
 formed-fits (fields-after k) f i n h = front-full k f (visit-exprs i n .value) (eqb→eq (length f) k h)
+formed-fits (counted k) f i n h = front-counted k f (visit-exprs i n .value) (eqb→eq (length f) (counted-front k f) h)
 
 module _ (Fragments : Type 0) where
   -- ---- parts
@@ -131,7 +132,7 @@ module _ (Fragments : Type 0) where
             let t : Template = record { number = n; strings = strings-after [] ps; kinds = kinds-of (r .value) } in
             let s : T (not (marks ps .mixed)) → Sound t = λ m. subst₂ (λ (x : List Bytes) (y : List Bool). Sound (record { number = n; strings = x; kinds = y })) (all .strings []) (all .kinds (n + 1)) (sound-pieces n qs (h m)) in
             record {
-              kept = template-kept r (marks ps) t (node 0x90 (big-endian 2 n []) (r .value) none) (all .none-left) s (d .kept);
+              kept = template-kept r (marks ps) t (node 0x90 (big-endian 4 n []) (r .value) none) (all .none-left) s (d .kept);
               left-over = d .left-over;
               bound = omega arith;
               clean = (tt, tt, (d .left-over, 0, omega arith, d .clean, tt));

@@ -5,9 +5,9 @@
 -- `EveryPass` has weights too, but texts, names and fields weigh nothing there. Here each byte is paid for, and budgets fall at each field
 -- and grow at each merge. So it is a walk of its own, over sizes alone.
 -- Assumes nothing.
-use Prim.Native.Nat.{ℕ, _+_, _≤_}
+use Prim.Native.Nat.{ℕ, suc, _+_, _≤_}
 use native.Mathlib.Omega.{arith}
-use mathlib.Core.Path.{_≡_, refl}
+use mathlib.Core.Path.{_≡_, refl, ap}
 use mathlib.Core.Bool.{Bool}
 use mathlib.Core.List.{List, [], _∷_, _++_}
 use lib.ListN.{length, length-append}
@@ -18,9 +18,11 @@ use Rattle.field.proofs.NumberLaws.{length-big-endian}
 use Rattle.field.proofs.RowLaws.{length-bytes}
 use Rattle.spec.specs.declared.Flags.{Flags}
 use Rattle.spec.specs.Pass.{Template, Done, Pass, pure, map, bind, both, raise, Raw, Mid, none, node, raw, _+++_, _⧺_, Part, chars, gap, mark}
-use Rattle.spec.specs.Output.{strings-after, dynamic-exprs, kinds-of, strings-row, template-row, gen-template}
+use Rattle.spec.specs.Output.{strings-after, dynamic-exprs, kinds-of, strings-row, template-row, record-row, record-front, layout-84, gen-template}
+use Rattle.spec.specs.Words.{places, places-after}
 use Rattle.spec.specs.Visit.{visit-exprs, visit-inside, visit-after, leave}
 use Rattle.spec.specs.Transform.{templates-row}
+use Rattle.spec.proofs.Records.{front-length}
 
 -- ---- what is counted
 
@@ -54,11 +56,11 @@ pub record DoneCosts (w : ℕ) (d : Done Mid) : Type 0 where
 abbrev pub PassCosts : ℕ → Pass Mid → Type 0
 PassCosts w p = (n : ℕ) → DoneCosts w (p n)
 
--- parts of a template: a gap costs the header of the string behind it
+-- parts of a template: a gap costs its kind and the header of the string behind it
 pub data PartsCosts : List Part → ℕ → Type 0 where
   no-parts : {w : ℕ} → PartsCosts [] w
   chars-cost : {b : Bytes} {ps : List Part} {w : ℕ} (c : ℕ) → length b + c ≤ w → PartsCosts ps c → PartsCosts (chars b ∷ ps) w
-  gap-costs : {p : Pass Mid} {ps : List Part} {w : ℕ} (a b : ℕ) → 3 + a + b ≤ w → PassCosts a p → PartsCosts ps b → PartsCosts (gap p ∷ ps) w
+  gap-costs : {p : Pass Mid} {ps : List Part} {w : ℕ} (a b : ℕ) → 4 + a + b ≤ w → PassCosts a p → PartsCosts ps b → PartsCosts (gap p ∷ ps) w
   mark-costs : {f : Flags} {ps : List Part} {w : ℕ} → PartsCosts ps w → PartsCosts (mark f ∷ ps) w
 
 -- ---- expressions
@@ -97,20 +99,22 @@ costs-append {b = b} h (raw-costs u v k x r) d = costs-raw u (v + b) (omega arit
 -- ---- templates
 
 pub templates-append : (ts us : List Template) → templates-size (ts ++ us) ≡ templates-size ts + templates-size us
-unfolding templates-size templates-row template-row bytes
+unfolding templates-size templates-row template-row record-row bytes
 templates-append [] us = omega arith
 templates-append (t ∷ ts) us =
-    let f = big-endian 2 (t .number) [] in
+    let f = record-front layout-84 (t .number) (places (t .strings)) in
     let i = strings-row (t .strings) in
-    omega (arith, templates-append ts us, length-bytes 0x80 f i (templates-row (ts ++ us)), length-bytes 0x80 f i (templates-row ts))
+    omega (arith, templates-append ts us, length-bytes 0x84 f i (templates-row (ts ++ us)), length-bytes 0x84 f i (templates-row ts))
 
 no-templates : templates-size [] ≡ 0
 unfolding templates-size templates-row bytes
 no-templates = refl
 
-one-template : (t : Template) → templates-size (t ∷ []) ≡ 5 + length (bytes (strings-row (t .strings)))
-unfolding templates-size templates-row template-row bytes
-one-template t = omega (arith, length-bytes 0x80 (big-endian 2 (t .number) []) (strings-row (t .strings)) end, length-big-endian 2 (t .number) [])
+one-template : (t : Template) → templates-size (t ∷ []) ≡ 9 + length (places (t .strings)) + length (bytes (strings-row (t .strings)))
+unfolding templates-size templates-row template-row record-row bytes
+one-template t =
+    let ks = places (t .strings) in
+    omega (arith, length-bytes 0x84 (record-front layout-84 (t .number) ks) (strings-row (t .strings)) end, front-length (t .number) ks)
 
 -- ---- first passes
 
@@ -148,7 +152,7 @@ map-costs {p} f c k g n = let d = g n in record { left-over = c + d .left-over; 
 pub parts-chars : {b : Bytes} {ps : List Part} {w : ℕ} (c : ℕ) → length b + c ≤ w → PartsCosts ps c → PartsCosts (chars b ∷ ps) w
 parts-chars c h x = chars-cost c h x
 
-pub parts-gap : {p : Pass Mid} {ps : List Part} {w : ℕ} (a b : ℕ) → 3 + a + b ≤ w → PassCosts a p → PartsCosts ps b → PartsCosts (gap p ∷ ps) w
+pub parts-gap : {p : Pass Mid} {ps : List Part} {w : ℕ} (a b : ℕ) → 4 + a + b ≤ w → PassCosts a p → PartsCosts ps b → PartsCosts (gap p ∷ ps) w
 parts-gap a b h x y = gap-costs a b h x y
 
 pub parts-mark : {f : Flags} {ps : List Part} {w : ℕ} → PartsCosts ps w → PartsCosts (mark f ∷ ps) w
@@ -166,13 +170,30 @@ parts-append {b = b} h (chars-cost c k x) y = parts-chars (c + b) (omega arith) 
 parts-append {b = b} h (gap-costs u v k p x) y = parts-gap u (v + b) (omega arith) p (parts-append (omega arith) x y)
 parts-append h (mark-costs x) y = mark-costs (parts-append h x y)
 
--- what the dynamic expressions and the static strings cost between them
+-- one gap less than strings
+gaps-fewer : (joined s : Bytes) (ss : List Bytes) → length (places-after joined (s ∷ ss)) ≡ length ss
+unfolding places-after
+gaps-fewer joined s [] = refl
+gaps-fewer joined s (t ∷ ss) = ap suc (gaps-fewer (joined ++ s) t ss)
+
+gaps-in : (ss : List Bytes) → 1 ≤ length ss → suc (length (places ss)) ≡ length ss
+gaps-in [] h = absurd (omega arith)
+gaps-in (s ∷ ss) h = ap suc (gaps-fewer [] s ss)
+
+some-string : (ps : List Part) (last : Bytes) → 1 ≤ length (strings-after last ps)
+unfolding strings-after
+some-string [] last = omega arith
+some-string (chars b ∷ ps) last = some-string ps (last ++ b)
+some-string (gap p ∷ ps) last = omega arith
+some-string (mark f ∷ ps) last = some-string ps last
+
+-- what the dynamic expressions cost, and the static strings with a byte for each
 record PartsGive (ps : List Part) (w : ℕ) : Type 0 where
   exprs : ℕ
   texts : ℕ
   within : exprs + texts ≤ w
   dynamic : PassCosts exprs (dynamic-exprs ps)
-  static : (last : Bytes) → length (bytes (strings-row (strings-after last ps))) ≤ 3 + length last + texts
+  static : (last : Bytes) → length (bytes (strings-row (strings-after last ps))) + length (strings-after last ps) ≤ 4 + length last + texts
 
 parts-give : {ps : List Part} {w : ℕ} → PartsCosts ps w → PartsGive ps w
 unfolding dynamic-exprs strings-after strings-row bytes
@@ -184,15 +205,15 @@ parts-give (gap-costs {ps = ps} u v k p x) =
     let r = parts-give x in
     record {
       exprs = u + r .exprs;
-      texts = 3 + r .texts;
+      texts = 4 + r .texts;
       within = omega arith;
       dynamic = both-costs p (r .dynamic);
       static = λ last. omega (arith, r .static [], length-bytes 0x81 last end (strings-row (strings-after [] ps)));
     }
 parts-give (mark-costs x) = let r = parts-give x in record { exprs = r .exprs; texts = r .texts; within = r .within; dynamic = r .dynamic; static = r .static }
 
--- the record has a header, a number and one string more than gaps; the call a header and a number; and one number is taken
-pub template-costs : {ps : List Part} {w : ℕ} → PartsCosts ps w → PassCosts (14 + w) (gen-template ps)
+-- the record has a header, a number, a count and one string more than gaps; the call a header and a number; and one number is taken
+pub template-costs : {ps : List Part} {w : ℕ} → PartsCosts ps w → PassCosts (20 + w) (gen-template ps)
 unfolding gen-template
 template-costs {ps} {w} g n =
     let all = parts-give g in
@@ -200,9 +221,9 @@ template-costs {ps} {w} g n =
     let d = all .dynamic (n + 1) in
     let t : Template = record { number = n; strings = strings-after [] ps; kinds = kinds-of (r .value) } in
     record {
-      left-over = 5 + d .left-over;
-      bound = omega (arith, templates-append (r .templates) (t ∷ []), one-template t, all .static []);
-      value-costs = costs-node (d .left-over) 0 (omega (arith, length-big-endian 2 n [])) (d .value-costs) none-costs;
+      left-over = 7 + d .left-over;
+      bound = omega (arith, templates-append (r .templates) (t ∷ []), one-template t, all .static [], gaps-in (t .strings) (some-string ps []));
+      value-costs = costs-node (d .left-over) 0 (omega (arith, length-big-endian 4 n [])) (d .value-costs) none-costs;
     }
 
 -- ---- visits

@@ -148,10 +148,10 @@ choice-costs : (n : Bytes) {m : Mid} {w : ℕ} (a : ℕ) → 6 + length n + a �
 choice-costs n a h x = let y : Costs (leaf 0x81 n) (3 + length n) = costs-alone (omega arith) in costs-nest (3 + length n + a) (omega arith) (costs-append (omega arith) x y)
 
 -- a space and a gap
-gap-parts : {p : Pass Mid} {w : ℕ} (a : ℕ) → 4 + a ≤ w → PassCosts a p → PartsCosts (chars (32 ∷ []) ∷ gap p ∷ []) w
-gap-parts a h g = parts-chars (3 + a) (omega arith) (parts-gap a 0 (omega arith) g no-parts)
+gap-parts : {p : Pass Mid} {w : ℕ} (a : ℕ) → 5 + a ≤ w → PassCosts a p → PartsCosts (chars (32 ∷ []) ∷ gap p ∷ []) w
+gap-parts a h g = parts-chars (4 + a) (omega arith) (parts-gap a 0 (omega arith) g no-parts)
 
-attr-gap-costs : (n : Bytes) {m : Mid} {w : ℕ} (a : ℕ) → 10 + length n + a ≤ w → Costs m a → PartsCosts (attr-gap n m) w
+attr-gap-costs : (n : Bytes) {m : Mid} {w : ℕ} (a : ℕ) → 11 + length n + a ≤ w → Costs m a → PartsCosts (attr-gap n m) w
 attr-gap-costs n a h x = gap-parts (6 + length n + a) (omega arith) (pure-costs (named-costs a (omega arith) x))
 
 text-parts : {b : Bytes} {w : ℕ} → length b ≤ w → PartsCosts (chars b ∷ []) w
@@ -294,8 +294,8 @@ children-fewer p q (no-children g) = children-end (omega arith)
 children-fewer p q (more-children {c = c} a b g x y) = children-more a b (omega arith) (child-fewer c a p x) (children-fewer p q y)
 
 -- the budget of one merge, from that of two
-pub once : {cs : List Child} {w : ℕ} → ChildrenCosts 36 24 cs w → ChildrenCosts 6 12 cs w
-once g = children-fewer {k = 6} {l = 36} {h = 12} {i = 24} (omega arith) (omega arith) g
+pub once : {cs : List Child} {w : ℕ} → ChildrenCosts 36 28 cs w → ChildrenCosts 6 14 cs w
+once g = children-fewer {k = 6} {l = 36} {h = 14} {i = 28} (omega arith) (omega arith) g
 
 children-weaken : {cs : List Child} {k h v w : ℕ} → v ≤ w → ChildrenCosts k h cs v → ChildrenCosts k h cs w
 children-weaken q (no-children g) = children-end (omega arith)
@@ -365,7 +365,7 @@ wrap-costs literal-shape h x = costs-weaken (omega arith) x
 wrap-costs (minus-shape n) {a = a} h x = costs-nest a h x
 wrap-costs other-shape {a = a} h x = costs-nest a h x
 
-merged-costs : {cs : List Child} {w : ℕ} → ChildrenCosts 1 6 cs w → PartsCosts (merged-parts cs) w
+merged-costs : {cs : List Child} {w : ℕ} → ChildrenCosts 1 7 cs w → PartsCosts (merged-parts cs) w
 unfolding merged-parts ChildCosts
 merged-costs (no-children g) = no-parts
 merged-costs (more-children {c = text t} a b p x y) = parts-chars b (omega arith) (merged-costs y)
@@ -375,9 +375,9 @@ merged-costs (more-children {c = element e} a b p x y) = parts-append (omega ari
 merged-costs (more-children {c = fragment f} a b p x y) = parts-append (omega arith) (x .in-parts) (merged-costs y)
 merged-costs (more-children {c = spread m} a b p x y) = parts-weaken (omega arith) (merged-costs y)
 
-string-costs : (par : Bool) {cs : List Child} {w : ℕ} → ChildrenCosts 6 12 cs w → PartsCosts (children-to-string par cs) w
+string-costs : (par : Bool) {cs : List Child} {w : ℕ} → ChildrenCosts 6 14 cs w → PartsCosts (children-to-string par cs) w
 unfolding children-to-string
-string-costs par g = merged-costs (merge-costs true par 1 6 [] (omega arith) g)
+string-costs par g = merged-costs (merge-costs true par 1 7 [] (omega arith) g)
 
 -- ---- children in a call
 
@@ -422,10 +422,10 @@ spliced-costs nothing-costs = no-entries
 spliced-costs {w = w} (one-costs x) = entries-more w 0 (omega arith) x no-entries
 spliced-costs (array-costs x) = x
 
-entries-costs : {cs : List Child} {w : ℕ} → ChildrenCosts 6 12 cs w → EntriesCosts (entries cs) w
+entries-costs : {cs : List Child} {w : ℕ} → ChildrenCosts 6 14 cs w → EntriesCosts (entries cs) w
 unfolding entries ChildCosts
 entries-costs (no-children g) = no-entries
-entries-costs (more-children {c = text t} a b p x y) = entries-more (12 + a) b p (still-costs (costs-alone (omega arith))) (entries-costs y)
+entries-costs (more-children {c = text t} a b p x y) = entries-more (14 + a) b p (still-costs (costs-alone (omega arith))) (entries-costs y)
 entries-costs (more-children {c = empty} a b p x y) = entries-weaken (omega arith) (entries-costs y)
 entries-costs (more-children {c = container s m} a b p x y) = entries-more a b (omega arith) (still-costs (x .1)) (entries-costs y)
 entries-costs (more-children {c = element e} a b p x y) = entries-more a b (omega arith) (passed-costs (x .serialized)) (entries-costs y)
@@ -442,16 +442,16 @@ one-child-costs (fragment f) a h g = found-weaken (omega arith) (g .found)
 one-child-costs (spread m) a h g = nothing-costs
 
 -- merged once for an array, twice for a template
-many-costs : (cs : List Child) (c : ℕ) → ChildrenCosts 36 24 cs c → FoundCosts (many-children cs) (14 + c)
+many-costs : (cs : List Child) (c : ℕ) → ChildrenCosts 36 28 cs c → FoundCosts (many-children cs) (20 + c)
 unfolding many-children choose
-many-costs cs c g = on (becomes-template cs) (merge-costs false false 6 12 [] (omega arith) g)
+many-costs cs c g = on (becomes-template cs) (merge-costs false false 6 14 [] (omega arith) g)
   where
-    on : (b : Bool) → ChildrenCosts 6 12 (merge false false [] cs) c →
-        FoundCosts (choose b (λ _. one-found (passed (raise (long-if (long-run (merge false false [] cs))) (gen-template (children-to-string false (short-runs (merge false false [] cs))))))) λ _. flattened (entries (merge false false [] cs))) (14 + c)
+    on : (b : Bool) → ChildrenCosts 6 14 (merge false false [] cs) c →
+        FoundCosts (choose b (λ _. one-found (passed (raise (long-if (long-run (merge false false [] cs))) (gen-template (children-to-string false (short-runs (merge false false [] cs))))))) λ _. flattened (entries (merge false false [] cs))) (20 + c)
     on true x = found-passed (raise-costs (long-if (long-run (merge false false [] cs))) (template-costs (string-costs false (short-costs x))))
     on false x = found-weaken (omega arith) (flattened-costs (entries-costs x))
 
-expr-costs : (cs : List Child) (c : ℕ) → ChildrenCosts 36 24 cs c → FoundCosts (children-to-expr cs) (14 + c)
+expr-costs : (cs : List Child) (c : ℕ) → ChildrenCosts 36 28 cs c → FoundCosts (children-to-expr cs) (20 + c)
 unfolding children-to-expr
 expr-costs [] w g = nothing-costs
 expr-costs (c ∷ []) w (more-children a b p x y) = one-child-costs c a (omega arith) x
@@ -518,13 +518,13 @@ call-costs n {as′} {a} g m w c =
     let arguments : Costs (props-node (props-of norm as′ +++ children-prop m) +++ key-of norm as′ none) (17 + a + w) = costs-append (omega (arith, k .within)) wrapped (k .key) in
     costs-nest (20 + name-size n + a + w) (omega arith) (costs-append (omega arith) (name-costs n) arguments)
 
-to-call-costs : (n : Name) {as′ : List Attribute} (cs : List Child) {w : ℕ} (a c : ℕ) → 40 + name-size n + a + c ≤ w → AttributesCosts as′ a → ChildrenCosts 36 24 cs c → PassCosts w (to-call-expr n as′ cs)
+to-call-costs : (n : Name) {as′ : List Attribute} (cs : List Child) {w : ℕ} (a c : ℕ) → 46 + name-size n + a + c ≤ w → AttributesCosts as′ a → ChildrenCosts 36 28 cs c → PassCosts w (to-call-expr n as′ cs)
 unfolding to-call-expr
-to-call-costs n {as′} cs a c h x y = pass-weaken (omega arith) (map-costs (call-node n as′) (23 + name-size n + a) (call-costs n x) (found-pass-costs {w = 17 + c} (omega arith) (expr-costs cs c y)))
+to-call-costs n {as′} cs a c h x y = pass-weaken (omega arith) (map-costs (call-node n as′) (23 + name-size n + a) (call-costs n x) (found-pass-costs {w = 23 + c} (omega arith) (expr-costs cs c y)))
 
 -- ---- elements and fragments
 
-open-close-costs : (o : Options) (n : Bytes) {as′ : List Attribute} {cs : List Child} {w : ℕ} (a c : ℕ) → 5 + 7 * length n + a + c ≤ w → AttributesCosts as′ a → ChildrenCosts 36 24 cs c → PartsCosts (open-close o n as′ cs) w
+open-close-costs : (o : Options) (n : Bytes) {as′ : List Attribute} {cs : List Child} {w : ℕ} (a c : ℕ) → 5 + 7 * length n + a + c ≤ w → AttributesCosts as′ a → ChildrenCosts 36 28 cs c → PartsCosts (open-close o n as′ cs) w
 unfolding open-close
 open-close-costs o n {as′} {cs} a c h x y =
     let closing : PartsCosts (chars (60 ∷ 47 ∷ (n ++ (62 ∷ []))) ∷ []) (3 + length n) = text-parts (omega (arith, length-append n (62 ∷ []))) in
@@ -533,15 +533,15 @@ open-close-costs o n {as′} {cs} a c h x y =
     (parts-chars (a + (4 + length n + c)) (omega (arith, length-escape-html n))
     (parts-append {b = 4 + length n + c} (omega arith) (attrs-costs o x) (parts-chars (3 + length n + c) (omega arith) (parts-pick (is-void-element n) no-parts inner))))
 
-call-parts : {p : Pass Mid} {a w : ℕ} → 3 + a ≤ w → PassCosts a p → PartsCosts (gap p ∷ []) w
+call-parts : {p : Pass Mid} {a w : ℕ} → 4 + a ≤ w → PassCosts a p → PartsCosts (gap p ∷ []) w
 call-parts {a = a} h g = parts-gap a 0 (omega arith) g no-parts
 
 -- an element as a child, whichever way its parent takes it
-pub element-costs : (o : Options) (n : Name) (as′ : List Attribute) (cs : List Child) {w : ℕ} (a c : ℕ) → 43 + 7 * name-size n + a + c ≤ w → AttributesCosts as′ a → ChildrenCosts 36 24 cs c → ElementCosts w (element-of o n as′ cs)
+pub element-costs : (o : Options) (n : Name) (as′ : List Attribute) (cs : List Child) {w : ℕ} (a c : ℕ) → 50 + 7 * name-size n + a + c ≤ w → AttributesCosts as′ a → ChildrenCosts 36 28 cs c → ElementCosts w (element-of o n as′ cs)
 unfolding element-of serialize-jsx element-to-string-vec is-serializable name-size choose
 element-costs o (identifier n) as′ cs {w} a c h x y = record { in-parts = parts (is-serializable o (identifier n) as′); serialized = pass (is-serializable o (identifier n) as′) }
   where
-    call : PassCosts (40 + 7 * length n + a + c) (to-call-expr (identifier n) as′ cs)
+    call : PassCosts (46 + 7 * length n + a + c) (to-call-expr (identifier n) as′ cs)
     call = to-call-costs (identifier n) cs a c (omega arith) x y
 
     written : PartsCosts (open-close o n as′ cs) (5 + 7 * length n + a + c)
@@ -555,13 +555,13 @@ element-costs o (identifier n) as′ cs {w} a c h x y = record { in-parts = part
     pass true = pass-weaken (omega arith) (template-costs written)
     pass false = pass-weaken (omega arith) call
 element-costs o (member ns) as′ cs {w} a c h x y =
-    let call : PassCosts (40 + members-size ns + a + c) (to-call-expr (member ns) as′ cs) = to-call-costs (member ns) cs a c (omega arith) x y in
+    let call : PassCosts (46 + members-size ns + a + c) (to-call-expr (member ns) as′ cs) = to-call-costs (member ns) cs a c (omega arith) x y in
     record { in-parts = call-parts (omega arith) call; serialized = pass-weaken (omega arith) call }
 element-costs o (namespaced n m) as′ cs {w} a c h x y =
-    let call : PassCosts (41 + length n + length m + a + c) (to-call-expr (namespaced n m) as′ cs) = to-call-costs (namespaced n m) cs a c (omega arith) x y in
+    let call : PassCosts (47 + length n + length m + a + c) (to-call-expr (namespaced n m) as′ cs) = to-call-costs (namespaced n m) cs a c (omega arith) x y in
     record { in-parts = call-parts (omega arith) call; serialized = pass-weaken (omega arith) call }
 
-pub fragment-costs : (cs : List Child) {w : ℕ} (c : ℕ) → 14 + c ≤ w → ChildrenCosts 36 24 cs c → FragmentCosts w (fragment-of cs)
+pub fragment-costs : (cs : List Child) {w : ℕ} (c : ℕ) → 20 + c ≤ w → ChildrenCosts 36 28 cs c → FragmentCosts w (fragment-of cs)
 unfolding fragment-of
 fragment-costs cs c h y = record { in-parts = parts-weaken (omega arith) (string-costs false (once y)); found = found-weaken h (expr-costs cs c y) }
 
@@ -577,10 +577,10 @@ visit-found-costs h nothing-costs n = leave-costs (omega arith) n
 visit-found-costs h (one-costs x) n = after-costs (found-pass-costs h (one-costs x)) n
 visit-found-costs h (array-costs x) n = after-costs (found-pass-costs h (array-costs x)) n
 
-template-visit : {cs : List Child} {w : ℕ} (c : ℕ) → 14 + c ≤ w → ChildrenCosts 36 24 cs c → (n : ℕ) → written-size (visit-after (gen-template (children-to-string false cs)) n) ≤ w
+template-visit : {cs : List Child} {w : ℕ} (c : ℕ) → 20 + c ≤ w → ChildrenCosts 36 28 cs c → (n : ℕ) → written-size (visit-after (gen-template (children-to-string false cs)) n) ≤ w
 template-visit c h y n = after-costs (pass-weaken h (template-costs (string-costs false (once y)))) n
 
-visit-only-costs : (x : Child) {w : ℕ} (c : ℕ) → 14 + c ≤ w → ChildrenCosts 36 24 (x ∷ []) c → (n : ℕ) → written-size (visit-only-child x n) ≤ w
+visit-only-costs : (x : Child) {w : ℕ} (c : ℕ) → 20 + c ≤ w → ChildrenCosts 36 28 (x ∷ []) c → (n : ℕ) → written-size (visit-only-child x n) ≤ w
 unfolding visit-only-child ChildCosts
 visit-only-costs (text t) c h y n = template-visit c h y n
 visit-only-costs empty c h y n = template-visit c h y n
@@ -589,11 +589,11 @@ visit-only-costs (element e) c h (more-children a b p x y) n = after-costs (pass
 visit-only-costs (fragment f) c h (more-children a b p x y) n = visit-found-costs (omega arith) (x .found) n
 visit-only-costs (spread m) c h y n = leave-costs (omega arith) n
 
-visit-fragment-costs : (cs : List Child) {w : ℕ} (c : ℕ) → 14 + c ≤ w → ChildrenCosts 36 24 cs c → (n : ℕ) → written-size (visit-fragment cs n) ≤ w
+visit-fragment-costs : (cs : List Child) {w : ℕ} (c : ℕ) → 20 + c ≤ w → ChildrenCosts 36 28 cs c → (n : ℕ) → written-size (visit-fragment cs n) ≤ w
 unfolding visit-fragment
 visit-fragment-costs [] c h y n = null-costs n (omega arith)
 visit-fragment-costs (x ∷ []) c h y n = visit-only-costs x c h y n
 visit-fragment-costs (x ∷ x′ ∷ cs) c h y n = template-visit c h y n
 
-pub fragment-raw-costs : (cs : List Child) {w : ℕ} (c : ℕ) → 14 + c ≤ w → ChildrenCosts 36 24 cs c → RawCosts w (visit-fragment cs)
+pub fragment-raw-costs : (cs : List Child) {w : ℕ} (c : ℕ) → 20 + c ≤ w → ChildrenCosts 36 28 cs c → RawCosts w (visit-fragment cs)
 fragment-raw-costs cs c h y = record { left-costs = omega arith; visits-cost = visit-fragment-costs cs c h y }

@@ -1,4 +1,4 @@
--- Templates counted on the rows of both outputs, and numbers that two bytes hold. Main statements: `span-up-to`, `begins-two`,
+-- Templates counted on the rows of both outputs, and numbers that four bytes hold. Main statements: `span-up-to`, `begins-four`,
 -- `recorded-row`, `recorded-numbered`, `called-begins`. Assumes nothing.
 use Prim.Native.Nat.{ℕ, zero, suc, _+_, _≤_, _<_}
 use mathlib.Core.Path.{_≡_, refl, ap, ap₂, _∙_}
@@ -9,12 +9,14 @@ use native.Mathlib.Decide.{decLe}
 use lib.Dec.{T, eqb, eqb→eq, eqb-refl}
 use Rattle.field.specs.Number.{big-endian}
 use Rattle.field.specs.Row.{Row, end, loose, field}
-use Rattle.field.proofs.NumberLaws.{two-read}
+use Rattle.field.proofs.NumberLaws.{four-read}
 use Rattle.spec.specs.Pass.{Template}
-use Rattle.spec.specs.Output.{template-row}
+use Rattle.spec.specs.Output.{template-row, record-row, record-front, layout-84}
+use Rattle.spec.specs.Words.{places}
 use Rattle.spec.specs.Transform.{bit, templates-row}
 use Rattle.spec.specs.Demand.{begins, recorded-in, called-in, up-to}
 use Rattle.spec.proofs.Ledger.{Test, recorded, called-row, numbered, span}
+use Rattle.spec.proofs.Records.{front-number}
 
 -- ---- a test counted as 1 or 0
 
@@ -80,11 +82,11 @@ span-up-to (suc k) m =
     let e : 1 + k ≡ suc k = omega arith in
     span-last 1 k m ∙ ap₂ (λ (x y : ℕ). bit (eqb x m) 1 + y) e (span-up-to k m)
 
--- ---- two bytes
+-- ---- four bytes
 
-pub begins-two : (m n : ℕ) → n ≤ 65535 → begins m (big-endian 2 n []) ≡ eqb n m
+pub begins-four : (m n : ℕ) → n ≤ 65535 → begins m (big-endian 4 n []) ≡ eqb n m
 unfolding begins big-endian
-begins-two m n h = ap (λ (x : ℕ). eqb x m) (two-read n h)
+begins-four m n h = ap (λ (x : ℕ). eqb x m) (four-read n (omega arith))
 
 -- no number over F
 unfoldable pub AllWithin : ℕ → List Template → Type 0
@@ -107,16 +109,16 @@ abbrev pub has-number : ℕ → Test
 has-number m f ks = begins m f
 
 pub recorded-row : (m : ℕ) (ts : List Template) → recorded-in m (templates-row ts) ≡ recorded (has-number m) ts
-unfolding recorded-in templates-row template-row recorded
+unfolding recorded-in templates-row template-row record-row recorded
 recorded-row m [] = refl
-recorded-row m (t ∷ ts) = ap (λ (x : ℕ). bit (begins m (big-endian 2 (t .number) [])) 1 + x) (recorded-row m ts)
+recorded-row m (t ∷ ts) = ap₂ (λ (b : Bool) (x : ℕ). bit b 1 + x) (front-number (t .number) (places (t .strings)) m) (recorded-row m ts)
 
 pub recorded-numbered : (m F : ℕ) (ts : List Template) → F ≤ 65535 → AllWithin F ts → recorded (has-number m) ts ≡ numbered m ts
 unfolding AllWithin recorded numbered
 recorded-numbered m F [] l h = refl
 recorded-numbered m F (t ∷ ts) l h =
     let a = h .0 in
-    ap₂ (λ (b : Bool) (x : ℕ). bit b 1 + x) (begins-two m (t .number) (omega arith)) (recorded-numbered m F ts l (h .1))
+    ap₂ (λ (b : Bool) (x : ℕ). bit b 1 + x) (begins-four m (t .number) (omega arith)) (recorded-numbered m F ts l (h .1))
 
 pub called-begins : (m : ℕ) (r : Row) → called-in m r ≡ called-row (has-number m) r
 unfolding called-in called-row

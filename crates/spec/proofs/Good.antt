@@ -8,7 +8,7 @@ use mathlib.Core.List.{List, [], _∷_, _++_}
 use lib.Dec.{T, eqb}
 use lib.ListN.{length}
 use Rattle.field.specs.Bytes.{Bytes}
-use Rattle.field.specs.Row.{Row, end, loose, field, Inside, only-bytes, fields-after, inside}
+use Rattle.field.specs.Row.{Row, end, loose, field, Inside, only-bytes, fields-after, counted, counted-front, inside}
 use Rattle.field.proofs.RowLaws.{Shaped}
 use Rattle.spec.specs.Pass.{Template, Done, Pass, Raw, Mid, none, node, raw, Part, chars, gap, mark}
 use Rattle.spec.specs.Transform.{stands}
@@ -34,6 +34,7 @@ FormedBy only-bytes f none = Unit {0}
 FormedBy only-bytes f (node t g i r) = ⊥
 FormedBy only-bytes f (raw t r) = ⊥
 FormedBy (fields-after k) f i = T (eqb (length f) k)
+FormedBy (counted k) f i = T (eqb (length f) (counted-front k f))
 
 -- neither a 30 nor a 31
 abbrev pub no-tag : ℕ → Bool

@@ -117,16 +117,16 @@ module _ (o : Options) where
     -- less than the header's share, since a child is paid for besides
     tag-child : (t : P.Tag) → ChildCosts 36 (child o t) (1500 + 512 * size (tag-body t))
     tag-child (P.element n as′ cs) =
-        element-costs o n (attributes o as′) (children o cs) (512 * size (attributes-row as′ end)) (24 + 512 * size (children-row cs)) (omega (arith, name-fits n (attributes-row as′ (children-row cs)), attributes-front as′ (children-row cs))) (attributes-cost as′)
+        element-costs o n (attributes o as′) (children o cs) (512 * size (attributes-row as′ end)) (28 + 512 * size (children-row cs)) (omega (arith, name-fits n (attributes-row as′ (children-row cs)), attributes-front as′ (children-row cs))) (attributes-cost as′)
         (children-cost cs)
-    tag-child (P.fragment cs) = fragment-costs (children o cs) (24 + 512 * size (children-row cs)) (omega arith) (children-cost cs)
+    tag-child (P.fragment cs) = fragment-costs (children o cs) (28 + 512 * size (children-row cs)) (omega arith) (children-cost cs)
 
     tag-raw : (t : P.Tag) → RawCosts (1500 + 512 * size (tag-body t)) (raw-tag o t)
     tag-raw (P.element n as′ cs) =
         element-raw-costs (omega arith)
-        (element-costs o n (attributes o as′) (children o cs) (512 * size (attributes-row as′ end)) (24 + 512 * size (children-row cs)) (omega (arith, name-fits n (attributes-row as′ (children-row cs)), attributes-front as′ (children-row cs))) (attributes-cost as′)
+        (element-costs o n (attributes o as′) (children o cs) (512 * size (attributes-row as′ end)) (28 + 512 * size (children-row cs)) (omega (arith, name-fits n (attributes-row as′ (children-row cs)), attributes-front as′ (children-row cs))) (attributes-cost as′)
         (children-cost cs))
-    tag-raw (P.fragment cs) = fragment-raw-costs (children o cs) (24 + 512 * size (children-row cs)) (omega arith) (children-cost cs)
+    tag-raw (P.fragment cs) = fragment-raw-costs (children o cs) (28 + 512 * size (children-row cs)) (omega arith) (children-cost cs)
 
     attributes-cost : (as′ : P.Attributes) → AttributesCosts (attributes o as′) (512 * size (attributes-row as′ end))
     attributes-cost P.no-attributes = no-attributes
@@ -143,14 +143,14 @@ module _ (o : Options) where
     value-cost (P.container-value e) = (omega (arith, length-bytes 0x52 [] (expr-row e end) end, shape-fits e), costs-weaken (omega (arith, length-bytes 0x52 [] (expr-row e end) end)) (expr-cost e none nothing-behind))
     value-cost (P.tag-value t) = raw-weaken (omega (arith, tag-front t end)) (tag-raw t)
 
-    children-cost : (cs : P.Children) → ChildrenCosts 36 24 (children o cs) (24 + 512 * size (children-row cs))
+    children-cost : (cs : P.Children) → ChildrenCosts 36 28 (children o cs) (28 + 512 * size (children-row cs))
     children-cost P.no-children = children-end (omega arith)
-    children-cost (P.text-child b cs) = children-more (36 * length b) (24 + 512 * size (children-row cs)) (omega (arith, length-bytes 0x60 b end (children-row cs))) (omega arith) (children-cost cs)
-    children-cost (P.empty-child cs) = children-more 0 (24 + 512 * size (children-row cs)) (omega (arith, length-bytes 0x52 [] end (children-row cs))) tt (children-cost cs)
+    children-cost (P.text-child b cs) = children-more (36 * length b) (28 + 512 * size (children-row cs)) (omega (arith, length-bytes 0x60 b end (children-row cs))) (omega arith) (children-cost cs)
+    children-cost (P.empty-child cs) = children-more 0 (28 + 512 * size (children-row cs)) (omega (arith, length-bytes 0x52 [] end (children-row cs))) tt (children-cost cs)
     children-cost (P.container-child e cs) =
-        children-more (512 * size (expr-row e end)) (24 + 512 * size (children-row cs)) (omega (arith, length-bytes 0x52 [] (expr-row e end) (children-row cs))) (omega (arith, shape-fits e), costs-weaken (omega arith) (expr-cost e none nothing-behind)) (children-cost cs)
-    children-cost (P.tag-child t cs) = children-more (1500 + 512 * size (tag-body t)) (24 + 512 * size (children-row cs)) (omega (arith, tag-front t (children-row cs))) (tag-child t) (children-cost cs)
-    children-cost (P.spread-child e cs) = children-more 0 (24 + 512 * size (children-row cs)) (omega (arith, length-bytes 0x61 [] (expr-row e end) (children-row cs))) tt (children-cost cs)
+        children-more (512 * size (expr-row e end)) (28 + 512 * size (children-row cs)) (omega (arith, length-bytes 0x52 [] (expr-row e end) (children-row cs))) (omega (arith, shape-fits e), costs-weaken (omega arith) (expr-cost e none nothing-behind)) (children-cost cs)
+    children-cost (P.tag-child t cs) = children-more (1500 + 512 * size (tag-body t)) (28 + 512 * size (children-row cs)) (omega (arith, tag-front t (children-row cs))) (tag-child t) (children-cost cs)
+    children-cost (P.spread-child e cs) = children-more 0 (28 + 512 * size (children-row cs)) (omega (arith, length-bytes 0x61 [] (expr-row e end) (children-row cs))) tt (children-cost cs)
 
     -- in front of others
     expr-cost : (e : P.Expr) (r : Mid) {b : ℕ} → Costs r b → Costs (expr o e r) (512 * size (expr-row e end) + b)

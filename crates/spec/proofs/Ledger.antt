@@ -53,7 +53,7 @@ Test = Bytes → List Bool → Bool
 
 unfoldable pub recorded : Test → List Template → ℕ
 recorded p [] = 0
-recorded p (t ∷ ts) = bit (p (big-endian 2 (t .number) []) (t .kinds)) 1 + recorded p ts
+recorded p (t ∷ ts) = bit (p (big-endian 4 (t .number) []) (t .kinds)) 1 + recorded p ts
 
 unfoldable pub called : Test → Mid → ℕ
 called p none = 0

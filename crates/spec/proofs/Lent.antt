@@ -60,7 +60,7 @@ module _ (page options : Bytes) (scratch tr pr : ℕ) (w : Written) (all : AllBy
 
   -- both outputs read as the rows that are written
   templates-read : read (w .templates-out) ≡ templates-row (made page options .templates)
-  templates-read = ap (λ (v : Written). read (v .templates-out)) (sym (says .written-is)) ∙ read-back (templates-row (made page options .templates)) (templates-shaped (made page options .templates)) (short .0)
+  templates-read = ap (λ (v : Written). read (v .templates-out)) (sym (says .written-is)) ∙ read-back (templates-row (made page options .templates)) (templates-shaped (made page options .templates) (short .0)) (short .0)
 
   pub page-read : read (w .page-out) ≡ made-page page options
   page-read =
@@ -73,7 +73,7 @@ module _ (page options : Bytes) (scratch tr pr : ℕ) (w : Written) (all : AllBy
   demanded : Demand3 (read (w .templates-out)) (read (w .page-out)) (w .templates)
   demanded =
       let l : made page options .taken ≤ 65535 = omega (arith, taken-few, says .inputs .page-short) in
-      let d = row-demand3 (Unit {0}) (options-in (read options)) (page-given page options) (page-weight (page-given page options)) good l (says .outputs .none-left) (says .outputs .none-mixed) in
+      let d = row-demand3 (Unit {0}) (options-in (read options)) (page-given page options) (page-weight (page-given page options)) good l (says .outputs .none-left) (says .outputs .none-mixed) (short .0) in
       subst (λ (n : ℕ). Demand3 (read (w .templates-out)) (read (w .page-out)) n) count-is
       (subst (λ (x : Row). Demand3 (read (w .templates-out)) x (length (made page options .templates))) (sym page-read)
       (subst (λ (x : Row). Demand3 x (made-page page options) (length (made page options .templates))) (sym templates-read) d))

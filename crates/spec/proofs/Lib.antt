@@ -19,6 +19,7 @@ pub mod Counting
 pub mod Called
 pub mod GoodInvariant
 pub mod PageGood
+pub mod Records
 pub mod Counts
 pub mod PageOut
 pub mod Within

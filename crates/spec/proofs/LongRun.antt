@@ -9,13 +9,13 @@ use mathlib.Core.List.{List, [], _∷_, _++_, append-nil}
 use lib.Dec.{T, ltb, ltb→lt, lt→ltb}
 use lib.ListN.{length, length-append}
 use Rattle.field.specs.Bytes.{Bytes}
-use Rattle.field.specs.Number.{big-endian}
 use Rattle.field.specs.Row.{Row, end, loose, field, bytes, long-body}
 use Rattle.spec.specs.Pass.{Template, Done, Pass, pure, map, both, Mid, none, node, raw, _+++_, _⧺_, Part, chars, gap, mark, over}
-use Rattle.spec.specs.Output.{string-node, strings-after, dynamic-exprs, strings-row, template-row, gen-template}
+use Rattle.spec.specs.Output.{string-node, strings-after, dynamic-exprs, strings-row, template-row, record-row, record-front, layout-84, gen-template}
 use Rattle.spec.specs.Merge.{Child, text, empty, container, element, fragment, spread, long-run}
 use Rattle.spec.specs.Children.{merged-parts, serialize-jsx, spliced, entries, entry-pass, entries-pass}
 use Rattle.spec.specs.Merge as M
+use Rattle.spec.specs.Words.{places}
 use Rattle.spec.specs.Visit.{visit-exprs}
 use Rattle.spec.specs.Transform.{templates-row}
 use Rattle.spec.proofs.Ledger.{or-either}
@@ -83,9 +83,9 @@ strings-long [] h = absurd h
 strings-long (s ∷ ss) h = or-either (over s) (some-over ss) (own-long 0x81 s (strings-row ss)) (λ g. rest-long 0x81 s end (strings-row ss) (strings-long ss g)) h
 
 last-long : (ts : List Template) (t : Template) → T (some-over (t .strings)) → T (long-body (templates-row (ts ++ (t ∷ []))))
-unfolding templates-row template-row
-last-long [] t h = inner-long 0x80 (big-endian 2 (t .number) []) (strings-row (t .strings)) end (strings-long (t .strings) h)
-last-long (u ∷ ts) t h = rest-long 0x80 (big-endian 2 (u .number) []) (strings-row (u .strings)) (templates-row (ts ++ (t ∷ []))) (last-long ts t h)
+unfolding templates-row template-row record-row
+last-long [] t h = inner-long 0x84 (record-front layout-84 (t .number) (places (t .strings))) (strings-row (t .strings)) end (strings-long (t .strings) h)
+last-long (u ∷ ts) t h = rest-long 0x84 (record-front layout-84 (u .number) (places (u .strings))) (strings-row (u .strings)) (templates-row (ts ++ (t ∷ []))) (last-long ts t h)
 
 -- merged children anywhere among the parts of a template: a run over 65,535 makes a body of templates out too long
 pub run-in-template : (ps : List Part) (ms : List Child) (qs : List Part) → T (long-run ms) → (n : ℕ) → T (long-body (templates-row (gen-template (ps ++ (merged-parts ms ++ qs)) n .templates)))

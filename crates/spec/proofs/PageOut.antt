@@ -2,22 +2,22 @@
 -- Main statements: `page-called`, `page-stands`, `page-imported`, `page-shaped`, `templates-shaped`. Assumes nothing.
 use Prim.Native.Nat.{ℕ, _+_}
 use mathlib.Core.Path.{_≡_, refl, sym, ap, ap₂, _∙_}
-use mathlib.Core.Bool.{Bool, true, false, _&&_, _||_}
+use mathlib.Core.Bool.{Bool, true, false, _&&_, _||_, not}
 use mathlib.Core.List.{List, [], _∷_, _++_}
 use native.Mathlib.Omega.{arith}
 use lib.Dec.{T, eqb, eqb→eq}
 use Rattle.field.specs.Bytes.{Bytes, ascii, pick}
-use Rattle.field.specs.Number.{big-endian}
-use Rattle.field.specs.Row.{Row, end, loose, field, inside, next-of}
-use Rattle.field.proofs.NumberLaws.{length-big-endian}
-use Rattle.field.proofs.RowLaws.{FrontFits, Shaped, front-full}
+use Rattle.field.specs.Row.{Row, end, loose, field, inside, long-body, next-of}
+use Rattle.field.proofs.RowLaws.{FrontFits, Shaped}
 use Rattle.page.specs.Page.{Options, Page, export-item, declaration-item, statement-item, empty-item}
 use Rattle.spec.specs.Pass.{Template, Done, pure, both}
-use Rattle.spec.specs.Output.{strings-row, template-row}
+use Rattle.spec.specs.Output.{template-row, layout-84}
+use Rattle.spec.specs.Words.{places}
 use Rattle.spec.specs.Visit.{visit-exprs}
 use Rattle.spec.specs.Transform.{bit, stands, is-statement, has-statement, before-statement, with-templates, helper-sum, with-import, page-out-row, templates-row, transform, module-items}
 use Rattle.spec.specs.Demand.{kinds-in, Helper, jsx, jsx-template, jsx-attr, jsx-escape, helper-tag, counts, sum-in, imported-in}
 use Rattle.spec.proofs.Ledger.{Test, called-row}
+use Rattle.spec.proofs.Records.{kinds-few, rest-short, record-shaped}
 
 -- ---- an 83 put in somewhere: one walk for whatever relates a row with the row that has it
 
@@ -186,12 +186,11 @@ page-shaped o d s =
     import : (source : Bytes) (sum : ℕ) (r : Row) → Shaped r → Shaped (import-row source sum r)
     import source sum r h = unfold Shaped FrontFits inside next-of in (tt, (tt, tt, refl), h)
 
-strings-shaped : (ss : List Bytes) → Shaped (strings-row ss)
-unfolding Shaped FrontFits inside strings-row
-strings-shaped [] = tt
-strings-shaped (s ∷ ss) = (tt, tt, strings-shaped ss)
-
-pub templates-shaped : (ts : List Template) → Shaped (templates-row ts)
+-- where the count of each template's gaps fits its two bytes, as in any body that is not long
+pub templates-shaped : (ts : List Template) → T (not (long-body (templates-row ts))) → Shaped (templates-row ts)
 unfolding Shaped inside templates-row template-row
-templates-shaped [] = tt
-templates-shaped (t ∷ ts) = (front-full 2 (big-endian 2 (t .number) []) (strings-row (t .strings)) (length-big-endian 2 (t .number) []), strings-shaped (t .strings), templates-shaped ts)
+templates-shaped [] h = tt
+templates-shaped (t ∷ ts) h =
+    let ks = places (t .strings) in
+    let r = templates-row ts in
+    record-shaped inside refl layout-84 refl (t .number) ks (t .strings) r (kinds-few layout-84 (t .number) ks (t .strings) r h) (templates-shaped ts (rest-short layout-84 (t .number) ks (t .strings) r h))
