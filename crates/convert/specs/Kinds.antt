@@ -43,8 +43,8 @@ kinds-from m [] = some []
 kinds-from m (s ∷ []) = some []
 kinds-from m (s ∷ t ∷ ss) =
     elim (kind-there (all-passed m s)) [
-      none ↦ none
-    | some k ↦ elim (kinds-from (all-passed m s) (t ∷ ss)) [ none ↦ none | some ks ↦ some (k ∷ ks) ]
+      | none ↦ none
+      | some k ↦ elim (kinds-from (all-passed m s) (t ∷ ss)) [ none ↦ none | some ks ↦ some (k ∷ ks) ]
     ]
 
 abbrev pub kinds-by-strings : List Bytes → Option (List Bool)
