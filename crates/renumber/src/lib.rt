@@ -6,7 +6,7 @@ ghost use Prim.Native.Nat.{_+_, _-_, _<_, _≤_, _^_, min};
 ghost use lib.ListN.{length};
 ghost use Rattle.field.specs.Row.{bytes};
 ghost use Rattle.field.specs.Put.{Wrote};
-ghost use Rattle.outs.specs.Held.{nests, held, read-out};
+ghost use Rattle.outs.specs.Held.{held, read-out};
 ghost use Rattle.outs.specs.Renumber.{renumbered, Renumbers};
 ghost use Rattle.renumber.specs.Step.{Holding, numbered, base-for};
 use field::reader::Header;
@@ -17,6 +17,7 @@ use field::writer::put_head;
 use field::writer::put_two;
 use loops::DEPTH;
 use loops::waits_until;
+use outs::order::is_nest;
 use page::number::number_in;
 
 // A body that waits for a field in it to end: where that field's head is to be written, counted from the head of the outermost field that is
@@ -39,17 +40,6 @@ pub struct Renumbered {
     pub bytes: usize,
     pub long: bool,
     pub wide: bool,
-}
-
-fn is_nest(tag: u8) -> bool
-    ensures { λ r. ⌜ r ≡ nests tag ⌝ }
-{
-    ((0x10 <= tag) & (tag <= 0x12))
-        | (tag == 0x53)
-        | (tag == 0x76)
-        | (tag == 0x77)
-        | (tag == 0x79)
-        | ((0x90 <= tag) & (tag <= 0x96))
 }
 
 fn body_holds(tag: u8, from: usize) -> Holds

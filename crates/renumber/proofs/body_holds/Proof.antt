@@ -7,7 +7,7 @@ use Rattle.renumber.proofs.body_holds.Statement.{statement}
 use Rattle.renumber.proofs.body_holds.Tie as tie
 use Rattle.renumber.proofs.body_holds.Reads as reads
 use Rattle.renumber.proofs.body_holds.Lts as lts
-use Rattle.renumber.proofs.is_nest.Reads as is-nest-reads
+use Rattle.outs.proofs.order.is_nest.Reads as is-nest-reads
 
 returns : tie.Need-returns
 unfolding held
