@@ -3,5 +3,6 @@
 pub mod Held
 pub mod PageOut
 pub mod Templates
+pub mod Renumber
 pub mod Step
 pub mod Passed

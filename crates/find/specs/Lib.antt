@@ -1,0 +1,2 @@
+-- What must be believed of looking templates up: the walk over the records, and the whole answer.
+pub mod Find
