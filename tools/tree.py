@@ -211,7 +211,7 @@ class Tree:
         for n in edit.lines:
             while n > 0 and not declared_in(lines[n - 1]):
                 n -= 1
-            names += declared_in(lines[n - 1])[:1] if n else []
+            names += [name for name in (declared_in(lines[n - 1])[:1] if n else []) if name not in names]
         return names
 
     def uses(self, item):
