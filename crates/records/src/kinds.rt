@@ -9,13 +9,16 @@ ghost use Rattle.records.specs.Kinds.{sign-after, kind-at, kinds-at};
 use field::reader::Header;
 use field::reader::read_header;
 
-// Where the text leaves us: from the back, since the last sign decides and is mostly near.
+// Where the text leaves us: from the back, since the last sign decides and is mostly near. Letters come behind both signs, and are told first.
 fn sign_after(q: u8, s: &[u8]) -> u8
     ensures { λ r. ⌜ r ≡ sign-after q (now (s .entry)) ⌝ }
 {
     let mut i = s.len();
     while 0 < i {
         i -= 1;
+        if b'>' < s[i] {
+            continue;
+        }
         if s[i] == b'>' {
             return 0;
         }

@@ -27,29 +27,59 @@ sub-i c = search needs
 shared-slice-read-if1 : tie.Need-shared-slice-read-if1 Inv-loop μ-loop
 shared-slice-read-if1 c = search needs
 
-returns : tie.Need-returns Inv-loop μ-loop
-returns c = at-close (c .before .before .before .before .before .args .q) (c .before .before .before .before .before .args .s .now) (c .before .before .before .loop .i) (c .before .before .before .loop .i - 1) (omega arith) (c .before .before .before .loop .inv .0) (c .before .before .before .loop .inv .1) (c .if1 .taken)
+loop-less : tie.Need-loop-less Inv-loop μ-loop
+loop-less c = search needs
+
+-- neither sign comes behind `>`
+loop-again : tie.Need-loop-again Inv-loop μ-loop
+loop-again c =
+    let l = c .before .before .before .loop in
+    let a = c .before .before .before .before .before .args in
+    (omega arith, more-free (a .q) (a .s .now) (l .i) (l .i - 1) (omega arith) (l .inv .0) (l .inv .1) (λ e. omega (arith, c .if1 .taken)) (λ e. omega (arith, c .if1 .taken)))
 
 shared-slice-read-if2 : tie.Need-shared-slice-read-if2 Inv-loop μ-loop
 shared-slice-read-if2 c = search needs
+
+returns : tie.Need-returns Inv-loop μ-loop
+returns c =
+    let l = c .before .before .before .before .before .loop in
+    let a = c .before .before .before .before .before .before .before .args in
+    at-close (a .q) (a .s .now) (l .i) (l .i - 1) (omega arith) (l .inv .0) (l .inv .1) (c .if2 .taken)
+
+shared-slice-read-if3 : tie.Need-shared-slice-read-if3 Inv-loop μ-loop
+shared-slice-read-if3 c = search needs
 
 add-behind-sign : tie.Need-add-behind-sign Inv-loop μ-loop
 add-behind-sign c = search needs
 
 behind-sign-requires : tie.Need-behind-sign-requires Inv-loop μ-loop
-behind-sign-requires c κs = let e : c .before .before .before .before .before .loop .i ≡ c .before .before .before .before .before .loop .i - 1 + 1 = omega arith in (omega arith, subst (λ (x : ℕ). T (free (drop x (c .before .before .before .before .before .before .before .args .s .now)))) e (c .before .before .before .before .before .loop .inv .1))
+behind-sign-requires c κs =
+    let l = c .before .before .before .before .before .before .before .loop in
+    let a = c .before .before .before .before .before .before .before .before .before .args in
+    let e : l .i ≡ l .i - 1 + 1 = omega arith in
+    (omega arith, subst (λ (x : ℕ). T (free (drop x (a .s .now)))) e (l .inv .1))
 
 returns-2 : tie.Need-returns-2 Inv-loop μ-loop
-returns-2 c = let e : c .before .before .before .before .before .before .loop .i ≡ c .before .before .before .before .before .before .loop .i - 1 + 1 = omega arith in at-open (c .before .before .before .before .before .before .before .before .args .q) (c .before .before .before .before .before .before .before .before .args .s .now) (c .before .before .before .before .before .before .loop .i) (c .before .before .before .before .before .before .loop .i - 1) (omega arith) (c .before .before .before .before .before .before .loop .inv .0) (c .before .before .before .before .before .before .loop .inv .1) (c .before .if2 .taken) (c .behind-sign .ensures ∙ ap (λ (x : ℕ). sign-after 2 (drop x (c .before .before .before .before .before .before .before .before .args .s .now))) (sym e))
+returns-2 c =
+    let l = c .before .before .before .before .before .before .before .before .loop in
+    let a = c .before .before .before .before .before .before .before .before .before .before .args in
+    let e : l .i ≡ l .i - 1 + 1 = omega arith in
+    at-open (a .q) (a .s .now) (l .i) (l .i - 1) (omega arith) (l .inv .0) (l .inv .1) (c .before .if3 .taken) (c .behind-sign .ensures ∙ ap (λ (x : ℕ). sign-after 2 (drop x (a .s .now))) (sym e))
 
-loop-less : tie.Need-loop-less Inv-loop μ-loop
-loop-less c = search needs
+loop-less-2 : tie.Need-loop-less-2 Inv-loop μ-loop
+loop-less-2 c = search needs
 
-loop-again : tie.Need-loop-again Inv-loop μ-loop
-loop-again c = (omega arith, more-free (c .before .before .before .before .before .before .before .args .q) (c .before .before .before .before .before .before .before .args .s .now) (c .before .before .before .before .before .loop .i) (c .before .before .before .before .before .loop .i - 1) (omega arith) (c .before .before .before .before .before .loop .inv .0) (c .before .before .before .before .before .loop .inv .1) (c .before .before .if1 .left) (c .if2 .left))
+loop-again-2 : tie.Need-loop-again-2 Inv-loop μ-loop
+loop-again-2 c =
+    let l = c .before .before .before .before .before .before .before .loop in
+    let a = c .before .before .before .before .before .before .before .before .before .args in
+    (omega arith, more-free (a .q) (a .s .now) (l .i) (l .i - 1) (omega arith) (l .inv .0) (l .inv .1) (c .before .before .if2 .left) (c .if3 .left))
 
 behind-sign-requires-2 : tie.Need-behind-sign-requires-2 Inv-loop μ-loop
-behind-sign-requires-2 c κs = let e : c .before .loop .i ≡ 0 = omega arith in (omega arith, subst (λ (x : ℕ). T (free (drop x (c .before .before .before .args .s .now)))) e (c .before .loop .inv .1))
+behind-sign-requires-2 c κs =
+    let l = c .before .loop in
+    let e : l .i ≡ 0 = omega arith in
+    (omega arith, subst (λ (x : ℕ). T (free (drop x (c .before .before .before .args .s .now)))) e (l .inv .1))
 
 returns-3 : tie.Need-returns-3 Inv-loop μ-loop
 returns-3 c = c .behind-sign2 .ensures
@@ -63,12 +93,15 @@ sign-after-spec =
     loop-holds
     sub-i
     shared-slice-read-if1
-    returns
+    loop-less
+    loop-again
     shared-slice-read-if2
+    returns
+    shared-slice-read-if3
     add-behind-sign
     behind-sign-requires
     returns-2
-    loop-less
-    loop-again
+    loop-less-2
+    loop-again-2
     behind-sign-requires-2
     returns-3)
