@@ -10,7 +10,7 @@ use native.Mathlib.Numerals.{add-one}
 use mathlib.Core.List.{List, [], _∷_, _++_}
 use lib.Dec.{ltb, eqb}
 use lib.ListN.{length, getD, take, drop, set, length-set, length-take, length-drop}
-use lib.Seq.{take-all, take-take, take-at, drop-drop, getD-set-same, getD-set-other}
+use lib.Seq.{take-all, take-take, drop-drop, getD-set-same, getD-set-other}
 use borrow.Author.Tests.{eq-eqb, ne-eqb, eqb-true, eqb-false}
 use Rattle.field.specs.Bytes.{Bytes, AllBytes, pick}
 use Rattle.field.specs.Number.{number-of, number-from, big-endian}
@@ -319,14 +319,12 @@ module _ {from to : ℕ} {s o : Bytes} {fs : List Frame} {h base at e : ℕ} {ou
         }
 
   module _ {hd : Header} (q : hd ≡ header-of (part s at e)) (i : Within (length (part s at e)) hd) {t y : ℕ} (x : hd ≡ H.Field t y) where
-    -- the bytes of the field
-    whole : (take y (part s at e) ≡ field-bytes t (body (part s at e) y)) × (y ≤ 65538)
-    whole =
+    -- a length has two bytes
+    short : y ≤ 65538
+    short =
         let c : Bytes = part s at e in
         let a = all-parts c t (body c y) (drop y c) (next-is c q i x) part-all in
-        let m = length-body c q i x in
-        let u = within-field i x in
-        (ap (take y) (sym (a .written)) ∙ take-at (field-bytes t (body c y)) (drop y c) y (length-field-bytes t (body c y) ∙ omega (arith, u .0)), omega (arith, a .body-short))
+        omega (arith, length-body c q i x, within-field i x .0, a .body-short)
 
     module _ {r : Holds} (k : Holding (held from t) r) (k′ : r ≡ F.Bytes) where
       leaf-is : read-out from (part s at e) ≡ field t (body (part s at e) y) end (read-out from (drop y (part s at e)))
@@ -344,7 +342,7 @@ module _ {from to : ℕ} {s o : Bytes} {fs : List Frame} {h base at e : ℕ} {ou
           let no : renumbered-front to t (body c y) ≡ body c y = ap (λ (b : Bool). pick b (big-endian to (number-of (body c y)) []) (body c y)) (ne-eqb t 0x90 (not-call from t only)) in
           omega (arith, fits leaf-is, length-bytes t (renumbered-front to t (body c y)) end (renumbered to (read-out from (drop y c))), ap length no, length-body c q i x, within-field i x .0)
 
-      pub on-leaf : {out′ : Bytes} {n′ : ℕ} → Wrote out n (take y (part s at e)) out′ n′ → Keeps from to s o fs h base (at + y) e out′ n′ l v
+      pub on-leaf : {out′ : Bytes} {n′ : ℕ} → Wrote out n (field-bytes t (body (part s at e) y)) out′ n′ → Keeps from to s o fs h base (at + y) e out′ n′ l v
       unfolding writes
       on-leaf {out′} {n′} w =
           let c : Bytes = part s at e in
@@ -353,18 +351,17 @@ module _ {from to : ℕ} {s o : Bytes} {fs : List Frame} {h base at e : ℕ} {ou
           let z = length-body c q i x in
           let f = length-field-bytes t g in
           let u = within-field i x in
-          let m : length (take y c) ≡ y = ap length (whole .0) ∙ omega (arith, u .0) in
           let rest : Row = read-out from (drop y c) in
           let d : does to (read-out from c) (world out n l v) ≡ does to rest (world out′ n′ l v) =
-          ap (λ (j : Row). does to j (world out n l v)) leaf-is ∙ does-leaf to t g rest (world out n l v) (not-call from t only) (omega (arith, whole .1))
-          ∙ rw (w .out-is, w .end-is, whole .0) refl in
+          ap (λ (j : Row). does to j (world out n l v)) leaf-is ∙ does-leaf to t g rest (world out n l v) (not-call from t only) (omega (arith, short))
+          ∙ rw (w .out-is, w .end-is) refl in
           record {
             all = p .all;
             going = T.on-leaf (p .going) y (u .1) d;
             size = p .size;
             same-size = wrote-length w ∙ p .same-size;
             heads = λ i u. omega (arith, p .heads i u, w .end-is);
-            spans = λ u. omega (arith, p .spans u, w .end-is, m);
+            spans = λ no. omega (arith, p .spans no, w .end-is, u .0);
           }
 
     pub deep : h < 21846
@@ -434,11 +431,11 @@ module _ {from to : ℕ} {s o : Bytes} {fs : List Frame} {h base at e : ℕ} {ou
             ap (λ (j : Row). does to j (world out n l v)) open-is ∙ does-field to t f inner rest (world out n l v) ∙ rw (w .out-is, w .end-is, written, is-over) refl in
             record {
               all = p .all;
-              going = T.on-open (p .going) (record { base = b′; frames = set fs h fr }) up same below st y (lo .0) (lo .1) (lo .2) (whole .1) refl d;
+              going = T.on-open (p .going) (record { base = b′; frames = set fs h fr }) up same below st y (lo .0) (lo .1) (lo .2) short refl d;
               size = length-set fs h fr ∙ p .size;
               same-size = wrote-length w ∙ p .same-size;
               heads = heads-more fs h base b′ n n′ (length (numbered to t u)) fr (p .heads) kept found fits (w .end-is);
-              spans = λ z. rw (add-one h) (span-in (rests fs) (rests (set fs h fr)) h at e y st base b′ n (length (numbered to t u)) n′ (p .spans) (λ j z. ap (λ (x : Frame). x .rest) (T.set-below fs h fr none j z)) again kept first (lo .0) (whole .1) (length-numbered to t u four) (w .end-is));
+              spans = λ z. rw (add-one h) (span-in (rests fs) (rests (set fs h fr)) h at e y st base b′ n (length (numbered to t u)) n′ (p .spans) (λ j z. ap (λ (x : Frame). x .rest) (T.set-below fs h fr none j z)) again kept first (lo .0) short (length-numbered to t u four) (w .end-is));
             }
 
 pub on-close : {from to : ℕ} {s o : Bytes} {fs : List Frame} (h : ℕ) {base at e : ℕ} {out out′ : Bytes} {n n′ : ℕ} {l v : Bool} → Keeps from to s o fs h base at e out n l v → length (part s at e) ≡ 0 → (h ≡ 0 → ⊥)

@@ -4,7 +4,7 @@ ghost use mathlib.Core.Path.{_≡_};
 ghost use mathlib.Core.Logic.{_⊎_};
 ghost use Prim.Native.Nat.{_+_, _-_, _<_, _≤_, _^_, min};
 ghost use lib.ListN.{length};
-ghost use Rattle.field.specs.Row.{bytes};
+ghost use Rattle.field.specs.Row.{bytes, field-bytes};
 ghost use Rattle.field.specs.Put.{Wrote};
 ghost use Rattle.outs.specs.Held.{held, read-out};
 ghost use Rattle.outs.specs.Renumber.{renumbered, Renumbers};
@@ -75,6 +75,15 @@ fn counted_from(height: usize, base: usize, n: usize) -> usize
     base
 }
 
+// A field of bytes alone. Most are short, so its head is not left to the copying loop.
+fn put_leaf(out: &mut [u8], at: usize, tag: u8, body: &[u8]) -> usize
+    requires { ⌜ at + 3 + length (now body) < 2 ^ 64 ⌝ }
+    ensures { λ r. ⌜ Wrote (now (out .entry)) at (field-bytes tag (now (body .entry))) (now (out .exit)) r ⌝ }
+{
+    let a = put_head(out, at, tag, body.len());
+    put_bytes(out, a, body)
+}
+
 fn put_number(out: &mut [u8], at: usize, tag: u8, width: usize, number: usize) -> usize
     requires { ⌜ (at + length (numbered width tag number) < 2 ^ 64) × ((width ≡ 2) ⊎ (width ≡ 4)) ⌝ }
     ensures { λ r. ⌜ Wrote (now (out .entry)) at (numbered width tag number) (now (out .exit)) r ⌝ }
@@ -133,7 +142,7 @@ pub fn renumber(s: &[u8], from: usize, to: usize, out: &mut [u8]) -> Renumbered
             }
             Header::Field { tag, end: e } => match body_holds(tag, from) {
                 Holds::Bytes => {
-                    n = put_bytes(out, n, &b[..e]);
+                    n = put_leaf(out, n, tag, &b[3..e]);
                     at += e;
                 }
                 Holds::Fields(front) => {

@@ -1,11 +1,10 @@
 -- `renumber::renumber` meets its contract: each turn keeps `Keeps`. Assumes nothing.
 use Prim.Native.Nat.{_+_, _-_}
-use mathlib.Core.Path.{refl, sym}
+use mathlib.Core.Path.{refl}
 use native.Mathlib.Nat.{le-trans}
 use native.Mathlib.Omega.{arith}
 use borrow.Author.Needs.{needs}
-use lib.ListN.{length}
-use lib.Seq.{length-take-le}
+use lib.ListN.{length, drop}
 use Rattle.field.proofs.HeaderLaws.{within-field}
 use Rattle.field.proofs.NumberLaws.{all-from}
 use Rattle.loops.proofs.Parts.{part}
@@ -23,6 +22,7 @@ use Rattle.page.proofs.number.number_in.Reads as number-in-reads
 use Rattle.renumber.proofs.body_holds.Reads as body-holds-reads
 use Rattle.renumber.proofs.counted_from.Reads as counted-from-reads
 use Rattle.renumber.proofs.fields_at.Reads as fields-at-reads
+use Rattle.renumber.proofs.put_leaf.Reads as put-leaf-reads
 use Rattle.renumber.proofs.put_number.Reads as put-number-reads
 
 abbrev Inv-loop : tie.InvT-loop
@@ -106,11 +106,17 @@ body-holds-requires c κs = tt
 enum-told-2 : tie.Need-enum-told-2 Inv-loop μ-loop
 enum-told-2 c = search needs
 
-slice-aggregate-put-bytes : tie.Need-slice-aggregate-put-bytes Inv-loop μ-loop
-slice-aggregate-put-bytes c = sym (length-take-le _ _ (within-field (c .before .before .before .before .before .before .before .before .read-header .ensures .1) (c .before .before .before .before .before .before .tag .given .1) .1))
+sub-put-leaf : tie.Need-sub-put-leaf Inv-loop μ-loop
+sub-put-leaf c = within-field (c .before .before .before .before .before .before .before .read-header .ensures .1) (c .before .before .before .before .before .tag .given .1) .0
 
-put-bytes-requires-2 : tie.Need-put-bytes-requires-2 Inv-loop μ-loop
-put-bytes-requires-2 c κs = omega (arith, take-short (c .before .before .before .before .before .before .tag .given .0 .1 .0) (part (c .before .before .before .before .before .before .before .before .before .before .before .before .before .args .s .now) (c .before .before .before .before .before .before .before .before .before .before .loop .at) (c .before .before .before .before .before .before .before .before .before .before .loop .end)), fits-leaf (c .before .before .before .before .before .before .before .before .before .before .loop .inv) (c .before .before .before .before .before .before .before .before .read-header .ensures .0) (c .before .before .before .before .before .before .before .before .read-header .ensures .1) (c .before .before .before .before .before .before .tag .given .1) (c .before .before .before .before .body-holds .ensures) (c .before .before .enum-told2 .given .1), c .before .before .before .before .before .before .before .before .before .before .before .before .before .pre .2)
+part-put-leaf-start : tie.Need-part-put-leaf-start Inv-loop μ-loop
+part-put-leaf-start c = within-field (c .before .before .before .before .before .before .before .read-header .ensures .1) (c .before .before .before .before .before .tag .given .1) .0
+
+part-put-leaf-end : tie.Need-part-put-leaf-end Inv-loop μ-loop
+part-put-leaf-end c = within-field (c .before .before .before .before .before .before .before .read-header .ensures .1) (c .before .before .before .before .before .tag .given .1) .1
+
+put-leaf-requires : tie.Need-put-leaf-requires Inv-loop μ-loop
+put-leaf-requires c κs = omega (arith, take-short (c .before .before .before .before .before .before .tag .given .0 .1 .0 - 3) (drop 3 (part (c .before .before .before .before .before .before .before .before .before .before .before .before .before .args .s .now) (c .before .before .before .before .before .before .before .before .before .before .loop .at) (c .before .before .before .before .before .before .before .before .before .before .loop .end))), within-field (c .before .before .before .before .before .before .before .before .read-header .ensures .1) (c .before .before .before .before .before .before .tag .given .1) .0, fits-leaf (c .before .before .before .before .before .before .before .before .before .before .loop .inv) (c .before .before .before .before .before .before .before .before .read-header .ensures .0) (c .before .before .before .before .before .before .before .before .read-header .ensures .1) (c .before .before .before .before .before .before .tag .given .1) (c .before .before .before .before .body-holds .ensures) (c .before .before .enum-told2 .given .1), c .before .before .before .before .before .before .before .before .before .before .before .before .before .pre .2)
 
 add-at : tie.Need-add-at Inv-loop μ-loop
 add-at c = omega (arith, within-field (c .before .before .before .before .before .before .before .before .before .before .before .read-header .ensures .1) (c .before .before .before .before .before .before .before .before .before .tag .given .1) .1, left-is (c .before .before .before .before .before .before .before .before .before .before .before .before .before .loop .inv .going), c .before .before .before .before .before .before .before .before .before .before .before .before .before .loop .inv .going .ordered, c .before .before .before .before .before .before .before .before .before .before .before .before .before .loop .inv .going .ends)
@@ -119,7 +125,7 @@ loop-less-3 : tie.Need-loop-less-3 Inv-loop μ-loop
 loop-less-3 c = omega (arith, within-field (c .before .before .before .before .before .before .before .before .before .before .before .read-header .ensures .1) (c .before .before .before .before .before .before .before .before .before .tag .given .1) .0, within-field (c .before .before .before .before .before .before .before .before .before .before .before .read-header .ensures .1) (c .before .before .before .before .before .before .before .before .before .tag .given .1) .1, left-is (c .before .before .before .before .before .before .before .before .before .before .before .before .before .loop .inv .going), c .before .before .before .before .before .before .before .before .before .before .before .before .before .loop .inv .going .ordered, c .before .before .before .before .before .before .before .before .before .before .before .before .before .loop .inv .going .ends)
 
 loop-again-3 : tie.Need-loop-again-3 Inv-loop μ-loop
-loop-again-3 c = on-leaf (c .before .before .before .before .before .before .before .before .before .before .before .before .before .loop .inv) (c .before .before .before .before .before .before .before .before .before .before .before .read-header .ensures .0) (c .before .before .before .before .before .before .before .before .before .before .before .read-header .ensures .1) (c .before .before .before .before .before .before .before .before .before .tag .given .1) (c .before .before .before .before .before .before .before .body-holds .ensures) (c .before .before .before .before .before .enum-told2 .given .1) (c .before .before .put-bytes2 .ensures)
+loop-again-3 c = on-leaf (c .before .before .before .before .before .before .before .before .before .before .before .before .before .loop .inv) (c .before .before .before .before .before .before .before .before .before .before .before .read-header .ensures .0) (c .before .before .before .before .before .before .before .before .before .before .before .read-header .ensures .1) (c .before .before .before .before .before .before .before .before .before .tag .given .1) (c .before .before .before .before .before .before .before .body-holds .ensures) (c .before .before .before .before .before .enum-told2 .given .1) (c .before .before .put-leaf .ensures)
 
 enum-known-front : tie.Need-enum-known-front Inv-loop μ-loop
 enum-known-front c = search needs
@@ -142,20 +148,20 @@ number-in-requires c κs = tt
 counted-from-requires : tie.Need-counted-from-requires Inv-loop μ-loop
 counted-from-requires c κs = tt
 
-sub-t46 : tie.Need-sub-t46 Inv-loop μ-loop
-sub-t46 c = base-low (c .before .before .before .before .before .before .before .before .before .before .before .before .before .loop .inv) (c .counted-from .ensures)
+sub-t48 : tie.Need-sub-t48 Inv-loop μ-loop
+sub-t48 c = base-low (c .before .before .before .before .before .before .before .before .before .before .before .before .before .loop .inv) (c .counted-from .ensures)
 
-cast-t50 : tie.Need-cast-t50 Inv-loop μ-loop
-cast-t50 c = search needs
+cast-t52 : tie.Need-cast-t52 Inv-loop μ-loop
+cast-t52 c = search needs
 
-sub-t51 : tie.Need-sub-t51 Inv-loop μ-loop
-sub-t51 c = c .before .before .before .before .before .before .before .before .before .before .before .before .before .loop .inv .going .ordered
+sub-t53 : tie.Need-sub-t53 Inv-loop μ-loop
+sub-t53 c = c .before .before .before .before .before .before .before .before .before .before .before .before .before .loop .inv .going .ordered
 
-sub-t52 : tie.Need-sub-t52 Inv-loop μ-loop
-sub-t52 c = omega (arith, within-field (c .before .before .before .before .before .before .before .before .before .before .before .read-header .ensures .1) (c .before .before .before .before .before .before .before .before .before .tag .given .1) .1, left-is (c .before .before .before .before .before .before .before .before .before .before .before .before .before .loop .inv .going))
+sub-t54 : tie.Need-sub-t54 Inv-loop μ-loop
+sub-t54 c = omega (arith, within-field (c .before .before .before .before .before .before .before .before .before .before .before .read-header .ensures .1) (c .before .before .before .before .before .before .before .before .before .tag .given .1) .1, left-is (c .before .before .before .before .before .before .before .before .before .before .before .before .before .loop .inv .going))
 
-cast-t54 : tie.Need-cast-t54 Inv-loop μ-loop
-cast-t54 c = search needs
+cast-t56 : tie.Need-cast-t56 Inv-loop μ-loop
+cast-t56 c = search needs
 
 mul-stack : tie.Need-mul-stack Inv-loop μ-loop
 mul-stack c = omega (arith, deep (c .before .before .before .before .before .before .before .before .before .before .before .before .before .loop .inv) (c .before .before .before .before .before .before .before .before .before .before .before .read-header .ensures .0) (c .before .before .before .before .before .before .before .before .before .before .before .read-header .ensures .1) (c .before .before .before .before .before .before .before .before .before .tag .given .1))
@@ -215,8 +221,10 @@ renumber-spec =
     enum-known-tag
     body-holds-requires
     enum-told-2
-    slice-aggregate-put-bytes
-    put-bytes-requires-2
+    sub-put-leaf
+    part-put-leaf-start
+    part-put-leaf-end
+    put-leaf-requires
     add-at
     loop-less-3
     loop-again-3
@@ -227,11 +235,11 @@ renumber-spec =
     part-number-in-end
     number-in-requires
     counted-from-requires
-    sub-t46
-    cast-t50
-    sub-t51
-    sub-t52
-    cast-t54
+    sub-t48
+    cast-t52
+    sub-t53
+    sub-t54
+    cast-t56
     mul-stack
     array-set-from-stack
     add-height
