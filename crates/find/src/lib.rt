@@ -1,1 +1,7 @@
 // Templates looked up by number (document 02, A11): up to 256 in one walk over templates out, which is checked first.
+mod search;
+
+pub use search::MOST;
+pub use search::index_of;
+pub use search::is_rising;
+pub use search::table_of;
