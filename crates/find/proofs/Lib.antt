@@ -1,1 +1,2 @@
 -- The laws that the proofs of `find` share.
+pub mod SearchLaws

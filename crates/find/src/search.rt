@@ -4,7 +4,7 @@ ghost use mathlib.Core.Bool.{true};
 ghost use Prim.Native.Nat.{_≤_, _<_};
 ghost use lib.ListN.{length};
 ghost use Rattle.find.specs.Find.{rising, index-of};
-ghost use Rattle.find.specs.Search.{padded};
+ghost use Rattle.find.specs.Search.{padded, beyond};
 
 // How many numbers may be asked for at once.
 pub const MOST: usize = 256;
@@ -39,8 +39,10 @@ pub fn table_of(numbers: &[u32]) -> [u64; 256]
     table
 }
 
-// Where a number stands, or `len` where it does not. Eight steps without a branch.
-pub fn index_of(table: &[u64; 256], len: usize, n: u64) -> usize
+// Where a number stands among those asked for, or how many they are where it does not. Eight steps, whatever is asked.
+pub fn index_of(numbers: &[u32], table: &[u64; 256], n: u64) -> usize
+    requires { ⌜ (rising (now numbers) ≡ true) × ((length (now numbers) ≤ 256) × ((now table ≡ padded (now numbers)) × (n < beyond))) ⌝ }
+    ensures { λ r. ⌜ r ≡ index-of n (now (numbers .entry)) ⌝ }
 {
     let mut i: usize = 0;
     let mut room: usize = 256;
@@ -48,11 +50,13 @@ pub fn index_of(table: &[u64; 256], len: usize, n: u64) -> usize
         let half = room / 2;
         if table[i + half] <= n {
             i += half;
+            room -= half;
+        } else {
+            room -= half;
         }
-        room -= half;
     }
     if table[i] == n {
         return i;
     }
-    len
+    numbers.len()
 }
