@@ -1,18 +1,19 @@
 -- The table that numbers are searched in rises, and a search in it finds what stands there. Main statements: `table-rises`, `present`, `missing`.
 -- Assumes nothing.
 use mathlib.Core.Path.{_≡_, refl, sym, ap, _∙_, subst}
-use Prim.Native.Nat.{ℕ, zero, suc, _+_, _-_, _≤_, _<_}
+use Prim.Native.Nat.{ℕ, zero, suc, _+_, _-_, _/_, _≤_, _<_}
 use native.Mathlib.Omega.{arith}
 use native.Mathlib.Decide.{decLe}
 use mathlib.Core.Bool.{Bool, true, false, _&&_}
 use mathlib.Core.Logic.{_⊎_, inl, inr}
-use mathlib.Core.List.{List, [], _∷_, _++_}
+use mathlib.Core.List.{List, [], _∷_, _++_, append-assoc}
 use lib.Dec.{T, eqb, ltb, ltb→lt, eqb→eq, eqb-refl}
-use lib.ListN.{length, getD, replicate}
-use borrow.Author.Tests.{ne-eqb}
+use lib.ListN.{length, getD, take, drop, set, replicate}
+use lib.Seq.{take-suc, take-all, set-at, length-take-le}
+use borrow.Author.Tests.{ne-eqb, lt-ltb, le-ltb}
 use Rattle.field.specs.Bytes.{pick}
 use Rattle.find.specs.Find.{rising, index-of}
-use Rattle.find.specs.Search.{beyond, padded}
+use Rattle.find.specs.Search.{beyond, padded, Asked}
 
 -- ---- rising numbers
 
@@ -156,3 +157,73 @@ module _ (ns : List ℕ) (r : rising ns ≡ true) (h : length ns ≤ 256) {table
               here (yes k) = first j l p k (s .from-first)
               here (no k) = let z : i ≡ j = omega arith in t (ap (λ (x : ℕ). getD table x 0) z ∙ asked-at ns h e j l ∙ p)
           on j l p (no q) = omega (arith, asked-at ns h e j l, s .less-behind j (omega (arith, s .some-room)) (omega arith))
+
+-- ---- the same, of what the code's contract says
+
+module _ {ns table : List ℕ} {n : ℕ} (a : Asked ns table n) where
+  pub begins : Searching table n 0 256
+  begins = search-begins ns (a .in-order) (a .not-many) (a .table-is) (λ j l. a .all-low j) n (a .low)
+
+  pub goes-up : {i room : ℕ} → Searching table n i room → 1 < room → getD table (i + room / 2) 0 ≤ n → Searching table n (i + room / 2) (room - room / 2)
+  goes-up {i} {room} s g t = search-up ns (a .in-order) (a .not-many) (a .table-is) (λ j l. a .all-low j) n (a .low) (room / 2) s g (omega arith) (omega arith) t
+
+  pub goes-down : {i room : ℕ} → Searching table n i room → 1 < room → n < getD table (i + room / 2) 0 → Searching table n i (room - room / 2)
+  goes-down {i} {room} s g t = search-down ns (a .in-order) (a .not-many) (a .table-is) (λ j l. a .all-low j) n (a .low) (room / 2) s g (omega arith) (omega arith) t
+
+  pub ends-there : {i room : ℕ} → Searching table n i room → room ≤ 1 → getD table i 0 ≡ n → i ≡ index-of n ns
+  ends-there s one t = found ns (a .in-order) (a .not-many) (a .table-is) (λ j l. a .all-low j) n (a .low) s one t
+
+  pub ends-without : {i room : ℕ} → Searching table n i room → room ≤ 1 → (getD table i 0 ≡ n → ⊥) → length ns ≡ index-of n ns
+  ends-without s one t = not-found ns (a .in-order) (a .not-many) (a .table-is) (λ j l. a .all-low j) n (a .low) s one t
+
+-- ---- whether numbers rise, one after the other
+
+rising-from : (ns : List ℕ) (j : ℕ) → suc j < length ns → rising (drop j ns) ≡ (ltb (getD ns j 0) (getD ns (suc j) 0) && rising (drop (suc j) ns))
+unfolding rising
+rising-from [] j h = absurd (omega arith)
+rising-from (n ∷ []) j h = absurd (omega arith)
+rising-from (n ∷ m ∷ ns) zero h = refl
+rising-from (n ∷ m ∷ ns) (suc j) h = rising-from (m ∷ ns) j (omega arith)
+
+rising-last : (ns : List ℕ) (j : ℕ) → length ns ≤ suc j → rising (drop j ns) ≡ true
+unfolding rising
+rising-last [] zero h = refl
+rising-last [] (suc j) h = refl
+rising-last (n ∷ []) zero h = refl
+rising-last (n ∷ m ∷ ns) zero h = absurd (omega arith)
+rising-last (n ∷ ns) (suc j) h = rising-last ns j (omega arith)
+
+module _ (ns : List ℕ) (i : ℕ) (e : rising ns ≡ rising (drop (i - 1) ns)) (s : 1 ≤ i) where
+  rising-here : i < length ns → rising ns ≡ (ltb (getD ns (i - 1) 0) (getD ns i 0) && rising (drop i ns))
+  rising-here h =
+      let p : suc (i - 1) ≡ i = omega arith in
+      e ∙ rising-from ns (i - 1) (omega arith) ∙ ap (λ (x : ℕ). ltb (getD ns (i - 1) 0) (getD ns x 0) && rising (drop x ns)) p
+
+  pub falls : i < length ns → getD ns i 0 ≤ getD ns (i - 1) 0 → false ≡ rising ns
+  falls h l = sym (rising-here h ∙ ap (λ (b : Bool). b && rising (drop i ns)) (le-ltb (getD ns (i - 1) 0) (getD ns i 0) l))
+
+  pub rises-on : i < length ns → getD ns (i - 1) 0 < getD ns i 0 → rising ns ≡ rising (drop (i + 1 - 1) ns)
+  rises-on h l =
+      let p : i ≡ i + 1 - 1 = omega arith in
+      rising-here h ∙ ap (λ (b : Bool). b && rising (drop i ns)) (lt-ltb (getD ns (i - 1) 0) (getD ns i 0) l) ∙ ap (λ (x : ℕ). rising (drop x ns)) p
+
+  pub rises-all : length ns ≤ i → true ≡ rising ns
+  rises-all h = sym (e ∙ rising-last ns (i - 1) (omega arith))
+
+-- ---- the table, filled from the front
+
+pub table-turn : (ns table : List ℕ) (i : ℕ) → table ≡ take i ns ++ replicate (256 - i) beyond → i < length ns → length ns ≤ 256 →
+    set table i (getD ns i 0) ≡ take (i + 1) ns ++ replicate (256 - (i + 1)) beyond
+table-turn ns table i e h l =
+    let x : ℕ = getD ns i 0 in
+    let k : ℕ = 256 - (i + 1) in
+    let p : 256 - i ≡ suc (256 - (i + 1)) = omega arith in
+    let q : suc i ≡ i + 1 = omega arith in
+    let f : table ≡ take i ns ++ (beyond ∷ replicate k beyond) = e ∙ ap (λ (n : ℕ). take i ns ++ replicate n beyond) p in
+    let g : take (i + 1) ns ≡ take i ns ++ (x ∷ []) = ap (λ (n : ℕ). take n ns) (sym q) ∙ take-suc ns i 0 h in
+    ap (λ (t : List ℕ). set t i x) f ∙ set-at (take i ns) beyond (replicate k beyond) x i (length-take-le i ns (omega arith)) ∙ sym (append-assoc (take i ns) (x ∷ []) (replicate k beyond)) ∙ ap (λ (t : List ℕ). t ++ replicate k beyond) (sym g)
+
+pub table-whole : (ns table : List ℕ) (i : ℕ) → table ≡ take i ns ++ replicate (256 - i) beyond → i ≤ length ns → length ns ≤ i → table ≡ padded ns
+table-whole ns table i e h l =
+    let p : i ≡ length ns = omega arith in
+    e ∙ ap (λ (t : List ℕ). t ++ replicate (256 - i) beyond) (take-all i ns l) ∙ ap (λ (n : ℕ). ns ++ replicate (256 - n) beyond) p

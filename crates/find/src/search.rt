@@ -1,10 +1,9 @@
 // The numbers asked for: whether they rise, and where one stands among them.
 ghost use mathlib.Core.Path.{_≡_};
-ghost use mathlib.Core.Bool.{true};
-ghost use Prim.Native.Nat.{_≤_, _<_};
+ghost use Prim.Native.Nat.{_≤_};
 ghost use lib.ListN.{length};
 ghost use Rattle.find.specs.Find.{rising, index-of};
-ghost use Rattle.find.specs.Search.{padded, beyond};
+ghost use Rattle.find.specs.Search.{padded, Asked};
 
 // How many numbers may be asked for at once.
 pub const MOST: usize = 256;
@@ -41,7 +40,7 @@ pub fn table_of(numbers: &[u32]) -> [u64; 256]
 
 // Where a number stands among those asked for, or how many they are where it does not. Eight steps, whatever is asked.
 pub fn index_of(numbers: &[u32], table: &[u64; 256], n: u64) -> usize
-    requires { ⌜ (rising (now numbers) ≡ true) × ((length (now numbers) ≤ 256) × ((now table ≡ padded (now numbers)) × (n < beyond))) ⌝ }
+    requires { ⌜ Asked (now numbers) (now table) n ⌝ }
     ensures { λ r. ⌜ r ≡ index-of n (now (numbers .entry)) ⌝ }
 {
     let mut i: usize = 0;
