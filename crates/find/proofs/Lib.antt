@@ -1,2 +1,3 @@
 -- The laws that the proofs of `find` share.
 pub mod SearchLaws
+pub mod RecordLaws
