@@ -1,3 +1,4 @@
 -- The laws that the proofs of `find` share.
 pub mod SearchLaws
 pub mod RecordLaws
+pub mod FindLaws
