@@ -2,3 +2,4 @@
 pub mod SearchLaws
 pub mod RecordLaws
 pub mod FindLaws
+pub mod Counted

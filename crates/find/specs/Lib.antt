@@ -2,3 +2,4 @@
 pub mod Find
 pub mod Search
 pub mod Answer
+pub mod Words
