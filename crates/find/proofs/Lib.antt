@@ -3,3 +3,4 @@ pub mod SearchLaws
 pub mod RecordLaws
 pub mod FindLaws
 pub mod Counted
+pub mod Kept
