@@ -15,7 +15,7 @@ use Rattle.field.specs.Number.{number-of}
 use Rattle.field.specs.Row.{Row, end, loose, field, bytes, read}
 use Rattle.find.specs.Find.{Met, index-of, wanted, step, walk, none-met, absent}
 
-and-both : (a b : Bool) → (a && b) ≡ true → (a ≡ true) × (b ≡ true)
+pub and-both : (a b : Bool) → (a && b) ≡ true → (a ≡ true) × (b ≡ true)
 and-both true b e = (refl, e)
 and-both false b e = absurd (let z : _≡_ {A = ℕ} 0 1 = cc in omega arith)
 

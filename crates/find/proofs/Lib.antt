@@ -4,3 +4,4 @@ pub mod RecordLaws
 pub mod FindLaws
 pub mod Counted
 pub mod Kept
+pub mod Firsts

@@ -46,7 +46,7 @@ number-four (x0 ∷ x1 ∷ x2 ∷ x3 ∷ x4 ∷ x5 ∷ x6 ∷ s) l = λ p q r t.
 part-size : (n : ℕ) (w : Bytes) → length (take n w) + length (drop n w) ≡ length w
 part-size n w = sym (length-append (take n w) (drop n w)) ∙ ap length (take-append-drop n w)
 
-length-read : (s : Bytes) → length (bytes (read s)) ≡ length s
+pub length-read : (s : Bytes) → length (bytes (read s)) ≡ length s
 unfolding bytes
 length-read =
     read-ind (λ s x. length (bytes x) ≡ length s) (λ s e. ap length (sym (next-nothing s e))) (λ s e. refl)

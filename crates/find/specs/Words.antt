@@ -3,10 +3,12 @@ use Prim.Native.Nat.{ℕ, zero, suc, _+_, _<_}
 use mathlib.Core.Path.{_≡_}
 use mathlib.Core.Logic.{_⊎_}
 use mathlib.Core.List.{List}
+use lib.Dec.{eqb}
 use lib.ListN.{length, take}
+use Rattle.field.specs.Bytes.{pick}
 use Rattle.field.specs.Number.{number-of}
 use Rattle.field.specs.Row.{Row, end, loose, field, bytes, Ended}
-use Rattle.find.specs.Find.{Met, step, walk}
+use Rattle.find.specs.Find.{Met, absent, step, walk}
 
 -- so many steps, each over one record, whether one waits or not
 unfoldable pub steps : ℕ → List ℕ → ℕ → Row → Met → Met
@@ -28,3 +30,9 @@ pub record Taken (ns : List ℕ) (p : ℕ) (x : Row) (m : Met) (k : ℕ) : Type 
   pub counted : walk ns p x m .records ≡ m .records + k
   pub one-waits : (j : ℕ) → j < k → steps j ns p x m .waiting ≡ 0 → ⊥
   pub stops : (steps k ns p x m .waiting ≡ 0) ⊎ Ended (left k x)
+
+-- the place of the first record with a number, of records that begin at p; or absent
+unfoldable pub place-of : ℕ → ℕ → Row → ℕ
+place-of n p end = absent
+place-of n p (loose b) = absent
+place-of n p (field t f i r) = pick (eqb (number-of (take 4 f)) n) p (place-of n (p + (3 + length f + length (bytes i))) r)
