@@ -3,10 +3,13 @@
 // exports of the crate that it is named after alone.
 ghost use mathlib.Core.Path.{_≡_};
 ghost use lib.ListN.{length};
+ghost use Rattle.find.specs.Answer.{Answered};
 ghost use Rattle.spec.specs.Answer.{outcome};
 ghost use Rattle.tag_pass.specs.Answers.{TagAnswers};
 ghost use Rattle.transform.specs.Run.{Answers};
 ghost use Rattle.jsx_precompile.specs.Version.{version};
+use find::Places;
+use find::find;
 use tag_pass::answer::TagAnswer;
 use tag_pass::answer::read_tag;
 use transform::Answer;
@@ -31,6 +34,14 @@ pub extern "C" fn jsx_precompile_read_tag(text: &[u8], tag_out: &mut [u8]) -> Ta
     ensures { λ a. ⌜ TagAnswers (now (text .entry)) (now («tag_out» .entry)) a (now («tag_out» .exit)) ⌝ }
 {
     read_tag(text, tag_out)
+}
+
+// Document 02, A11: the places of templates by their numbers.
+#[no_mangle]
+pub extern "C" fn jsx_precompile_find<'a>(templates: &'a [u8], numbers: &'a [u32]) -> Places
+    ensures { λ a. ⌜ Answered (now (templates .entry)) (now (numbers .entry)) (a .number) (a .records) (a .places) ⌝ }
+{
+    find(templates, numbers)
 }
 
 // The version of the library: major * 10,000 + minor * 100 + patch.

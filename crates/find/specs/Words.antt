@@ -1,0 +1,38 @@
+-- 02, A11, in its words: the steps of a walk, counted. Assumes nothing: these are definitions.
+use Prim.Native.Nat.{ℕ, zero, suc, _+_, _<_}
+use mathlib.Core.Path.{_≡_}
+use mathlib.Core.Logic.{_⊎_}
+use mathlib.Core.List.{List}
+use lib.Dec.{eqb}
+use lib.ListN.{length, take}
+use Rattle.field.specs.Bytes.{pick}
+use Rattle.field.specs.Number.{number-of}
+use Rattle.field.specs.Row.{Row, end, loose, field, bytes, Ended}
+use Rattle.find.specs.Find.{Met, absent, step, walk}
+
+-- so many steps, each over one record, whether one waits or not
+unfoldable pub steps : ℕ → List ℕ → ℕ → Row → Met → Met
+steps zero ns p x m = m
+steps (suc k) ns p end m = m
+steps (suc k) ns p (loose b) m = m
+steps (suc k) ns p (field t f i r) m = steps k ns (p + (3 + length f + length (bytes i))) r (step ns (number-of (take 4 f)) p m)
+
+-- the records behind so many
+unfoldable pub left : ℕ → Row → Row
+left zero x = x
+left (suc k) end = end
+left (suc k) (loose b) = loose b
+left (suc k) (field t f i r) = left k r
+
+-- the walk is so many steps and no more: one waits before each of them, and behind the last none does, or no record is left
+pub record Taken (ns : List ℕ) (p : ℕ) (x : Row) (m : Met) (k : ℕ) : Type 0 where
+  pub steps-are : walk ns p x m ≡ steps k ns p x m
+  pub counted : walk ns p x m .records ≡ m .records + k
+  pub one-waits : (j : ℕ) → j < k → steps j ns p x m .waiting ≡ 0 → ⊥
+  pub stops : (steps k ns p x m .waiting ≡ 0) ⊎ Ended (left k x)
+
+-- the place of the first record with a number, of records that begin at p; or absent
+unfoldable pub place-of : ℕ → ℕ → Row → ℕ
+place-of n p end = absent
+place-of n p (loose b) = absent
+place-of n p (field t f i r) = pick (eqb (number-of (take 4 f)) n) p (place-of n (p + (3 + length f + length (bytes i))) r)
