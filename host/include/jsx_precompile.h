@@ -23,8 +23,10 @@ uint32_t jsx_precompile_version(void);
 #define JSX_PRECOMPILE_MAX_TAG_TEXT 32768
 #define JSX_PRECOMPILE_MAX_TAG 65538 /* the longest field of a tag */
 #define JSX_PRECOMPILE_MIN_SCRATCH 65536
+#define JSX_PRECOMPILE_MAX_NUMBERS 256 /* of templates that are looked up at once */
 
-/* The numbers of an answer. 9 is reserved and never given. 16 and 19 are given behind 10 and before 11. */
+/* The numbers of an answer. 9 is reserved and never given. 16 and 19 are given behind 10 and before 11. 20
+   is a lookup's. */
 enum jsx_precompile_number {
     JSX_PRECOMPILE_ACCEPTED = 0,
     JSX_PRECOMPILE_SCRATCH_TOO_SMALL = 1,
@@ -42,7 +44,8 @@ enum jsx_precompile_number {
     JSX_PRECOMPILE_NO_READING = 14,
     JSX_PRECOMPILE_NAMES_DIFFER = 15,
     JSX_PRECOMPILE_REPEATED_ATTRIBUTE = 16,
-    JSX_PRECOMPILE_MIXED_CASE_VOID = 19
+    JSX_PRECOMPILE_MIXED_CASE_VOID = 19,
+    JSX_PRECOMPILE_NOT_RISING = 20
 };
 
 /* A refusal has its number and zeros. */
@@ -88,6 +91,27 @@ typedef struct jsx_precompile_tag_answer {
 jsx_precompile_tag_answer jsx_precompile_read_tag(
     const uint8_t *text, size_t text_length,
     uint8_t *tag_out, size_t tag_out_length);
+
+/* The place of a template that is not there: all bits set. */
+#define JSX_PRECOMPILE_ABSENT SIZE_MAX
+
+/* A refusal has its number, a zero, and no place. */
+typedef struct jsx_precompile_places {
+    uint32_t number;
+    size_t records; /* templates read: up to the last one found, all where a number is absent, none where none was named */
+    size_t places[JSX_PRECOMPILE_MAX_NUMBERS]; /* of each number, in the order of the numbers; behind them ABSENT */
+} jsx_precompile_places;
+
+/* Looks up to MAX_NUMBERS numbers up in templates out, in one walk over it. They rise, none stands twice; numbers_length
+   is how many there are. The place of a number is that of the byte 84 with which the first template with this number
+   begins, or ABSENT. Both parts are read, neither is kept, and calls in several threads do not meet. No pointer may be
+   null, not even with a length of 0. Half a megabyte of stack is enough.
+
+   The numbers of a refusal are TRUNCATED, MISPLACED and NOT_UTF8, the first that is met in the templates from front to
+   back, and behind these NOT_RISING: over MAX_NUMBERS numbers, or one that is not greater than the one before it. */
+jsx_precompile_places jsx_precompile_find(
+    const uint8_t *templates, size_t templates_length,
+    const uint32_t *numbers, size_t numbers_length);
 
 #ifdef __cplusplus
 }

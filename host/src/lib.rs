@@ -3,7 +3,7 @@
 //!
 //! A page is written as a tree ([`page`]) or given as bytes; [`transform`] takes it apart; what comes out is read by
 //! [`out`] and printed as JavaScript by [`javascript`]. A refusal says where and why ([`Fault`]). A tag that comes as
-//! text is read by [`Tag::read`], and stands in a page as an element does.
+//! text is read by [`Tag::read`], and stands in a page as an element does. Templates are looked up by [`find`].
 //! `const a = <p class="t">Hi {n}</p>;` becomes a template and a call of it:
 //!
 //! ```
@@ -33,6 +33,7 @@ mod call;
 mod check;
 mod decimal;
 pub mod field;
+mod find;
 pub mod javascript;
 pub mod limits;
 mod locate;
@@ -46,6 +47,7 @@ mod tag;
 pub use call::{Answer, Forms, Transformer, library_version, transform, transform_into};
 pub use check::{Fault, Input};
 pub use decimal::{Decimal, DecimalError};
+pub use find::{FindAnswer, Places, find, find_answer};
 pub use options::Options;
 pub use page::write::WriteError;
 pub use refusal::Refusal;

@@ -94,6 +94,17 @@ pub const MIN_MEMBERS: usize = 2;
 /// ```
 pub const MAX_MEMBERS: usize = 8;
 
+/// The numbers of templates that are looked up at once.
+///
+/// ```
+/// use jsx_precompile::{Refusal, find, limits::MAX_NUMBERS};
+///
+/// let numbers: Vec<u32> = (0..=MAX_NUMBERS as u32).collect();
+/// assert!(find(&[], &numbers[1..]).is_ok());
+/// assert_eq!(find(&[], &numbers), Err(Refusal::NotRising));
+/// ```
+pub const MAX_NUMBERS: usize = 256;
+
 /// The greatest whole number: up to here JavaScript's numbers are exact.
 ///
 /// ```

@@ -4,7 +4,8 @@ use std::fmt;
 
 /// Why a call is refused; document 01's number and word are given by [`number`](Refusal::number) and
 /// [`word`](Refusal::word). 9 is reserved: it was given where the ported Rust stops, and no page is refused there now.
-/// The order is that of the numbers; a call is refused for the first in this order: 1 to 10, 16, 19, 11, 12, 13.
+/// The order is that of the numbers; a transform is refused for the first in this order: 1 to 10, 16, 19, 11, 12, 13. 20
+/// is a lookup's alone, after 3, 4 and 6.
 ///
 /// ```
 /// use jsx_precompile::{Options, Refusal, transform};
@@ -46,12 +47,14 @@ pub enum Refusal {
     /// Document 02, A10: an element that becomes HTML has the name of a void element, such as `br`, but with capitals in
     /// it: it would be closed, and HTML, which compares names in any case, does not close it.
     MixedCaseVoid = 19,
+    /// Document 02, A11: more than 256 numbers are looked up, or they do not rise.
+    NotRising = 20,
 }
 
 use Refusal::*;
 
 /// In the order of their numbers.
-const ALL: [Refusal; 14] = [
+const ALL: [Refusal; 15] = [
     ScratchTooSmall,
     InputTooLong,
     Truncated,
@@ -66,6 +69,7 @@ const ALL: [Refusal; 14] = [
     PageTooSmall,
     RepeatedAttribute,
     MixedCaseVoid,
+    NotRising,
 ];
 
 impl Refusal {
@@ -83,7 +87,7 @@ impl Refusal {
         ALL.into_iter().find(|refusal| refusal.number() == number)
     }
 
-    /// The number of document 01, 1 to 13 without 9, or of document 02, 16 and 19.
+    /// The number of document 01, 1 to 13 without 9, or of document 02, 16, 19 and 20.
     ///
     /// ```
     /// assert_eq!(jsx_precompile::Refusal::TooDeep.number(), 8);
@@ -113,6 +117,7 @@ impl Refusal {
             PageTooSmall => "small page",
             RepeatedAttribute => "attribute twice",
             MixedCaseVoid => "mixed case",
+            NotRising => "not rising",
         }
     }
 
@@ -143,6 +148,7 @@ impl Refusal {
             PageTooSmall => "page out does not fit the bytes lent for it",
             RepeatedAttribute => "an element that becomes HTML has one attribute twice, as `class` and `className` are",
             MixedCaseVoid => "the name of a void element is not in small letters",
+            NotRising => "over 256 numbers are looked up, or one is not greater than the one before it",
         }
     }
 }
@@ -162,7 +168,7 @@ mod tests {
     #[test]
     fn each_number_that_is_given_is_a_refusal() {
         let numbers: Vec<u32> = (0..=100).filter(|number| Refusal::from_number(*number).is_some()).collect();
-        assert_eq!(numbers, [1, 2, 3, 4, 5, 6, 7, 8, 10, 11, 12, 13, 16, 19]);
+        assert_eq!(numbers, [1, 2, 3, 4, 5, 6, 7, 8, 10, 11, 12, 13, 16, 19, 20]);
         assert_eq!(ALL.map(Refusal::number)[..], numbers);
     }
 }

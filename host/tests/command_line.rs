@@ -4,7 +4,7 @@
 mod common;
 
 use common::jsx_precompile;
-use jsx_precompile::{Options, transform};
+use jsx_precompile::{Options, Refusal, transform};
 use std::path::Path;
 
 /// The status, standard output and standard error.
@@ -150,6 +150,34 @@ fn tag() {
 }
 
 #[test]
+fn find() {
+    let found = "     0  84 template 1: child\n    38  84 template 2: attribute, child, child\n";
+    let templates = example("rows.templates");
+    assert_eq!(
+        run(&["find", "examples/rows.templates", "1", "2"], b""),
+        (0, format!("{found}2 of 2 found, 2 templates read\n"), String::new())
+    );
+    let absent = "absent  84 template 4294967295\n0 of 1 found, 3 templates read\n";
+    assert_eq!(run(&["find", "-", "4294967295"], &templates), (0, absent.to_string(), String::new()));
+    assert_eq!(run(&["find", "-"], &templates), (0, "0 of 0 found, 0 templates read\n".to_string(), String::new()));
+    let hex: String = templates.iter().map(|byte| format!("{byte:02x}")).collect();
+    let one = "     0  84 template 1: child\n1 of 1 found, 1 template read\n";
+    assert_eq!(run(&["find", "-", "1"], hex.as_bytes()), (0, one.to_string(), String::new()));
+    for (bytes, words, said) in [
+        (&templates[..], &["2", "1"][..], Refusal::NotRising.to_string()),
+        (&templates[..40], &["2", "1"], "templates out, byte 38: 3 (torn): 2 bytes where a field begins".to_string()),
+        (
+            b"\x80\0\x05\0\x01\x81\0\0",
+            &["1"],
+            "templates out, byte 0: 4 (misplaced): 80s are not looked up".to_string(),
+        ),
+    ] {
+        let expected = format!("jsx-precompile: standard input: {said}\n");
+        assert_eq!(run(&[&["find", "-"], words].concat(), bytes), (1, String::new(), expected));
+    }
+}
+
+#[test]
 fn bad_calls() {
     for (words, expected) in [
         (&[][..], "no command; see `jsx-precompile --help`"),
@@ -168,6 +196,13 @@ fn bad_calls() {
         (&["tag", "--hex", "a"], "tag has no option --hex; see `jsx-precompile tag --help`"),
         (&["tag", "--import-source", "a", "b"], "tag has no option --import-source; see `jsx-precompile tag --help`"),
         (&["tag", "--as", "card", "a"], "--as is tree, hex or page, not card; see `jsx-precompile tag --help`"),
+        (&["find"], "no file (- is standard input); see `jsx-precompile find --help`"),
+        (&["find", "a", "b"], "b is no number from 0 to 4294967295; see `jsx-precompile find --help`"),
+        (
+            &["find", "a", "4294967296"],
+            "4294967296 is no number from 0 to 4294967295; see `jsx-precompile find --help`",
+        ),
+        (&["find", "a", "-1"], "find has no option -1; see `jsx-precompile find --help`"),
         (
             &["build", "a", "--import-source"],
             "--import-source needs a word behind it; see `jsx-precompile build --help`",
@@ -200,7 +235,7 @@ fn help() {
     let (status, all, said) = run(&["--help"], b"");
     assert_eq!((status, &*said), (0, ""));
     assert_eq!(run(&["help"], b"").1, all);
-    for command in ["build", "check", "show", "preview", "tag"] {
+    for command in ["build", "check", "show", "preview", "tag", "find"] {
         assert!(all.contains(&format!("\n  {command} ")), "{command}");
         let (status, text, said) = run(&[command, "--help"], b"");
         assert_eq!((status, &*said), (0, ""));

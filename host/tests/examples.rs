@@ -1,7 +1,8 @@
 //! The pages of examples/: each .page is what the tree here is written as, each .jsx the source of that tree, each
 //! .card what the judge prints of the page and what the program `card` prints. With EXAMPLES_WRITE=1 the files are
 //! written, the cards by the judge; without it they are only compared. Of each .tag the .field is what the program
-//! `jsx-precompile tag` says, and what the judge reads.
+//! `jsx-precompile tag` says, and what the judge reads. A .templates is templates out of a page, and its .found what
+//! `jsx-precompile find` says of them.
 
 mod common;
 mod program;
@@ -28,6 +29,9 @@ const SUMS: (&str, &str) = ("blocks", "examples/blocks.sums.js");
 /// The tag texts, and the number that each is answered with.
 const TAGS: [(&str, u32); 7] =
     [("worked", 0), ("programme", 0), ("spaces", 0), ("crossed", 15), ("open", 14), ("list", 14), ("unit", 14)];
+
+/// The page whose templates are looked up, and the numbers that are asked for.
+const FOUND: (&str, [u32; 4]) = ("rows", [1, 2, 3, 9]);
 
 /// A file of the repository, by its name seen from the root.
 fn at(name: &str) -> PathBuf {
@@ -68,11 +72,57 @@ fn write(examples: &[Example]) {
         }
     }
     fs::write(at(SUMS.1), sums_by_the_judge(examples)).unwrap_or_else(|error| panic!("{}: {error}", SUMS.1));
+    let templates = format!("examples/{}.templates", FOUND.0);
+    fs::write(at(&templates), templates_by_the_judge(examples)).unwrap_or_else(|error| panic!("{templates}: {error}"));
+    let found = format!("examples/{}.found", FOUND.0);
+    fs::write(at(&found), found_said()).unwrap_or_else(|error| panic!("{found}: {error}"));
     for (tag, _) in TAGS {
         let name = format!("examples/{tag}.field");
         fs::write(at(&name), tag_said(tag)).unwrap_or_else(|error| panic!("{name}: {error}"));
     }
     say(&format!("examples: {} written, and the fields of {} tags", examples.len(), TAGS.len()));
+}
+
+fn templates_by_the_judge(examples: &[Example]) -> Vec<u8> {
+    let example = examples.iter().find(|example| example.name == FOUND.0).expect("the example is there");
+    outcome(&example.page, &[]).expect("the judge takes it").templates
+}
+
+/// What the program finds.
+fn found_said() -> Vec<u8> {
+    let numbers = FOUND.1.map(|number| number.to_string());
+    let words = [vec!["find".to_string(), format!("examples/{}.templates", FOUND.0)], numbers.to_vec()].concat();
+    jsx_precompile(&words.iter().map(String::as_str).collect::<Vec<_>>(), b"").stdout
+}
+
+#[test]
+fn templates_and_their_places() {
+    let examples = examples();
+    let name = format!("examples/{}.templates", FOUND.0);
+    let templates = stored(&name);
+    let page = stored(&format!("examples/{}.page", FOUND.0));
+    let forms = transform(&page, &Options::new()).expect("it is taken");
+    assert!(templates == forms.templates_bytes(), "{name} is not what the library writes");
+    if !no_judge() {
+        assert!(templates == templates_by_the_judge(&examples), "{name} is not what the judge writes");
+    }
+    let found = format!("examples/{}.found", FOUND.0);
+    holds(&found, "the program", &found_said());
+    let text = String::from_utf8(stored(&found)).expect("text");
+    let (records, places) = oracle::outs::find::outcome(&templates, &FOUND.1).expect("the judge takes it");
+    let all = places.iter().map(|place| match *place {
+        oracle::outs::find::ABSENT => "absent".to_string(),
+        place => format!("{place:6}"),
+    });
+    assert!(all.eq(text.lines().take(places.len()).map(|line| line[..6].to_string())), "{places:?}\n{text}");
+    assert!(text.ends_with(&format!(" found, {records} templates read\n")), "{records} templates read");
+    let readme = String::from_utf8(stored("host/README.md")).expect("text");
+    let numbers = FOUND.1.map(|number| number.to_string()).join(" ");
+    let shown = format!("\n$ jsx-precompile find {name} {numbers}\n{text}");
+    assert!(readme.contains(&shown), "host/README.md shows other places");
+    let readme = String::from_utf8(stored("README.md")).expect("text");
+    assert!(readme.contains(&format!(" find {name} {numbers}\n{text}")), "README.md shows other places");
+    say(&format!("examples: {} numbers looked up, as stored", places.len()));
 }
 
 /// What the program says of a tag text, wherever it says it.
@@ -240,8 +290,9 @@ fn folder_and_readmes() {
     let examples = examples();
     let files = examples.iter().flat_map(|example| ["card", "jsx", "page"].map(|end| file(example, end)));
     let of_tags = TAGS.iter().flat_map(|(tag, _)| ["tag", "field"].map(|end| format!("examples/{tag}.{end}")));
+    let of_templates = ["templates", "found"].map(|end| format!("examples/{}.{end}", FOUND.0));
     let expected: BTreeSet<String> =
-        files.chain(of_tags).chain(["examples/README.md", SUMS.1].map(str::to_string)).collect();
+        files.chain(of_tags).chain(of_templates).chain(["examples/README.md", SUMS.1].map(str::to_string)).collect();
     let folder = fs::read_dir(at("examples")).unwrap_or_else(|error| panic!("examples: {error}"));
     for file in folder {
         let name = format!("examples/{}", file.expect("it is there").file_name().display());
@@ -253,6 +304,7 @@ fn folder_and_readmes() {
         let name = example.name;
         assert!(list.contains(&format!("\n| `{name}` |")), "examples/README.md has no line for {name}");
     }
+    assert!(list.contains(&format!("\n| `{}.templates` |", FOUND.0)), "examples/README.md has no line for templates");
     for (tag, _) in TAGS {
         assert!(list.contains(&format!("\n| `{tag}.tag` |")), "examples/README.md has no line for {tag}.tag");
     }

@@ -238,6 +238,7 @@ fn every_limit_has_its_row() {
         ("places of a number with a fraction", MAX_PLACES.into(), ""),
         ("body of a field, in and out", MAX_BODY, " bytes"),
         ("scratch, at least", MIN_SCRATCH, " bytes"),
+        ("numbers looked up at once", MAX_NUMBERS, ""),
     ];
     for (name, limit, unit) in limits {
         assert_eq!(rows(name), [format!("| {name} | {}{unit} |", grouped(limit))]);

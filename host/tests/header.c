@@ -1,11 +1,14 @@
 /* Transforms the page on the command line, in hex, and prints the answer and both outputs in hex. With the word tag
-   before it, reads the tag text there, in hex, and prints the answer and the field in hex. */
+   before it, reads the tag text there, in hex, and prints the answer and the field in hex. With the word find before it,
+   looks the numbers behind it up in the templates there, in hex, and prints the answer and the places. */
 #include "jsx_precompile.h"
 #include <stdio.h>
+#include <stdlib.h>
 #include <string.h>
 
 static uint8_t input[JSX_PRECOMPILE_MAX_PAGE + 1], options[1], scratch[JSX_PRECOMPILE_MIN_SCRATCH];
 static uint8_t templates[1000], out[1000], tag[JSX_PRECOMPILE_MAX_TAG];
+static uint32_t numbers[JSX_PRECOMPILE_MAX_NUMBERS + 1];
 
 static void print(const uint8_t *bytes, size_t length) {
     size_t i;
@@ -29,9 +32,21 @@ static uint32_t read_tag(size_t length) {
     return answer.number;
 }
 
+static uint32_t find(size_t length, size_t count) {
+    jsx_precompile_places answer = jsx_precompile_find(input, length, numbers, count);
+    size_t i;
+    printf("%u %lu", (unsigned)answer.number, (unsigned long)answer.records);
+    for (i = 0; i < JSX_PRECOMPILE_MAX_NUMBERS; i++) {
+        if (answer.places[i] != JSX_PRECOMPILE_ABSENT) printf(" %lu", (unsigned long)answer.places[i]);
+        else if (i < count) printf(" absent");
+    }
+    return answer.number;
+}
+
 int main(int argc, char **argv) {
-    int is_tag = argc > 1 && strcmp(argv[1], "tag") == 0;
-    const char *digits = argc > 1 + is_tag ? argv[1 + is_tag] : "";
+    int is_tag = argc > 1 && strcmp(argv[1], "tag") == 0, is_find = argc > 1 && strcmp(argv[1], "find") == 0;
+    int first = 1 + (is_tag || is_find), behind = first + 1;
+    const char *digits = argc > first ? argv[first] : "";
     size_t length = strlen(digits) / 2, i;
     uint32_t number;
     if (length > sizeof input) return 2;
@@ -40,7 +55,10 @@ int main(int argc, char **argv) {
         if (sscanf(digits + 2 * i, "%2x", &byte) != 1) return 2;
         input[i] = (uint8_t)byte;
     }
-    number = is_tag ? read_tag(length) : transform(length);
+    for (i = 0; behind < argc && i < sizeof numbers / sizeof *numbers; i++, behind++) {
+        numbers[i] = (uint32_t)strtoul(argv[behind], NULL, 10);
+    }
+    number = is_find ? find(length, i) : is_tag ? read_tag(length) : transform(length);
     putchar('\n');
     return number == JSX_PRECOMPILE_ACCEPTED ? 0 : 1;
 }

@@ -1,7 +1,8 @@
 //! The C header: a C program with it is compiled, linked with the library, run, and answers as the Rust call does.
 
+use jsx_precompile::limits::MAX_NUMBERS;
 use jsx_precompile::page::{Element, Expression, Item, Page};
-use jsx_precompile::{Options, Tag, transform};
+use jsx_precompile::{Options, Tag, find, transform};
 use std::path::Path;
 use std::process::Command;
 
@@ -54,6 +55,23 @@ fn answers_alike(program: &Path) {
     assert_eq!(read(text), format!("0 {} {}\n", field.bytes().len(), hex(field.bytes())));
     assert_eq!(read("<a></b>"), "15 0 \n");
     assert_eq!(read(""), "14 0 \n");
+
+    let looked_up = |templates: &[u8], numbers: &[u32]| {
+        let mut command = Command::new(program);
+        command.args(["find", &hex(templates)]).args(numbers.iter().map(u32::to_string));
+        String::from_utf8(command.output().expect("the program runs").stdout).expect("text")
+    };
+    let templates = [forms.templates_bytes(), b"\x84\0\x09\xff\xff\xff\xff\0\0\x81\0\0"].concat();
+    let found = find(&templates, &[1, 7, u32::MAX]).expect("they rise");
+    let behind = forms.templates_bytes().len();
+    assert_eq!((found.places(), found.records()), (&[Some(0), None, Some(behind)][..], 2));
+    assert_eq!(looked_up(&templates, &[1, 7, u32::MAX]), format!("0 2 0 absent {behind}\n"));
+    assert_eq!(looked_up(&templates, &[1]), "0 1 0\n");
+    assert_eq!(looked_up(&templates, &[2, 1]), "20 0 absent absent\n");
+    assert_eq!(looked_up(&templates[1..], &[]), "3 0\n");
+    let all: Vec<u32> = (0..=MAX_NUMBERS as u32).collect();
+    assert_eq!(looked_up(&[], &all[1..]), format!("0 0{}\n", " absent".repeat(MAX_NUMBERS)));
+    assert_eq!(looked_up(&[], &all), format!("20 0{}\n", " absent".repeat(MAX_NUMBERS)));
 }
 
 #[test]
@@ -64,7 +82,7 @@ fn a_program_in_c() {
     let program = Path::new(env!("CARGO_TARGET_TMPDIR")).join("header_c");
     compile("cc", &["-std=c99", "-x", "c"], &program);
     answers_alike(&program);
-    println!("header: compiled by cc, six answers alike");
+    println!("header: compiled by cc, twelve answers alike");
 }
 
 #[test]
@@ -75,7 +93,7 @@ fn a_program_in_cpp() {
     let program = Path::new(env!("CARGO_TARGET_TMPDIR")).join("header_cpp");
     compile("c++", &["-x", "c++"], &program);
     answers_alike(&program);
-    println!("header: compiled by c++, six answers alike");
+    println!("header: compiled by c++, twelve answers alike");
 }
 
 /// The header's limits and numbers are the crate's.
@@ -91,6 +109,7 @@ fn constants() {
     assert!(header.contains(&format!("#define JSX_PRECOMPILE_MIN_SCRATCH {MIN_SCRATCH}\n")));
     assert!(header.contains(&format!("#define JSX_PRECOMPILE_MAX_TAG_TEXT {MAX_TAG_TEXT}\n")));
     assert!(header.contains(&format!("#define JSX_PRECOMPILE_MAX_TAG {MAX_TAG} ")));
+    assert!(header.contains(&format!("#define JSX_PRECOMPILE_MAX_NUMBERS {MAX_NUMBERS} ")));
     assert!(header.contains(&format!("#define JSX_PRECOMPILE_VERSION \"{}\"\n", jsx_precompile::VERSION)));
     let (major, minor, patch) = jsx_precompile::library_version();
     assert_eq!(format!("{major}.{minor}.{patch}"), jsx_precompile::VERSION, "the library's own answer");
@@ -146,5 +165,5 @@ fn installed() {
     let output = cc.output().expect("the compiler runs");
     assert!(output.status.success(), "{}", String::from_utf8_lossy(&output.stderr));
     answers_alike(&program);
-    println!("header: installed, compiled with {words}, six answers alike");
+    println!("header: installed, compiled with {words}, twelve answers alike");
 }

@@ -11,14 +11,14 @@ use crate::vectors::unhex;
 pub const TEMPLATES_BEFORE: u8 = 0xa5;
 pub const PAGE_BEFORE: u8 = 0x5a;
 
-/// What was found on a line: the number that it has stored, and where the judge parts from it.
+/// What was found on a line: the number that it has stored, and where the call that is asked parts from it.
 pub struct Found {
     pub number: u32,
     pub difference: Option<String>,
 }
 
-fn found<T: PartialEq + std::fmt::Debug>(number: u32, judge: T, stored: T) -> Option<Found> {
-    let difference = (judge != stored).then(|| format!("judge {judge:02x?}, stored {stored:02x?}"));
+fn found<T: PartialEq + std::fmt::Debug>(number: u32, answered: T, stored: T) -> Option<Found> {
+    let difference = (answered != stored).then(|| format!("answered {answered:02x?}, stored {stored:02x?}"));
     Some(Found { number, difference })
 }
 
@@ -57,8 +57,12 @@ pub fn filling(line: &str) -> Option<Found> {
     found(number, (answer, out), (stored, after(number, TEMPLATES_BEFORE, lent, &unhex(html)?)))
 }
 
-/// seed templates numbers number records places
 pub fn lookup(line: &str) -> Option<Found> {
+    lookup_by(line, find)
+}
+
+/// seed templates numbers number records places; `find` is the judge's or another.
+pub fn lookup_by(line: &str, find: impl Fn(&[u8], &[u32]) -> Places) -> Option<Found> {
     let [_, templates, numbers, number, records, places] = line.split(' ').collect::<Vec<_>>()[..] else {
         return None;
     };

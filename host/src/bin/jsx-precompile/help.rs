@@ -24,9 +24,10 @@ Commands:
   show       print the fields of a page, of options or of an output as a tree
   preview    print an HTML page that shows source, templates and calls
   tag        read the text of one tag and print its field, or the place and the reason
+  find       print where templates stand, by their numbers
 
-FILE is a page, as bytes or in hex digits, and for tag a text; - is standard input. docs/FORMAT.md of the repository
-says what a page and tag text are.
+FILE is a page, as bytes or in hex digits, for tag a text and for find templates out; - is standard input.
+docs/FORMAT.md of the repository says what these are.
 `jsx-precompile COMMAND --help` tells more of a command, --version prints the version.
 
 Results go to standard output, messages to standard error. The exit status is
@@ -132,4 +133,19 @@ Example:
       31      79 other expression
       34        20 source \"n\"
   tag: 38 bytes, 9 fields, 4 deep
+";
+
+pub const FIND: &str = "jsx-precompile find FILE NUMBER...
+
+Looks up to 256 numbers, which rise, up in templates out, in one walk over it, and prints for each where the first
+template with it stands and what kinds of gaps it has, or that it is absent; and how many templates were read: up to the
+last one found, or all.
+
+Example:
+  $ jsx-precompile find examples/rows.templates 1 2 3 9
+       0  84 template 1: child
+      38  84 template 2: attribute, child, child
+      83  84 template 3: attribute, attribute, child
+  absent  84 template 9
+  3 of 4 found, 3 templates read
 ";

@@ -1,6 +1,7 @@
 //! The program `jsx-precompile`: pages into JavaScript modules, and views of pages and outputs. `jsx-precompile --help`
 //! says how it is called.
 
+mod find;
 mod help;
 mod input;
 mod preview;
@@ -60,6 +61,10 @@ fn run(command: &Command) -> u8 {
             });
             printed.and_then(|text| print(&text))
         }
+        Command::Find { file, numbers } => read(file, None).and_then(|bytes| {
+            let printed = find::printed(&bytes, numbers);
+            print(&printed.map_err(|said| Failure { said: format!("{}: {said}", named(file)), status: REFUSED })?)
+        }),
     };
     status(done)
 }

@@ -42,6 +42,11 @@ pub fn show(bytes: &[u8], input: Input, whole: bool) -> (String, Option<Fault>) 
     (printed(&lines) + &last, fault)
 }
 
+/// The field at the front of some bytes by itself, without what it holds.
+pub fn first(bytes: &[u8]) -> String {
+    Fields::new(bytes).next().map_or(String::new(), |field| line(&field, false))
+}
+
 /// The tree of a field that is none of these.
 pub fn field(name: &str, bytes: &[u8]) -> String {
     let lines = tree(bytes, true);

@@ -14,6 +14,7 @@ pub enum Command {
     Show { file: String, input: Option<Input>, bytes: Option<Bytes>, whole: bool },
     Preview { file: String, options: Options },
     Tag { file: String, form: Form },
+    Find { file: String, numbers: Vec<u32> },
 }
 
 /// How a tag that was read is printed.
@@ -33,12 +34,13 @@ pub struct BadCall {
     pub command: Option<&'static str>,
 }
 
-const COMMANDS: [(&str, &str); 5] = [
+const COMMANDS: [(&str, &str); 6] = [
     ("build", help::BUILD),
     ("check", help::CHECK),
     ("show", help::SHOW),
     ("preview", help::PREVIEW),
     ("tag", help::TAG),
+    ("find", help::FIND),
 ];
 
 impl Command {
@@ -95,7 +97,7 @@ impl Words {
                 }
                 _ => word,
             };
-            let transforms = !matches!(command, "show" | "tag");
+            let transforms = !matches!(command, "show" | "tag" | "find");
             let mut value =
                 || rest.pop_front().map(str::to_string).ok_or_else(|| format!("{word} needs a word behind it"));
             match word {
@@ -123,6 +125,11 @@ impl Words {
         if command == "check" {
             return if files.is_empty() { Err("no file".to_string()) } else { Ok(Command::Check { files, options }) };
         }
+        if command == "find" {
+            let mut words = files.into_iter();
+            let file = words.next().ok_or("no file (- is standard input)")?;
+            return Ok(Command::Find { file, numbers: words.map(|word| number(&word)).collect::<Result<_, _>>()? });
+        }
         let file = match (files.pop(), files.pop()) {
             (Some(file), None) => file,
             (None, _) => return Err("no file (- is standard input)".to_string()),
@@ -147,6 +154,11 @@ fn kind(word: &str) -> Result<Input, String> {
         "out" => Input::PageOut,
         _ => return Err(format!("--as is page, options, templates or out, not {word}")),
     })
+}
+
+/// The number of a template.
+fn number(word: &str) -> Result<u32, String> {
+    word.parse().map_err(|_| format!("{word} is no number from 0 to {}", u32::MAX))
 }
 
 fn form(word: &str) -> Result<Form, String> {
