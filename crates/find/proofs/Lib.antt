@@ -5,3 +5,4 @@ pub mod FindLaws
 pub mod Counted
 pub mod Kept
 pub mod Firsts
+pub mod Positions

@@ -1,8 +1,8 @@
--- 02, A11, in its words: the steps of a walk, counted. Assumes nothing: these are definitions.
-use Prim.Native.Nat.{ℕ, zero, suc, _+_, _<_}
+-- 02, A11, in its words: the steps of a walk, counted; places and positions of records. Assumes nothing: these are definitions.
+use Prim.Native.Nat.{ℕ, zero, suc, _+_, _<_, max}
 use mathlib.Core.Path.{_≡_}
 use mathlib.Core.Logic.{_⊎_}
-use mathlib.Core.List.{List}
+use mathlib.Core.List.{List, [], _∷_}
 use lib.Dec.{eqb}
 use lib.ListN.{length, take}
 use Rattle.field.specs.Bytes.{pick}
@@ -36,3 +36,20 @@ unfoldable pub place-of : ℕ → ℕ → Row → ℕ
 place-of n p end = absent
 place-of n p (loose b) = absent
 place-of n p (field t f i r) = pick (eqb (number-of (take 4 f)) n) p (place-of n (p + (3 + length f + length (bytes i))) r)
+
+-- the numbers of the records, in their order
+unfoldable pub numbers-of : Row → List ℕ
+numbers-of end = []
+numbers-of (loose b) = []
+numbers-of (field t f i r) = number-of (take 4 f) ∷ numbers-of r
+
+-- the position, from 1, of the first record with a number; or the count of all records, if it is absent
+unfoldable pub position-of : ℕ → Row → ℕ
+position-of n end = 0
+position-of n (loose b) = 0
+position-of n (field t f i r) = pick (eqb (number-of (take 4 f)) n) 1 (suc (position-of n r))
+
+-- 02, A11: the position of the last one found, or all records if one is absent, or zero if none was named
+unfoldable pub read-up-to : List ℕ → Row → ℕ
+read-up-to [] x = 0
+read-up-to (n ∷ ns) x = max (position-of n x) (read-up-to ns x)

@@ -6,8 +6,3 @@ mod search;
 pub use answer::find;
 pub use lookup::ABSENT;
 pub use lookup::Places;
-pub use lookup::walk;
-pub use search::MOST;
-pub use search::index_of;
-pub use search::is_rising;
-pub use search::table_of;
