@@ -1,5 +1,7 @@
--- What must be believed of templates out and page out as they are read back: their grammars, with what is refused and in which order.
+-- What must be believed of templates out and page out as they are read back: their grammars, with what is refused and in which order; the numbers
+-- of calls in another width; and, for the proofs of loops alone, what a step finds.
 pub mod Held
 pub mod PageOut
 pub mod Templates
 pub mod Renumber
+pub mod Step

@@ -1,5 +1,8 @@
 // Templates out and page out, read back: the checks that conversion, filling, lookup and the catalogue stand on. Fields nest up to 21,845 deep
 // in a page out, so its check is a loop with a stack of its own. Who may have written them is not asked.
+pub mod leaf;
+pub mod order;
+pub mod page_out;
 
 // What the records of templates out are: 80s, or 84s (document 02, A6).
 pub enum Kind {
