@@ -3,3 +3,4 @@
 pub mod LeafLaws
 pub mod StepLaws
 pub mod Checks
+pub mod TemplateLaws

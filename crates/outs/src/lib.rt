@@ -3,6 +3,7 @@
 pub mod leaf;
 pub mod order;
 pub mod page_out;
+pub mod templates;
 
 // What the records of templates out are: 80s, or 84s (document 02, A6).
 pub enum Kind {
