@@ -111,7 +111,7 @@ pub struct Marked {
 
 // The kinds behind the first strings of a row.
 pub fn put_kinds(out: &mut [u8], at: usize, s: &[u8], gaps: usize) -> Marked
-    requires { ⌜ at + gaps < 2 ^ 63 ⌝ }
+    requires { ⌜ at + gaps < 2 ^ 64 ⌝ }
     ensures { λ r. ⌜ Wrote (now (out .entry)) at (kind-marks gaps M.Outside (now (s .entry))) (now (out .exit)) (r .place) × (r .clear ≡ all-clear (kind-marks gaps M.Outside (now (s .entry)))) ⌝ }
 {
     let mut t = s;
