@@ -5,8 +5,8 @@ use mathlib.Core.List.{List, [], _∷_}
 use mathlib.Core.Option.{Option, none, some}
 use lib.Dec.{eqb}
 use Rattle.field.specs.Bytes.{Bytes, pick}
-use Rattle.convert.specs.declared.Markup.{Markup}
-use Rattle.convert.specs.declared.Markup.the-variants as M
+use Rattle.convert.specs.declared.kinds.Markup.{Markup}
+use Rattle.convert.specs.declared.kinds.Markup.the-variants as M
 
 -- ---- `<` and `>` in turn, `<` first
 
