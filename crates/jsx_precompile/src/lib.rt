@@ -3,7 +3,8 @@
 // exports of the crate that it is named after alone.
 ghost use mathlib.Core.Path.{_≡_};
 ghost use lib.ListN.{length};
-ghost use Rattle.convert.specs.Convert.{upgraded, downgraded, Converts};
+ghost use Rattle.convert.specs.Convert.{upgraded, downgraded};
+ghost use Rattle.convert.specs.Flat.{Converts};
 ghost use Rattle.find.specs.Answer.{Answered};
 ghost use Rattle.spec.specs.Answer.{outcome};
 ghost use Rattle.tag_pass.specs.Answers.{TagAnswers};
