@@ -19,7 +19,7 @@ use Rattle.outs.specs.declared.Kind.the-variants.{New}
 use Rattle.find.specs.Find.{Met, rising, asked-well, absent, walk, none-met, verdict-number, find-number, found}
 use Rattle.find.specs.Answer.{Walked, Answered, Nothing}
 
-number-some : (r : Refusal) → refusal-number r ≡ 0 → ⊥
+pub number-some : (r : Refusal) → refusal-number r ≡ 0 → ⊥
 unfolding refusal-number
 number-some R.ScratchTooSmall e = omega arith
 number-some R.InputTooLong e = omega arith

@@ -7,3 +7,4 @@ pub mod Kept
 pub mod Firsts
 pub mod Positions
 pub mod ReadUpTo
+pub mod Answered
