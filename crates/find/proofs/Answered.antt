@@ -1,7 +1,7 @@
 -- What an answer says, in the words of 02, A11. Main statements: `answer-is`, `refusal-is`. Assumes nothing.
 use mathlib.Core.Path.{_≡_, refl, sym, ap, _∙_, subst}
 use mathlib.Core.Bool.{Bool, true, false, _&&_}
-use Prim.Native.Nat.{ℕ, _≤_, _<_}
+use Prim.Native.Nat.{ℕ, _^_, _-_, _≤_, _<_}
 use native.Mathlib.Omega.{arith}
 use mathlib.Core.List.{List, []}
 use lib.Dec.{eqb, leb}
@@ -39,9 +39,10 @@ module _ (t : Bytes) (ns : List ℕ) {number records : ℕ} {places : List ℕ} 
   unfolding found
   walk-found e = ap (λ (y : Bool). pick y (walk ns 0 (read t) (none-met ns)) (none-met [])) (eq-eqb (find-number t ns) 0 (sym (a .number-is) ∙ e))
 
-  -- number 0: the templates and the numbers passed, and places and records are as 02 says. No slice is longer than that
-  pub answer-is : number ≡ 0 → length t ≤ absent → LookedUp t ns records places
-  answer-is e s =
+  -- number 0: the templates and the numbers passed, and places and records are as 02 says
+  pub answer-is : number ≡ 0 → LookedUp t ns records places
+  answer-is e =
+      let s : length t ≤ absent = omega (arith, a .in-memory) in
       let both = and-both (leb (length ns) 256) (rising ns) (accepted e .1) in
       let h : length ns ≤ 256 = leb-true (length ns) 256 (both .0) in
       let p : places ≡ walk ns 0 (read t) (none-met ns) .places = a .places-is ∙ ap (λ (m : Met). m .places) (walk-found e) in
