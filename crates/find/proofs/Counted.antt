@@ -21,7 +21,7 @@ count ns p end m = 0
 count ns p (loose b) m = 0
 count ns p (field t f i r) m = pick (eqb (m .waiting) 0) 0 (suc (count ns (p + (3 + length f + length (bytes i))) r (step ns (number-of (take 4 f)) p m)))
 
-step-counts : (ns : List ℕ) (n p : ℕ) (m : Met) → step ns n p m .records ≡ suc (m .records)
+pub step-counts : (ns : List ℕ) (n p : ℕ) (m : Met) → step ns n p m .records ≡ suc (m .records)
 step-counts ns n p m = on (wanted ns n m)
   where
     on : (b : Bool) → pick {A = Met} b (record { places = set (m .places) (index-of n ns) p; waiting = m .waiting - 1; records = suc (m .records) }) (record { places = m .places; waiting = m .waiting; records = suc (m .records) }) .records ≡ suc (m .records)

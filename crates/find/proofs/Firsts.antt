@@ -20,7 +20,7 @@ use Rattle.find.proofs.Kept.{and-both, walk-keeps}
 use Rattle.find.proofs.RecordLaws.{length-read}
 
 -- how many of the first j places are absent
-unmet : ℕ → List ℕ → ℕ
+pub unmet : ℕ → List ℕ → ℕ
 unmet zero ps = 0
 unmet (suc j) [] = 0
 unmet (suc j) (q ∷ ps) = pick (eqb q absent) (suc (unmet j ps)) (unmet j ps)
@@ -36,7 +36,7 @@ unmet-set (suc j) (q ∷ ps) (suc i) p h l e n = on (eqb q absent) (unmet-set j 
     on true z = ap suc z
     on false z = z
 
-unmet-some : (j : ℕ) (ps : List ℕ) (k : ℕ) → k < j → k < length ps → getD ps k 0 ≡ absent → 1 ≤ unmet j ps
+pub unmet-some : (j : ℕ) (ps : List ℕ) (k : ℕ) → k < j → k < length ps → getD ps k 0 ≡ absent → 1 ≤ unmet j ps
 unfolding unmet
 unmet-some zero ps k h l e = absurd (omega arith)
 unmet-some (suc j) [] k h l e = absurd (omega arith)
@@ -47,14 +47,28 @@ unmet-some (suc j) (q ∷ ps) (suc k) h l e = on (eqb q absent) (unmet-some j ps
     on true z = omega arith
     on false z = z
 
-unmet-all : (j n : ℕ) → j ≤ n → unmet j (replicate n absent) ≡ j
+-- one of the first j places that is absent
+abbrev pub Unmet : ℕ → List ℕ → Type 0
+Unmet j ps = (k : ℕ) × (k < j) × (getD ps k 0 ≡ absent)
+
+pub unmet-at : (j : ℕ) (ps : List ℕ) → (unmet j ps ≡ 0 → ⊥) → Unmet j ps
+unfolding unmet
+unmet-at zero ps h = absurd (h refl)
+unmet-at (suc j) [] h = absurd (h refl)
+unmet-at (suc j) (q ∷ ps) h = on (eqb q absent) refl h (unmet-at j ps)
+  where
+    on : (b : Bool) → eqb q absent ≡ b → (pick b (suc (unmet j ps)) (unmet j ps) ≡ 0 → ⊥) → ((unmet j ps ≡ 0 → ⊥) → Unmet j ps) → Unmet (suc j) (q ∷ ps)
+    on true e h f = (0, omega arith, eqb-true q absent e)
+    on false e h f = let z = f h in (suc (z .0), omega (arith, z .1), z .2)
+
+pub unmet-all : (j n : ℕ) → j ≤ n → unmet j (replicate n absent) ≡ j
 unfolding unmet
 unmet-all zero n h = refl
 unmet-all (suc j) zero h = absurd (omega arith)
 unmet-all (suc j) (suc n) h = ap suc (unmet-all j n (omega arith))
 
 -- what an index below the count finds
-index-hits : (n : ℕ) (ns : List ℕ) → index-of n ns < length ns → getD ns (index-of n ns) 0 ≡ n
+pub index-hits : (n : ℕ) (ns : List ℕ) → index-of n ns < length ns → getD ns (index-of n ns) 0 ≡ n
 unfolding index-of
 index-hits n [] h = absurd (omega arith)
 index-hits n (m ∷ ns) h = on (eqb m n) refl h (index-hits n ns)
@@ -63,19 +77,19 @@ index-hits n (m ∷ ns) h = on (eqb m n) refl h (index-hits n ns)
     on true e l f = eqb-true m n e
     on false e l f = f (omega arith)
 
-abbrev Waits : List ℕ → Met → Type 0
+abbrev pub Waits : List ℕ → Met → Type 0
 Waits ns m = (m .waiting ≡ unmet (length ns) (m .places)) × (length (m .places) ≡ 256)
 
 module _ (ns : List ℕ) (r : rising ns ≡ true) (h : length ns ≤ 256) where
-  abbrev stepped : Bool → ℕ → ℕ → Met → Met
+  abbrev pub stepped : Bool → ℕ → ℕ → Met → Met
   stepped b n p m = pick {A = Met} b (record { places = set (m .places) (index-of n ns) p; waiting = m .waiting - 1; records = suc (m .records) }) (record { places = m .places; waiting = m .waiting; records = suc (m .records) })
 
-  both : (n : ℕ) (m : Met) → wanted ns n m ≡ true → (index-of n ns < length ns) × (getD (m .places) (index-of n ns) 0 ≡ absent)
+  pub both : (n : ℕ) (m : Met) → wanted ns n m ≡ true → (index-of n ns < length ns) × (getD (m .places) (index-of n ns) 0 ≡ absent)
   both n m e =
       let z = and-both (ltb (index-of n ns) (length ns)) (eqb (getD (m .places) (index-of n ns) 0) absent) e in
       (ltb-true (index-of n ns) (length ns) (z .0), eqb-true (getD (m .places) (index-of n ns) 0) absent (z .1))
 
-  step-waits : (n p : ℕ) (m : Met) → Waits ns m → (p ≡ absent → ⊥) → Waits ns (step ns n p m)
+  pub step-waits : (n p : ℕ) (m : Met) → Waits ns m → (p ≡ absent → ⊥) → Waits ns (step ns n p m)
   step-waits n p m w q = on (wanted ns n m) refl
     where
       on : (b : Bool) → wanted ns n m ≡ b → Waits ns (stepped b n p m)
@@ -86,7 +100,7 @@ module _ (ns : List ℕ) (r : rising ns ≡ true) (h : length ns ≤ 256) where
       on false e = w
 
   module _ (k : ℕ) (l : k < length ns) where
-    step-here : (n p : ℕ) (m : Met) → Waits ns m → n ≡ getD ns k 0 → getD (m .places) k 0 ≡ absent → getD (step ns n p m .places) k 0 ≡ p
+    pub step-here : (n p : ℕ) (m : Met) → Waits ns m → n ≡ getD ns k 0 → getD (m .places) k 0 ≡ absent → getD (step ns n p m .places) k 0 ≡ p
     step-here n p m w e a =
         let q : index-of n ns ≡ k = index-present ns n k l (sym e) (λ j i z. omega (arith, rises ns r j k i l)) in
         let u : ltb (index-of n ns) (length ns) ≡ true = lt-ltb (index-of n ns) (length ns) (omega arith) in
@@ -94,7 +108,7 @@ module _ (ns : List ℕ) (r : rising ns ≡ true) (h : length ns ≤ 256) where
         let t : wanted ns n m ≡ true = ap (λ (b : Bool). b && eqb (getD (m .places) (index-of n ns) 0) absent) u ∙ v in
         ap (λ (b : Bool). getD (stepped b n p m .places) k 0) t ∙ ap (λ (x : ℕ). getD (set (m .places) x p) k 0) q ∙ getD-set-same (m .places) k p 0 (omega (arith, w .1))
 
-    step-away : (n p : ℕ) (m : Met) → (n ≡ getD ns k 0 → ⊥) → getD (step ns n p m .places) k 0 ≡ getD (m .places) k 0
+    pub step-away : (n p : ℕ) (m : Met) → (n ≡ getD ns k 0 → ⊥) → getD (step ns n p m .places) k 0 ≡ getD (m .places) k 0
     step-away n p m d = on (wanted ns n m) refl
       where
         on : (b : Bool) → wanted ns n m ≡ b → getD (stepped b n p m .places) k 0 ≡ getD (m .places) k 0

@@ -33,7 +33,7 @@ module _ (ns : List ℕ) (k : ℕ) where
       by (inl l) a b = omega arith
       by (inr f) a b = f b
 
-  step-keeps : (n p : ℕ) (m : Met) → Settled ns k m → getD (step ns n p m .places) k 0 ≡ getD (m .places) k 0
+  pub step-keeps : (n p : ℕ) (m : Met) → Settled ns k m → getD (step ns n p m .places) k 0 ≡ getD (m .places) k 0
   step-keeps n p m s = on (wanted ns n m) refl
     where
       on : (b : Bool) → wanted ns n m ≡ b → getD (pick {A = Met} b (record { places = set (m .places) (index-of n ns) p; waiting = m .waiting - 1; records = suc (m .records) }) (record { places = m .places; waiting = m .waiting; records = suc (m .records) }) .places) k 0 ≡ getD (m .places) k 0

@@ -6,3 +6,5 @@ pub mod Counted
 pub mod Kept
 pub mod Firsts
 pub mod Positions
+pub mod ReadUpTo
+pub mod Answered

@@ -1,14 +1,18 @@
 -- 02, A11, in its words: the steps of a walk, counted; places and positions of records. Assumes nothing: these are definitions.
-use Prim.Native.Nat.{ℕ, zero, suc, _+_, _<_, max}
+use Prim.Native.Nat.{ℕ, zero, suc, _+_, _≤_, _<_, max}
 use mathlib.Core.Path.{_≡_}
+use mathlib.Core.Bool.{true}
 use mathlib.Core.Logic.{_⊎_}
 use mathlib.Core.List.{List, [], _∷_}
 use lib.Dec.{eqb}
-use lib.ListN.{length, take}
-use Rattle.field.specs.Bytes.{pick}
+use lib.ListN.{length, take, getD}
+use Rattle.field.specs.Bytes.{Bytes, pick}
 use Rattle.field.specs.Number.{number-of}
-use Rattle.field.specs.Row.{Row, end, loose, field, bytes, Ended}
-use Rattle.find.specs.Find.{Met, absent, step, walk}
+use Rattle.field.specs.Row.{Row, end, loose, field, bytes, read, Ended}
+use Rattle.page.specs.declared.Verdict.the-variants.{Fine}
+use Rattle.outs.specs.Templates.{check-templates}
+use Rattle.outs.specs.declared.Kind.the-variants.{New}
+use Rattle.find.specs.Find.{Met, rising, absent, step, walk, none-met}
 
 -- so many steps, each over one record, whether one waits or not
 unfoldable pub steps : ℕ → List ℕ → ℕ → Row → Met → Met
@@ -53,3 +57,14 @@ position-of n (field t f i r) = pick (eqb (number-of (take 4 f)) n) 1 (suc (posi
 unfoldable pub read-up-to : List ℕ → Row → ℕ
 read-up-to [] x = 0
 read-up-to (n ∷ ns) x = max (position-of n x) (read-up-to ns x)
+
+-- 02, A11, of an answer that is no refusal: for each asked number the place of the first record with it, or absent; absent behind them; the count of
+-- records read, which is that of the steps taken
+pub record LookedUp (t : Bytes) (ns : List ℕ) (records : ℕ) (places : List ℕ) : Type 0 where
+  pub checked : check-templates New t ≡ Fine
+  pub not-many : length ns ≤ 256
+  pub in-order : rising ns ≡ true
+  pub place-is : (k : ℕ) → k < length ns → getD places k 0 ≡ place-of (getD ns k 0) 0 (read t)
+  pub behind-is : (k : ℕ) → length ns ≤ k → k < 256 → getD places k 0 ≡ absent
+  pub records-is : records ≡ read-up-to ns (read t)
+  pub steps-taken : Taken ns 0 (read t) (none-met ns) records
