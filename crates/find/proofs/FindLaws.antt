@@ -1,11 +1,11 @@
 -- The whole answer, by the checks. Main statements: `templates-refused`, `too-many`, `not-rising`, `walked`. Assumes nothing.
-use mathlib.Core.Path.{_≡_, refl, sym, ap, _∙_}
+use mathlib.Core.Path.{_≡_, sym, ap, _∙_}
 use mathlib.Core.Bool.{Bool, true, false, _&&_}
 use Prim.Native.Nat.{ℕ, _^_, _≤_, _<_}
 use native.Mathlib.Omega.{arith}
 use mathlib.Core.List.{List, []}
-use lib.Dec.{eqb, leb}
-use lib.ListN.{length, replicate}
+use lib.Dec.{eqb}
+use lib.ListN.{length}
 use borrow.Author.Tests.{ne-eqb, le-leb, lt-leb}
 use Rattle.field.specs.Bytes.{Bytes, pick}
 use Rattle.field.specs.Row.{read}
@@ -16,7 +16,7 @@ use Rattle.page.specs.declared.Verdict.{Verdict}
 use Rattle.page.specs.declared.Verdict.the-variants.{Fine, Refused}
 use Rattle.outs.specs.Templates.{check-templates}
 use Rattle.outs.specs.declared.Kind.the-variants.{New}
-use Rattle.find.specs.Find.{Met, rising, asked-well, absent, walk, none-met, verdict-number, find-number, found}
+use Rattle.find.specs.Find.{Met, rising, asked-well, walk, none-met, verdict-number, find-number, found}
 use Rattle.find.specs.Answer.{Walked, Answered, Nothing}
 
 pub number-some : (r : Refusal) → refusal-number r ≡ 0 → ⊥

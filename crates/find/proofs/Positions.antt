@@ -1,14 +1,14 @@
 -- What `read-up-to` says: the largest position of those asked for, and all records if one of them is absent. Main statements: `position-is-first`,
 -- `absent-reads-all`, `reads-to-one`. Assumes nothing.
-use mathlib.Core.Path.{_≡_, refl, sym, ap, _∙_}
+use mathlib.Core.Path.{_≡_, refl, ap, _∙_}
 use mathlib.Core.Bool.{Bool, true, false}
 use Prim.Native.Nat.{ℕ, zero, suc, _≤_, _<_, max}
 use native.Mathlib.Omega.{arith}
 use mathlib.Core.List.{List, [], _∷_}
 use lib.Dec.{eqb, ltb}
 use lib.ListN.{length, take, getD}
-use borrow.Author.Tests.{eqb-true, eqb-false, ltb-true, ltb-false, eq-eqb, ne-eqb}
-use Rattle.field.specs.Bytes.{pick}
+use borrow.Author.Tests.{ltb-true, ltb-false, eq-eqb, ne-eqb}
+use Rattle.field.specs.Bytes.{Bytes, pick}
 use Rattle.field.specs.Number.{number-of}
 use Rattle.field.specs.Row.{Row, end, loose, field}
 use Rattle.find.specs.Words.{numbers-of, position-of, read-up-to}
@@ -17,22 +17,28 @@ use Rattle.find.specs.Words.{numbers-of, position-of, read-up-to}
 abbrev pub Missing : ℕ → Row → Type 0
 Missing n x = (j : ℕ) → j < length (numbers-of x) → getD (numbers-of x) j 0 ≡ n → ⊥
 
+-- ---- the position of one number
+
+pub position-here : (n t : ℕ) (f : Bytes) (i r : Row) → number-of (take 4 f) ≡ n → position-of n (field t f i r) ≡ 1
+unfolding position-of
+position-here n t f i r e = ap (λ (y : Bool). pick y 1 (suc (position-of n r))) (eq-eqb (number-of (take 4 f)) n e)
+
+pub position-further : (n t : ℕ) (f : Bytes) (i r : Row) → (number-of (take 4 f) ≡ n → ⊥) → position-of n (field t f i r) ≡ suc (position-of n r)
+unfolding position-of
+position-further n t f i r e = ap (λ (y : Bool). pick y 1 (suc (position-of n r))) (ne-eqb (number-of (take 4 f)) n e)
+
 pub position-is-first : (n : ℕ) (x : Row) (j : ℕ) → j < length (numbers-of x) → getD (numbers-of x) j 0 ≡ n → ((i : ℕ) → i < j → getD (numbers-of x) i 0 ≡ n → ⊥) → position-of n x ≡ suc j
-unfolding numbers-of position-of
+unfolding numbers-of
 position-is-first n end j h e b = absurd (omega arith)
 position-is-first n (loose c) j h e b = absurd (omega arith)
-position-is-first n (field t f i r) zero h e b = ap (λ (y : Bool). pick y 1 (suc (position-of n r))) (eq-eqb (number-of (take 4 f)) n e)
-position-is-first n (field t f i r) (suc j) h e b =
-    ap (λ (y : Bool). pick y 1 (suc (position-of n r))) (ne-eqb (number-of (take 4 f)) n (b 0 (omega arith)))
-    ∙ ap suc (position-is-first n r j (omega arith) e (λ k l. b (suc k) (omega arith)))
+position-is-first n (field t f i r) zero h e b = position-here n t f i r e
+position-is-first n (field t f i r) (suc j) h e b = position-further n t f i r (b 0 (omega arith)) ∙ ap suc (position-is-first n r j (omega arith) e (λ k l. b (suc k) (omega arith)))
 
 position-missing : (n : ℕ) (x : Row) → Missing n x → position-of n x ≡ length (numbers-of x)
 unfolding numbers-of position-of
 position-missing n end b = refl
 position-missing n (loose c) b = refl
-position-missing n (field t f i r) b =
-    ap (λ (y : Bool). pick y 1 (suc (position-of n r))) (ne-eqb (number-of (take 4 f)) n (b 0 (omega arith)))
-    ∙ ap suc (position-missing n r (λ k l. b (suc k) (omega arith)))
+position-missing n (field t f i r) b = position-further n t f i r (b 0 (omega arith)) ∙ ap suc (position-missing n r (λ k l. b (suc k) (omega arith)))
 
 position-within : (n : ℕ) (x : Row) → position-of n x ≤ length (numbers-of x)
 unfolding numbers-of position-of
@@ -43,6 +49,8 @@ position-within n (field t f i r) = on (eqb (number-of (take 4 f)) n) (position-
     on : (b : Bool) → position-of n r ≤ length (numbers-of r) → pick b 1 (suc (position-of n r)) ≤ suc (length (numbers-of r))
     on true l = omega arith
     on false l = omega arith
+
+-- ---- the largest position
 
 pub reads-each : (ns : List ℕ) (x : Row) (k : ℕ) → k < length ns → position-of (getD ns k 0) x ≤ read-up-to ns x
 unfolding read-up-to

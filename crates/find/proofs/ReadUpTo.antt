@@ -3,11 +3,11 @@
 use mathlib.Core.Path.{_≡_, refl, sym, ap, _∙_}
 use mathlib.Core.Bool.{Bool, true, false}
 use mathlib.Core.Logic.{inr}
-use Prim.Native.Nat.{ℕ, zero, suc, _+_, _-_, _^_, _≤_, _<_}
+use Prim.Native.Nat.{ℕ, _+_, _≤_, _<_}
 use native.Mathlib.Omega.{arith}
-use mathlib.Core.List.{List, [], _∷_}
+use mathlib.Core.List.{List}
 use lib.Dec.{eqb}
-use lib.ListN.{length, take, getD, set, replicate, length-replicate, getD-replicate}
+use lib.ListN.{length, take, getD, length-replicate, getD-replicate}
 use borrow.Author.Tests.{eqb-true, eqb-false, eq-eqb, ne-eqb}
 use Rattle.field.specs.Bytes.{Bytes, pick}
 use Rattle.field.specs.Number.{number-of}
@@ -18,31 +18,44 @@ use Rattle.find.specs.Words.{position-of, read-up-to}
 use Rattle.find.proofs.Counted.{step-counts}
 use Rattle.find.proofs.Kept.{step-keeps}
 use Rattle.find.proofs.Firsts.{unmet-some, unmet-at, unmet-all, index-hits, Waits, stepped, both, step-waits, step-here, step-away}
-use Rattle.find.proofs.Positions.{reads-each, reads-below}
+use Rattle.find.proofs.Positions.{position-here, position-further, reads-each, reads-below}
 use Rattle.find.proofs.RecordLaws.{length-read}
 
 -- ---- the walk's count
+
+-- a record's number, where the next one begins, what was met behind it, and the walk from there
+abbrev named : Bytes → ℕ
+named f = number-of (take 4 f)
+
+abbrev next : ℕ → Bytes → Row → ℕ
+next p f i = p + (3 + length f + length (bytes i))
+
+abbrev read-one : List ℕ → ℕ → Bytes → Met → Met
+read-one ns p f m = step ns (named f) p m
+
+abbrev behind : List ℕ → ℕ → Bytes → Row → Row → Met → Met
+behind ns p f i x m = walk ns (next p f i) x (read-one ns p f m)
 
 walk-stops : (ns : List ℕ) (p : ℕ) (x : Row) (m : Met) → m .waiting ≡ 0 → walk ns p x m ≡ m
 unfolding walk
 walk-stops ns p end m e = refl
 walk-stops ns p (loose c) m e = refl
-walk-stops ns p (field t f i x) m e = ap (λ (y : Bool). pick {A = Met} y m (walk ns (p + (3 + length f + length (bytes i))) x (step ns (number-of (take 4 f)) p m))) (eq-eqb (m .waiting) 0 e)
+walk-stops ns p (field t f i x) m e = ap (λ (y : Bool). pick {A = Met} y m (behind ns p f i x m)) (eq-eqb (m .waiting) 0 e)
 
-walk-goes-on : (ns : List ℕ) (p t : ℕ) (f : Bytes) (i x : Row) (m : Met) → (m .waiting ≡ 0 → ⊥) → walk ns p (field t f i x) m ≡ walk ns (p + (3 + length f + length (bytes i))) x (step ns (number-of (take 4 f)) p m)
+walk-goes-on : (ns : List ℕ) (p t : ℕ) (f : Bytes) (i x : Row) (m : Met) → (m .waiting ≡ 0 → ⊥) → walk ns p (field t f i x) m ≡ behind ns p f i x m
 unfolding walk
-walk-goes-on ns p t f i x m e = ap (λ (y : Bool). pick {A = Met} y m (walk ns (p + (3 + length f + length (bytes i))) x (step ns (number-of (take 4 f)) p m))) (ne-eqb (m .waiting) 0 e)
+walk-goes-on ns p t f i x m e = ap (λ (y : Bool). pick {A = Met} y m (behind ns p f i x m)) (ne-eqb (m .waiting) 0 e)
 
 records-grow : (ns : List ℕ) (p : ℕ) (x : Row) (m : Met) → m .records ≤ walk ns p x m .records
 unfolding walk
 records-grow ns p end m = omega arith
 records-grow ns p (loose c) m = omega arith
-records-grow ns p (field t f i x) m = on (eqb (m .waiting) 0) (records-grow ns (p + (3 + length f + length (bytes i))) x (step ns (number-of (take 4 f)) p m))
+records-grow ns p (field t f i x) m = on (eqb (m .waiting) 0) (records-grow ns (next p f i) x (read-one ns p f m))
   where
-    on : (b : Bool) → step ns (number-of (take 4 f)) p m .records ≤ walk ns (p + (3 + length f + length (bytes i))) x (step ns (number-of (take 4 f)) p m) .records →
-        m .records ≤ pick {A = Met} b m (walk ns (p + (3 + length f + length (bytes i))) x (step ns (number-of (take 4 f)) p m)) .records
+    on : (b : Bool) → read-one ns p f m .records ≤ behind ns p f i x m .records →
+        m .records ≤ pick {A = Met} b m (behind ns p f i x m) .records
     on true l = omega arith
-    on false l = omega (arith, l, step-counts ns (number-of (take 4 f)) p m)
+    on false l = omega (arith, l, step-counts ns (named f) p m)
 
 module _ (ns : List ℕ) (r : rising ns ≡ true) (h : length ns ≤ 256) where
   -- no less than to the record of any that waits
@@ -53,20 +66,22 @@ module _ (ns : List ℕ) (r : rising ns ≡ true) (h : length ns ≤ 256) where
   reads-to-each k l p (field t f i x) m w b a =
       let some : m .waiting ≡ 0 → ⊥ = λ z. omega (arith, unmet-some (length ns) (m .places) k l (omega (arith, w .1)) a, w .0) in
       let q : p ≡ absent → ⊥ = λ z. omega (arith, length-bytes t f i x) in
-      let e : walk ns p (field t f i x) m .records ≡ walk ns (p + (3 + length f + length (bytes i))) x (step ns (number-of (take 4 f)) p m) .records = ap (λ (y : Met). y .records) (walk-goes-on ns p t f i x m some) in
-      let g = reads-to-each k l (p + (3 + length f + length (bytes i))) x (step ns (number-of (take 4 f)) p m) (step-waits ns r h (number-of (take 4 f)) p m w q) (omega (arith, length-bytes t f i x)) in
-      let z : m .records + pick (eqb (number-of (take 4 f)) (getD ns k 0)) 1 (suc (position-of (getD ns k 0) x)) ≤ walk ns (p + (3 + length f + length (bytes i))) x (step ns (number-of (take 4 f)) p m) .records = on (eqb (number-of (take 4 f)) (getD ns k 0)) refl g in
-      omega (arith, e, z)
+      let e : walk ns p (field t f i x) m .records ≡ behind ns p f i x m .records = ap (λ (y : Met). y .records) (walk-goes-on ns p t f i x m some) in
+      let g = reads-to-each k l (next p f i) x (read-one ns p f m) (step-waits ns r h (named f) p m w q) (omega (arith, length-bytes t f i x)) in
+      omega (arith, e, on (eqb (named f) (getD ns k 0)) refl g)
     where
-      on : (y : Bool) → eqb (number-of (take 4 f)) (getD ns k 0) ≡ y →
-          (getD (step ns (number-of (take 4 f)) p m .places) k 0 ≡ absent → step ns (number-of (take 4 f)) p m .records + position-of (getD ns k 0) x ≤ walk ns (p + (3 + length f + length (bytes i))) x (step ns (number-of (take 4 f)) p m) .records) →
-          m .records + pick y 1 (suc (position-of (getD ns k 0) x)) ≤ walk ns (p + (3 + length f + length (bytes i))) x (step ns (number-of (take 4 f)) p m) .records
-      on true e g = omega (arith, records-grow ns (p + (3 + length f + length (bytes i))) x (step ns (number-of (take 4 f)) p m), step-counts ns (number-of (take 4 f)) p m)
-      on false e g = omega (arith, g (step-away ns r h k l (number-of (take 4 f)) p m (eqb-false (number-of (take 4 f)) (getD ns k 0) e) ∙ a), step-counts ns (number-of (take 4 f)) p m)
+      on : (y : Bool) → eqb (named f) (getD ns k 0) ≡ y →
+          (getD (read-one ns p f m .places) k 0 ≡ absent → read-one ns p f m .records + position-of (getD ns k 0) x ≤ behind ns p f i x m .records) →
+          m .records + position-of (getD ns k 0) (field t f i x) ≤ behind ns p f i x m .records
+      on true e g =
+          omega (arith, position-here (getD ns k 0) t f i x (eqb-true (named f) (getD ns k 0) e), records-grow ns (next p f i) x (read-one ns p f m), step-counts ns (named f) p m)
+      on false e g =
+          let d : named f ≡ getD ns k 0 → ⊥ = eqb-false (named f) (getD ns k 0) e in
+          omega (arith, position-further (getD ns k 0) t f i x d, g (step-away ns r h k l (named f) p m d ∙ a), step-counts ns (named f) p m)
 
   -- one waits, and the walk reads to its record and no further
-  abbrev Last : ℕ → Row → Met → ℕ → Type 0
-  Last p x m c = (k : ℕ) × (k < length ns) × (getD (m .places) k 0 ≡ absent) × (c ≡ m .records + position-of (getD ns k 0) x)
+  abbrev Last : Row → Met → ℕ → Type 0
+  Last x m c = (k : ℕ) × (k < length ns) × (getD (m .places) k 0 ≡ absent) × (c ≡ m .records + position-of (getD ns k 0) x)
 
   absent-before : (n p : ℕ) (m : Met) (k : ℕ) → getD (step ns n p m .places) k 0 ≡ absent → getD (m .places) k 0 ≡ absent
   absent-before n p m k e = on (eqb (getD (m .places) k 0) absent) refl
@@ -83,7 +98,7 @@ module _ (ns : List ℕ) (r : rising ns ≡ true) (h : length ns ≤ 256) where
       on true z e = z
       on false z e = absurd (w e)
 
-  reads-to-last : (p : ℕ) (x : Row) (m : Met) → Waits ns m → p + length (bytes x) ≤ absent → (m .waiting ≡ 0 → ⊥) → Last p x m (walk ns p x m .records)
+  reads-to-last : (p : ℕ) (x : Row) (m : Met) → Waits ns m → p + length (bytes x) ≤ absent → (m .waiting ≡ 0 → ⊥) → Last x m (walk ns p x m .records)
   unfolding walk position-of
   reads-to-last p end m w b s =
       let z = unmet-at (length ns) (m .places) (λ e. s (w .0 ∙ e)) in
@@ -93,26 +108,23 @@ module _ (ns : List ℕ) (r : rising ns ≡ true) (h : length ns ≤ 256) where
       (z .0, z .1, z .2, omega arith)
   reads-to-last p (field t f i x) m w b s =
       let q : p ≡ absent → ⊥ = λ z. omega (arith, length-bytes t f i x) in
-      let e : walk ns p (field t f i x) m .records ≡ walk ns (p + (3 + length f + length (bytes i))) x (step ns (number-of (take 4 f)) p m) .records = ap (λ (y : Met). y .records) (walk-goes-on ns p t f i x m s) in
-      let g = reads-to-last (p + (3 + length f + length (bytes i))) x (step ns (number-of (take 4 f)) p m) (step-waits ns r h (number-of (take 4 f)) p m w q) (omega (arith, length-bytes t f i x)) in
-      let z = on (eqb (step ns (number-of (take 4 f)) p m .waiting) 0) refl q g in
-      (z .0, z .1, z .2, e ∙ z .3)
+      let e : walk ns p (field t f i x) m .records ≡ behind ns p f i x m .records = ap (λ (y : Met). y .records) (walk-goes-on ns p t f i x m s) in
+      let g = reads-to-last (next p f i) x (read-one ns p f m) (step-waits ns r h (named f) p m w q) (omega (arith, length-bytes t f i x)) in
+      on (walk ns p (field t f i x) m .records) e (eqb (read-one ns p f m .waiting) 0) refl q g
     where
-      on : (y : Bool) → eqb (step ns (number-of (take 4 f)) p m .waiting) 0 ≡ y → (p ≡ absent → ⊥) →
-          ((step ns (number-of (take 4 f)) p m .waiting ≡ 0 → ⊥) → Last (p + (3 + length f + length (bytes i))) x (step ns (number-of (take 4 f)) p m) (walk ns (p + (3 + length f + length (bytes i))) x (step ns (number-of (take 4 f)) p m) .records)) →
-          (k : ℕ) × (k < length ns) × (getD (m .places) k 0 ≡ absent) × (walk ns (p + (3 + length f + length (bytes i))) x (step ns (number-of (take 4 f)) p m) .records ≡ m .records + pick (eqb (number-of (take 4 f)) (getD ns k 0)) 1 (suc (position-of (getD ns k 0) x)))
-      on true e q g =
-          let o : step ns (number-of (take 4 f)) p m .waiting ≡ 0 = eqb-true (step ns (number-of (take 4 f)) p m .waiting) 0 e in
-          let z = both ns r h (number-of (take 4 f)) m (last-met (number-of (take 4 f)) p m s o) in
-          let u : eqb (number-of (take 4 f)) (getD ns (index-of (number-of (take 4 f)) ns) 0) ≡ true = eq-eqb (number-of (take 4 f)) (getD ns (index-of (number-of (take 4 f)) ns) 0) (sym (index-hits (number-of (take 4 f)) ns (z .0))) in
-          let v : walk ns (p + (3 + length f + length (bytes i))) x (step ns (number-of (take 4 f)) p m) .records ≡ m .records + 1 = ap (λ (y : Met). y .records) (walk-stops ns (p + (3 + length f + length (bytes i))) x (step ns (number-of (take 4 f)) p m) o) ∙ step-counts ns (number-of (take 4 f)) p m ∙ omega arith in
-          (index-of (number-of (take 4 f)) ns, z .0, z .1, v ∙ ap (λ (y : Bool). m .records + pick y 1 (suc (position-of (getD ns (index-of (number-of (take 4 f)) ns) 0) x))) (sym u))
-      on false e q g =
-          let z = g (eqb-false (step ns (number-of (take 4 f)) p m .waiting) 0 e) in
-          let a : getD (m .places) (z .0) 0 ≡ absent = absent-before (number-of (take 4 f)) p m (z .0) (z .2) in
-          let d : number-of (take 4 f) ≡ getD ns (z .0) 0 → ⊥ = λ y. q (sym (step-here ns r h (z .0) (z .1) (number-of (take 4 f)) p m w y a) ∙ z .2) in
-          let v : walk ns (p + (3 + length f + length (bytes i))) x (step ns (number-of (take 4 f)) p m) .records ≡ m .records + suc (position-of (getD ns (z .0) 0) x) = omega (arith, z .3, step-counts ns (number-of (take 4 f)) p m) in
-          (z .0, z .1, a, v ∙ ap (λ (y : Bool). m .records + pick y 1 (suc (position-of (getD ns (z .0) 0) x))) (sym (ne-eqb (number-of (take 4 f)) (getD ns (z .0) 0) d)))
+      on : (c : ℕ) → c ≡ behind ns p f i x m .records → (y : Bool) → eqb (read-one ns p f m .waiting) 0 ≡ y → (p ≡ absent → ⊥) →
+          ((read-one ns p f m .waiting ≡ 0 → ⊥) → Last x (read-one ns p f m) (behind ns p f i x m .records)) → Last (field t f i x) m c
+      on c u true e q g =
+          let o : read-one ns p f m .waiting ≡ 0 = eqb-true (read-one ns p f m .waiting) 0 e in
+          let z = both ns r h (named f) m (last-met (named f) p m s o) in
+          let v : behind ns p f i x m .records ≡ read-one ns p f m .records = ap (λ (y : Met). y .records) (walk-stops ns (next p f i) x (read-one ns p f m) o) in
+          let y = position-here (getD ns (index-of (named f) ns) 0) t f i x (sym (index-hits (named f) ns (z .0))) in
+          (index-of (named f) ns, z .0, z .1, omega (arith, u, v, y, step-counts ns (named f) p m))
+      on c u false e q g =
+          let z = g (eqb-false (read-one ns p f m .waiting) 0 e) in
+          let a : getD (m .places) (z .0) 0 ≡ absent = absent-before (named f) p m (z .0) (z .2) in
+          let d : named f ≡ getD ns (z .0) 0 → ⊥ = λ y. q (sym (step-here ns r h (z .0) (z .1) (named f) p m w y a) ∙ z .2) in
+          (z .0, z .1, a, omega (arith, u, z .3, position-further (getD ns (z .0) 0) t f i x d, step-counts ns (named f) p m))
 
   -- ---- the walk from its start
 

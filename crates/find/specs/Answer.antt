@@ -5,7 +5,7 @@ use mathlib.Core.List.{List}
 use Rattle.field.specs.Bytes.{Bytes}
 use Rattle.field.specs.Row.{read}
 use lib.ListN.{length, replicate}
-use Rattle.find.specs.Find.{Met, walk, none-met, absent, find-number, found}
+use Rattle.find.specs.Find.{walk, none-met, absent, find-number, found}
 
 pub record Walked (t : Bytes) (ns : List ℕ) (number records : ℕ) (places : List ℕ) : Type 0 where
   pub number-is : number ≡ 0
