@@ -126,7 +126,7 @@ module _ (k : Kind) (x : Row) (s : Sound k x) (to : ℕ) (y : Row) (o₁ o₂ : 
 
 -- ---- the checks come first
 
-number-some : (r : Refusal) → eqb (refusal-number r) 0 ≡ false
+pub number-some : (r : Refusal) → eqb (refusal-number r) 0 ≡ false
 unfolding refusal-number
 number-some R.ScratchTooSmall = refl
 number-some R.InputTooLong = refl

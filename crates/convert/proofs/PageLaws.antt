@@ -25,7 +25,7 @@ use Rattle.outs.specs.declared.Expect.the-variants as E
 use Rattle.convert.proofs.RecordLaws.{after-fine, unless-fine, text-by}
 
 -- a leaf holds no field
-leaf-held : (from t : ℕ) → nests t ≡ false → held from t ≡ only-bytes
+pub leaf-held : (from t : ℕ) → nests t ≡ false → held from t ≡ only-bytes
 unfolding held
 leaf-held from t h = on (eqb t 0x90) refl
   where
@@ -33,7 +33,7 @@ leaf-held from t h = on (eqb t 0x90) refl
     on true q = absurd (let z : nests t ≡ true = ap nests (eqb-true t 0x90 q) in let k : _≡_ {A = Bool} true false = sym z ∙ h in let j : _≡_ {A = ℕ} 0 1 = cc in omega arith)
     on false q = rw (q, h)
 
-leaf-alone : (from t : ℕ) (f : Bytes) (i : Row) → nests t ≡ false → FrontFits (held from t) f i → i ≡ end
+pub leaf-alone : (from t : ℕ) (f : Bytes) (i : Row) → nests t ≡ false → FrontFits (held from t) f i → i ≡ end
 leaf-alone from t f i h s = text-by f i (subst (λ (c : Inside). FrontFits c f i) (leaf-held from t h) s)
 
 -- what is fine of a field
@@ -45,14 +45,14 @@ module _ (from : ℕ) (c : Expect) (t : ℕ) (f : Bytes) (i r : Row) (h : good f
       let a = after-fine (unless (allowed c t) R.Misplaced) (λ _. after body λ _. good from (left c t) r) h in
       after-fine body (λ _. good from (left c t) r) (a .1) .0
 
-  rest-fine : good from (left c t) r ≡ Fine
+  pub rest-fine : good from (left c t) r ≡ Fine
   unfolding good
   rest-fine =
       let body : Verdict = choose (nests t) (λ _. after (unless (front-right from t f) R.Misplaced) λ _. good from (within t) i) (λ _. check-leaf t f) in
       let a = after-fine (unless (allowed c t) R.Misplaced) (λ _. after body λ _. good from (left c t) r) h in
       after-fine body (λ _. good from (left c t) r) (a .1) .1
 
-  nest-fine : nests t ≡ true → (front-right from t f ≡ true) × (good from (within t) i ≡ Fine)
+  pub nest-fine : nests t ≡ true → (front-right from t f ≡ true) × (good from (within t) i ≡ Fine)
   unfolding choose
   nest-fine q =
       let a : after (unless (front-right from t f) R.Misplaced) (λ _. good from (within t) i) ≡ Fine = subst (λ (b : Bool). choose b (λ _. after (unless (front-right from t f) R.Misplaced) λ _. good from (within t) i) (λ _. check-leaf t f) ≡ Fine) q inside-fine in
@@ -69,7 +69,7 @@ front-grows from to t f h l false q g =
     let k : length (renumbered-front to t f) ≡ length f = ap (λ (b : Bool). length (pick b (big-endian to (number-of f) []) f)) q in
     omega arith
 
-leaf-grows : (to t : ℕ) (f : Bytes) → nests t ≡ false → renumbered-front to t f ≡ f
+pub leaf-grows : (to t : ℕ) (f : Bytes) → nests t ≡ false → renumbered-front to t f ≡ f
 leaf-grows to t f h = on (eqb t 0x90) refl
   where
     on : (b : Bool) → eqb t 0x90 ≡ b → pick (eqb t 0x90) (big-endian to (number-of f) []) f ≡ f

@@ -130,11 +130,11 @@ module _ (k : Kind) (t : ℕ) (f : Bytes) (i r : Row) (h : check-records k (fiel
 
 -- ---- the front of a record that is fine
 
-both-true : (a b : Bool) → (a && b) ≡ true → (a ≡ true) × (b ≡ true)
+pub both-true : (a b : Bool) → (a && b) ≡ true → (a ≡ true) × (b ≡ true)
 both-true true b h = (refl, h)
 both-true false b h = absurd (let k : false ≡ true = h in let z : _≡_ {A = ℕ} 0 1 = cc in omega arith)
 
-old-front : (f : Bytes) → front-of-record Old f ≡ true → length f ≡ 2
+pub old-front : (f : Bytes) → front-of-record Old f ≡ true → length f ≡ 2
 unfolding front-of-record
 old-front f h = eqb-true (length f) 2 h
 
@@ -143,7 +143,7 @@ pub record NewFront (f : Bytes) : Type 0 where
   pub length-is : length f ≡ 6 + count-of f
   pub kinds-are : all-kinds (drop 6 f) ≡ true
 
-new-front : (f : Bytes) → front-of-record New f ≡ true → NewFront f
+pub new-front : (f : Bytes) → front-of-record New f ≡ true → NewFront f
 unfolding front-of-record
 new-front f h =
     let a = both-true (leb 6 (length f)) (eqb (length f) (6 + count-of f) && all-kinds (drop 6 f)) h in
@@ -294,7 +294,7 @@ unfolding kinds-of
 length-kinds-of [] = refl
 length-kinds-of (k ∷ ks) = ap suc (length-kinds-of ks)
 
-marks-are : (i : Row) (m : Markup) → Strings i → kind-marks (fields-in i - 1) m (bytes i) ≡ by-marks m (strings-in i)
+pub marks-are : (i : Row) (m : Markup) → Strings i → kind-marks (fields-in i - 1) m (bytes i) ≡ by-marks m (strings-in i)
 unfolding fields-in strings-in by-marks kind-marks
 marks-are end m s = refl
 marks-are (loose b) m s = absurd (loose-not b (s .fine))
@@ -380,7 +380,7 @@ agreed-is : (f b : Bytes) (ks : List Bool) (c : Bool) → (c ≡ true → kind-b
 agreed-is f b ks true h g = ap (same (kinds-behind f)) (h refl)
 agreed-is f b ks false h g = sym (g refl)
 
-agrees-is : (f : Bytes) (ss : List Bytes) → all-kinds (kinds-behind f) ≡ true → agrees f ss ≡ same (kinds-behind f) (by-marks M.Outside ss)
+pub agrees-is : (f : Bytes) (ss : List Bytes) → all-kinds (kinds-behind f) ≡ true → agrees f ss ≡ same (kinds-behind f) (by-marks M.Outside ss)
 unfolding agrees
 agrees-is f ss a =
     let b : Bytes = by-marks M.Outside ss in
@@ -432,7 +432,7 @@ module _ (i : Row) (s : Strings i) where
   new-body f n = rw (new-strings f (bytes i) n, new-number f (bytes i) n)
 
   -- as many kinds as gaps
-  new-clear : (f : Bytes) → NewFront f → fields-in i ≡ suc (count-of f) → body-clear New (f ++ bytes i) ≡ (leb (number-of (take 4 f)) 65535 && agrees f (strings-in i))
+  pub new-clear : (f : Bytes) → NewFront f → fields-in i ≡ suc (count-of f) → body-clear New (f ++ bytes i) ≡ (leb (number-of (take 4 f)) 65535 && agrees f (strings-in i))
   unfolding body-clear
   new-clear f n e =
       let c : length (drop 6 f) ≡ fields-in i - 1 = omega (arith, length-drop 6 f, n .length-is) in
@@ -443,7 +443,7 @@ body-is : (k : Kind) (t : ℕ) (f : Bytes) (i r : Row) → Sound k (field t f i 
 body-is Old t f i r s = old-body i (rest-sound Old t f i r s .1) f (old-front f (record-of Old t f i r (s .fine) .front-is))
 body-is New t f i r s = new-body i (rest-sound New t f i r s .1) f (new-front f (record-of New t f i r (s .fine) .front-is))
 
-records-not : (k : Kind) (b : Bytes) → check-records k (loose b) ≡ Fine → ⊥
+pub records-not : (k : Kind) (b : Bytes) → check-records k (loose b) ≡ Fine → ⊥
 unfolding check-records
 records-not k b h = refused-not h
 
@@ -507,7 +507,7 @@ lowered-row : (f : Bytes) (i : Row) → Strings i → (r : Row) → record-row l
 unfolding record-row record-front rewritten-front
 lowered-row f i s r = rw (row-again i s)
 
-new-counts : (t : ℕ) (f : Bytes) (i r : Row) → Sound New (field t f i r) → fields-in i ≡ suc (count-of f)
+pub new-counts : (t : ℕ) (f : Bytes) (i r : Row) → Sound New (field t f i r) → fields-in i ≡ suc (count-of f)
 unfolding check-strings-of
 new-counts t f i r s = counted-strings (suc (count-of f)) i (strings-checked New t f i r (s .fine)) .1
 
