@@ -2,6 +2,7 @@
 # Instructions a page byte inside the library, counted by valgrind's callgrind: sizes, depths and the worst cases.
 # callgrind.sh [WORD]: only the sets of pages whose name has WORD, and 'mean', to which all are compared.
 # callgrind.sh tags [WORD]: instructions a byte of tag text, in the reader of tags.
+# callgrind.sh lookups [WORD]: instructions a byte of templates that are checked, and a template of the walk at 256 numbers.
 set -eu
 cd "$(dirname "$0")"
 command -v valgrind >/dev/null || { echo "callgrind.sh: no valgrind here" >&2; exit 1; }
@@ -28,6 +29,18 @@ if [ "$word" = tags ]; then
     IFS=$tab read -r instructions answer <"$rates.one" || true
     echo "$name$tab$bytes$tab$instructions$tab$answer" |
       awk -F '\t' '{ printf "%-34s %7d %13d %9.1f  %s\n", $1, $2, $3, $3 / $2, $4 }'
+  done
+  exit
+fi
+
+if [ "$word" = lookups ]; then
+  printf '%-34s %8s %8s %13s %9s %13s %11s\n' templates bytes count 'the check' 'a byte' 'the walk' 'a template'
+  "$speed" lookups | while IFS=$tab read -r name bytes records; do
+    case $name in *"${2:-}"*) ;; *) continue ;; esac
+    count jsx_precompile_find check "$name" | cut -f 1 >"$rates.one"
+    count jsx_precompile_find find "$name" | cut -f 1 >>"$rates.one"
+    echo "$name$tab$bytes$tab$records$tab$(tr '\n' '\t' <"$rates.one")" |
+      awk -F '\t' '{ printf "%-34s %8d %8d %13d %9.1f %13d %11.1f\n", $1, $2, $3, $4, $4 / $2, $5 - $4, ($5 - $4) / $3 }'
   done
   exit
 fi

@@ -2,15 +2,17 @@
 //! alone on ready trees and bytes to bytes, on the same pages in one run.
 //!
 //! For callgrind.sh: `list` names the sets of pages, `run NAME` calls the library once on each page of a set; `tags` names
-//! the tag texts, `tag NAME` has the library read one.
+//! the tag texts, `tag NAME` has the library read one; `lookups` names the rows of templates, `find NAME` and `check NAME` look
+//! 256 numbers and none up in one.
 
 #![allow(missing_docs)]
 
+mod lookups;
 mod pages;
 mod tags;
 
 use jsx_precompile::limits::{MAX_TAG, MIN_SCRATCH};
-use jsx_precompile::{Answer, Options, Transformer, read_tag_into, transform_into};
+use jsx_precompile::{Answer, Options, Transformer, find_answer, read_tag_into, transform_into};
 use oracle::stand_ins::swc_ecma_ast::Module;
 use pages::Set;
 use std::hint::black_box;
@@ -26,9 +28,16 @@ fn main() {
         ["run", name] => run(name),
         ["tags"] => tags::all().iter().for_each(|tag| println!("{}\t{}", tag.name, tag.text.len())),
         ["tag", name] => read(name),
+        ["lookups"] => {
+            lookups::all().iter().for_each(|one| println!("{}\t{}\t{}", one.name, one.templates.len(), one.records));
+        }
+        ["find", name] => find(name, true),
+        ["check", name] => find(name, false),
         [] if oracle::AVAILABLE => times(),
         [] => eprintln!("built without jsx_precompile.rs: there is nothing to compare with"),
-        _ => eprintln!("speed, speed list, speed run NAME, speed tags, or speed tag NAME"),
+        _ => eprintln!(
+            "speed, speed list, speed run NAME, speed tags, speed tag NAME, speed lookups, speed find NAME, or speed check NAME"
+        ),
     }
 }
 
@@ -54,6 +63,14 @@ fn run(name: &str) {
 fn read(name: &str) {
     let tag = tags::all().into_iter().find(|tag| tag.name == name).expect("a text of that name");
     println!("{}", read_tag_into(tag.text.as_bytes(), &mut vec![0; MAX_TAG]).number);
+}
+
+/// Without a number the templates are checked and no record is read.
+fn find(name: &str, all: bool) {
+    let one = lookups::all().into_iter().find(|one| one.name == name).expect("a row of templates of that name");
+    let answer = find_answer(&one.templates, if all { &one.numbers } else { &[] });
+    assert_eq!(answer.records, if all { one.records } else { 0 });
+    println!("{}", answer.number);
 }
 
 /// The three lent buffers, allocated once.

@@ -23,10 +23,11 @@ uint32_t jsx_precompile_version(void);
 #define JSX_PRECOMPILE_MAX_TAG_TEXT 32768
 #define JSX_PRECOMPILE_MAX_TAG 65538 /* the longest field of a tag */
 #define JSX_PRECOMPILE_MIN_SCRATCH 65536
+#define JSX_PRECOMPILE_MAX_OLD_NUMBER 65535 /* of a template in an 80 */
 #define JSX_PRECOMPILE_MAX_NUMBERS 256 /* of templates that are looked up at once */
 
-/* The numbers of an answer. 9 is reserved and never given. 16 and 19 are given behind 10 and before 11. 20
-   is a lookup's. */
+/* The numbers of an answer. 9 is reserved and never given. 16 and 19 are given behind 10 and before 11. 17
+   is a conversion's, 20 a lookup's. */
 enum jsx_precompile_number {
     JSX_PRECOMPILE_ACCEPTED = 0,
     JSX_PRECOMPILE_SCRATCH_TOO_SMALL = 1,
@@ -44,6 +45,7 @@ enum jsx_precompile_number {
     JSX_PRECOMPILE_NO_READING = 14,
     JSX_PRECOMPILE_NAMES_DIFFER = 15,
     JSX_PRECOMPILE_REPEATED_ATTRIBUTE = 16,
+    JSX_PRECOMPILE_DISAGREEING = 17,
     JSX_PRECOMPILE_MIXED_CASE_VOID = 19,
     JSX_PRECOMPILE_NOT_RISING = 20
 };
@@ -112,6 +114,37 @@ typedef struct jsx_precompile_places {
 jsx_precompile_places jsx_precompile_find(
     const uint8_t *templates, size_t templates_length,
     const uint32_t *numbers, size_t numbers_length);
+
+/* A refusal has its number and zeros. */
+typedef struct jsx_precompile_converted {
+    uint32_t number;
+    size_t templates_bytes; /* written to templates_out */
+    size_t page_bytes;      /* written to page_out */
+} jsx_precompile_converted;
+
+/* The way up: templates of 80s, and a page out with numbers of two bytes, as version 0.1.0 wrote them, become templates
+   of 84s and a page out with numbers of four. The kinds are worked out from the static strings. The way down: the other
+   way; the kinds are dropped. What goes up and down, or down and up, comes back byte for byte, wherever both are accepted.
+   Either input may be empty. The first two parts are read, the others are written; none is kept, and calls in several
+   threads do not meet. No pointer may be null, not even with a length of 0, and the four parts may not overlap. Half a
+   megabyte of stack is enough.
+
+   Accepted: the outputs stand at the front of templates_out and page_out, the bytes behind them are as before. Refused:
+   both are all zero. The numbers are TRUNCATED to NUMBER_TOO_LARGE for the templates, then for the page out, the first
+   that is met from front to back; DISAGREEING where a gap lies neither in an opening tag behind a space nor outside of
+   tags, where its kind is not that of its place, or on the way down where a number is over MAX_OLD_NUMBER; then
+   OUTPUT_TOO_LONG, TEMPLATES_TOO_SMALL and PAGE_TOO_SMALL. One and a half times the length of its input is always enough
+   for an output on the way up, the length of its input on the way down. */
+jsx_precompile_converted jsx_precompile_upgrade(
+    const uint8_t *templates, size_t templates_length,
+    const uint8_t *page, size_t page_length,
+    uint8_t *templates_out, size_t templates_out_length,
+    uint8_t *page_out, size_t page_out_length);
+jsx_precompile_converted jsx_precompile_downgrade(
+    const uint8_t *templates, size_t templates_length,
+    const uint8_t *page, size_t page_length,
+    uint8_t *templates_out, size_t templates_out_length,
+    uint8_t *page_out, size_t page_out_length);
 
 #ifdef __cplusplus
 }

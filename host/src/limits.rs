@@ -105,6 +105,17 @@ pub const MAX_MEMBERS: usize = 8;
 /// ```
 pub const MAX_NUMBERS: usize = 256;
 
+/// The greatest number of a template that an 80, a template of before, has room for.
+///
+/// ```
+/// use jsx_precompile::{Refusal, downgrade, limits::MAX_OLD_NUMBER};
+///
+/// let numbered = |number: u32| [&b"\x84\0\x09"[..], &number.to_be_bytes(), b"\0\0\x81\0\0"].concat();
+/// assert!(downgrade(&numbered(MAX_OLD_NUMBER), &[]).is_ok());
+/// assert_eq!(downgrade(&numbered(MAX_OLD_NUMBER + 1), &[]), Err(Refusal::Disagreeing));
+/// ```
+pub const MAX_OLD_NUMBER: u32 = 65_535;
+
 /// The greatest whole number: up to here JavaScript's numbers are exact.
 ///
 /// ```

@@ -4,8 +4,8 @@ use std::fmt;
 
 /// Why a call is refused; document 01's number and word are given by [`number`](Refusal::number) and
 /// [`word`](Refusal::word). 9 is reserved: it was given where the ported Rust stops, and no page is refused there now.
-/// The order is that of the numbers; a transform is refused for the first in this order: 1 to 10, 16, 19, 11, 12, 13. 20
-/// is a lookup's alone, after 3, 4 and 6.
+/// The order is that of the numbers; a transform is refused for the first in this order: 1 to 10, 16, 19, 11, 12, 13. 17
+/// is a conversion's alone, after 3 to 7 and before 11, and 20 a lookup's, after 3, 4 and 6.
 ///
 /// ```
 /// use jsx_precompile::{Options, Refusal, transform};
@@ -44,6 +44,9 @@ pub enum Refusal {
     /// Document 02, A4: an element that becomes HTML has two attributes of one name, which a browser would take the first
     /// of.
     RepeatedAttribute = 16,
+    /// Document 02, A7: a gap is neither in an opening tag behind a space nor outside of tags, or its kind is not the one
+    /// that it has by its place, or, on the way down, a number is over 65,535.
+    Disagreeing = 17,
     /// Document 02, A10: an element that becomes HTML has the name of a void element, such as `br`, but with capitals in
     /// it: it would be closed, and HTML, which compares names in any case, does not close it.
     MixedCaseVoid = 19,
@@ -54,7 +57,7 @@ pub enum Refusal {
 use Refusal::*;
 
 /// In the order of their numbers.
-const ALL: [Refusal; 15] = [
+const ALL: [Refusal; 16] = [
     ScratchTooSmall,
     InputTooLong,
     Truncated,
@@ -68,6 +71,7 @@ const ALL: [Refusal; 15] = [
     TemplatesTooSmall,
     PageTooSmall,
     RepeatedAttribute,
+    Disagreeing,
     MixedCaseVoid,
     NotRising,
 ];
@@ -87,7 +91,7 @@ impl Refusal {
         ALL.into_iter().find(|refusal| refusal.number() == number)
     }
 
-    /// The number of document 01, 1 to 13 without 9, or of document 02, 16, 19 and 20.
+    /// The number of document 01, 1 to 13 without 9, or of document 02, 16, 17, 19 and 20.
     ///
     /// ```
     /// assert_eq!(jsx_precompile::Refusal::TooDeep.number(), 8);
@@ -116,6 +120,7 @@ impl Refusal {
             TemplatesTooSmall => "small shelf",
             PageTooSmall => "small page",
             RepeatedAttribute => "attribute twice",
+            Disagreeing => "disagreeing",
             MixedCaseVoid => "mixed case",
             NotRising => "not rising",
         }
@@ -147,6 +152,9 @@ impl Refusal {
             TemplatesTooSmall => "the templates do not fit the bytes lent for them",
             PageTooSmall => "page out does not fit the bytes lent for it",
             RepeatedAttribute => "an element that becomes HTML has one attribute twice, as `class` and `className` are",
+            Disagreeing => {
+                "a gap is neither an attribute's nor a child, or of another kind than its template says, or a number is over 65,535"
+            }
             MixedCaseVoid => "the name of a void element is not in small letters",
             NotRising => "over 256 numbers are looked up, or one is not greater than the one before it",
         }
@@ -168,7 +176,7 @@ mod tests {
     #[test]
     fn each_number_that_is_given_is_a_refusal() {
         let numbers: Vec<u32> = (0..=100).filter(|number| Refusal::from_number(*number).is_some()).collect();
-        assert_eq!(numbers, [1, 2, 3, 4, 5, 6, 7, 8, 10, 11, 12, 13, 16, 19, 20]);
+        assert_eq!(numbers, [1, 2, 3, 4, 5, 6, 7, 8, 10, 11, 12, 13, 16, 17, 19, 20]);
         assert_eq!(ALL.map(Refusal::number)[..], numbers);
     }
 }

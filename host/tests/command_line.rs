@@ -169,11 +169,81 @@ fn find() {
         (
             b"\x80\0\x05\0\x01\x81\0\0",
             &["1"],
-            "templates out, byte 0: 4 (misplaced): 80s are not looked up".to_string(),
+            "templates out, byte 0: 4 (misplaced): 80s are not looked up; `jsx-precompile upgrade` makes 84s of them"
+                .to_string(),
         ),
     ] {
         let expected = format!("jsx-precompile: standard input: {said}\n");
         assert_eq!(run(&[&["find", "-"], words].concat(), bytes), (1, String::new(), expected));
+    }
+}
+
+#[test]
+fn upgrade_and_downgrade() {
+    let files = |age: &str| [format!("examples/hall-{age}.templates"), format!("examples/hall-{age}.out")];
+    for (command, from, to, said) in [
+        ("upgrade", "old", "new", "taken: 30 bytes of templates out, 334 of page out\n"),
+        ("downgrade", "new", "old", "taken: 24 bytes of templates out, 332 of page out\n"),
+    ] {
+        let [templates, page] = files(from);
+        assert_eq!(run(&[command, &templates, &page], b""), (0, said.to_string(), String::new()));
+        let bytes = example(&format!("hall-{from}.out"));
+        assert_eq!(run(&[command, &templates, "-"], &bytes), (0, said.to_string(), String::new()));
+        let [to_templates, to_page] = [room(&format!("{to}.templates")), room(&format!("{to}.out"))];
+        let words = [command, "--templates", &to_templates, "--page", &to_page, &templates, &page];
+        assert_eq!(run(&words, b""), (0, String::new(), String::new()));
+        assert_eq!(std::fs::read(&to_templates).expect("it is written"), example(&format!("hall-{to}.templates")));
+        assert_eq!(std::fs::read(&to_page).expect("it is written"), example(&format!("hall-{to}.out")));
+        // refused, neither is written
+        let [to_templates, to_page] = [room(&format!("{to}.templates")), room(&format!("{to}.out"))];
+        let words = [command, "--templates", &to_templates, "--page", &to_page, &files(to)[0], &page];
+        let (status, out, said) = run(&words, b"");
+        assert_eq!((status, &*out), (1, ""));
+        assert!(said.starts_with(&format!("jsx-precompile: {}: 4 (misplaced): ", files(to)[0])), "{said}");
+        assert!(!Path::new(&to_templates).exists() && !Path::new(&to_page).exists());
+    }
+}
+
+/// Which of the two is refused, and where that is known the place.
+#[test]
+fn refused_conversions() {
+    let sound = "examples/hall-new.templates";
+    let up = "; what goes up has templates of 80s and calls with numbers of two bytes";
+    for (words, input, file, said) in [
+        (
+            ["downgrade", "-", "examples/hall-new.out"],
+            &b"\x84\0\x09"[..],
+            "standard input",
+            "templates out, byte 0: 3 (torn): 84 (template) of 9 bytes where 0 are left".to_string(),
+        ),
+        (
+            ["downgrade", sound, "-"],
+            b"\x12\0\x04\x20\0\x01\xff",
+            "standard input",
+            "page out, byte 6, 12 > 20: 6 (bad letters): byte ff in 20 (source) is not UTF-8".to_string(),
+        ),
+        (
+            ["downgrade", sound, "-"],
+            b"\x12\0\x07\x90\0\x04\0\x01\0\0",
+            "standard input",
+            Refusal::Disagreeing.to_string(),
+        ),
+        (
+            ["downgrade", "-", "examples/hall-new.out"],
+            b"\x84\0\x09\0\x01\0\0\0\0\x81\0\0",
+            "standard input",
+            Refusal::Disagreeing.to_string(),
+        ),
+        (
+            ["upgrade", "examples/hall-old.templates", "-"],
+            b"\x12\0\x04\x90\0\x01\0",
+            "standard input",
+            format!("{}{up}", Refusal::Misplaced),
+        ),
+        (["upgrade", sound, "-"], b"\x12", sound, format!("{}{up}", Refusal::Misplaced)),
+    ] {
+        let expected = format!("jsx-precompile: {file}: {said}\n");
+        assert_eq!(run(&words, input), (1, String::new(), expected), "{words:?}");
     }
 }
 
@@ -203,6 +273,17 @@ fn bad_calls() {
             "4294967296 is no number from 0 to 4294967295; see `jsx-precompile find --help`",
         ),
         (&["find", "a", "-1"], "find has no option -1; see `jsx-precompile find --help`"),
+        (&["upgrade", "a"], "upgrade takes templates and a page out; see `jsx-precompile upgrade --help`"),
+        (
+            &["downgrade", "a", "b", "c"],
+            "downgrade takes templates and a page out; see `jsx-precompile downgrade --help`",
+        ),
+        (&["upgrade", "-", "-"], "- stands for one file alone; see `jsx-precompile upgrade --help`"),
+        (
+            &["upgrade", "--page", "c", "a", "b"],
+            "--templates and --page belong together; see `jsx-precompile upgrade --help`",
+        ),
+        (&["downgrade", "--sums", "a", "b"], "downgrade has no option --sums; see `jsx-precompile downgrade --help`"),
         (
             &["build", "a", "--import-source"],
             "--import-source needs a word behind it; see `jsx-precompile build --help`",
@@ -235,7 +316,7 @@ fn help() {
     let (status, all, said) = run(&["--help"], b"");
     assert_eq!((status, &*said), (0, ""));
     assert_eq!(run(&["help"], b"").1, all);
-    for command in ["build", "check", "show", "preview", "tag", "find"] {
+    for command in ["build", "check", "show", "preview", "tag", "find", "upgrade", "downgrade"] {
         assert!(all.contains(&format!("\n  {command} ")), "{command}");
         let (status, text, said) = run(&[command, "--help"], b"");
         assert_eq!((status, &*said), (0, ""));

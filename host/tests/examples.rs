@@ -2,7 +2,8 @@
 //! .card what the judge prints of the page and what the program `card` prints. With EXAMPLES_WRITE=1 the files are
 //! written, the cards by the judge; without it they are only compared. Of each .tag the .field is what the program
 //! `jsx-precompile tag` says, and what the judge reads. A .templates is templates out of a page, and its .found what
-//! `jsx-precompile find` says of them.
+//! `jsx-precompile find` says of them. NAME-old and NAME-new, .templates and .out, are both outs of a page as version 0.1.0
+//! wrote them and as they are written now.
 
 mod common;
 mod program;
@@ -12,7 +13,8 @@ use common::{jsx_precompile, no_judge, say};
 use jsx_precompile::javascript::Printer;
 use jsx_precompile::out::{PageOut, Templates};
 use jsx_precompile::page::Page;
-use jsx_precompile::{Options, transform};
+use jsx_precompile::{Options, downgrade, transform, upgrade};
+use oracle::outs::convert::{self, Way};
 use oracle::{marks, outcome};
 use program::{Program, parting};
 use std::collections::BTreeSet;
@@ -32,6 +34,9 @@ const TAGS: [(&str, u32); 7] =
 
 /// The page whose templates are looked up, and the numbers that are asked for.
 const FOUND: (&str, [u32; 4]) = ("rows", [1, 2, 3, 9]);
+
+/// The page whose outs are converted.
+const CONVERTED: &str = "hall";
 
 /// A file of the repository, by its name seen from the root.
 fn at(name: &str) -> PathBuf {
@@ -76,6 +81,9 @@ fn write(examples: &[Example]) {
     fs::write(at(&templates), templates_by_the_judge(examples)).unwrap_or_else(|error| panic!("{templates}: {error}"));
     let found = format!("examples/{}.found", FOUND.0);
     fs::write(at(&found), found_said()).unwrap_or_else(|error| panic!("{found}: {error}"));
+    for (name, bytes) in converted_by_the_judge(examples) {
+        fs::write(at(&name), bytes).unwrap_or_else(|error| panic!("{name}: {error}"));
+    }
     for (tag, _) in TAGS {
         let name = format!("examples/{tag}.field");
         fs::write(at(&name), tag_said(tag)).unwrap_or_else(|error| panic!("{name}: {error}"));
@@ -86,6 +94,40 @@ fn write(examples: &[Example]) {
 fn templates_by_the_judge(examples: &[Example]) -> Vec<u8> {
     let example = examples.iter().find(|example| example.name == FOUND.0).expect("the example is there");
     outcome(&example.page, &[]).expect("the judge takes it").templates
+}
+
+/// The files of the outs that are converted: old templates and page out, then new ones.
+fn converted_files() -> [String; 4] {
+    let file = |end: &str| format!("examples/{CONVERTED}-{end}");
+    [file("old.templates"), file("old.out"), file("new.templates"), file("new.out")]
+}
+
+/// These files with their bytes: what the judge of the transform writes, and what the judge of the way down makes of it.
+fn converted_by_the_judge(examples: &[Example]) -> Vec<(String, Vec<u8>)> {
+    let example = examples.iter().find(|example| example.name == CONVERTED).expect("the example is there");
+    let new = outcome(&example.page, &[]).expect("the judge takes it");
+    let old = convert::outcome(Way::Down, &new.templates, &new.page).expect("it goes down");
+    converted_files().into_iter().zip([old.templates, old.page, new.templates, new.page]).collect()
+}
+
+#[test]
+fn outs_old_and_new() {
+    let examples = examples();
+    let [old, old_page, new, new_page] = converted_files().map(|name| stored(&name));
+    let forms = transform(&stored(&format!("examples/{CONVERTED}.page")), &Options::new()).expect("it is taken");
+    assert!((&new[..], &new_page[..]) == (forms.templates_bytes(), forms.page_bytes()), "not what the library writes");
+    let up = upgrade(&old, &old_page).expect("it goes up");
+    assert!((&new[..], &new_page[..]) == (up.templates_bytes(), up.page_bytes()), "the old ones become others");
+    let down = downgrade(&new, &new_page).expect("it goes down");
+    assert!((&old[..], &old_page[..]) == (down.templates_bytes(), down.page_bytes()), "the new ones become others");
+    let judged = convert::outcome(Way::Up, &old, &old_page).expect("the judge takes it");
+    assert!((new, new_page) == (judged.templates, judged.page), "the judge makes others of the old ones");
+    if !no_judge() {
+        for (name, bytes) in converted_by_the_judge(&examples) {
+            assert!(stored(&name) == bytes, "{name} is not what the judge writes");
+        }
+    }
+    say("examples: an old shelf and page out go up and come back as stored");
 }
 
 /// What the program finds.
@@ -291,8 +333,12 @@ fn folder_and_readmes() {
     let files = examples.iter().flat_map(|example| ["card", "jsx", "page"].map(|end| file(example, end)));
     let of_tags = TAGS.iter().flat_map(|(tag, _)| ["tag", "field"].map(|end| format!("examples/{tag}.{end}")));
     let of_templates = ["templates", "found"].map(|end| format!("examples/{}.{end}", FOUND.0));
-    let expected: BTreeSet<String> =
-        files.chain(of_tags).chain(of_templates).chain(["examples/README.md", SUMS.1].map(str::to_string)).collect();
+    let expected: BTreeSet<String> = files
+        .chain(of_tags)
+        .chain(of_templates)
+        .chain(converted_files())
+        .chain(["examples/README.md", SUMS.1].map(str::to_string))
+        .collect();
     let folder = fs::read_dir(at("examples")).unwrap_or_else(|error| panic!("examples: {error}"));
     for file in folder {
         let name = format!("examples/{}", file.expect("it is there").file_name().display());
@@ -305,6 +351,10 @@ fn folder_and_readmes() {
         assert!(list.contains(&format!("\n| `{name}` |")), "examples/README.md has no line for {name}");
     }
     assert!(list.contains(&format!("\n| `{}.templates` |", FOUND.0)), "examples/README.md has no line for templates");
+    for name in converted_files() {
+        let name = name.strip_prefix("examples/").expect("a file of examples/");
+        assert!(list.contains(&format!("`{name}`")), "examples/README.md does not name {name}");
+    }
     for (tag, _) in TAGS {
         assert!(list.contains(&format!("\n| `{tag}.tag` |")), "examples/README.md has no line for {tag}.tag");
     }

@@ -239,6 +239,7 @@ fn every_limit_has_its_row() {
         ("body of a field, in and out", MAX_BODY, " bytes"),
         ("scratch, at least", MIN_SCRATCH, " bytes"),
         ("numbers looked up at once", MAX_NUMBERS, ""),
+        ("number of a template in an `80`", MAX_OLD_NUMBER as usize, ""),
     ];
     for (name, limit, unit) in limits {
         assert_eq!(rows(name), [format!("| {name} | {}{unit} |", grouped(limit))]);

@@ -1,6 +1,7 @@
-//! docs/FORMAT.md, Looking templates up: its examples are what the library and the judge answer.
+//! docs/FORMAT.md, Looking templates up and Outs of before: their examples are what the library and the judge answer.
 
-use jsx_precompile::find;
+use jsx_precompile::{Converted, Refusal, downgrade, find, upgrade};
+use oracle::outs::convert::{self, Way};
 use oracle::outs::find::{ABSENT, outcome};
 use oracle::vectors::unhex;
 use std::path::Path;
@@ -84,4 +85,46 @@ fn lookups_hold() {
     }
     println!("format: {} lookups, {found} taken, {refused} refused, as shown", examples.len());
     assert!(found > 1 && refused > 1, "{found} taken, {refused} refused");
+}
+
+type Call = fn(&[u8], &[u8]) -> Result<Converted, Refusal>;
+
+/// Those that are accepted both ways.
+fn conversions_hold(way: Way, [from, to]: [&str; 2], [there, back]: [Call; 2]) -> (usize, usize) {
+    let both = |example: &Example, age: &str| [example.bytes(age), example.bytes(&format!("{age} page"))];
+    let kind = if way == Way::Up { "up" } else { "down" };
+    let (mut taken, mut refused) = (0, 0);
+    for example in examples(kind) {
+        let line = example.line;
+        let [templates, page] = both(&example, from);
+        let judged = convert::outcome(way, &templates, &page).map(|outs| (outs.templates, outs.page));
+        let answer = example.value("answer").expect("an answer");
+        match there(&templates, &page) {
+            Ok(outs) => {
+                assert_eq!(answer, "0 accepted", "line {line}");
+                let expected = both(&example, to);
+                assert_eq!([outs.templates_bytes(), outs.page_bytes()], expected, "line {line}");
+                assert_eq!(judged, Ok((expected[0].clone(), expected[1].clone())), "line {line}");
+                let again = back(&expected[0], &expected[1]).unwrap_or_else(|refusal| panic!("line {line}: {refusal}"));
+                assert_eq!([again.templates_bytes(), again.page_bytes()], [templates, page], "line {line}");
+                taken += 1;
+            }
+            Err(refusal) => {
+                assert_eq!(answer, format!("{} {refusal:?}", refusal.number()), "line {line}");
+                assert_eq!(judged.map_err(|refusal| refusal as u32), Err(refusal.number()), "line {line}");
+                assert_eq!(example.rows.len(), 3, "line {line}");
+                refused += 1;
+            }
+        }
+    }
+    (taken, refused)
+}
+
+#[test]
+fn ways_up_and_down_hold() {
+    let up = conversions_hold(Way::Up, ["old", "new"], [upgrade, downgrade]);
+    let down = conversions_hold(Way::Down, ["new", "old"], [downgrade, upgrade]);
+    let (taken, refused) = (up.0 + down.0, up.1 + down.1);
+    println!("format: {taken} conversions both ways, {refused} refused, as shown");
+    assert!(taken > 0 && up.1 > 1 && down.1 > 1, "{up:?} {down:?}");
 }

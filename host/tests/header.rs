@@ -2,7 +2,7 @@
 
 use jsx_precompile::limits::MAX_NUMBERS;
 use jsx_precompile::page::{Element, Expression, Item, Page};
-use jsx_precompile::{Options, Tag, find, transform};
+use jsx_precompile::{Options, Tag, downgrade, find, transform};
 use std::path::Path;
 use std::process::Command;
 
@@ -72,6 +72,20 @@ fn answers_alike(program: &Path) {
     let all: Vec<u32> = (0..=MAX_NUMBERS as u32).collect();
     assert_eq!(looked_up(&[], &all[1..]), format!("0 0{}\n", " absent".repeat(MAX_NUMBERS)));
     assert_eq!(looked_up(&[], &all), format!("20 0{}\n", " absent".repeat(MAX_NUMBERS)));
+
+    let converted = |way: &str, templates: &[u8], page: &[u8]| {
+        let output = Command::new(program).args([way, &hex(templates), &hex(page)]).output().expect("the program runs");
+        String::from_utf8(output.stdout).expect("text")
+    };
+    let new = (forms.templates_bytes(), forms.page_bytes());
+    let old = downgrade(new.0, new.1).expect("it goes down");
+    let old = (old.templates_bytes(), old.page_bytes());
+    assert_eq!(converted("down", new.0, new.1), format!("0 {} {}\n", hex(old.0), hex(old.1)));
+    assert_eq!(converted("up", old.0, old.1), format!("0 {} {}\n", hex(new.0), hex(new.1)));
+    assert_eq!(converted("up", &[], &[]), "0  \n");
+    assert_eq!(converted("up", new.0, old.1), "4  \n");
+    assert_eq!(converted("down", &[], &[0x83]), "3  \n");
+    assert_eq!(converted("down", b"\x84\0\x09\0\x01\0\0\0\0\x81\0\0", &[]), "17  \n");
 }
 
 #[test]
@@ -82,7 +96,7 @@ fn a_program_in_c() {
     let program = Path::new(env!("CARGO_TARGET_TMPDIR")).join("header_c");
     compile("cc", &["-std=c99", "-x", "c"], &program);
     answers_alike(&program);
-    println!("header: compiled by cc, twelve answers alike");
+    println!("header: compiled by cc, eighteen answers alike");
 }
 
 #[test]
@@ -93,7 +107,7 @@ fn a_program_in_cpp() {
     let program = Path::new(env!("CARGO_TARGET_TMPDIR")).join("header_cpp");
     compile("c++", &["-x", "c++"], &program);
     answers_alike(&program);
-    println!("header: compiled by c++, twelve answers alike");
+    println!("header: compiled by c++, eighteen answers alike");
 }
 
 /// The header's limits and numbers are the crate's.
@@ -110,6 +124,7 @@ fn constants() {
     assert!(header.contains(&format!("#define JSX_PRECOMPILE_MAX_TAG_TEXT {MAX_TAG_TEXT}\n")));
     assert!(header.contains(&format!("#define JSX_PRECOMPILE_MAX_TAG {MAX_TAG} ")));
     assert!(header.contains(&format!("#define JSX_PRECOMPILE_MAX_NUMBERS {MAX_NUMBERS} ")));
+    assert!(header.contains(&format!("#define JSX_PRECOMPILE_MAX_OLD_NUMBER {MAX_OLD_NUMBER} ")));
     assert!(header.contains(&format!("#define JSX_PRECOMPILE_VERSION \"{}\"\n", jsx_precompile::VERSION)));
     let (major, minor, patch) = jsx_precompile::library_version();
     assert_eq!(format!("{major}.{minor}.{patch}"), jsx_precompile::VERSION, "the library's own answer");
@@ -165,5 +180,5 @@ fn installed() {
     let output = cc.output().expect("the compiler runs");
     assert!(output.status.success(), "{}", String::from_utf8_lossy(&output.stderr));
     answers_alike(&program);
-    println!("header: installed, compiled with {words}, twelve answers alike");
+    println!("header: installed, compiled with {words}, eighteen answers alike");
 }

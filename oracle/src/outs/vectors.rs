@@ -1,6 +1,7 @@
 //! Stored answers, one call on a line, words parted by one space, bytes as small hex digits, `-` where there are none.
 
 use super::catalogue::{self, Catalogued};
+use super::compare::Convert;
 use super::convert::{Converted, Way, downgrade, upgrade};
 use super::fill::{Filled, fill};
 use super::find::{ABSENT, MOST_NUMBERS, Places, find};
@@ -29,8 +30,13 @@ fn after(number: u32, before: u8, lent: usize, written: &[u8]) -> Vec<u8> {
     bytes
 }
 
-/// seed up|down templates page templates-lent page-lent number templates-bytes page-bytes TEMPLATES PAGE
 pub fn convert(line: &str) -> Option<Found> {
+    convert_by(line, upgrade, downgrade)
+}
+
+/// seed up|down templates page templates-lent page-lent number templates-bytes page-bytes TEMPLATES PAGE; `up` and `down`
+/// are the judge's or another's.
+pub fn convert_by(line: &str, up: impl Convert, down: impl Convert) -> Option<Found> {
     let words: Vec<&str> = line.split(' ').collect();
     let [_, way, templates, page, lent, page_lent, number, bytes, page_bytes, written, page_written] = words[..] else {
         return None;
@@ -40,8 +46,11 @@ pub fn convert(line: &str) -> Option<Found> {
     let (lent, page_lent): (usize, usize) = (lent.parse().ok()?, page_lent.parse().ok()?);
     let stored = Converted { number, templates_bytes: bytes.parse().ok()?, page_bytes: page_bytes.parse().ok()? };
     let (mut out, mut page_out) = (vec![TEMPLATES_BEFORE; lent], vec![PAGE_BEFORE; page_lent]);
-    let call = if way == Way::Up { upgrade } else { downgrade };
-    let answer = call(&unhex(templates)?, &unhex(page)?, &mut out, &mut page_out);
+    let (templates, page) = (unhex(templates)?, unhex(page)?);
+    let answer = match way {
+        Way::Up => up(&templates, &page, &mut out, &mut page_out),
+        Way::Down => down(&templates, &page, &mut out, &mut page_out),
+    };
     let stored_out = after(number, TEMPLATES_BEFORE, lent, &unhex(written)?);
     let stored_page = after(number, PAGE_BEFORE, page_lent, &unhex(page_written)?);
     found(number, (answer, out, page_out), (stored, stored_out, stored_page))

@@ -23,6 +23,11 @@ fn said(templates: &[u8], refusal: Refusal) -> String {
         Err(fault) if fault.refusal == refusal => fault.to_string(),
         _ if refusal == Refusal::NotRising => refusal.to_string(),
         // Templates of before, which are read and not looked up.
-        _ => format!("{}, byte 0: {} ({}): 80s are not looked up", Input::Templates, refusal.number(), refusal.word()),
+        _ => format!(
+            "{}, byte 0: {} ({}): 80s are not looked up; `jsx-precompile upgrade` makes 84s of them",
+            Input::Templates,
+            refusal.number(),
+            refusal.word()
+        ),
     }
 }

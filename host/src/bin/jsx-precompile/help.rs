@@ -25,9 +25,12 @@ Commands:
   preview    print an HTML page that shows source, templates and calls
   tag        read the text of one tag and print its field, or the place and the reason
   find       print where templates stand, by their numbers
+  upgrade    convert templates out and page out of version 0.1.0 into what is written now
+  downgrade  convert templates out and page out into what version 0.1.0 wrote
 
-FILE is a page, as bytes or in hex digits, for tag a text and for find templates out; - is standard input.
-docs/FORMAT.md of the repository says what these are.
+FILE is a page, as bytes or in hex digits, for tag a text, for find templates out, and for
+upgrade and downgrade there are two, templates out and page out; - is standard input. docs/FORMAT.md of the repository
+says what these are.
 `jsx-precompile COMMAND --help` tells more of a command, --version prints the version.
 
 Results go to standard output, messages to standard error. The exit status is
@@ -149,3 +152,54 @@ Example:
   absent  84 template 9
   3 of 4 found, 3 templates read
 ";
+
+macro_rules! convert_help {
+    ($name:literal, $from:literal, $words:literal, $said:literal) => {
+        concat!(
+            "jsx-precompile ",
+            $name,
+            " [--templates FILE --page FILE] TEMPLATES PAGE
+
+",
+            $words,
+            "
+With --templates and --page both are written to these files as bytes; without them it is said how long they are. What
+goes up and down, or down and up, comes back byte for byte.
+
+Options:
+  --templates FILE    where the templates are written
+  --page FILE         where page out is written
+
+Example:
+  $ jsx-precompile ",
+            $name,
+            " examples/",
+            $from,
+            ".templates examples/",
+            $from,
+            ".out
+  ",
+            $said,
+            "
+"
+        )
+    };
+}
+
+pub const UPGRADE: &str = convert_help!(
+    "upgrade",
+    "hall-old",
+    "Makes templates of 80s, and a page out whose calls have numbers of two bytes, as version 0.1.0 wrote them, into what
+is written now: 84s, with the kinds of their gaps worked out from their strings, and numbers of four bytes.
+",
+    "taken: 30 bytes of templates out, 334 of page out"
+);
+
+pub const DOWNGRADE: &str = convert_help!(
+    "downgrade",
+    "hall-new",
+    "Makes templates and page out into what version 0.1.0 wrote, for hosts that read only 80s: without the kinds of gaps,
+and with numbers of two bytes. A number over 65,535 is refused, and so is a kind that is not that of its gap.
+",
+    "taken: 24 bytes of templates out, 332 of page out"
+);

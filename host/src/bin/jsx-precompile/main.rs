@@ -1,6 +1,7 @@
 //! The program `jsx-precompile`: pages into JavaScript modules, and views of pages and outputs. `jsx-precompile --help`
 //! says how it is called.
 
+mod convert;
 mod find;
 mod help;
 mod input;
@@ -61,6 +62,16 @@ fn run(command: &Command) -> u8 {
             });
             printed.and_then(|text| print(&text))
         }
+        Command::Convert { way, files, outputs } => convert::converted(*way, files).and_then(|both| match outputs {
+            None => {
+                let lengths = (both.templates_bytes().len(), both.page_bytes().len());
+                print(&format!("taken: {} bytes of templates out, {} of page out\n", lengths.0, lengths.1))
+            }
+            Some((templates, page)) => {
+                write(templates, both.templates_bytes())?;
+                write(page, both.page_bytes())
+            }
+        }),
         Command::Find { file, numbers } => read(file, None).and_then(|bytes| {
             let printed = find::printed(&bytes, numbers);
             print(&printed.map_err(|said| Failure { said: format!("{}: {said}", named(file)), status: REFUSED })?)

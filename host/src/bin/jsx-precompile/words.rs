@@ -15,6 +15,14 @@ pub enum Command {
     Preview { file: String, options: Options },
     Tag { file: String, form: Form },
     Find { file: String, numbers: Vec<u32> },
+    Convert { way: Way, files: [String; 2], outputs: Option<(String, String)> },
+}
+
+/// Which way templates out and page out are converted.
+#[derive(Clone, Copy, PartialEq, Eq)]
+pub enum Way {
+    Up,
+    Down,
 }
 
 /// How a tag that was read is printed.
@@ -34,13 +42,15 @@ pub struct BadCall {
     pub command: Option<&'static str>,
 }
 
-const COMMANDS: [(&str, &str); 6] = [
+const COMMANDS: [(&str, &str); 8] = [
     ("build", help::BUILD),
     ("check", help::CHECK),
     ("show", help::SHOW),
     ("preview", help::PREVIEW),
     ("tag", help::TAG),
     ("find", help::FIND),
+    ("upgrade", help::UPGRADE),
+    ("downgrade", help::DOWNGRADE),
 ];
 
 impl Command {
@@ -97,7 +107,8 @@ impl Words {
                 }
                 _ => word,
             };
-            let transforms = !matches!(command, "show" | "tag" | "find");
+            let transforms = matches!(command, "build" | "check" | "preview");
+            let writes = matches!(command, "build" | "upgrade" | "downgrade");
             let mut value =
                 || rest.pop_front().map(str::to_string).ok_or_else(|| format!("{word} needs a word behind it"));
             match word {
@@ -105,8 +116,8 @@ impl Words {
                 "--skip-attribute" if transforms => read.options = read.options.skip_prop_serialize([value()?]),
                 "--import-source" if transforms => read.options = read.options.import_source(value()?),
                 "--sums" if transforms => read.options = read.options.sums(true),
-                "--templates" if command == "build" => read.templates = Some(value()?),
-                "--page" if command == "build" => read.page = Some(value()?),
+                "--templates" if writes => read.templates = Some(value()?),
+                "--page" if writes => read.page = Some(value()?),
                 "--as" if command == "show" => read.input = Some(kind(&value()?)?),
                 "--as" if command == "tag" => read.form = Some(form(&value()?)?),
                 "--hex" if command == "show" => read.bytes = Some(Bytes::Hex),
@@ -130,19 +141,38 @@ impl Words {
             let file = words.next().ok_or("no file (- is standard input)")?;
             return Ok(Command::Find { file, numbers: words.map(|word| number(&word)).collect::<Result<_, _>>()? });
         }
+        let outputs = match (templates, page) {
+            (Some(templates), Some(page)) => Some((templates, page)),
+            (None, None) => None,
+            _ => return Err("--templates and --page belong together".to_string()),
+        };
+        if let Some(way) = way(command) {
+            let files: [String; 2] =
+                files.try_into().map_err(|_| format!("{command} takes templates and a page out"))?;
+            return match &files {
+                [templates, page] if templates == "-" && page == "-" => Err("- stands for one file alone".to_string()),
+                _ => Ok(Command::Convert { way, files, outputs }),
+            };
+        }
         let file = match (files.pop(), files.pop()) {
             (Some(file), None) => file,
             (None, _) => return Err("no file (- is standard input)".to_string()),
             (Some(_), Some(_)) => return Err(format!("{command} takes one file")),
         };
-        Ok(match (command, templates, page) {
-            ("show", ..) => Command::Show { file, input, bytes, whole },
-            ("preview", ..) => Command::Preview { file, options },
-            ("tag", ..) => Command::Tag { file, form: form.unwrap_or(Form::Tree) },
-            (_, Some(templates), Some(page)) => Command::Build { file, options, outputs: Some((templates, page)) },
-            (_, None, None) => Command::Build { file, options, outputs: None },
-            _ => return Err("--templates and --page belong together".to_string()),
+        Ok(match command {
+            "show" => Command::Show { file, input, bytes, whole },
+            "preview" => Command::Preview { file, options },
+            "tag" => Command::Tag { file, form: form.unwrap_or(Form::Tree) },
+            _ => Command::Build { file, options, outputs },
         })
+    }
+}
+
+fn way(command: &str) -> Option<Way> {
+    match command {
+        "upgrade" => Some(Way::Up),
+        "downgrade" => Some(Way::Down),
+        _ => None,
     }
 }
 
