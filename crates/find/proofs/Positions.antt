@@ -11,11 +11,7 @@ use borrow.Author.Tests.{ltb-true, ltb-false, eq-eqb, ne-eqb}
 use Rattle.field.specs.Bytes.{Bytes, pick}
 use Rattle.field.specs.Number.{number-of}
 use Rattle.field.specs.Row.{Row, end, loose, field}
-use Rattle.find.specs.Words.{numbers-of, position-of, read-up-to}
-
--- no record has the number
-abbrev pub Missing : ℕ → Row → Type 0
-Missing n x = (j : ℕ) → j < length (numbers-of x) → getD (numbers-of x) j 0 ≡ n → ⊥
+use Rattle.find.specs.Words.{numbers-of, Missing, position-of, read-up-to}
 
 -- ---- the position of one number
 

@@ -47,6 +47,10 @@ numbers-of end = []
 numbers-of (loose b) = []
 numbers-of (field t f i r) = number-of (take 4 f) ∷ numbers-of r
 
+-- no record has the number
+abbrev pub Missing : ℕ → Row → Type 0
+Missing n x = (j : ℕ) → j < length (numbers-of x) → getD (numbers-of x) j 0 ≡ n → ⊥
+
 -- the position, from 1, of the first record with a number; or the count of all records, if it is absent
 unfoldable pub position-of : ℕ → Row → ℕ
 position-of n end = 0
