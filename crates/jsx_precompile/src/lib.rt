@@ -3,10 +3,15 @@
 // exports of the crate that it is named after alone.
 ghost use mathlib.Core.Path.{_≡_};
 ghost use lib.ListN.{length};
+ghost use Rattle.convert.specs.Convert.{upgraded, downgraded};
+ghost use Rattle.convert.specs.Flat.{Converts};
 ghost use Rattle.spec.specs.Answer.{outcome};
 ghost use Rattle.tag_pass.specs.Answers.{TagAnswers};
 ghost use Rattle.transform.specs.Run.{Answers};
 ghost use Rattle.jsx_precompile.specs.Version.{version};
+use convert::Converted;
+use convert::downgrade;
+use convert::upgrade;
 use tag_pass::answer::TagAnswer;
 use tag_pass::answer::read_tag;
 use transform::Answer;
@@ -31,6 +36,32 @@ pub extern "C" fn jsx_precompile_read_tag(text: &[u8], tag_out: &mut [u8]) -> Ta
     ensures { λ a. ⌜ TagAnswers (now (text .entry)) (now («tag_out» .entry)) a (now («tag_out» .exit)) ⌝ }
 {
     read_tag(text, tag_out)
+}
+
+// Document 02, A7: templates and page out from the old form into the new.
+#[no_mangle]
+pub extern "C" fn jsx_precompile_upgrade<'a>(
+    templates: &'a [u8],
+    page: &'a [u8],
+    templates_out: &mut [u8],
+    page_out: &mut [u8],
+) -> Converted
+    ensures { λ a. ⌜ Converts (upgraded (now (templates .entry)) (now (page .entry)) (length (now («templates_out» .entry))) (length (now («page_out» .entry)))) (now («templates_out» .entry)) (now («page_out» .entry)) a (now («templates_out» .exit)) (now («page_out» .exit)) ⌝ }
+{
+    upgrade(templates, page, templates_out, page_out)
+}
+
+// The other way round.
+#[no_mangle]
+pub extern "C" fn jsx_precompile_downgrade<'a>(
+    templates: &'a [u8],
+    page: &'a [u8],
+    templates_out: &mut [u8],
+    page_out: &mut [u8],
+) -> Converted
+    ensures { λ a. ⌜ Converts (downgraded (now (templates .entry)) (now (page .entry)) (length (now («templates_out» .entry))) (length (now («page_out» .entry)))) (now («templates_out» .entry)) (now («page_out» .entry)) a (now («templates_out» .exit)) (now («page_out» .exit)) ⌝ }
+{
+    downgrade(templates, page, templates_out, page_out)
 }
 
 // The version of the library: major * 10,000 + minor * 100 + patch.
