@@ -1,23 +1,24 @@
--- What the loops over strings and kinds stand on. Main statements: `entered-other`, `passes-on`, `fields-more`, `marks-on`, `put-on`, `Marking`,
+-- What the loops over strings and kinds stand on. Main statements: `entered-other`, `passes-on`, `run-passed`, `fields-more`, `marks-on`, `put-on`, `Marking`,
 -- `Comparing`. Assumes nothing.
-use mathlib.Core.Path.{_≡_, refl, sym, ap, ap₂, _∙_}
-use mathlib.Core.Bool.{Bool, true, false, _&&_}
+use mathlib.Core.Path.{_≡_, refl, sym, ap, ap₂, _∙_, subst}
+use mathlib.Core.Bool.{Bool, true, false, _&&_, _||_}
 use Prim.Native.Nat.{ℕ, zero, suc, _+_, _-_, _≤_, _<_}
 use native.Mathlib.Omega.{arith}
+use native.Mathlib.Decide.{decLe}
 use native.Mathlib.Numerals.{add-one}
 use mathlib.Core.List.{[], _∷_, _++_}
 use lib.Dec.{eqb, leb}
 use lib.ListN.{length, drop, getD, drop-of-length-le}
 use lib.Seq.{drop-cons}
 use borrow.Author.Tests.{eq-eqb, ne-eqb}
-use Rattle.field.specs.Bytes.{Bytes, same}
+use Rattle.field.specs.Bytes.{Bytes, pick, same}
 use Rattle.field.specs.Row.{Row, end, loose, field, Inside, only-bytes, fields-after, counted, inside, opened, read, Ended}
 use Rattle.field.specs.Front.{tag-of, body-of, behind-of}
 use Rattle.field.specs.Put.{put, Wrote}
 use Rattle.field.proofs.FrontLaws.{read-at, sizes}
 use Rattle.field.proofs.PutLaws.{put-put, put-nil, wrote-length}
 use Rattle.convert.specs.Kinds.{passed, all-passed}
-use Rattle.convert.specs.Flat.{kind-number, kind-marks, all-clear, fields-in}
+use Rattle.convert.specs.Flat.{is-entered, sign, NoSign, kind-number, kind-marks, all-clear, fields-in}
 use Rattle.convert.specs.declared.kinds.Markup.{Markup}
 use Rattle.convert.specs.declared.kinds.Markup.the-variants as M
 
@@ -35,6 +36,78 @@ module _ (q : Markup) (s : Bytes) (i : ℕ) where
   pub passes-all : length s ≤ i → all-passed q (drop i s) ≡ q
   unfolding all-passed
   passes-all h = ap (all-passed q) (drop-of-length-le s h)
+
+-- ---- a run without signs
+
+or-down : (a b : Bool) → (a || b) ≡ false → (a ≡ false) × (b ≡ false)
+or-down true b h = absurd (let z : _≡_ {A = ℕ} 0 1 = cc in omega arith)
+or-down false b h = (refl, h)
+
+-- a byte that is no sign is forgotten
+record Stays (q : Markup) (c : ℕ) : Type 0 where
+  not-entered : is-entered (passed q c) ≡ false
+  forgotten : (x : ℕ) → passed q x ≡ passed (passed q c) x
+
+stays-as : (q p : Markup) (c : ℕ) → passed q c ≡ p → is-entered p ≡ false → ((x : ℕ) → passed q x ≡ passed p x) → Stays q c
+stays-as q p c k e f = record { not-entered = ap is-entered k ∙ e; forgotten = λ x. f x ∙ ap (λ (y : Markup). passed y x) (sym k) }
+
+in-opening-stays : (c : ℕ) → eqb c 60 ≡ false → eqb c 62 ≡ false → (b : Bool) → eqb c 32 ≡ b → passed M.Opening c ≡ pick b M.Spaced M.Opening
+unfolding passed
+in-opening-stays c p q true r = rw (p, q, r)
+in-opening-stays c p q false r = rw (p, q, r)
+
+opening-stays : (c : ℕ) → eqb c 60 ≡ false → eqb c 62 ≡ false → (b : Bool) → eqb c 32 ≡ b → Stays M.Opening c
+unfolding passed is-entered
+opening-stays c p q true r = stays-as M.Opening M.Spaced c (in-opening-stays c p q true r) refl (λ x. refl)
+opening-stays c p q false r = stays-as M.Opening M.Opening c (in-opening-stays c p q false r) refl (λ x. refl)
+
+stays : (q : Markup) (c : ℕ) → is-entered q ≡ false → sign c ≡ false → Stays q c
+unfolding passed is-entered
+stays M.Outside c e h = let p = or-down (eqb c 60) (eqb c 62) h in stays-as M.Outside M.Outside c (rw (p .0, p .1)) refl (λ x. refl)
+stays M.Entered c e h = absurd (let z : _≡_ {A = ℕ} 0 1 = cc in omega arith)
+stays M.Opening c e h = let p = or-down (eqb c 60) (eqb c 62) h in opening-stays c (p .0) (p .1) (eqb c 32) refl
+stays M.Spaced c e h =
+    let p = or-down (eqb c 60) (eqb c 62) h in
+    let s = opening-stays c (p .0) (p .1) (eqb c 32) refl in
+    record { not-entered = s .not-entered; forgotten = s .forgotten }
+stays M.Closing c e h = let p = or-down (eqb c 60) (eqb c 62) h in stays-as M.Closing M.Closing c (rw (p .0, p .1)) refl (λ x. refl)
+stays M.Crossed c e h = stays-as M.Crossed M.Crossed c refl refl (λ x. refl)
+
+run-by : (k i : ℕ) (q : Markup) (s : Bytes) → is-entered q ≡ false → i + suc k ≤ length s → ((j : ℕ) → i ≤ j → j < i + suc k → sign (getD s j 0) ≡ false) → all-passed q (drop i s) ≡ all-passed (passed q (getD s (i + k) 0)) (drop (i + suc k) s)
+run-by zero i q s e l n =
+    let a : i + 0 ≡ i = omega arith in
+    let b : i + suc zero ≡ i + 1 = omega arith in
+    passes-on q s i (omega arith) refl ∙ sym (ap₂ (λ (x y : ℕ). all-passed (passed q (getD s x 0)) (drop y s)) a b)
+run-by (suc k) i q s e l n =
+    let p = stays q (getD s i 0) e (n i (omega arith) (omega arith)) in
+    let a : i + 1 + k ≡ i + suc k = omega arith in
+    let b : i + 1 + suc k ≡ i + suc (suc k) = omega arith in
+    passes-on q s i (omega arith) refl
+    ∙ run-by k (i + 1) (passed q (getD s i 0)) s (p .not-entered) (omega arith) (λ j g h. n j (omega arith) (omega arith))
+    ∙ ap₂ (λ (x y : ℕ). all-passed (passed (passed q (getD s i 0)) (getD s x 0)) (drop y s)) a b
+    ∙ ap (λ (x : Markup). all-passed x (drop (i + suc (suc k)) s)) (sym (p .forgotten (getD s (i + suc k) 0)))
+
+-- the last byte alone counts
+pub run-passed : (q : Markup) (s : Bytes) (i e : ℕ) → is-entered q ≡ false → NoSign s i e → i < e → {m : Markup} → m ≡ passed q (getD s (e - 1) 0) → all-passed q (drop i s) ≡ all-passed m (drop e s)
+run-passed q s i e h n l {m} em =
+    let k : ℕ = e - i - 1 in
+    let a : i + suc (e - i - 1) ≡ e = omega arith in
+    let b : i + (e - i - 1) ≡ e - 1 = omega arith in
+    run-by (e - i - 1) i q s h (omega (arith, n .within)) (λ j g d. n .none j g (omega arith))
+    ∙ ap₂ (λ (x y : ℕ). all-passed (passed q (getD s x 0)) (drop y s)) b a
+    ∙ ap (λ (x : Markup). all-passed x (drop e s)) (sym em)
+
+pub run-begins : (s : Bytes) (at : ℕ) → at ≤ length s → NoSign s at at
+run-begins s at h = record { after = omega arith; within = h; none = λ j g l. absurd (omega arith) }
+
+pub run-on : {s : Bytes} {at i : ℕ} → NoSign s at i → i < length s → sign (getD s i 0) ≡ false → NoSign s at (i + 1)
+run-on {s} {at} {i} n l h = record { after = omega (arith, n .after); within = omega arith; none = λ j g d. on j g d (decLe (suc j) i) }
+  where
+    on : (j : ℕ) → at ≤ j → j < i + 1 → Dec (suc j ≤ i) → sign (getD s j 0) ≡ false
+    on j g d (yes z) = n .none j g z
+    on j g d (no z) =
+        let e : i ≡ j = omega arith in
+        subst (λ (x : ℕ). sign (getD s x 0) ≡ false) e h
 
 -- ---- how many fields
 

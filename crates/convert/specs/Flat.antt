@@ -1,11 +1,11 @@
 -- Templates as the code goes over them, record by record: what is written of each, whether it may be, and the strings by their bytes.
 -- Nothing here needs belief. Assumes nothing: these are definitions.
-use Prim.Native.Nat.{ℕ, zero, suc, _-_, _≤_}
+use Prim.Native.Nat.{ℕ, zero, suc, _-_, _≤_, _<_}
 use mathlib.Core.Path.{_≡_}
 use mathlib.Core.Bool.{Bool, true, false, _&&_, _||_}
 use mathlib.Core.List.{[], _∷_, _++_}
 use lib.Dec.{eqb, leb, ltb}
-use lib.ListN.{length, take, drop, replicate}
+use lib.ListN.{length, take, drop, replicate, getD}
 use Rattle.field.specs.Bytes.{Bytes, pick, same}
 use Rattle.field.specs.Number.{number-of, big-endian}
 use Rattle.field.specs.Row.{Row, end, loose, field, field-bytes, bytes, counted-front, read}
@@ -18,6 +18,25 @@ use Rattle.convert.specs.Convert.{Outcome, number, templates-bytes, page
 use Rattle.convert.specs.declared.Converted.{Converted}
 use Rattle.convert.specs.declared.kinds.Markup.{Markup}
 use Rattle.convert.specs.declared.kinds.Markup.the-variants as M
+
+-- ---- runs without signs
+
+unfoldable pub is-entered : Markup → Bool
+is-entered M.Outside = false
+is-entered M.Entered = true
+is-entered M.Opening = false
+is-entered M.Spaced = false
+is-entered M.Closing = false
+is-entered M.Crossed = false
+
+abbrev pub sign : ℕ → Bool
+sign c = eqb c 60 || eqb c 62
+
+-- none from a place on up to another
+pub record NoSign (s : Bytes) (at e : ℕ) : Type 0 where
+  pub after : at ≤ e
+  pub within : e ≤ length s
+  pub none : (j : ℕ) → at ≤ j → j < e → sign (getD s j 0) ≡ false
 
 -- ---- kinds
 

@@ -1,13 +1,13 @@
 // The kinds of gaps from the strings before them, joined.
 ghost use mathlib.Core.Path.{_≡_};
-ghost use Prim.Native.Nat.{_+_, _<_, _^_};
+ghost use Prim.Native.Nat.{_+_, _<_, _≤_, _^_};
 ghost use mathlib.Core.List.{_∷_, []};
 ghost use lib.ListN.{length};
 ghost use Rattle.field.specs.Bytes.{same};
 ghost use Rattle.field.specs.Row.{read};
 ghost use Rattle.field.specs.Put.{Wrote};
 ghost use Rattle.convert.specs.Kinds.{passed, all-passed};
-ghost use Rattle.convert.specs.Flat.{kind-number, kind-marks, all-clear, fields-in};
+ghost use Rattle.convert.specs.Flat.{is-entered, NoSign, kind-number, kind-marks, all-clear, fields-in};
 ghost use Rattle.convert.specs.declared.kinds.Markup.the-variants as M;
 use field::reader::behind;
 use field::reader::body;
@@ -62,14 +62,55 @@ fn pass(m: Markup, c: u8) -> Markup
     }
 }
 
+fn is_entered(m: Markup) -> bool
+    ensures { λ r. ⌜ r ≡ is-entered m ⌝ }
+{
+    match m {
+        Markup::Outside => false,
+        Markup::Entered => true,
+        Markup::Opening => false,
+        Markup::Spaced => false,
+        Markup::Closing => false,
+        Markup::Crossed => false,
+    }
+}
+
+// Where the next `<` or `>` is, from a place on, or else the end.
+fn sign_at(s: &[u8], at: usize) -> usize
+    requires { ⌜ at ≤ length (now s) ⌝ }
+    ensures { λ r. ⌜ NoSign (now (s .entry)) at r ⌝ }
+{
+    let mut i = at;
+    while i < s.len() {
+        let c = s[i];
+        if (c == b'<') | (c == b'>') {
+            return i;
+        }
+        i += 1;
+    }
+    i
+}
+
+// Of a run without signs the last byte alone counts, unless it stands right behind a `<`. So a run is passed at once.
 pub fn pass_all(m: Markup, s: &[u8]) -> Markup
     ensures { λ r. ⌜ r ≡ all-passed m (now (s .entry)) ⌝ }
 {
     let mut q = m;
     let mut i: usize = 0;
     while i < s.len() {
-        q = pass(q, s[i]);
-        i += 1;
+        if is_entered(q) {
+            q = pass(q, s[i]);
+            i += 1;
+        } else {
+            let e = sign_at(s, i);
+            if i < e {
+                q = pass(q, s[e - 1]);
+                i = e;
+            } else {
+                q = pass(q, s[i]);
+                i += 1;
+            }
+        }
     }
     q
 }
