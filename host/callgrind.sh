@@ -2,6 +2,7 @@
 # Instructions a page byte inside the library, counted by valgrind's callgrind: sizes, depths and the worst cases.
 # callgrind.sh [WORD]: only the sets of pages whose name has WORD, and 'mean', to which all are compared.
 # callgrind.sh tags [WORD]: instructions a byte of tag text, in the reader of tags.
+# callgrind.sh conversions [WORD]: instructions a byte of both outs, in the way up and the way down.
 # callgrind.sh lookups [WORD]: instructions a byte of templates that are checked, and a template of the walk at 256 numbers.
 set -eu
 cd "$(dirname "$0")"
@@ -26,6 +27,19 @@ if [ "$word" = tags ]; then
   "$speed" tags | while IFS=$tab read -r name bytes; do
     case $name in *"${2:-}"*) ;; *) continue ;; esac
     count jsx_precompile_read_tag tag "$name" >"$rates.one"
+    IFS=$tab read -r instructions answer <"$rates.one" || true
+    echo "$name$tab$bytes$tab$instructions$tab$answer" |
+      awk -F '\t' '{ printf "%-34s %7d %13d %9.1f  %s\n", $1, $2, $3, $3 / $2, $4 }'
+  done
+  exit
+fi
+
+if [ "$word" = conversions ]; then
+  printf '%-34s %7s %13s %9s  %s\n' outs bytes instructions 'a byte' answer
+  "$speed" conversions | while IFS=$tab read -r name bytes; do
+    case $name in *"${2:-}"*) ;; *) continue ;; esac
+    case $name in *Up) way=upgrade ;; *) way=downgrade ;; esac
+    count "jsx_precompile_$way" convert "$name" >"$rates.one"
     IFS=$tab read -r instructions answer <"$rates.one" || true
     echo "$name$tab$bytes$tab$instructions$tab$answer" |
       awk -F '\t' '{ printf "%-34s %7d %13d %9.1f  %s\n", $1, $2, $3, $3 / $2, $4 }'

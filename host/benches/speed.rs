@@ -3,16 +3,20 @@
 //!
 //! For callgrind.sh: `list` names the sets of pages, `run NAME` calls the library once on each page of a set; `tags` names
 //! the tag texts, `tag NAME` has the library read one; `lookups` names the rows of templates, `find NAME` and `check NAME` look
-//! 256 numbers and none up in one.
+//! 256 numbers and none up in one; `conversions` names both outs, each way, `convert NAME` converts one.
 
 #![allow(missing_docs)]
 
+mod conversions;
 mod lookups;
 mod pages;
 mod tags;
 
 use jsx_precompile::limits::{MAX_TAG, MIN_SCRATCH};
-use jsx_precompile::{Answer, Options, Transformer, find_answer, read_tag_into, transform_into};
+use jsx_precompile::{
+    Answer, Options, Transformer, downgrade_into, find_answer, read_tag_into, transform_into, upgrade_into,
+};
+use oracle::outs::convert::Way;
 use oracle::stand_ins::swc_ecma_ast::Module;
 use pages::Set;
 use std::hint::black_box;
@@ -31,13 +35,17 @@ fn main() {
         ["lookups"] => {
             lookups::all().iter().for_each(|one| println!("{}\t{}\t{}", one.name, one.templates.len(), one.records));
         }
+        ["conversions"] => {
+            conversions::all()
+                .iter()
+                .for_each(|one| println!("{}\t{}", one.name, one.templates.len() + one.page.len()));
+        }
+        ["convert", name] => convert(name),
         ["find", name] => find(name, true),
         ["check", name] => find(name, false),
         [] if oracle::AVAILABLE => times(),
         [] => eprintln!("built without jsx_precompile.rs: there is nothing to compare with"),
-        _ => eprintln!(
-            "speed, speed list, speed run NAME, speed tags, speed tag NAME, speed lookups, speed find NAME, or speed check NAME"
-        ),
+        _ => eprintln!("speed, or speed and what callgrind.sh calls it with"),
     }
 }
 
@@ -71,6 +79,16 @@ fn find(name: &str, all: bool) {
     let answer = find_answer(&one.templates, if all { &one.numbers } else { &[] });
     assert_eq!(answer.records, if all { one.records } else { 0 });
     println!("{}", answer.number);
+}
+
+fn convert(name: &str) {
+    let one = conversions::all().into_iter().find(|one| one.name == name).expect("outs of that name");
+    let (mut templates, mut page) = (vec![0; 2 * one.templates.len()], vec![0; 2 * one.page.len()]);
+    let call = match one.way {
+        Way::Up => upgrade_into,
+        Way::Down => downgrade_into,
+    };
+    println!("{}", call(&one.templates, &one.page, &mut templates, &mut page).number);
 }
 
 /// The three lent buffers, allocated once.
