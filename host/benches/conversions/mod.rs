@@ -70,8 +70,10 @@ fn densest() -> Vec<(&'static str, Vec<u8>, Vec<u8>)> {
         ("nested calls", vec![], nested(MAX_BODY / 7, &[0, 0, 0, 1], 0x90)),
         ("short templates", template(1, &[], &[""]).repeat(5_461), vec![]),
         ("templates of gaps", strings(16_382, ""), vec![]),
-        ("templates of tags", template(1, &[], &[&"<>".repeat(32_763)]), vec![]),
-        ("templates of a text", template(1, &[], &[&"a".repeat(65_526)]), vec![]),
+        // Before a gap, so that they are looked through for its kind.
+        ("templates of tags", template(1, &[2], &[&"<>".repeat(32_761), ""]), vec![]),
+        ("templates of a text", template(1, &[2], &[&"a".repeat(65_522), ""]), vec![]),
+        ("templates of a text behind a gap", template(1, &[2], &["", &"a".repeat(65_522)]), vec![]),
     ]
 }
 
