@@ -213,6 +213,8 @@ marks =
     mark (fld 0x01 (fld 0x12 (fld 0x30 (fld 0x40 (ascii "iNPUT"))))) [] 65536 65536 65536 19 0 [] [] ∷
     -- <Br/>: a component
     mark (fld 0x01 (fld 0x12 (fld 0x30 (fld 0x40 (ascii "Br"))))) [] 65536 65536 65536 0 0 [] ((fld 0x82 ((fld 0x81 (ascii "react/jsx-runtime")) ++ (1 ∷ []))) ++ (fld 0x12 (fld 0x94 ((fld 0x40 (ascii "Br")) ++ (fld 0x73 []))))) ∷
+    -- <INPUT/>: a component
+    mark (fld 0x01 (fld 0x12 (fld 0x30 (fld 0x40 (ascii "INPUT"))))) [] 65536 65536 65536 0 0 [] ((fld 0x82 ((fld 0x81 (ascii "react/jsx-runtime")) ++ (1 ∷ []))) ++ (fld 0x12 (fld 0x94 ((fld 0x40 (ascii "INPUT")) ++ (fld 0x73 []))))) ∷
     -- <dIV/>: none of the 14
     mark (fld 0x01 (fld 0x12 (fld 0x30 (fld 0x40 (ascii "dIV"))))) [] 65536 65536 65536 0 1 (fld 0x84 ((0 ∷ 0 ∷ 0 ∷ 1 ∷ []) ++ ((0 ∷ 0 ∷ []) ++ (fld 0x81 (ascii "<dIV></dIV>"))))) ((fld 0x82 ((fld 0x81 (ascii "react/jsx-runtime")) ++ (2 ∷ []))) ++ ((fld 0x83 []) ++ (fld 0x12 (fld 0x90 (0 ∷ 0 ∷ 0 ∷ 1 ∷ []))))) ∷
     -- <bR class="a" className="b"/>
