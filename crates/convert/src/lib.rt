@@ -4,7 +4,6 @@ ghost use mathlib.Core.Path.{_≡_};
 ghost use lib.Dec.{leb};
 ghost use lib.ListN.{length};
 ghost use Rattle.field.specs.Row.{read};
-ghost use Rattle.page.specs.Refusal.{refusal-number};
 ghost use Rattle.page.specs.declared.Verdict.the-variants.{Fine};
 ghost use Rattle.outs.specs.Held.{read-out};
 ghost use Rattle.outs.specs.PageOut.{check-page-out};
@@ -20,9 +19,9 @@ mod templates;
 
 pub use kinds::Markup;
 use outs::Kind;
+use outs::number_of;
 use outs::page_out::check_page_out;
 use outs::templates::check_templates;
-use page::Refusal;
 use page::Verdict;
 use renumber::renumber;
 use templates::rewrite_templates;
@@ -32,27 +31,6 @@ pub struct Converted {
     pub number: u32,
     pub templates_bytes: usize,
     pub page_bytes: usize,
-}
-
-fn number_of(r: Refusal) -> u32
-    ensures { λ n. ⌜ n ≡ refusal-number r ⌝ }
-{
-    match r {
-        Refusal::ScratchTooSmall => 1,
-        Refusal::InputTooLong => 2,
-        Refusal::Truncated => 3,
-        Refusal::Misplaced => 4,
-        Refusal::BadName => 5,
-        Refusal::NotUtf8 => 6,
-        Refusal::NumberTooLarge => 7,
-        Refusal::TooDeep => 8,
-        Refusal::TagLeft => 10,
-        Refusal::RepeatedAttribute => 16,
-        Refusal::MixedCaseVoid => 19,
-        Refusal::OutputTooLong => 11,
-        Refusal::TemplatesTooSmall => 12,
-        Refusal::PageTooSmall => 13,
-    }
 }
 
 fn clear(b: &mut [u8])

@@ -1,7 +1,6 @@
 // The lookup: the check of the templates, then that of the numbers, then the walk.
 ghost use mathlib.Core.Path.{_≡_};
 ghost use lib.ListN.{replicate};
-ghost use Rattle.page.specs.Refusal.{refusal-number};
 ghost use Rattle.find.specs.Find.{absent};
 ghost use Rattle.find.specs.Answer.{Answered, Nothing};
 use crate::lookup::ABSENT;
@@ -10,30 +9,9 @@ use crate::lookup::walk;
 use crate::search::MOST;
 use crate::search::is_rising;
 use outs::Kind;
+use outs::number_of;
 use outs::templates::check_templates;
-use page::Refusal;
 use page::Verdict;
-
-fn number_of(r: Refusal) -> u32
-    ensures { λ n. ⌜ n ≡ refusal-number r ⌝ }
-{
-    match r {
-        Refusal::ScratchTooSmall => 1,
-        Refusal::InputTooLong => 2,
-        Refusal::Truncated => 3,
-        Refusal::Misplaced => 4,
-        Refusal::BadName => 5,
-        Refusal::NotUtf8 => 6,
-        Refusal::NumberTooLarge => 7,
-        Refusal::TooDeep => 8,
-        Refusal::TagLeft => 10,
-        Refusal::RepeatedAttribute => 16,
-        Refusal::MixedCaseVoid => 19,
-        Refusal::OutputTooLong => 11,
-        Refusal::TemplatesTooSmall => 12,
-        Refusal::PageTooSmall => 13,
-    }
-}
 
 // Nothing found, and nothing read.
 fn refused(number: u32) -> Places

@@ -6,7 +6,6 @@ use Rattle.find.proofs.answer.find.Statement.{statement}
 use Rattle.find.proofs.answer.find.Tie as tie
 use Rattle.find.proofs.answer.find.Reads as reads
 use Rattle.find.proofs.answer.find.Lts as lts
-use Rattle.find.proofs.answer.number_of.Reads as number-of-reads
 use Rattle.find.proofs.answer.refused.Reads as refused-reads
 use Rattle.find.proofs.lookup.walk.Reads as walk-reads
 use Rattle.find.proofs.search.is_rising.Reads as is-rising-reads

@@ -2,8 +2,8 @@
 use mathlib.Core.Path.{sym, ap}
 use Rattle.page.specs.Refusal.{refusal-number}
 use borrow.Author.Needs.{needs}
-use Rattle.find.proofs.answer.number_of.Statement.{statement}
-use Rattle.find.proofs.answer.number_of.Tie as tie
+use Rattle.outs.proofs.number_of.Statement.{statement}
+use Rattle.outs.proofs.number_of.Tie as tie
 
 enum-told : tie.Need-enum-told
 enum-told c = search needs
