@@ -1,5 +1,7 @@
 // Prints the card of the page on standard input (document 01, The card).
 // No contract can speak of what is read and written: what stands between, `print_card`, is equal to the definition of the printed text.
+#![tactic(auto)]
+
 ghost use Rattle.std.specs.Prelude.{◌≡◌, length};
 
 use libc::{STDERR_FILENO, STDIN_FILENO, STDOUT_FILENO};

@@ -1,5 +1,7 @@
 // Templates out and page out from the old form into the new and back (document 02, A7). Both are checked first, by `outs`; calls are renumbered by
 // `renumber`. What is written, and every byte lent, is what specs/Convert.antt says.
+#![tactic(auto)]
+
 ghost use Rattle.std.specs.Prelude.{◌≡◌, leb, length, true, not};
 ghost use Rattle.field.specs.Row.{read};
 ghost use Rattle.page.specs.declared.Verdict.TheVariants.{Fine};

@@ -1,4 +1,6 @@
 // What the children of a call give, as one expression: what it is and where it stands, found without writing it.
+#![tactic(auto)]
+
 ghost use Rattle.std.specs.Prelude.{◌≡◌, ◌+◌, ◌-◌, ◌<◌, ◌^◌, length, drop};
 ghost use Rattle.field.specs.Bytes.{Bytes};
 ghost use Rattle.field.specs.Row.{read};
@@ -275,7 +277,7 @@ fn is_settled(kind: Kind, len: usize) -> bool
 }
 
 // The entries of merged children: none, one and where it stands, or several, with a place where one fragment alone gives them.
-#[cycle(entries_of_found_of)]
+#[cycle(found)]
 fn entries_of(skip: &[u8], s: &[u8]) -> Found
     requires { length s.now < 2 ^ 62 }
     ensures { Within result s.now × ((props : Bytes) → Enters skip.now props (Runs skip.now props) (entries_at skip.now props s.now) result.kind (part s.now result)) }
@@ -362,7 +364,7 @@ fn entries_of(skip: &[u8], s: &[u8]) -> Found
 }
 
 // serialize_jsx_children_to_expr
-#[cycle(entries_of_found_of)]
+#[cycle(found)]
 pub fn found_of(skip: &[u8], s: &[u8]) -> Found
     requires { length s.now < 2 ^ 62 }
     ensures { Within result s.now × ((props : Bytes) → Finds skip.now props (found_at skip.now props s.now) result.kind (part s.now result)) }

@@ -27,7 +27,7 @@ fn stays(c: &[u8]) -> bool
 }
 
 // Whether a fragment of these children surely adds to the entries of its parent.
-#[cycle(gives_has_one)]
+#[cycle(several)]
 fn gives(skip: &[u8], s: &[u8]) -> bool
     ensures { result ≡ true → (props : Bytes) → 1 ≤ steady (spliced (found_at skip.now props s.now)) }
 {
@@ -60,7 +60,7 @@ fn gives(skip: &[u8], s: &[u8]) -> bool
 }
 
 // Whether merged children surely have an entry that stays. The fragment that is more than half of them is looked into last.
-#[cycle(gives_has_one)]
+#[cycle(several)]
 fn has_one(skip: &[u8], s: &[u8]) -> bool
     ensures { result ≡ true → (props : Bytes) → 1 ≤ steady (entries_at skip.now props s.now) }
 {

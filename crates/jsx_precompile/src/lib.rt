@@ -1,6 +1,8 @@
 // The library for hosts: every function that is exported over the C convention, and nothing else. Each is a thin call of a crate below,
 // which states its full answer and every byte lent; no caller is trusted to have looked first. One crate, since a static library has the
 // exports of the crate that it is named after alone.
+#![tactic(auto)]
+
 ghost use Rattle.std.specs.Prelude.{◌≡◌, length};
 ghost use Rattle.convert.specs.Convert.{upgraded, downgraded};
 ghost use Rattle.convert.specs.Flat.{Converts};

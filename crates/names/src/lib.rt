@@ -1,5 +1,7 @@
 // Names as 000 treats them: which elements are void, which attributes are boolean, and what an attribute's name becomes. Each test
 // is by whole bytes, and takes any bytes. Whether bytes are a name at all is left to the crates above.
+#![tactic(auto)]
+
 mod attributes;
 mod booleans;
 mod compare;

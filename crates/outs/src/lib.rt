@@ -1,5 +1,7 @@
 // Templates out and page out, read back: the checks that conversion, filling, lookup and the catalogue stand on. Fields nest up to 21,845 deep
 // in a page out, so its check is a loop with a stack of its own. Who may have written them is not asked.
+#![tactic(auto)]
+
 ghost use Rattle.std.specs.Prelude.{◌≡◌};
 ghost use Rattle.page.specs.Refusal.{refusal_number};
 

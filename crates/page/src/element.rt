@@ -18,7 +18,7 @@ use field::reader::{behind, body, tag_at};
 use utf8::is_utf8;
 
 // An element or a fragment: the name of an element, and then its nodes.
-#[cycle(check_attribute_check_container_check_expr_check_expr_field_check_items_check_nodes_check_pieces_check_tag_check_value)]
+#[cycle(check)]
 fn check_tag(tag: usize, b: &[u8], depth: usize) -> Verdict
     ensures { result ≡ check_tag_field depth tag b.now }
 {
@@ -53,7 +53,7 @@ fn check_tag(tag: usize, b: &[u8], depth: usize) -> Verdict
 }
 
 // Attributes, as long as they may come, and children.
-#[cycle(check_attribute_check_container_check_expr_check_expr_field_check_items_check_nodes_check_pieces_check_tag_check_value)]
+#[cycle(check)]
 fn check_nodes(s: &[u8], attributes: bool, depth: usize) -> Verdict
     ensures { result ≡ check_nodes attributes depth (read s.now) }
 {
@@ -151,7 +151,7 @@ fn check_nodes(s: &[u8], attributes: bool, depth: usize) -> Verdict
 }
 
 // A name, then nothing or a value.
-#[cycle(check_attribute_check_container_check_expr_check_expr_field_check_items_check_nodes_check_pieces_check_tag_check_value)]
+#[cycle(check)]
 fn check_attribute(s: &[u8], depth: usize) -> Verdict
     ensures { result ≡ check_attribute depth (read s.now) }
 {
@@ -180,7 +180,7 @@ fn check_attribute(s: &[u8], depth: usize) -> Verdict
     }
 }
 
-#[cycle(check_attribute_check_container_check_expr_check_expr_field_check_items_check_nodes_check_pieces_check_tag_check_value)]
+#[cycle(check)]
 fn check_value(s: &[u8], depth: usize) -> Verdict
     ensures { result ≡ check_value depth (read s.now) }
 {
@@ -224,7 +224,7 @@ fn check_value(s: &[u8], depth: usize) -> Verdict
 }
 
 // One expression or none.
-#[cycle(check_attribute_check_container_check_expr_check_expr_field_check_items_check_nodes_check_pieces_check_tag_check_value)]
+#[cycle(check)]
 fn check_container(s: &[u8], depth: usize) -> Verdict
     ensures { result ≡ check_container depth (read s.now) }
 {
@@ -235,7 +235,7 @@ fn check_container(s: &[u8], depth: usize) -> Verdict
 }
 
 // One expression.
-#[cycle(check_attribute_check_container_check_expr_check_expr_field_check_items_check_nodes_check_pieces_check_tag_check_value)]
+#[cycle(check)]
 fn check_expr(s: &[u8], depth: usize) -> Verdict
     ensures { result ≡ check_expr depth (read s.now) }
 {
@@ -255,7 +255,7 @@ fn check_expr(s: &[u8], depth: usize) -> Verdict
 }
 
 // The field of an expression.
-#[cycle(check_attribute_check_container_check_expr_check_expr_field_check_items_check_nodes_check_pieces_check_tag_check_value)]
+#[cycle(check)]
 fn check_expr_field(tag: usize, b: &[u8], depth: usize) -> Verdict
     ensures { result ≡ check_expr_field depth tag b.now }
 {
@@ -309,7 +309,7 @@ fn check_expr_field(tag: usize, b: &[u8], depth: usize) -> Verdict
 }
 
 // Expressions, spreads and holes.
-#[cycle(check_attribute_check_container_check_expr_check_expr_field_check_items_check_nodes_check_pieces_check_tag_check_value)]
+#[cycle(check)]
 fn check_items(s: &[u8], depth: usize) -> Verdict
     ensures { result ≡ check_items depth (read s.now) }
 {
@@ -360,7 +360,7 @@ fn check_items(s: &[u8], depth: usize) -> Verdict
 }
 
 // Source texts and tags.
-#[cycle(check_attribute_check_container_check_expr_check_expr_field_check_items_check_nodes_check_pieces_check_tag_check_value)]
+#[cycle(check)]
 pub fn check_pieces(s: &[u8], depth: usize) -> Verdict
     ensures { result ≡ check_pieces depth (read s.now) }
 {

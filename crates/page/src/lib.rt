@@ -1,5 +1,7 @@
 // The page and its options: the typed tree that fields read as, and the refusals 3 to 8 of document 01, front to back. The tree is
 // read leniently from any bytes; whether the bytes are the page's own is what the checks say. What becomes of a page is left to `spec`.
+#![tactic(auto)]
+
 pub mod element;
 pub mod leaf;
 pub mod name;

@@ -1,4 +1,6 @@
 // The card of a page, without options, in the buffers that are lent.
+#![tactic(auto)]
+
 ghost use Rattle.std.specs.Prelude.{[], length};
 ghost use Rattle.field.specs.Put.{Wrote};
 ghost use Rattle.spec.specs.Answer.{outcome};

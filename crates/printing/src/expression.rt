@@ -14,7 +14,7 @@ use field::writer::{put_byte, put_bytes};
 use page::number::put_number;
 
 // The expression in front.
-#[cycle(print_all_print_behind_print_between_print_choice_print_first_print_parted_print_prop_print_spread_print_template)]
+#[cycle(print)]
 fn print_first(out: &mut [u8], at: usize, s: &[u8]) -> usize
     requires { at + length (first_text (read s.now)) < 2 ^ 63 }
     ensures { Wrote out.old at (first_text (read s.now)) out.new result }
@@ -45,7 +45,7 @@ fn print_first(out: &mut [u8], at: usize, s: &[u8]) -> usize
 }
 
 // Expressions with `, ` between them, behind `before` and before `after`.
-#[cycle(print_all_print_behind_print_between_print_choice_print_first_print_parted_print_prop_print_spread_print_template)]
+#[cycle(print)]
 fn print_between<'a>(
     out: &mut [u8],
     at: usize,
@@ -62,7 +62,7 @@ fn print_between<'a>(
 }
 
 // A spread.
-#[cycle(print_all_print_behind_print_between_print_choice_print_first_print_parted_print_prop_print_spread_print_template)]
+#[cycle(print)]
 fn print_spread(out: &mut [u8], at: usize, s: &[u8]) -> usize
     requires { at + length (ascii "..." ++ first_text (read s.now)) < 2 ^ 63 }
     ensures { Wrote out.old at (ascii "..." ++ first_text (read s.now)) out.new result }
@@ -72,7 +72,7 @@ fn print_spread(out: &mut [u8], at: usize, s: &[u8]) -> usize
 }
 
 // The call of a template, by its field.
-#[cycle(print_all_print_behind_print_between_print_choice_print_first_print_parted_print_prop_print_spread_print_template)]
+#[cycle(print)]
 fn print_template(out: &mut [u8], at: usize, s: &[u8]) -> usize
     requires { at + length (ascii "_jsxTemplate(" ++ (template_name (front_of s.now) ++ (behind_text (read (inner_of s.now)) ++ (41 ∷ [])))) < 2 ^ 63 }
     ensures { Wrote out.old at (ascii "_jsxTemplate(" ++ (template_name (front_of s.now) ++ (behind_text (read (inner_of s.now)) ++ (41 ∷ [])))) out.new result }
@@ -84,7 +84,7 @@ fn print_template(out: &mut [u8], at: usize, s: &[u8]) -> usize
 }
 
 // A choice.
-#[cycle(print_all_print_behind_print_between_print_choice_print_first_print_parted_print_prop_print_spread_print_template)]
+#[cycle(print)]
 fn print_choice(out: &mut [u8], at: usize, s: &[u8]) -> usize
     requires { at + length (first_text (read s.now) ++ (ascii " ? " ++ (quoted (second_front (read s.now)) ++ ascii " : \"\""))) < 2 ^ 63 }
     ensures { Wrote out.old at (first_text (read s.now) ++ (ascii " ? " ++ (quoted (second_front (read s.now)) ++ ascii " : \"\""))) out.new result }
@@ -96,7 +96,7 @@ fn print_choice(out: &mut [u8], at: usize, s: &[u8]) -> usize
 }
 
 // A property.
-#[cycle(print_all_print_behind_print_between_print_choice_print_first_print_parted_print_prop_print_spread_print_template)]
+#[cycle(print)]
 fn print_prop(out: &mut [u8], at: usize, s: &[u8]) -> usize
     requires { at + length (prop_name (first_front (read s.now)) ++ (ascii ": " ++ second_text (read s.now))) < 2 ^ 63 }
     ensures { Wrote out.old at (prop_name (first_front (read s.now)) ++ (ascii ": " ++ second_text (read s.now))) out.new result }
@@ -107,7 +107,7 @@ fn print_prop(out: &mut [u8], at: usize, s: &[u8]) -> usize
 }
 
 // One after the other.
-#[cycle(print_all_print_behind_print_between_print_choice_print_first_print_parted_print_prop_print_spread_print_template)]
+#[cycle(print)]
 pub fn print_all(out: &mut [u8], at: usize, s: &[u8]) -> usize
     requires { at + length (all_text (read s.now)) < 2 ^ 63 }
     ensures { Wrote out.old at (all_text (read s.now)) out.new result }
@@ -123,7 +123,7 @@ pub fn print_all(out: &mut [u8], at: usize, s: &[u8]) -> usize
 }
 
 // With `, ` between.
-#[cycle(print_all_print_behind_print_between_print_choice_print_first_print_parted_print_prop_print_spread_print_template)]
+#[cycle(print)]
 pub fn print_parted(out: &mut [u8], at: usize, s: &[u8]) -> usize
     requires { at + length (parted_text (read s.now)) < 2 ^ 63 }
     ensures { Wrote out.old at (parted_text (read s.now)) out.new result }
@@ -136,7 +136,7 @@ pub fn print_parted(out: &mut [u8], at: usize, s: &[u8]) -> usize
 }
 
 // With `, ` before each.
-#[cycle(print_all_print_behind_print_between_print_choice_print_first_print_parted_print_prop_print_spread_print_template)]
+#[cycle(print)]
 fn print_behind(out: &mut [u8], at: usize, s: &[u8]) -> usize
     requires { at + length (behind_text (read s.now)) < 2 ^ 63 }
     ensures { Wrote out.old at (behind_text (read s.now)) out.new result }

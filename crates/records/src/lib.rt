@@ -1,5 +1,7 @@
 // The record walk: the templates of a first pass, an inner one before the outer one. A template is written whole once its strings stand,
 // since the kinds of its gaps are found in them.
+#![tactic(auto)]
+
 ghost use Rattle.std.specs.Prelude.{◌≡◌, true, false, [], ◌+◌, ◌≤◌, ◌<◌, ◌^◌, length};
 ghost use Rattle.field.specs.Row.{read};
 ghost use Rattle.spec.specs.Merge.{merge, long_run, short_runs};
@@ -145,7 +147,7 @@ fn taken(st: Records) -> Records
 }
 
 // serialize_jsx
-#[cycle(record_element_record_entries_record_found_record_parts_record_serialize)]
+#[cycle(record)]
 pub fn record_serialize<'a>(
     skip: &[u8],
     props: &'a [u8],
@@ -177,7 +179,7 @@ pub fn record_serialize<'a>(
 }
 
 // An element in a template.
-#[cycle(record_element_record_entries_record_found_record_parts_record_serialize)]
+#[cycle(record)]
 fn record_element<'a>(
     skip: &[u8],
     props: &'a [u8],
@@ -203,7 +205,7 @@ fn record_element<'a>(
 }
 
 // Children in a template.
-#[cycle(record_element_record_entries_record_found_record_parts_record_serialize)]
+#[cycle(record)]
 fn record_parts<'a>(
     skip: &[u8],
     props: &'a [u8],
@@ -241,7 +243,7 @@ fn record_parts<'a>(
 }
 
 // Children of a call.
-#[cycle(record_element_record_entries_record_found_record_parts_record_serialize)]
+#[cycle(record)]
 pub fn record_found<'a>(
     skip: &[u8],
     props: &'a [u8],
@@ -282,7 +284,7 @@ pub fn record_found<'a>(
     }
 }
 
-#[cycle(record_element_record_entries_record_found_record_parts_record_serialize)]
+#[cycle(record)]
 fn record_entries<'a>(
     skip: &[u8],
     props: &'a [u8],

@@ -1,5 +1,7 @@
 // A page out written anew with the numbers of its calls in another width (02, A7): one loop with a stack of its own, since fields nest 21,845
 // deep. The length of a field is known when its body ends, so a head is written behind its body. Whether the bytes are a page out is not asked.
+#![tactic(auto)]
+
 ghost use Rattle.std.specs.Prelude.{◌≡◌, ◌⊎◌, ◌+◌, ◌-◌, ◌<◌, ◌≤◌, ◌^◌, min, length};
 ghost use Rattle.field.specs.Row.{bytes, field_bytes};
 ghost use Rattle.field.specs.Put.{Wrote};

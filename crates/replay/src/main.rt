@@ -1,5 +1,7 @@
 // Replays the stored answers of the judge (the file stdin; oracle/README.md has its format) through the export, and says what differs.
 // No contract can speak of what is read and written: proved is that every access is in bounds and that the run ends.
+#![tactic(auto)]
+
 ghost use Rattle.std.specs.Prelude.{◌≤◌, ◌≡◌, length};
 
 mod call;

@@ -124,7 +124,7 @@ fn is_last(parent: bool, s: &[u8]) -> bool
 }
 
 // An element in a template: one that is no HTML leaves a gap.
-#[cycle(children_strings_element_strings_tag_strings)]
+#[cycle(strings)]
 pub fn element_strings<'a>(
     skip: &[u8],
     props: &'a [u8],
@@ -142,7 +142,7 @@ pub fn element_strings<'a>(
 }
 
 // One that is known to be HTML: its tags, and what stands between them.
-#[cycle(children_strings_element_strings_tag_strings)]
+#[cycle(strings)]
 pub fn tag_strings<'a>(skip: &[u8], props: &'a [u8], b: &'a [u8], out: &mut [u8], st: Open) -> Open
     requires { (serializable skip.now b.now ≡ true) × Low (carve (element_at skip.now props.now b.now).to_string_vec (at out.old st)) }
     ensures { at out.new result ≡ carve (element_at skip.now props.now b.now).to_string_vec (at out.old st) }
@@ -161,7 +161,7 @@ pub fn tag_strings<'a>(skip: &[u8], props: &'a [u8], b: &'a [u8], out: &mut [u8]
 }
 
 // Children in a template; `parent` where they are an element's.
-#[cycle(children_strings_element_strings_tag_strings)]
+#[cycle(strings)]
 pub fn children_strings<'a>(
     skip: &[u8],
     props: &'a [u8],

@@ -1,5 +1,7 @@
 // Prints the card of the tag text on standard input (document 02, A3; document 01, The card).
 // No contract can speak of what is read and written: what stands between, `print_tag`, is equal to the definition of the printed text.
+#![tactic(auto)]
+
 ghost use Rattle.std.specs.Prelude.{◌≡◌, length};
 
 mod tag_card;

@@ -1,6 +1,8 @@
 // The reader of tag text (document 02, A3): one loop with a stack of its own reads the text and writes its field, a production of the grammar a
 // turn. It promises of every text and every lent buffer the number, the count and every byte that `tag_outcome` says. What a name, a text or an
 // expression is, crate read_tag says.
+#![tactic(auto)]
+
 pub mod answer;
 pub mod attributes;
 pub mod braces;

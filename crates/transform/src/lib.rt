@@ -1,5 +1,7 @@
 // The whole transform, from bytes to bytes: a page and options in, templates and the page out. Everything is checked here; no caller is
 // trusted to have looked first. The answer and every byte lent are those of `outcome`. `jsx_precompile` hands it to hosts.
+#![tactic(auto)]
+
 ghost use Rattle.std.specs.Prelude.{◌≡◌, length};
 ghost use Rattle.page.specs.Refusal.{refusal_number};
 ghost use Rattle.page.specs.declared.Verdict.TheVariants.{Fine};

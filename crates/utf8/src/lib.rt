@@ -1,5 +1,7 @@
 // UTF-8 (RFC 3629): one pass over the bytes, eight at a time while they are ASCII.
 // It promises that is_utf8 equals the definition utf8 of specs/Utf8.antt on every slice. What the text means is left to others.
+#![tactic(auto)]
+
 ghost use Rattle.std.specs.Prelude.{◌≡◌, [], ◌∷◌, ◌+◌, ◌*◌, ◌^◌, ◌<◌, ◌≤◌, length, take, drop};
 ghost use Rattle.utf8.specs.Utf8.{◌to◌, within, tail, utf8_behind, utf8, ascii};
 ghost use Rattle.utf8.specs.Parts.{Skips, Takes};

@@ -28,7 +28,7 @@ use walk::state::{
 };
 
 // visit_mut_expr on the expression in front.
-#[cycle(on_expr_on_found_on_fragment_on_given_on_held_on_items_on_jsx_on_pieces_on_template_to_attrs_to_call_to_entries_to_found_to_gaps_to_jsx_to_parts_to_props)]
+#[cycle(visit)]
 fn on_expr<'a>(
     skip: &'a [u8],
     props: &'a [u8],
@@ -59,7 +59,7 @@ fn on_expr<'a>(
 }
 
 // The same of an expression in braces, where there is one.
-#[cycle(on_expr_on_found_on_fragment_on_given_on_held_on_items_on_jsx_on_pieces_on_template_to_attrs_to_call_to_entries_to_found_to_gaps_to_jsx_to_parts_to_props)]
+#[cycle(visit)]
 fn on_held<'a>(
     skip: &'a [u8],
     props: &'a [u8],
@@ -79,7 +79,7 @@ fn on_held<'a>(
 }
 
 // An array's elements.
-#[cycle(on_expr_on_found_on_fragment_on_given_on_held_on_items_on_jsx_on_pieces_on_template_to_attrs_to_call_to_entries_to_found_to_gaps_to_jsx_to_parts_to_props)]
+#[cycle(visit)]
 fn on_items<'a>(
     skip: &'a [u8],
     props: &'a [u8],
@@ -121,7 +121,7 @@ fn on_items<'a>(
 }
 
 // Pieces of source and the tags between them.
-#[cycle(on_expr_on_found_on_fragment_on_given_on_held_on_items_on_jsx_on_pieces_on_template_to_attrs_to_call_to_entries_to_found_to_gaps_to_jsx_to_parts_to_props)]
+#[cycle(visit)]
 pub fn on_pieces<'a>(
     skip: &'a [u8],
     props: &'a [u8],
@@ -165,7 +165,7 @@ pub fn on_pieces<'a>(
 }
 
 // An element as an expression: its templates are recorded, and then both passes run with the numbers behind them.
-#[cycle(on_expr_on_found_on_fragment_on_given_on_held_on_items_on_jsx_on_pieces_on_template_to_attrs_to_call_to_entries_to_found_to_gaps_to_jsx_to_parts_to_props)]
+#[cycle(visit)]
 fn on_jsx<'a>(
     skip: &'a [u8],
     props: &'a [u8],
@@ -185,7 +185,7 @@ fn on_jsx<'a>(
 }
 
 // A fragment's children as a template.
-#[cycle(on_expr_on_found_on_fragment_on_given_on_held_on_items_on_jsx_on_pieces_on_template_to_attrs_to_call_to_entries_to_found_to_gaps_to_jsx_to_parts_to_props)]
+#[cycle(visit)]
 fn on_template<'a>(
     skip: &'a [u8],
     props: &'a [u8],
@@ -208,7 +208,7 @@ fn on_template<'a>(
 }
 
 // A fragment as an expression.
-#[cycle(on_expr_on_found_on_fragment_on_given_on_held_on_items_on_jsx_on_pieces_on_template_to_attrs_to_call_to_entries_to_found_to_gaps_to_jsx_to_parts_to_props)]
+#[cycle(visit)]
 fn on_fragment<'a>(
     skip: &'a [u8],
     props: &'a [u8],
@@ -238,7 +238,7 @@ fn on_fragment<'a>(
 }
 
 // A fragment in a fragment, by its children: a tag that they give, or nothing, is left.
-#[cycle(on_expr_on_found_on_fragment_on_given_on_held_on_items_on_jsx_on_pieces_on_template_to_attrs_to_call_to_entries_to_found_to_gaps_to_jsx_to_parts_to_props)]
+#[cycle(visit)]
 fn on_found<'a>(
     skip: &'a [u8],
     props: &'a [u8],
@@ -267,7 +267,7 @@ fn on_found<'a>(
 }
 
 // What the children give, where it is no tag.
-#[cycle(on_expr_on_found_on_fragment_on_given_on_held_on_items_on_jsx_on_pieces_on_template_to_attrs_to_call_to_entries_to_found_to_gaps_to_jsx_to_parts_to_props)]
+#[cycle(visit)]
 fn on_given<'a>(
     skip: &'a [u8],
     props: &'a [u8],
@@ -298,7 +298,7 @@ fn on_given<'a>(
 }
 
 // serialize_jsx, with numbers of the first pass from `first` on.
-#[cycle(on_expr_on_found_on_fragment_on_given_on_held_on_items_on_jsx_on_pieces_on_template_to_attrs_to_call_to_entries_to_found_to_gaps_to_jsx_to_parts_to_props)]
+#[cycle(visit)]
 fn to_jsx<'a>(
     skip: &'a [u8],
     props: &'a [u8],
@@ -326,7 +326,7 @@ fn to_jsx<'a>(
 }
 
 // The gaps of an element in a template. HTML with nothing behind its name leaves none, so neither walk is begun.
-#[cycle(on_expr_on_found_on_fragment_on_given_on_held_on_items_on_jsx_on_pieces_on_template_to_attrs_to_call_to_entries_to_found_to_gaps_to_jsx_to_parts_to_props)]
+#[cycle(visit)]
 fn to_gaps<'a>(
     skip: &'a [u8],
     props: &'a [u8],
@@ -351,7 +351,7 @@ fn to_gaps<'a>(
 }
 
 // The gaps of attributes in an opening tag.
-#[cycle(on_expr_on_found_on_fragment_on_given_on_held_on_items_on_jsx_on_pieces_on_template_to_attrs_to_call_to_entries_to_found_to_gaps_to_jsx_to_parts_to_props)]
+#[cycle(visit)]
 fn to_attrs<'a>(
     skip: &'a [u8],
     props: &'a [u8],
@@ -390,7 +390,7 @@ fn to_attrs<'a>(
 }
 
 // The gaps of children in a template.
-#[cycle(on_expr_on_found_on_fragment_on_given_on_held_on_items_on_jsx_on_pieces_on_template_to_attrs_to_call_to_entries_to_found_to_gaps_to_jsx_to_parts_to_props)]
+#[cycle(visit)]
 fn to_parts<'a>(
     skip: &'a [u8],
     props: &'a [u8],
@@ -439,7 +439,7 @@ fn to_parts<'a>(
 }
 
 // serialize_jsx_to_call_expr
-#[cycle(on_expr_on_found_on_fragment_on_given_on_held_on_items_on_jsx_on_pieces_on_template_to_attrs_to_call_to_entries_to_found_to_gaps_to_jsx_to_parts_to_props)]
+#[cycle(visit)]
 fn to_call<'a>(
     skip: &'a [u8],
     props: &'a [u8],
@@ -481,7 +481,7 @@ fn to_call<'a>(
 }
 
 // The properties of a call.
-#[cycle(on_expr_on_found_on_fragment_on_given_on_held_on_items_on_jsx_on_pieces_on_template_to_attrs_to_call_to_entries_to_found_to_gaps_to_jsx_to_parts_to_props)]
+#[cycle(visit)]
 fn to_props<'a>(
     skip: &'a [u8],
     props: &'a [u8],
@@ -524,7 +524,7 @@ fn to_props<'a>(
 }
 
 // What the children of a call give: one expression, or, where it is spliced, the elements of an array.
-#[cycle(on_expr_on_found_on_fragment_on_given_on_held_on_items_on_jsx_on_pieces_on_template_to_attrs_to_call_to_entries_to_found_to_gaps_to_jsx_to_parts_to_props)]
+#[cycle(visit)]
 fn to_found<'a>(
     skip: &'a [u8],
     props: &'a [u8],
@@ -573,7 +573,7 @@ fn to_found<'a>(
 }
 
 // The entries of merged children.
-#[cycle(on_expr_on_found_on_fragment_on_given_on_held_on_items_on_jsx_on_pieces_on_template_to_attrs_to_call_to_entries_to_found_to_gaps_to_jsx_to_parts_to_props)]
+#[cycle(visit)]
 fn to_entries<'a>(
     skip: &'a [u8],
     props: &'a [u8],

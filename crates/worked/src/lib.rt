@@ -1,6 +1,8 @@
 // 02, A12: a page with its sums worked out, written into a lent buffer in one pass. Each 79 of one source piece that `sums` gives a number
 // becomes that number; all else is copied, and lengths grow with what they hold. Whether this is asked for, and the checks of the page as
 // it came, are left to the caller.
+#![tactic(auto)]
+
 ghost use Rattle.std.specs.Prelude.{◌≡◌, true, ◌+◌, ◌*◌, ◌≤◌, ◌<◌, ◌^◌, length};
 ghost use Rattle.field.specs.Row.{read};
 ghost use Rattle.field.specs.Put.{Wrote};
@@ -74,7 +76,7 @@ fn put_number(out: &mut [u8], at: usize, tag: u8, n: u64) -> usize
 }
 
 // One field, by its tag and body. The head of a field that holds others is written behind them, when its length is known.
-#[cycle(work_field_work_fields)]
+#[cycle(work)]
 fn work_field(tag: u8, w: &[u8], words: &mut [u64; ROOM], out: &mut [u8], at: usize) -> usize
     requires { (length w.now ≤ 32768) × (length words.old ≡ 16384) × (at + 2 * (3 + length w.now) < 2 ^ 63) }
     ensures { Wrote out.old at (worked_field tag w.now) out.new result × (length words.new ≡ 16384) }
@@ -95,7 +97,7 @@ fn work_field(tag: u8, w: &[u8], words: &mut [u64; ROOM], out: &mut [u8], at: us
 }
 
 // A row of fields, and what stands behind the last.
-#[cycle(work_field_work_fields)]
+#[cycle(work)]
 fn work_fields(s: &[u8], words: &mut [u64; ROOM], out: &mut [u8], at: usize) -> usize
     requires { (length s.now ≤ 32768) × (length words.old ≡ 16384) × (at + 2 * length s.now < 2 ^ 63) }
     ensures { Wrote out.old at (worked_bytes s.now) out.new result × (length words.new ≡ 16384) }

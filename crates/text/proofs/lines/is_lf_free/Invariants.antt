@@ -1,0 +1,13 @@
+use native.Mathlib.Omega.{arith}
+use mathlib.Core.Path.{◌≡◌, refl}
+use Prim.Native.Nat.{◌≤◌, ◌-◌}
+use lib.ListN.{take, drop}
+use Rattle.text.specs.Runs.{not_lf, all}
+use Rattle.text.proofs.RunLaws.{all_more}
+use Rattle.text.proofs.lines.is_lf_free.Given as goal
+
+abbrev pub invariant-loop-k : goal.invariant-loop-k
+invariant-loop-k l = (l.k ≤ 16) × (l.is ≡ all not_lf (take l.k (drop l.at l.s)))
+
+abbrev pub decreases-loop-k : goal.decreases-loop-k
+decreases-loop-k l = 16 - l.k

@@ -1,0 +1,164 @@
+-- `text::lines::read_line` meets its contract: a walk of its MIR, by hand. The reader that one call returns is held in a local and passed to the
+-- next. All that the proof knows of `reader_at` and `next_line` is that each meets its contract. In a local MIR erases the lifetime of the
+-- struct's type, so the value is shown to have the type at `erased`: what the struct owns does not say the lifetime's name.
+-- Assumes nothing.
+use mathlib.Core.Path.{◌≡◌, refl, ap, ◌∙◌}
+use Prim.Native.Nat.{ℕ, ◌<◌, ◌^◌}
+use mathlib.Core.List.{List, [], ◌∷◌}
+use lib.ListN.{length}
+use seplogic.Ra.Ura.{Ura}
+use mir.Syntax.{named, erased, w64}
+use mir.Val.{Val, vint}
+use base.Logic.{SProp, ent, sep, emp, via, fst∗, snd∗, ex_e, id⊢}
+use base.Fml.{Lft, Share, Fml, ftrue, flft}
+use prog.Memory.{Memory}
+use prog.Routine.{Routine}
+use prog.Wp.{Calls, Loops, WpFn, Tables}
+use types.Logic.{Logic, sem}
+use contract.Lifetimes.{Lfts}
+use contract.Monad.{Fun, fact}
+use contract.Running.{tables, tables_of}
+use types.Kit.{‵, raw, ◌⊛◌, ⋆, some, later, ◌$◌, ◌∵◌, !, qed, by, move, use1, use2, split, join, pick, fsplit, fjoin, suffices, frame, await, done}
+use types.Run.{look, init, forget, stop, from, load, and_then, no_more, land, returns, enter, alloc1, alloc0, params1, pass1, pass0, free1, free0}
+use sound.WpLaws.{FmC, fm_of, WpFn-mono}
+use denote.RattleType.{RattleType, owns}
+use denote.Laws.{Is, shows}
+use denote.Plain.{uint_vals, uint_Tells, uint_Makes}
+use denote.Builtin.{u8, usize}
+use denote.Ref.{Bor, NamedLft}
+use denote.Signature.{plain, named_lft}
+use denote.Slice.{slice_val, ShrSlice, shr_slice_vals, shr_slice_Tells, shr_slice_Lawful, shr_slice_copy}
+use denote.Steps.{owned, peeks, heard, nothing}
+use denote.Struct.Laws as LL
+use denote.Triple.Statement.{Contract, Triple}
+use denote.Triple.Call.{calls_at}
+use denote.Triple.Entry.{Vals, on_entry}
+use denote.Triple.Spec.{Meets, triple_of}
+use denote.Triple.Table.{entered, cited}
+use denote.Triple.Walked.{says, Stays, stay_none, stay_none_slice, walk_of, Goes-none, Goes-none_slice, Walks, ends_at, walked, walk_Meets}
+use denote.Exit.{yes}
+use denote.Triple.Clauses.{ensured, lasts}
+use Rattle.text.specs.Lines.{line_at}
+use Rattle.text.specs.declared.lines.Lines.{Lines}
+use Rattle.text.specs.declared.lines.Line.{Line}
+use Rattle.text.specs.contracts.lines.Lines as T
+use Rattle.text.proofs.lines.Lines.TheLaws as T'
+use Rattle.text.specs.contracts.lines.Line as S
+use Rattle.text.proofs.lines.Line.TheLaws as S'
+use Rattle.text.specs.contracts.lines.reader_at as reader
+use Rattle.text.proofs.lines.reader_at.Symbol as reader-def
+use Rattle.text.proofs.lines.reader_at.Symbol.{name as #reader-at}
+use Rattle.text.proofs.lines.reader_at.Met as reader-thm
+use Rattle.text.specs.contracts.lines.next_line as next
+use Rattle.text.proofs.lines.next_line.Symbol as next-def
+use Rattle.text.proofs.lines.next_line.Symbol.{name as #next-line}
+use Rattle.text.proofs.lines.next_line.Met as next-thm
+use Rattle.text.specs.contracts.lines.read_line.Key.{name as #read-line}
+use Rattle.text.specs.contracts.lines.read_line as read
+use Rattle.text.proofs.lines.read_line.Statement as stated
+use Rattle.text.proofs.lines.read_line.Code as code
+use Rattle.text.proofs.lines.read_line.Goals as goal
+
+-- the struct's type, over the signature's lifetimes
+abbrev B : Lfts 1 → RattleType
+B κs = T.the_row (named_lft 1 0 tt κs)
+
+abbrev stayed : Stays (read.ended).signature.params (read.ended).kept
+stayed = (stay_none_slice (0 ∷ []) tt (plain (λ _. u8)) yes, (stay_none (λ _. usize) yes, tt))
+
+module _ {M : Type 1} {𝓤 : Ura M} (𝓛 : Logic 𝓤) (mem : Memory → SProp 𝓤) (run : Routine → Fun 𝓤) where
+  -- the contracts that the proof cites
+  abbrev ReaderAt : Contract 𝓤
+  ReaderAt = triple_of 𝓛 reader.signature (reader.spec 𝓛 mem run)
+
+  abbrev NextLine : Contract 𝓤
+  NextLine = triple_of 𝓛 next.signature (next.spec 𝓛 mem run)
+
+module _ {M : Type 1} {𝓤 : Ura M} (𝓛 : Logic 𝓤) (mem : Memory → SProp 𝓤) (run : Routine → Fun 𝓤) (κ : Lft) (q : Share) (s : Bor (List ℕ)) (n : ℕ) (ok : n < 2 ^ 64) where
+  -- the machine value that s has
+  open 𝓛 use {H}
+
+  abbrev v : Val
+  v = slice_val s.ref_ptr (length s.now)
+
+  abbrev found : Line
+  found = line_at s.now n
+
+  abbrev at : Vals read.signature (κ, tt)
+  at = (v ∷ [], (vint w64 n ∷ [], tt))
+
+  -- the struct's type as a local of a body has it
+  abbrev αᵉ : NamedLft
+  αᵉ = record { mir = erased; lft = κ }
+
+  abbrev Post : Val → SProp 𝓤
+  Post = (walk_of 𝓛 read.ended stayed (read.clauses 𝓛 mem run)).post (((κ, tt), (q, tt), tt, (s, (n, tt)), at), tt)
+
+  abbrev Own : Fml
+  Own = (ShrSlice (named 0) κ u8).own_val s (v ∷ [])
+
+  -- the call of `reader_at`: what it is passed, what it asks, and what is known of its result
+  abbrev to-reader : (ReaderAt 𝓛 mem run).Ghost
+  to-reader = (((κ, tt), (q, tt), tt, (s, (n, tt)), at), tt)
+
+  goes-reader : ent 𝓤 (on_entry 𝓛 read.signature (κ, tt) (q, tt) (s, (n, tt)) at) (sep 𝓤 ((ReaderAt 𝓛 mem run).pre to-reader) (sem 𝓛 Own))
+  goes-reader =
+      qed 𝓛 ((‵ (flft κ q) ⊛ ‵ ftrue) ∷ ‵ (owns (ShrSlice (named 0) κ u8 ∷ usize ∷ []) (s, (n, tt)) at) ∷ []) ∵
+      move ! (1 ∷ []) $ fsplit ! $ use1 𝓛 (‵ Own ⊛ ‵ Own) ((shr_slice_copy 𝓛 (named 0) κ u8).twice s (v ∷ [])) $ split ! $
+      move ! (0 ∷ 2 ∷ []) $ fjoin ! $ move ! (2 ∷ 0 ∷ []) $ use2 𝓛 (raw ((ReaderAt 𝓛 mem run).pre to-reader)) (qed 𝓛 ((‵ (flft κ q) ⊛ ‵ ftrue) ∷ ‵ (owns (ShrSlice (named 0) κ u8 ∷ usize ∷ []) (s, (n, tt)) at) ∷ []) ∵ join ! $ frame ! $ done !) $ frame ! $ done !
+
+  reader-said : (r : Lines) → ent 𝓤 (ensured 𝓛 reader.ended (reader.clauses 𝓛 mem run) (κ, tt) (s, (n, tt)) tt r) (fact 𝓤 ((r.text ≡ s) × (r.place ≡ n)))
+  reader-said r = ex_e 𝓤 _ (λ ws. snd∗ 𝓤 (sem 𝓛 (lasts reader.ended (κ, tt) (s, (n, tt)) ws)) (fact 𝓤 ((r.text ≡ s) × (r.place ≡ n))))
+
+  -- the call of `next_line`, at the struct r with the machine value u
+  abbrev to-next : Lines → Val → (NextLine 𝓛 mem run).Ghost
+  to-next r u = (((κ, tt), (q, tt), tt, (r, tt), (u ∷ [], tt)), tt)
+
+  goes-next : (r : Lines) (u : Val) → ent 𝓤 (⋆ 𝓛 (‵ ((B (κ, tt)).own r (u ∷ [])) ∷ (‵ (flft κ q) ⊛ ‵ ftrue) ∷ [])) ((NextLine 𝓛 mem run).pre (to-next r u))
+  goes-next r u = qed 𝓛 (‵ ((B (κ, tt)).own r (u ∷ [])) ∷ (‵ (flft κ q) ⊛ ‵ ftrue) ∷ []) ∵ nothing ! $ move ! (1 ∷ 0 ∷ []) $ fjoin ! $ move ! (1 ∷ 0 ∷ []) $ join ! $ frame ! $ done !
+
+  next-said : (r : Lines) (t : Line) → ent 𝓤 (ensured 𝓛 next.ended (next.clauses 𝓛 mem run) (κ, tt) (r, tt) tt t) (fact 𝓤 (t ≡ line_at r.text.now r.place))
+  next-said r t = ex_e 𝓤 _ (λ ws. snd∗ 𝓤 (sem 𝓛 (lasts next.ended (κ, tt) (r, tt) ws)) (fact 𝓤 (t ≡ line_at r.text.now r.place)))
+
+  exits : (t : Line) (u : Val) → t ≡ found → ent 𝓤 (⋆ 𝓛 (‵ ((S.the_row).own_val t (u ∷ [])) ∷ (‵ (flft κ q) ⊛ ‵ ftrue) ∷ ‵ Own ∷ [])) (Post u)
+  exits t u e =
+      qed 𝓛 (‵ ((S.the_row).own_val t (u ∷ [])) ∷ (‵ (flft κ q) ⊛ ‵ ftrue) ∷ ‵ Own ∷ []) ∵
+      suffices ! _ (ends_at 𝓛 read.ended stayed (read.clauses 𝓛 mem run) (((κ, tt), (q, tt), tt, (s, (n, tt)), at), tt) u t (tt, (tt, tt)) (tt, (tt, tt))) $ says ! e $
+      move ! (1 ∷ []) $ frame ! $ nothing ! $ owned ! usize (Is usize) (uint_Makes 𝓛 w64) n _ (refl, ok) $ fjoin ! $ move ! (2 ∷ 0 ∷ []) $ fjoin ! $ frame ! $ done !
+
+  module _ (C : Calls 𝓤 H) (Λ : Loops 𝓤 H) (fm : FmC 𝓤 H 𝓛.laws C) (known-reader : Triple 𝓤 (C #reader-at) (ReaderAt 𝓛 mem run)) (known_next : Triple 𝓤 (C #next-line) (NextLine 𝓛 mem run)) where
+    walk : Is (ShrSlice (named 0) κ u8) s (v ∷ []) → ent 𝓤 (on_entry 𝓛 read.signature (κ, tt) (q, tt) (s, (n, tt)) at) (WpFn 𝓤 H C Λ code.function (v ∷ vint w64 n ∷ []) Post)
+    walk p =
+        qed 𝓛 (raw (on_entry 𝓛 read.signature (κ, tt) (q, tt) (s, (n, tt)) at) ∷ []) ∵ enter ! C Λ code.function (v ∷ vint w64 n ∷ []) _ $
+        alloc1 ! (λ l₀. alloc1 ! (λ l₁. alloc1 ! (λ l₂. alloc1 ! (λ l₃. alloc0 ! $ params1 ! $ pass1 ! (init ! 4 refl ((shr_slice_Lawful 𝓛 (named 0) κ u8).typed s (v ∷ []) p).0) $ pass1 ! (init ! 2 refl (tt, record { fits = ok })) $ pass0 ! $
+        move ! (8 ∷ []) $ use1 𝓛 (raw ((ReaderAt 𝓛 mem run).pre to-reader) ⊛ ‵ Own) goes-reader $ split ! $
+        calls_at ! fm (ReaderAt 𝓛 mem run) known-reader to-reader (and_then ! (load ! (from ! (stop !)) (look ! 6 refl)) (and_then ! (load ! (from ! (stop !)) (look ! 4 refl)) (no_more !))) (λ u.
+        use1 𝓛 (later (some (λ (r : Lines). ((‵ (flft κ q) ⊛ ‵ ftrue) ⊛ ‵ ((B (κ, tt)).own r (u ∷ []))) ⊛ raw (ensured 𝓛 reader.ended (reader.clauses 𝓛 mem run) (κ, tt) (s, (n, tt)) tt r)))) (id⊢ 𝓤 _) $ await ! tt $ pick ! (λ r.
+        split ! $ move ! (1 ∷ []) $ use1 𝓛 (raw (fact 𝓤 ((r.text ≡ s) × (r.place ≡ n)))) (reader-said r) $ heard ! ((r.text ≡ s) × (r.place ≡ n)) (λ e. split ! $ move ! (1 ∷ []) $
+        -- [what the struct owns; the token; what s owns; room for _3; …; _2; …; _1; …; room for _0; …]
+        peeks ! (B (κ, tt)) (Is (B (κ, tt))) (shows 𝓛 (B (κ, tt))) r (u ∷ []) (λ is.
+        land ! (from ! (stop !)) (init ! 3 refl ((LL.lawful (T.the_type αᵉ) (T'.the_laws αᵉ) 𝓛).typed r _ is).0) $
+        use2 𝓛 (raw ((NextLine 𝓛 mem run).pre (to-next r u))) (goes-next r u) $
+        calls_at ! fm (NextLine 𝓛 mem run) known_next (to-next r u) (and_then ! (load ! (from ! (stop !)) (look ! 2 refl)) (no_more !)) (λ u'.
+        use1 𝓛 (later (some (λ (t : Line). ((‵ (flft κ q) ⊛ ‵ ftrue) ⊛ ‵ ((S.the_row).own_val t (u' ∷ []))) ⊛ raw (ensured 𝓛 next.ended (next.clauses 𝓛 mem run) (κ, tt) (r, tt) tt t)))) (id⊢ 𝓤 _) $ await ! tt $ pick ! (λ t.
+        split ! $ move ! (1 ∷ []) $ use1 𝓛 (raw (fact 𝓤 (t ≡ line_at r.text.now r.place))) (next-said r t) $ heard ! (t ≡ line_at r.text.now r.place) (λ e'. split ! $ move ! (1 ∷ []) $
+        -- [the result; the token; what s owns; _3; …; _2; …; _1; …; room for _0; …]
+        peeks ! S.the_row (Is S.the_row) (shows 𝓛 S.the_row) t (u' ∷ []) (λ is'.
+        land ! (from ! (stop !)) (init ! 9 refl ((LL.lawful S.the_type S'.the_laws 𝓛).typed t _ is').0) $
+        returns ! (look ! 9 refl) $ forget ! 3 refl $ forget ! 5 refl $ forget ! 7 refl $ forget ! 9 refl $
+        move ! (9 ∷ 10 ∷ []) $ free1 ! $ move ! (7 ∷ 8 ∷ []) $ free1 ! $ move ! (5 ∷ 6 ∷ []) $ free1 ! $ move ! (3 ∷ 4 ∷ []) $ free1 ! $ free0 ! $
+        by ! (exits t u' (e' ∙ (ap (λ (x : Bor (List ℕ)). line_at x.now r.place) e.0 ∙ ap (line_at s.now) e.1)))))))))))))))
+
+module _ {M : Type 1} {𝓤 : Ura M} (𝓛 : Logic 𝓤) (mem : Memory → SProp 𝓤) (run : Routine → Fun 𝓤) where
+  open 𝓛 use {H}
+
+  read-line-walks : (C : Calls 𝓤 H) (Λ : Loops 𝓤 H) → FmC 𝓤 H 𝓛.laws C → Triple 𝓤 (C #reader-at) (ReaderAt 𝓛 mem run) → Triple 𝓤 (C #next-line) (NextLine 𝓛 mem run)
+      → Walks 𝓛 read.ended stayed (WpFn 𝓤 H C Λ code.function) (read.clauses 𝓛 mem run)
+  read-line-walks C Λ fm known-reader known_next = walked 𝓛 read.ended stayed (read.clauses 𝓛 mem run) (WpFn 𝓤 H C Λ code.function) (λ κs. (shr_slice_vals, (uint_vals w64, tt))) (λ κs. (shr_slice_Tells (named 0) κs.0 u8, (uint_Tells w64, tt)))
+      (λ κs qs bounds a g are. via 𝓤 _ (fst∗ 𝓤 _ (emp 𝓤)) (walk 𝓛 mem run κs.0 qs.0 a.0 a.1.0 are.1.0.1 C Λ fm known-reader known_next are.0))
+
+read_line_meets : {M : Type 1} {𝓤 : Ura M} (𝓛 : Logic 𝓤) (mem : Memory → SProp 𝓤) (run : Routine → Fun 𝓤) (𝓣 : Tables 𝓤 𝓛.H)
+    → Triple 𝓤 (𝓣.C #reader-at) (ReaderAt 𝓛 mem run) → Triple 𝓤 (𝓣.C #next-line) (NextLine 𝓛 mem run)
+    → Meets 𝓛 read.signature (WpFn 𝓤 𝓛.H 𝓣.C 𝓣.Λ code.function) (read.spec 𝓛 mem run)
+read_line_meets {𝓤 = 𝓤} 𝓛 mem run 𝓣 known-reader known_next = walk_Meets 𝓛 read.ended stayed (Goes-none_slice 𝓛 1 (0 ∷ []) tt (plain (λ _. u8)) yes, (Goes-none 𝓛 1 (λ _. usize) yes (λ κs x f. refl), tt)) (read.clauses 𝓛 mem run) (WpFn 𝓤 𝓛.H 𝓣.C 𝓣.Λ code.function) (WpFn-mono 𝓤 𝓛.H 𝓛.laws 𝓣 code.function)
+    (read-line-walks 𝓛 mem run 𝓣.C 𝓣.Λ (fm_of 𝓤 𝓛.H 𝓛.laws 𝓣) known-reader known_next)

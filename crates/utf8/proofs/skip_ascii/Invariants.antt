@@ -1,0 +1,13 @@
+use Prim.Native.Nat.{◌-◌}
+use native.Mathlib.Omega.{arith}
+use borrow.Author.Rules.{rules}
+use lib.ListN.{length}
+use Rattle.utf8.specs.Parts.{Skips}
+use Rattle.utf8.proofs.Places.{skips_one, skips_on}
+use Rattle.utf8.proofs.skip_ascii.Given as goal
+
+abbrev pub invariant-loop-k : goal.invariant-loop-k
+invariant-loop-k l = Skips l.s l.i l.k
+
+abbrev pub decreases-loop-k : goal.decreases-loop-k
+decreases-loop-k l = length l.s - l.k
