@@ -36,14 +36,14 @@ pub slice_bounds-put_bytes-end : goal.slice_bounds-put_bytes-end
 slice_bounds-put_bytes-end c = simp length-set (omega arith)
 
 pub put_bytes-requires : goal.put_bytes-requires
-put_bytes-requires c = let args = c in let e = filled args.n c.loop-m.buf c.loop-m.i c.loop-m.m c.loop-m.invariant.0 c.if-m-eq0.true in
+put_bytes-requires c = let args = c.args in let e = filled args.n c.loop-m.buf c.loop-m.i c.loop-m.m c.loop-m.invariant.0 c.if-m-eq0.true in
     omega (arith, ap (λ (t : Bytes). length t) e)
 
 pub shape_of-out-then-m-eq0 : goal.shape_of-out-then-m-eq0
 shape_of-out-then-m-eq0 c = wrote_length c.put_bytes.ensures ∙ ap (λ (t : Bytes). length t) c.loop-m.invariant.1
 
 pub returns-then-m-eq0 : goal.returns-then-m-eq0
-returns-then-m-eq0 c = let args = c in let e = filled args.n c.loop-m.buf c.loop-m.i c.loop-m.m c.loop-m.invariant.0 c.if-m-eq0.true in
+returns-then-m-eq0 c = let args = c.args in let e = filled args.n c.loop-m.buf c.loop-m.i c.loop-m.m c.loop-m.invariant.0 c.if-m-eq0.true in
     subst (λ (o : Bytes). Wrote o args.at (decimal args.n) c.put_bytes.new.out c.put_bytes.result) c.loop-m.invariant.1 (wrote_is e c.put_bytes.ensures)
 
 pub loop-m-smaller : goal.loop-m-smaller

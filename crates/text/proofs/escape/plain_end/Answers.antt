@@ -26,7 +26,7 @@ pub loop-i-smaller : goal.loop-i-smaller
 loop-i-smaller c = omega arith
 
 pub loop-i-preserved : goal.loop-i-preserved
-loop-i-preserved c = let args = c.args in let e = sym c.is_plain_block.ensures ∙ not-false _ c.if-not-is_plain_block.false in
+loop-i-preserved c = let args = c.args in let e = sym c.is_plain_block.ensures ∙ c.if-not-is_plain_block.false in
     (omega arith, scan_block plain args.s.now c.loop-i.i 16 (omega arith) e c.loop-i.invariant.1)
 
 pub overflow_sub-s-2 : goal.overflow_sub-s-2
@@ -49,7 +49,7 @@ pub bounds-s-i : goal.bounds-s-i
 bounds-s-i c = omega arith
 
 pub returns-then-not-is_plain : goal.returns-then-not-is_plain
-returns-then-not-is_plain c = let args = c.args in let e = sym c.is_plain.ensures ∙ not-true _ c.if-not-is_plain.true in
+returns-then-not-is_plain c = let args = c.args in let e = sym c.is_plain.ensures ∙ c.if-not-is_plain.true in
     scan_stop plain args.s.now c.loop-i-2.i (omega arith) e c.loop-i-2.invariant.1
 
 pub overflow_add-i-in-loop-i-2 : goal.overflow_add-i-in-loop-i-2
@@ -59,7 +59,7 @@ pub loop-i-2-smaller : goal.loop-i-2-smaller
 loop-i-2-smaller c = omega arith
 
 pub loop-i-2-preserved : goal.loop-i-2-preserved
-loop-i-2-preserved c = let args = c.args in let e = sym c.is_plain.ensures ∙ not-false _ c.if-not-is_plain.false in
+loop-i-2-preserved c = let args = c.args in let e = sym c.is_plain.ensures ∙ c.if-not-is_plain.false in
     (omega arith, scan_step plain args.s.now c.loop-i-2.i (omega arith) e c.loop-i-2.invariant.1)
 
 pub returns : goal.returns

@@ -42,7 +42,7 @@ pub returns-then-not-is_plain : goal.returns-then-not-is_plain
 returns-then-not-is_plain c = let s = c.args.s.now in wrote_more c.loop-i.invariant.1 (escaped_rest s c.loop-i.i c.loop-i.invariant.0) c.put_escaped-then-not-is_plain.ensures
 
 pub put_byte-a-requires : goal.put_byte-a-requires
-put_byte-a-requires c = let s = c.args.s.now in let i = c.loop-i.i in let is = sym c.is_plain.ensures ∙ not-false _ c.if-not-is_plain.false in
+put_byte-a-requires c = let s = c.args.s.now in let i = c.loop-i.i in let is = sym c.is_plain.ensures ∙ c.if-not-is_plain.false in
     let h = room_for {k = 2 ^ 63} (get_or s i 0 ∷ []) c.loop-i.invariant.1 (escaped_plain s i (omega arith) is) (escaped_le s (i + 1)) c.requires in
     omega arith
 
@@ -53,7 +53,7 @@ pub loop-i-smaller : goal.loop-i-smaller
 loop-i-smaller c = omega arith
 
 pub loop-i-preserved : goal.loop-i-preserved
-loop-i-preserved c = let s = c.args.s.now in let is = sym c.is_plain.ensures ∙ not-false _ c.if-not-is_plain.false in
+loop-i-preserved c = let s = c.args.s.now in let is = sym c.is_plain.ensures ∙ c.if-not-is_plain.false in
     (omega arith, wrote_more c.loop-i.invariant.1 (escaped_plain s c.loop-i.i (omega arith) is) c.put_byte-a.ensures)
 
 pub shape_of-out : goal.shape_of-out

@@ -19,7 +19,7 @@ pub is_indent_block-requires : goal.is_indent_block-requires
 is_indent_block-requires c = omega arith
 
 pub returns-then-not-is_indent_block : goal.returns-then-not-is_indent_block
-returns-then-not-is_indent_block c = let args = c.args in let e = sym c.is_indent_block.ensures ∙ not-true _ c.if-not-is_indent_block.true in
+returns-then-not-is_indent_block c = let args = c.args in let e = sym c.is_indent_block.ensures ∙ c.if-not-is_indent_block.true in
     all_refused indent args.s.now c.loop-i.i 8 c.loop-i.invariant.1 e
 
 pub overflow_add-i : goal.overflow_add-i
@@ -29,7 +29,7 @@ pub loop-i-smaller : goal.loop-i-smaller
 loop-i-smaller c = omega arith
 
 pub loop-i-preserved : goal.loop-i-preserved
-loop-i-preserved c = let args = c.args in let e = sym c.is_indent_block.ensures ∙ not-false _ c.if-not-is_indent_block.false in
+loop-i-preserved c = let args = c.args in let e = sym c.is_indent_block.ensures ∙ c.if-not-is_indent_block.false in
     (omega arith, all_on indent args.s.now c.loop-i.i 8 c.loop-i.invariant.1 e)
 
 pub is_indent_block-requires-then-n-ge8 : goal.is_indent_block-requires-then-n-ge8
@@ -45,7 +45,7 @@ pub bounds-s-i : goal.bounds-s-i
 bounds-s-i c = omega arith
 
 pub returns-then-not-is_indent_byte : goal.returns-then-not-is_indent_byte
-returns-then-not-is_indent_byte c = let args = c.args in let e = all_one indent args.s.now c.loop-i-2.i (omega arith) c.is_indent_byte.ensures ∙ not-true _ c.if-not-is_indent_byte.true in
+returns-then-not-is_indent_byte c = let args = c.args in let e = all_one indent args.s.now c.loop-i-2.i (omega arith) c.is_indent_byte.ensures ∙ c.if-not-is_indent_byte.true in
     all_refused indent args.s.now c.loop-i-2.i 1 c.loop-i-2.invariant.1 e
 
 pub overflow_add-i-in-loop-i-2 : goal.overflow_add-i-in-loop-i-2
@@ -55,7 +55,7 @@ pub loop-i-2-smaller : goal.loop-i-2-smaller
 loop-i-2-smaller c = omega arith
 
 pub loop-i-2-preserved : goal.loop-i-2-preserved
-loop-i-2-preserved c = let args = c.args in let e = all_one indent args.s.now c.loop-i-2.i (omega arith) c.is_indent_byte.ensures ∙ not-false _ c.if-not-is_indent_byte.false in
+loop-i-2-preserved c = let args = c.args in let e = all_one indent args.s.now c.loop-i-2.i (omega arith) c.is_indent_byte.ensures ∙ c.if-not-is_indent_byte.false in
     (omega arith, all_on indent args.s.now c.loop-i-2.i 1 c.loop-i-2.invariant.1 e)
 
 pub returns : goal.returns

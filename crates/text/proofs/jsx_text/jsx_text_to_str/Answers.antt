@@ -41,13 +41,13 @@ pub slice_bounds-trim_line-end : goal.slice_bounds-trim_line-end
 slice_bounds-trim_line-end c = omega (arith, cut (goal.at.slice_bounds-trim_line-end c).After-read_line-line)
 
 pub put_kept_line-a-requires : goal.put_kept_line-a-requires
-put_kept_line-a-requires c = let line = c.read_line-line.result in joining_room line.end line.next c.trim_line-t.result.now c.loop-i.invariant.1 (cut read) c.trim_line-t.ensures c.requires
+put_kept_line-a-requires c = let line = c.read_line-line.result in joining_room line.end line.next c.trim_line-t.result.now c.loop-i.invariant.1 (cut (goal.at.put_kept_line-a-requires c).After-read_line-line) c.trim_line-t.ensures c.requires
 
 pub loop-i-smaller : goal.loop-i-smaller
 loop-i-smaller c = omega (arith, cut (goal.at.loop-i-smaller c).After-read_line-line)
 
 pub loop-i-preserved : goal.loop-i-preserved
-loop-i-preserved c = let line = c.read_line-line.result in let k = cut read in
+loop-i-preserved c = let line = c.read_line-line.result in let k = cut (goal.at.loop-i-preserved c).After-read_line-line in
     (k.within, joining_step line.end line.next c.trim_line-t.result.now c.loop-i.invariant.1 k c.trim_line-t.ensures c.put_kept_line-a.ensures)
 
 pub shape_of-out : goal.shape_of-out

@@ -26,7 +26,7 @@ pub loop-i-smaller : goal.loop-i-smaller
 loop-i-smaller c = omega arith
 
 pub loop-i-preserved : goal.loop-i-preserved
-loop-i-preserved c = let args = c.args in let e = sym c.is_lf_free.ensures ∙ not-false _ c.if-not-is_lf_free.false in
+loop-i-preserved c = let args = c.args in let e = sym c.is_lf_free.ensures ∙ c.if-not-is_lf_free.false in
     (omega arith, scan_block not_lf args.s.now c.loop-i.i 16 (omega arith) e c.loop-i.invariant.1)
 
 pub overflow_sub-s-2 : goal.overflow_sub-s-2

@@ -18,10 +18,10 @@ pub space_before-n-requires : goal.space_before-n-requires
 space_before-n-requires c = omega arith
 
 pub slice_bounds-result-end : goal.slice_bounds-result-end
-slice_bounds-result-end c = let args = c in sym (length-take-le c.loop-e.e args.s.now (omega arith))
+slice_bounds-result-end c = let args = c.args in sym (length-take-le c.loop-e.e args.s.now (omega arith))
 
 pub returns-then-n-eq0 : goal.returns-then-n-eq0
-returns-then-n-eq0 c = let args = c in trim_back_here args.s.now c.loop-e.e (omega arith) c.space_before-n.ensures c.if-n-eq0.true c.loop-e.invariant.1
+returns-then-n-eq0 c = let args = c.args in trim_back_here args.s.now c.loop-e.e (omega arith) c.space_before-n.ensures c.if-n-eq0.true c.loop-e.invariant.1
 
 pub overflow_sub-e : goal.overflow_sub-e
 overflow_sub-e c = let args = c.args in omega (arith, before_le args.s.now c.loop-e.e (omega arith) c.space_before-n.ensures)
