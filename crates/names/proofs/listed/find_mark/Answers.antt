@@ -1,0 +1,6 @@
+-- `find_mark` meets its contract.
+use borrow.Author.Rules.{rules}
+use Rattle.names.proofs.listed.find_mark.Goals as goal
+
+pub returns : goal.returns
+returns c = c.find_listed.ensures.0
