@@ -333,9 +333,9 @@ module _ (n : Bytes) (m : ℕ) (e : by_mark m n ≡ normalize_dom_attr_name n) w
     unfolding by_mark
     ident_href k h = h ∙ ap (same x) (ident_as (ascii "href") [] (rw k))
 
-    pub ident_panose : m ≡ 112 → r ≡ same x (small_letters (joined 0 (ascii "panose_1") false [])) → r ≡ same x (html_name (ident n))
+    pub ident_panose : m ≡ 112 → r ≡ same x (small_letters (joined 0 (ascii "panose-1") false [])) → r ≡ same x (html_name (ident n))
     unfolding by_mark
-    ident_panose k h = h ∙ ap (same x) (ident_as (ascii "panose_1") [] (rw k))
+    ident_panose k h = h ∙ ap (same x) (ident_as (ascii "panose-1") [] (rw k))
 
     pub ident_other : (m ≡ 61 → ⊥) → (m ≡ 99 → ⊥) → (m ≡ 102 → ⊥) → (m ≡ 104 → ⊥) → (m ≡ 112 → ⊥) → r ≡ same x (small_letters (joined m n false [])) → r ≡ same x (html_name (ident n))
     ident_other a b c d e' h = h ∙ ap (same x) (ident_spelled [] (mark_other m n a b c d e'))
@@ -356,9 +356,9 @@ module _ (n : Bytes) (m : ℕ) (e : by_mark m n ≡ normalize_dom_attr_name n) w
     unfolding by_mark
     as_href k h = h ∙ ap (λ (y : Bytes). same y x) (ident_as (ascii "href") [] (rw k))
 
-    pub as_panose : m ≡ 112 → r ≡ same (small_letters (joined 0 (ascii "panose_1") false [])) x → r ≡ same (html_name (ident n)) x
+    pub as_panose : m ≡ 112 → r ≡ same (small_letters (joined 0 (ascii "panose-1") false [])) x → r ≡ same (html_name (ident n)) x
     unfolding by_mark
-    as_panose k h = h ∙ ap (λ (y : Bytes). same y x) (ident_as (ascii "panose_1") [] (rw k))
+    as_panose k h = h ∙ ap (λ (y : Bytes). same y x) (ident_as (ascii "panose-1") [] (rw k))
 
     pub as_other : (m ≡ 61 → ⊥) → (m ≡ 99 → ⊥) → (m ≡ 102 → ⊥) → (m ≡ 104 → ⊥) → (m ≡ 112 → ⊥) → r ≡ same (small_letters (joined m n false [])) x → r ≡ same (html_name (ident n)) x
     as_other a b c d e' h = h ∙ ap (λ (y : Bytes). same y x) (ident_spelled [] (mark_other m n a b c d e'))
@@ -565,9 +565,9 @@ module _ (f : Bytes → ℕ) (n : Bytes) (m : ℕ) (e : by_mark m n ≡ normaliz
   unfolding by_mark
   of_href k h = h ∙ ap f (ident_as n m e (ascii "href") [] (rw k))
 
-  pub of_panose : m ≡ 112 → r ≡ f (small_letters (joined 0 (ascii "panose_1") false [])) → r ≡ f (html_name (ident n))
+  pub of_panose : m ≡ 112 → r ≡ f (small_letters (joined 0 (ascii "panose-1") false [])) → r ≡ f (html_name (ident n))
   unfolding by_mark
-  of_panose k h = h ∙ ap f (ident_as n m e (ascii "panose_1") [] (rw k))
+  of_panose k h = h ∙ ap f (ident_as n m e (ascii "panose-1") [] (rw k))
 
   pub of_other : (m ≡ 61 → ⊥) → (m ≡ 99 → ⊥) → (m ≡ 102 → ⊥) → (m ≡ 104 → ⊥) → (m ≡ 112 → ⊥) → r ≡ f (small_letters (joined m n false [])) → r ≡ f (html_name (ident n))
   of_other a b c d e' h = h ∙ ap f (ident_spelled n m e [] (mark_other m n a b c d e'))

@@ -173,7 +173,7 @@ namespaced_never_boolean ns n = namespaced_never boolean_names refl refl ns n
 
 -- no name without a colon, `href` apart
 pub namespaced_never_is : (b : Bytes) → colon_free b ≡ true → same (ascii "href") b ≡ false → (ns n : Bytes) → same (normalize_dom_attr_name (ns ++ (58 ∷ n))) b ≡ false
-unfolding among every
+unfolding among
 namespaced_never_is b q h ns n = sym (or-false (same (normalize_dom_attr_name (ns ++ (58 ∷ n))) b)) ∙ namespaced_never (b ∷ []) (rw q) (rw h) ns n
 
 pub namespaced_never_key : (ns n : Bytes) → same (normalize_dom_attr_name (ns ++ (58 ∷ n))) (ascii "key") ≡ false

@@ -63,7 +63,7 @@ renamed =
     (ascii "htmlFor", ascii "for") ∷
     (ascii "className", ascii "class") ∷
     (ascii "dangerouslySetInnerHTML", ascii "dangerouslySetInnerHTML") ∷
-    (ascii "panose1", ascii "panose_1") ∷
+    (ascii "panose1", ascii "panose-1") ∷
     (ascii "xlinkActuate", ascii "xlink:actuate") ∷
     (ascii "xlinkArcrole", ascii "xlink:arcrole") ∷
     (ascii "xlinkHref", ascii "href") ∷

@@ -58,7 +58,7 @@ unfoldable pub by_mark : ℕ → Bytes → Bytes
 by_mark m n =
     pick (eqb m 61) n
     (pick (eqb m 99) (ascii "class")
-    (pick (eqb m 102) (ascii "for") (pick (eqb m 104) (ascii "href") (pick (eqb m 112) (ascii "panose_1") (spelled m n)))))
+    (pick (eqb m 102) (ascii "for") (pick (eqb m 104) (ascii "href") (pick (eqb m 112) (ascii "panose-1") (spelled m n)))))
 
 -- small letters, `-` and what else is above the capitals: no capital, no digit and no sign that is escaped
 unfoldable pub plain_name : Bytes → Bool

@@ -137,6 +137,9 @@ namespaced_from : (d : ℕ) (ns : List Bytes) (i : Row) → Idents ns i → Deep
 unfolding check_ident check_end Each
 namespaced_from d ns i (one_more n _ j _ (one_more m _ k _ none)) g s (namespaced _ _ a b) =
     parts_ident d n _ g ((identifier_exact n).1 (a, s.0)) (parts_ident d m _ g ((identifier_exact m).1 (b, s.1.0)) refl)
+namespaced_from d _ _ none g s e = elim e [ ]
+namespaced_from d _ _ (one_more n _ j _ none) g s e = elim e [ ]
+namespaced_from d _ _ (one_more n _ j _ (one_more m _ k _ (one_more _ ns i r _))) g s e = elim e [ ]
 
 -- ---- member expressions
 

@@ -48,7 +48,7 @@ worked = reply_text _ _ k_table.1.1.1.1.1.1.1.1.1.1.1.1.1.1.1.1.1.0 refl ∙ wor
 pub calls :
     all_text
     (read
-    (fld 0x94 (fld 0x41 (fld 0x40 (ascii "a") ++ fld 0x40 (ascii "b")) ++ (fld 0x95 (fld 0x96 (fld 0x81 (ascii "class") ++ fld 0x72 (1 ∷ [])) ++ (fld 0x96 (fld 0x81 (ascii "data_x") ++ fld 0x75 (0 ∷ 0 ∷ 0 ∷ 0 ∷ 0 ∷ 0 ∷ 1 ∷ 0 ∷ [])) ++ (fld 0x53 (fld 0x74 (ascii "/r/")) ++ fld 0x96 (fld 0x81 (ascii "children") ++ fld 0x76 (fld 0x78 [] ++ fld 0x77 (fld 0x79 (fld 0x20 (ascii "z")))))))) ++ fld 0x70 (ascii "k")))
+    (fld 0x94 (fld 0x41 (fld 0x40 (ascii "a") ++ fld 0x40 (ascii "b")) ++ (fld 0x95 (fld 0x96 (fld 0x81 (ascii "class") ++ fld 0x72 (1 ∷ [])) ++ (fld 0x96 (fld 0x81 (ascii "data-x") ++ fld 0x75 (0 ∷ 0 ∷ 0 ∷ 0 ∷ 0 ∷ 0 ∷ 1 ∷ 0 ∷ [])) ++ (fld 0x53 (fld 0x74 (ascii "/r/")) ++ fld 0x96 (fld 0x81 (ascii "children") ++ fld 0x76 (fld 0x78 [] ++ fld 0x77 (fld 0x79 (fld 0x20 (ascii "z")))))))) ++ fld 0x70 (ascii "k")))
     ++ (fld 0x93 (fld 0x79 (fld 0x20 (ascii "f")) ++ fld 0x81 (ascii "disabled")) ++ fld 0x91 (fld 0x81 (ascii "id") ++ fld 0x73 []))))
     ≡ ascii "_jsx(a.b, { class: true, \"data-x\": -256, .../r/, children: [, ...z] }, \"k\")f ? \"disabled\" : \"\"_jsxAttr(\"id\", null)"
 unfolding big_endian number_from field_bytes inside next_of opened built read_from read digits decimal render number_in choose boolean_in quoted_byte quoted_bytes goes_on is_identifier pointed_more pointed text_by all_text parted_text behind_text first_text second_text

@@ -138,4 +138,4 @@ accepted_says page options scratch tr pr w e =
 
 -- what is written fits
 pub accepted_fits : (page options : Bytes) (scratch tr pr : ℕ) (w : Written) → Accepted page options scratch tr pr w → (length w.templates_out ≤ tr) × (length w.page_out ≤ pr)
-accepted_fits page options scratch tr pr w a = subst (λ (v : Written). (length v.templates_out ≤ tr) × (length v.page_out ≤ pr)) a.written-is (a.outputs.templates_fit, a.outputs.page_fits)
+accepted_fits page options scratch tr pr w a = subst (λ (v : Written). (length v.templates_out ≤ tr) × (length v.page_out ≤ pr)) a.written_is (a.outputs.templates_fit, a.outputs.page_fits)

@@ -289,7 +289,7 @@ child_fewer (element e) w h g = g
 child_fewer (fragment f) w h g = g
 child_fewer (spread m) w h g = tt
 
-children_fewer : {cs : List Child} {k l h i w : ℕ} → k ≤ l → h ≤ i → ChildrenCosts l i cs w → ChildrenCosts k h cs w
+children_fewer : {k l h i : ℕ} {cs : List Child} {w : ℕ} → k ≤ l → h ≤ i → ChildrenCosts l i cs w → ChildrenCosts k h cs w
 children_fewer p q (no_children g) = children_end (omega arith)
 children_fewer p q (more_children {c = c} a b g x y) = children_more a b (omega arith) (child_fewer c a p x) (children_fewer p q y)
 
@@ -339,7 +339,7 @@ merge_costs esc par k h buf {w = w} q (more_children {c = element e} {cs = cs} a
 merge_costs esc par k h buf {w = w} q (more_children {c = fragment f} {cs = cs} a b p x y) = kept_costs k h buf (fragment f) a b q p x (merge_costs esc par k h [] {w = b} (omega arith) y)
 merge_costs esc par k h buf q (more_children {c = spread m} a b p x y) = merge_costs esc par k h buf (omega arith) y
 
-short_costs : {cs : List Child} {k h w : ℕ} → ChildrenCosts k h cs w → ChildrenCosts k h (short_runs cs) w
+short_costs : {k h : ℕ} {cs : List Child} {w : ℕ} → ChildrenCosts k h cs w → ChildrenCosts k h (short_runs cs) w
 unfolding short_runs
 short_costs (no_children g) = no_children g
 short_costs {k = k} {h = h} {w = w} (more_children {c = text t} {cs = cs} a b p x y) = on (over t) (short_costs y)

@@ -31,7 +31,7 @@ use Rattle.spec.proofs.Invariant.{Split, Alone, AloneField, plain, Invariant}
 use Rattle.spec.proofs.Shapes.{chosen, or_left, or_right, and_right, is_text, Items, is_bare, FreeTexts, free_nil, merge_free}
 
 module _ (I : Invariant) where
-  open I use {literal, other, own, tag, Spare, Left, NameOk, MidOk, PassOk, Content, Opening, VisitOk, spare_sum, spare_none, spare_tag, mid_spare, pass_spare, content_spare, visit_spare, Mid_None, mid_node, mid_literal, mid_other, mid_raw, mid_append, mid_nothing, mid_inner, mid_field, mid_tag, pass_pure, pass_both, pass_map, pass_raise, pass_template, content_none, content_text, content_gap, content_append, content_void, content_element, opening_none, opening_text, opening_gap, opening_append, visit_done, visit_any, visit_left, visit_null}
+  open I use {literal, other, own, tag, Spare, Left, NameOk, MidOk, PassOk, Content, Opening, VisitOk, spare_sum, spare_none, spare_tag, mid_spare, pass_spare, content_spare, visit_spare, mid_none, mid_node, mid_literal, mid_other, mid_raw, mid_append, mid_nothing, mid_inner, mid_field, mid_tag, pass_pure, pass_both, pass_map, pass_raise, pass_template, content_none, content_text, content_gap, content_append, content_void, content_element, opening_none, opening_text, opening_gap, opening_append, visit_done, visit_any, visit_left, visit_null}
 
   -- ---- what holds of children and attributes
 
@@ -159,17 +159,17 @@ module _ (I : Invariant) where
   -- ---- fields
 
   none_ok : {w : ℕ} → Spare w → MidOk 0 none w
-  none_ok {w} s = mid_spare {a = w} (omega arith) s Mid_None
+  none_ok {w} s = mid_spare {a = w} (omega arith) s mid_none
 
   leaf_ok : (t : ℕ) (f : Bytes) → T (plain t) → FormedBy (inside t) f none → MidOk 0 (leaf t f) 0
-  leaf_ok t f h g = mid_node t f h g (omega arith) (omega arith) Mid_None Mid_None
+  leaf_ok t f h g = mid_node t f h g (omega arith) (omega arith) mid_none mid_none
 
   nest_ok : (t : ℕ) {i : Mid} {k w : ℕ} → T (plain t) → FormedBy (inside t) [] i → MidOk k i w → MidOk k (node t [] i none) w
-  nest_ok t h g x = mid_node t [] h g (omega arith) (omega arith) x Mid_None
+  nest_ok t h g x = mid_node t [] h g (omega arith) (omega arith) x mid_none
 
   -- a field that holds nothing, in front of others
   before_ok : (t : ℕ) (f : Bytes) {r : Mid} {k w : ℕ} → T (plain t) → FormedBy (inside t) f none → MidOk k r w → MidOk k (node t f none r) w
-  before_ok t f h g x = mid_node t f h g (omega arith) (omega arith) Mid_None x
+  before_ok t f h g x = mid_node t f h g (omega arith) (omega arith) mid_none x
 
   string_leaf : (b : Bytes) → MidOk 0 (leaf 0x70 b) 0
   unfolding FormedBy inside
@@ -210,7 +210,7 @@ module _ (I : Invariant) where
   listed_ok n (A.string b) w g = attr_leaf_ok n g (string_leaf b)
   listed_ok n A.empty w g = attr_leaf_ok n g null_leaf
   listed_ok n (A.container s m) w g = attr_gap_ok n g.held
-  listed_ok n (A.tag r) w g = attr_gap_ok n (mid_raw {b = 0} (omega arith) g Mid_None)
+  listed_ok n (A.tag r) w g = attr_gap_ok n (mid_raw {b = 0} (omega arith) g mid_none)
 
   written_ok : (n b : Bytes) {w : ℕ} → Spare w → Opening (chars (serialize_attr n b) ∷ []) w
   unfolding serialize_attr
@@ -285,20 +285,20 @@ module _ (I : Invariant) where
       on : (x : Value) (b : Bool) → same n (ascii "key") ≡ b → ValueOk x w → OneInCall n x key later w k
       on A.absent true e g = record { prop_weight = 0; key_weight = k; spared = pick later 0 w; prop = true_prop; left = rw e h; spare = unless_later g; balance = rw e (omega arith) }
       on A.absent false e g = record { prop_weight = 0; key_weight = k; spared = w; prop = true_prop; left = rw e h; spare = g; balance = rw e (omega arith) }
-      on (A.string b) true e g = record { prop_weight = 0; key_weight = 0; spared = pick later 0 w; prop = rw e Mid_None; left = rw e (text_ok b); spare = unless_later g; balance = rw e (way (λ b. 0 + pick b 0 0 + pick b 0 w ≡ pick b 0 w + 0) (omega arith) (omega arith)) }
+      on (A.string b) true e g = record { prop_weight = 0; key_weight = 0; spared = pick later 0 w; prop = rw e mid_none; left = rw e (text_ok b); spare = unless_later g; balance = rw e (way (λ b. 0 + pick b 0 0 + pick b 0 w ≡ pick b 0 w + 0) (omega arith) (omega arith)) }
       on (A.string b) false e g = record { prop_weight = 0; key_weight = k; spared = w; prop = rw e (prop_ok n (text_ok b)); left = rw e h; spare = g; balance = rw e (omega arith) }
-      on A.empty true e g = record { prop_weight = 0; key_weight = 0; spared = pick later 0 w; prop = Mid_None; left = rw e Mid_None; spare = unless_later g; balance = rw e (way (λ b. 0 + pick b 0 0 + pick b 0 w ≡ pick b 0 w + 0) (omega arith) (omega arith)) }
-      on A.empty false e g = record { prop_weight = 0; key_weight = k; spared = w; prop = Mid_None; left = rw e h; spare = g; balance = rw e (omega arith) }
-      on (A.container s m) true e g = record { prop_weight = 0; key_weight = w; spared = 0; prop = rw e Mid_None; left = rw e g.held; spare = spare_none; balance = rw e (omega arith) }
+      on A.empty true e g = record { prop_weight = 0; key_weight = 0; spared = pick later 0 w; prop = mid_none; left = rw e mid_none; spare = unless_later g; balance = rw e (way (λ b. 0 + pick b 0 0 + pick b 0 w ≡ pick b 0 w + 0) (omega arith) (omega arith)) }
+      on A.empty false e g = record { prop_weight = 0; key_weight = k; spared = w; prop = mid_none; left = rw e h; spare = g; balance = rw e (omega arith) }
+      on (A.container s m) true e g = record { prop_weight = 0; key_weight = w; spared = 0; prop = rw e mid_none; left = rw e g.held; spare = spare_none; balance = rw e (omega arith) }
       on (A.container s m) false e g = record { prop_weight = w; key_weight = k; spared = 0; prop = rw e (prop_ok n g.held); left = rw e h; spare = spare_none; balance = rw e (omega arith) }
-      on (A.tag r) true e g = record { prop_weight = 0; key_weight = 0; spared = 0; prop = Mid_None; left = rw e Mid_None; spare = spare_none; balance = rw e (way (λ b. 0 + pick b 0 0 + 0 ≡ 0 + 0) (omega arith) (omega arith)) }
-      on (A.tag r) false e g = record { prop_weight = 0; key_weight = k; spared = 0; prop = Mid_None; left = rw e h; spare = spare_none; balance = rw e (omega arith) }
+      on (A.tag r) true e g = record { prop_weight = 0; key_weight = 0; spared = 0; prop = mid_none; left = rw e mid_none; spare = spare_none; balance = rw e (way (λ b. 0 + pick b 0 0 + 0 ≡ 0 + 0) (omega arith) (omega arith)) }
+      on (A.tag r) false e g = record { prop_weight = 0; key_weight = k; spared = 0; prop = mid_none; left = rw e h; spare = spare_none; balance = rw e (omega arith) }
 
   -- the properties and the key share what the attributes weigh
   in_call_ok : (o : Options) (norm : Bool) (as' : List Attribute) (v w : ℕ) → AttributesOk o norm as' v w → (key : Mid) (k : ℕ) → MidOk 0 key k →
       Split Spare (MidOk 0 (props_of norm as')) (MidOk 0 (key_of norm as' key)) (w + pick (key_follows norm as') 0 k)
   unfolding props_of key_of key_follows AttributesOk FormedBy inside
-  in_call_ok o norm [] v w g key k x = record { first = 0; second = k; spared = w; sum = omega arith; spare = g.1; one = Mid_None; rest = x }
+  in_call_ok o norm [] v w g key k x = record { first = 0; second = k; spared = w; sum = omega arith; spare = g.1; one = mid_none; rest = x }
   in_call_ok o norm (A.attribute n y ∷ as') v w g key k x =
       let one = one_in_call (get_attr_name n norm) y key (key_follows norm as') g.own k g.holds x in
       let more = in_call_ok o norm as' g.opening g.call g.rest (pick (same (get_attr_name n norm) (ascii "key")) (key_from y key) key) one.key_weight one.left in
@@ -493,11 +493,11 @@ module _ (I : Invariant) where
   unfolding found_pass FoundOk FormedBy inside
   found_pass_ok nothing_found w g = pass_pure (none_ok g)
   found_pass_ok (one_found e) w g = entry_pass_ok e w g
-  found_pass_ok (array_found es) w g = pass_map array_node 0 (λ m k b c e x. mid_node 0x76 [] tt tt (omega arith) (omega (arith, e)) x Mid_None) (omega arith) (entries_pass_ok es w g)
+  found_pass_ok (array_found es) w g = pass_map array_node 0 (λ m k b c e x. mid_node 0x76 [] tt tt (omega arith) (omega (arith, e)) x mid_none) (omega arith) (entries_pass_ok es w g)
 
   members_ok : (ns : List Bytes) → MidOk 0 (members_row ns) 0
   unfolding members_row FormedBy inside
-  members_ok [] = Mid_None
+  members_ok [] = mid_none
   members_ok (n ∷ ns) = before_ok 0x40 n tt tt (members_ok ns)
 
   name_ok : (n : Name) → MidOk 0 (name_expr n) 0
@@ -526,7 +526,7 @@ module _ (I : Invariant) where
       norm = not (is_component n)
 
       shared : Split Spare (MidOk 0 (props_of norm as')) (MidOk 0 (key_of norm as' none)) (a + pick (key_follows norm as') 0 0)
-      shared = in_call_ok o norm as' v a g none 0 Mid_None
+      shared = in_call_ok o norm as' v a g none 0 mid_none
 
       all : shared.first + shared.second + shared.spared ≡ a
       all = on (key_follows norm as') shared.sum

@@ -149,7 +149,7 @@ marks =
     -- a name with a digit first
     mark (fld 0x01 (fld 0x12 (fld 0x30 (fld 0x40 (ascii "1"))))) [] 65536 65536 65536 5 0 [] [] ∷
     -- a hyphen in a member
-    mark (fld 0x01 (fld 0x12 (fld 0x30 (fld 0x41 ((fld 0x40 (ascii "a")) ++ (fld 0x40 (ascii "b_c"))))))) [] 65536 65536 65536 5 0 [] [] ∷
+    mark (fld 0x01 (fld 0x12 (fld 0x30 (fld 0x41 ((fld 0x40 (ascii "a")) ++ (fld 0x40 (ascii "b-c"))))))) [] 65536 65536 65536 5 0 [] [] ∷
     -- one member
     mark (fld 0x01 (fld 0x12 (fld 0x30 (fld 0x41 (fld 0x40 (ascii "a")))))) [] 65536 65536 65536 4 0 [] [] ∷
     -- a surrogate
