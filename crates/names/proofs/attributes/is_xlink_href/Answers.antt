@@ -2,12 +2,10 @@
 use borrow.Author.Rules.{rules}
 use mathlib.Core.Path.{sym, ◌∙◌}
 use borrow.Author.Tests.{not-true, not-false}
-use mathlib.Core.Bool.{not}
-use mathlib.Core.Path.{ap}
 use Rattle.names.proofs.attributes.is_xlink_href.Goals as goal
 
 pub returns-then-not-same_bytes : goal.returns-then-not-same_bytes
-returns-then-not-same_bytes c = rw (sym c.same_bytes.ensures ∙ not-true c.same_bytes.result (ap not c.if-not-same_bytes.true))
+returns-then-not-same_bytes c = rw (sym c.same_bytes.ensures ∙ c.if-not-same_bytes.true)
 
 pub returns : goal.returns
-returns c = rw (sym c.same_bytes.ensures ∙ not-false c.same_bytes.result (ap not c.if-not-same_bytes.false)) c.same_bytes-2.ensures
+returns c = rw (sym c.same_bytes.ensures ∙ c.if-not-same_bytes.false) c.same_bytes-2.ensures

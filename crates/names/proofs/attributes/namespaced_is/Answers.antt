@@ -11,7 +11,6 @@ use borrow.Author.Tests.{not-true, not-false, eq-eqb, ne_eqb}
 use Rattle.field.specs.Bytes.{Bytes, same}
 use Rattle.names.specs.Names.{small_letters}
 use Rattle.names.proofs.NamespacedLaws.{namespaced_xlink, namespaced_same, namespaced_short}
-use mathlib.Core.Bool.{not}
 use Rattle.names.proofs.attributes.namespaced_is.Goals as goal
 
 pub returns-then-is_xlink_href : goal.returns-then-is_xlink_href
@@ -33,13 +32,13 @@ slice_bounds-letters_are-end c = sym (length-take-le (length c.args.ns.now) c.ar
 
 pub returns-then-not-letters_are : goal.returns-then-not-letters_are
 returns-then-not-letters_are c = let a = c.args in let o = sym c.is_xlink_href.ensures ∙ c.if-is_xlink_href.false in
-    let e = sym c.letters_are.ensures ∙ not-true c.letters_are.result (ap not c.if-not-letters_are.true) in
+    let e = sym c.letters_are.ensures ∙ c.if-not-letters_are.true in
     sym (namespaced_same a.ns.now a.name.now a.b.now o c.if-b-n.false ∙ rw e)
 
 pub returns : goal.returns
 returns c = let a = c.args in let o = sym c.is_xlink_href.ensures ∙ c.if-is_xlink_href.false in
     let k = length a.ns.now in
-    let e = sym c.letters_are.ensures ∙ not-false c.letters_are.result (ap not c.if-not-letters_are.false) in
+    let e = sym c.letters_are.ensures ∙ c.if-not-letters_are.false in
     let f = eq-eqb 58 (get_or a.b.now k 0) (sym c.if-b-n-ne58.false) in
     let t = take_all (length a.b.now - (k + 1)) (drop (k + 1) a.b.now) (omega (arith, length-drop (k + 1) a.b.now)) in
     c.letters_are-2.ensures ∙ (ap (same (small_letters a.name.now)) t ∙ sym (namespaced_same a.ns.now a.name.now a.b.now o c.if-b-n.false ∙ rw (e, f)))

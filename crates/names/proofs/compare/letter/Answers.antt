@@ -3,21 +3,19 @@ use borrow.Author.Rules.{rules}
 use borrow.Author.Tests.{not-true, not-false}
 use Rattle.names.specs.Names.{small_letter}
 use Rattle.names.proofs.CompareLaws.{capital_below, capital_above, capital_within}
-use mathlib.Core.Bool.{not}
-use mathlib.Core.Path.{ap}
 use Rattle.names.proofs.compare.letter.Goals as goal
 
 pub returns-then-not-small : goal.returns-then-not-small
-returns-then-not-small c = rw (not-true c.args.small (ap not c.if-not-small.true))
+returns-then-not-small c = rw (c.if-not-small.true)
 
 pub returns-then-c-lt65 : goal.returns-then-c-lt65
 unfolding small_letter
-returns-then-c-lt65 c = rw (not-false c.args.small (ap not c.if-not-small.false), capital_below c.args.c c.if-c-lt65.true)
+returns-then-c-lt65 c = rw (c.if-not-small.false, capital_below c.args.c c.if-c-lt65.true)
 
 pub returns-then-c-gt90 : goal.returns-then-c-gt90
 unfolding small_letter
-returns-then-c-gt90 c = rw (not-false c.args.small (ap not c.if-not-small.false), capital_above c.args.c c.if-c-gt90.true)
+returns-then-c-gt90 c = rw (c.if-not-small.false, capital_above c.args.c c.if-c-gt90.true)
 
 pub returns : goal.returns
 unfolding small_letter
-returns c = rw (not-false c.args.small (ap not c.if-not-small.false), capital_within c.args.c c.if-c-lt65.false c.if-c-gt90.false)
+returns c = rw (c.if-not-small.false, capital_within c.args.c c.if-c-lt65.false c.if-c-gt90.false)

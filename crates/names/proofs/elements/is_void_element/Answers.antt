@@ -3,12 +3,10 @@ use mathlib.Core.Bool.{false}
 use borrow.Author.Rules.{rules}
 use borrow.Author.Tests.{not-true, not-false}
 use Rattle.names.proofs.VoidLaws.{never_void}
-use mathlib.Core.Bool.{not}
-use mathlib.Core.Path.{ap}
 use Rattle.names.proofs.elements.is_void_element.Goals as goal
 
 pub returns-then-not-may_be_void : goal.returns-then-not-may_be_void
-returns-then-not-may_be_void c = sym (never_void false _ (sym c.may_be_void.ensures ∙ not-true c.may_be_void.result (ap not c.if-not-may_be_void.true)))
+returns-then-not-may_be_void c = sym (never_void false _ (sym c.may_be_void.ensures ∙ c.if-not-may_be_void.true))
 
 pub finds_void-requires : goal.finds_void-requires
-finds_void-requires c = sym c.may_be_void.ensures ∙ not-false c.may_be_void.result (ap not c.if-not-may_be_void.false)
+finds_void-requires c = sym c.may_be_void.ensures ∙ c.if-not-may_be_void.false

@@ -10,7 +10,6 @@ use Rattle.text.specs.Escape.{escape_byte, escape_html}
 use Rattle.names.proofs.MarkLaws.{mark_hyphen}
 use Rattle.names.proofs.NormalizeLaws.{normalize_class_name, normalize_plain}
 use Rattle.names.proofs.EscapedLaws.{plain_escaped, signs_unlisted, escaped_normalize}
-use mathlib.Core.Bool.{not}
 use Rattle.names.proofs.escaped.put_attr_name.Goals as goal
 
 pub returns-then-same_bytes : goal.returns-then-same_bytes
@@ -34,17 +33,17 @@ pub returns-then-mark-eq45 : goal.returns-then-mark-eq45
 returns-then-mark-eq45 c = let n = c.args.name.now in let e = c.if-mark-eq45.true in wrote_is (mark_hyphen c.find_listed-mark.result n e ∙ c.find_listed-mark.ensures.0 ∙ sym (escaped_normalize n (hyphen_found c.find_listed-mark.result e c.find_listed-mark.ensures.1))) c.put_spelled.ensures
 
 pub put_small_escaped-requires : goal.put_small_escaped-requires
-put_small_escaped-requires c = let h = sym c.is_escaped.ensures ∙ not-true c.is_escaped.result (ap not c.if-not-is_escaped.true) in
+put_small_escaped-requires c = let h = sym c.is_escaped.ensures ∙ c.if-not-is_escaped.true in
     rw (signs_unlisted c.args.name.now h) at c.requires
 
 pub returns-then-not-is_escaped : goal.returns-then-not-is_escaped
-returns-then-not-is_escaped c = let h = sym c.is_escaped.ensures ∙ not-true c.is_escaped.result (ap not c.if-not-is_escaped.true) in
+returns-then-not-is_escaped c = let h = sym c.is_escaped.ensures ∙ c.if-not-is_escaped.true in
     wrote_is (sym (ap escape_html (signs_unlisted c.args.name.now h))) c.put_small_escaped.ensures
 
 pub put_marked-requires : goal.put_marked-requires
-put_marked-requires c = let h = sym c.is_escaped.ensures ∙ not-false c.is_escaped.result (ap not c.if-not-is_escaped.false) in
+put_marked-requires c = let h = sym c.is_escaped.ensures ∙ c.if-not-is_escaped.false in
     rw c.find_listed-mark.ensures.0 (rw (escaped_normalize c.args.name.now h) at c.requires)
 
 pub returns : goal.returns
-returns c = let h = sym c.is_escaped.ensures ∙ not-false c.is_escaped.result (ap not c.if-not-is_escaped.false) in
+returns c = let h = sym c.is_escaped.ensures ∙ c.if-not-is_escaped.false in
     wrote_is (c.find_listed-mark.ensures.0 ∙ sym (escaped_normalize c.args.name.now h)) c.put_marked.ensures

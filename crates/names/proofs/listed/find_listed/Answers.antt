@@ -17,8 +17,7 @@ use Rattle.names.specs.Table.{fits_in, row_of, mark_from, mark_in, spelled_lette
 use Rattle.names.proofs.NormalizeLaws.{over_lists}
 use Rattle.names.proofs.TableLaws.{entries, all_entries, has}
 use Rattle.names.proofs.MarkLaws.{mark_says, mark_found, mark_none}
-use mathlib.Core.Bool.{not}
-use mathlib.Core.Path.{ap}
+use Rattle.names.specs.declared.listed.TheConstants.{FIRSTS}
 use Rattle.names.proofs.listed.find_listed.Goals as goal
 
 -- the code's constant, and where its rows begin; taken from the function's own terms, it would be computed anew at each of the 150 names
@@ -95,8 +94,8 @@ every_length = refl
 -- each of the names has a length and a first letter that fit
 pub returns-then-not-fits : goal.returns-then-not-fits
 unfolding fits_in renamed hyphenated_names kept_names parted
-returns-then-not-fits c = let n = c.args.name.now in let h = sym c.fits2.ensures ∙ not-true c.fits2.result (ap not c.if-not-fits.true) in
-    (mark_none (fits_in _) n h refl, inl refl)
+returns-then-not-fits c = let n = c.args.name.now in let h = sym c.fits.ensures ∙ c.if-not-fits.true in
+    (mark_none (fits_in FIRSTS) n h refl, inl refl)
 
 pub find_in-requires : goal.find_in-requires
 find_in-requires c = omega (arith, c.in-4.is)

@@ -15,7 +15,7 @@ pub loop-i-init : goal.loop-i-init
 loop-i-init c = (starts _ _, c.requires.1)
 
 pub returns-then-top-eq0 : goal.returns-then-top-eq0
-returns-then-top-eq0 c = (finishes c.loop-i.invariant.0.runs c.end_of_lem.ensures c.if-i-text.true c.if-top-eq0.true, c.loop-i.invariant.1)
+returns-then-top-eq0 c = (finishes c.loop-i.invariant.0.runs c.end_of.ensures c.if-i-text.true c.if-top-eq0.true, c.loop-i.invariant.1)
 
 pub returns-then-i-text : goal.returns-then-i-text
 returns-then-i-text c = (unfinished c.loop-i.invariant.0.runs c.if-i-text.true c.if-top-eq0.false, c.loop-i.invariant.1)
