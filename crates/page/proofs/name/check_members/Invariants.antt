@@ -1,0 +1,17 @@
+use Prim.Native.Nat.{◌≤◌, ◌-◌}
+use mathlib.Core.Path.{◌≡◌, refl, sym, ◌∙◌}
+use native.Mathlib.Omega.{arith}
+use borrow.Author.Rules.{rules}
+use borrow.Author.Tests.{not-true, not-false}
+use lib.ListN.{length}
+use Rattle.field.specs.Row.{read}
+use Rattle.field.proofs.FrontLaws.{behind_less}
+use Rattle.page.specs.CheckField.{check_counted}
+use Rattle.page.proofs.RowEnds.{members_few, members_enough, members_other, members_many, members_deep, members_bad, members_on}
+use Rattle.page.proofs.name.check_members.Given as goal
+
+abbrev pub invariant-loop-n : goal.invariant-loop-n
+invariant-loop-n l = (l.n ≤ 8) × (check_counted 8 2 l.depth (read l.s) ≡ check_counted (8 - l.n) (2 - l.n) l.depth (read l.t))
+
+abbrev pub decreases-loop-n : goal.decreases-loop-n
+decreases-loop-n l = length l.t

@@ -1,0 +1,12 @@
+-- `page::name::is_start` meets its contract. Assumes nothing.
+use Rattle.page.proofs.LeafLaws.{start_small, start_capital, start_other}
+use Rattle.page.proofs.name.is_start.Goals as goal
+
+pub returns-then-c-ge97 : goal.returns-then-c-ge97
+returns-then-c-ge97 c = start_small _ c.if-c-ge97.true
+
+pub returns-then-c-ge65 : goal.returns-then-c-ge65
+returns-then-c-ge65 c = start_capital _ c.if-c-ge65.true c.if-c-ge97.false
+
+pub returns : goal.returns
+returns c = start_other _ c.if-c-ge65.false

@@ -1,0 +1,23 @@
+-- `page::whole::check_module_items` meets its contract: what is left is checked as the whole was. Assumes nothing.
+use Prim.Native.Nat.{◌≤◌}
+use mathlib.Core.Path.{◌≡◌, refl, sym, ◌∙◌}
+use borrow.Author.Rules.{rules}
+use lib.ListN.{length}
+use Rattle.field.specs.Row.{read}
+use Rattle.field.proofs.FrontLaws.{behind_less}
+use Rattle.page.specs.Check.{check_module_items}
+use Rattle.page.proofs.Steps.{on_at, refused_at}
+use Rattle.page.proofs.WholeLaws.{module_step, module_end}
+use Rattle.page.proofs.whole.check_module_items.Goals as goal
+
+pub returns-then-tag-eq256 : goal.returns-then-tag-eq256
+returns-then-tag-eq256 c = c.check_nothing_after.ensures ∙ module_end _ (c.tag_at-tag.ensures.1 c.if-tag-eq256.true) ∙ sym c.loop-t.invariant
+
+pub loop-t-smaller : goal.loop-t-smaller
+loop-t-smaller c = let tag = c.tag_at-tag.ensures.0 in behind_less _ _ tag c.if-tag-eq256.false c.behind-r.ensures
+
+pub loop-t-preserved : goal.loop-t-preserved
+loop-t-preserved c = let tag = c.tag_at-tag.ensures.0 in c.loop-t.invariant ∙ on_at (module_step _ _ tag c.if-tag-eq256.false c.body.ensures c.behind-r.ensures) c.check_module_item.ensures c.in-Fine.is
+
+pub returns-in-Refused : goal.returns-in-Refused
+returns-in-Refused c = let tag = c.tag_at-tag.ensures.0 in refused_at (module_step _ _ tag c.if-tag-eq256.false c.body.ensures c.behind-r.ensures) c.check_module_item.ensures c.in-Refused.is ∙ sym c.loop-t.invariant

@@ -1,0 +1,16 @@
+use Prim.Native.Nat.{◌≤◌}
+use mathlib.Core.Path.{◌≡◌, refl, sym, ◌∙◌}
+use borrow.Author.Rules.{rules}
+use lib.ListN.{length}
+use Rattle.field.specs.Row.{read}
+use Rattle.field.proofs.FrontLaws.{behind_less}
+use Rattle.page.specs.Check.{check_module_items}
+use Rattle.page.proofs.Steps.{on_at, refused_at}
+use Rattle.page.proofs.WholeLaws.{module_step, module_end}
+use Rattle.page.proofs.whole.check_module_items.Given as goal
+
+abbrev pub invariant-loop-t : goal.invariant-loop-t
+invariant-loop-t l = check_module_items (read l.s) ≡ check_module_items (read l.t)
+
+abbrev pub decreases-loop-t : goal.decreases-loop-t
+decreases-loop-t l = length l.t
