@@ -46,7 +46,7 @@ among_hashed n h (x ∷ xs) = on (eqb (hash x) h) refl (same n x) refl (among_ha
 pub hash_low : (h : ℕ) (b : Bytes) → h < 1024 → hash_from h b < 1024
 unfolding hash_from
 hash_low h [] l = l
-hash_low h (c ∷ cs) l = hash_low _ cs (omega arith)
+hash_low h (c ∷ cs) l = hash_low ((h * 31 + c) % 1024) cs (omega arith)
 
 one_more : (f : ℕ → Bool) (m k : ℕ) → ((ltb m k && f m) || (eqb m k && f k)) ≡ (ltb m (suc k) && f m)
 one_more f m k = on (ltb m k) refl (eqb m k) refl
@@ -176,7 +176,7 @@ hash_is m w e t q = q ∙ ap hash (sym (same_eq m w (sym e ∙ t)))
 hash_append : (h : ℕ) (a b : Bytes) → hash_from h (a ++ b) ≡ hash_from (hash_from h a) b
 unfolding hash_from
 hash_append h [] b = refl
-hash_append h (c ∷ a) b = hash_append _ a b
+hash_append h (c ∷ a) b = hash_append ((h * 31 + c) % 1024) a b
 
 -- namespaced and not `href`: small letters on both sides of the colon
 pub hash_other : (ns n : Bytes) {v : Bool} → v ≡ same (normalize_dom_attr_name (ns ++ (58 ∷ n))) (ascii "href") → v ≡ false →
