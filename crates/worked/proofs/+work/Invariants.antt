@@ -1,0 +1,23 @@
+use mathlib.Core.Path.{◌≡◌, refl, sym, ◌∙◌, ap}
+use native.Mathlib.Omega.{arith}
+use lib.ListN.{length}
+use borrow.Author.Rules.{rules}
+use borrow.Author.Tests.{not-true, not-false}
+use Rattle.field.proofs.NumberLaws.{all_from}
+use Rattle.field.proofs.HeaderLaws.{within_field}
+use Rattle.field.proofs.PutLaws.{length_head, wrote_length}
+use Rattle.worked.proofs.Writes.{Left, left_start, left_on, left_end, part_sizes, leaf_written, plus_written, minus_written, nest_written}
+use Prim.Native.Nat.{ℕ, ◌+◌, ◌*◌, ◌<◌}
+use Rattle.worked.proofs.+work.Given as goal
+
+abbrev pub decreases-work_field : goal.decreases-work_field
+decreases-work_field l = 2 * length l.w.now + 1
+
+abbrev pub decreases-work_fields : goal.decreases-work_fields
+decreases-work_fields l = 2 * length l.s.now
+
+abbrev pub invariant-work_fields-loop-out : goal.invariant-work_fields-loop-out
+invariant-work_fields-loop-out l = Left l.s l.initial.out l.at l.t l.out l.a × (length l.words ≡ 16384)
+
+abbrev pub decreases-work_fields-loop-out : goal.decreases-work_fields-loop-out
+decreases-work_fields-loop-out l = length l.t
