@@ -1,6 +1,5 @@
-// The library for hosts: every function that is exported over the C convention, and nothing else. Each is a thin call of a crate below,
-// which states its full answer and every byte lent; no caller is trusted to have looked first. One crate, since a static library has the
-// exports of the crate that it is named after alone.
+// The library: every function that hosts call, and nothing else. Each is a thin call of a crate below, which states its full answer and
+// every byte lent; no caller is trusted to have looked first. The crate `jsx_precompile_c` exports them over the C convention.
 #![tactic(auto)]
 
 ghost use Rattle.std.specs.Prelude.{◌≡◌, length};
@@ -17,8 +16,7 @@ use find::{Places, find};
 use tag_pass::answer::{TagAnswer, read_tag};
 use transform::{Answer, transform};
 
-#[unsafe(no_mangle)]
-pub extern "C" fn jsx_precompile_transform<'a>(
+pub fn jsx_precompile_transform<'a>(
     page: &'a [u8],
     options: &'a [u8],
     scratch: &mut [u8],
@@ -31,16 +29,14 @@ pub extern "C" fn jsx_precompile_transform<'a>(
 }
 
 // Document 02, A3: the field of a tag that comes as text.
-#[unsafe(no_mangle)]
-pub extern "C" fn jsx_precompile_read_tag(text: &[u8], tag_out: &mut [u8]) -> TagAnswer
+pub fn jsx_precompile_read_tag(text: &[u8], tag_out: &mut [u8]) -> TagAnswer
     ensures { TagAnswers text.now tag_out.old result tag_out.new }
 {
     read_tag(text, tag_out)
 }
 
 // Document 02, A7: templates out and page out from the old form into the new.
-#[unsafe(no_mangle)]
-pub extern "C" fn jsx_precompile_upgrade<'a>(
+pub fn jsx_precompile_upgrade<'a>(
     templates: &'a [u8],
     page: &'a [u8],
     templates_out: &mut [u8],
@@ -52,8 +48,7 @@ pub extern "C" fn jsx_precompile_upgrade<'a>(
 }
 
 // And back.
-#[unsafe(no_mangle)]
-pub extern "C" fn jsx_precompile_downgrade<'a>(
+pub fn jsx_precompile_downgrade<'a>(
     templates: &'a [u8],
     page: &'a [u8],
     templates_out: &mut [u8],
@@ -65,16 +60,14 @@ pub extern "C" fn jsx_precompile_downgrade<'a>(
 }
 
 // Document 02, A11: the places of templates by their numbers.
-#[unsafe(no_mangle)]
-pub extern "C" fn jsx_precompile_find<'a>(templates: &'a [u8], numbers: &'a [u32]) -> Places
+pub fn jsx_precompile_find<'a>(templates: &'a [u8], numbers: &'a [u32]) -> Places
     ensures { Answered templates.now numbers.now result.number result.records result.places }
 {
     find(templates, numbers)
 }
 
 // The version of the library: major * 10,000 + minor * 100 + patch.
-#[unsafe(no_mangle)]
-pub extern "C" fn jsx_precompile_version() -> u32
+pub fn jsx_precompile_version() -> u32
     ensures { result ≡ version }
 {
     200
