@@ -12,7 +12,7 @@ use field::writer::put_byte;
 
 // Where a text leaves us: outside tags; right behind a `<`; in an opening tag, the last byte no space, or a space; in a closing tag; or its signs
 // are not in turn.
-#[derive(Drop)]
+#[derive(Clone, Copy)]
 pub enum Markup {
     Outside,
     Entered,
@@ -142,7 +142,7 @@ pub fn count_fields(s: &[u8]) -> usize
 }
 
 // The place behind the kinds, and whether every gap is of one.
-#[derive(Drop)]
+#[derive(Clone, Copy)]
 pub struct Marked {
     pub place: usize,
     pub clear: bool,

@@ -25,7 +25,7 @@ use renumber::renumber;
 use templates::rewrite_templates;
 
 #[repr(C)]
-#[derive(Drop)]
+#[derive(Clone, Copy)]
 pub struct Converted {
     pub number: u32,
     pub templates_bytes: usize,

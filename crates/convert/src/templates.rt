@@ -14,7 +14,7 @@ use page::number::number_in;
 
 // The place behind what is written, whether some body is over 65,535 bytes, and whether the other form can say all: every gap is of a kind,
 // kinds are those of the strings, and numbers have room.
-#[derive(Drop)]
+#[derive(Clone, Copy)]
 pub struct Rewritten {
     pub place: usize,
     pub long: bool,

@@ -12,7 +12,7 @@ use field::reader::{behind, body, tag_at};
 use names::{normalizes_to_boolean, normalizes_to_key, normalizes_to_ref, same_bytes};
 
 // What follows the name: nothing, or a field by its tag (51, 52, 30 or 31), which stands behind the name.
-#[derive(Drop)]
+#[derive(Clone, Copy)]
 pub enum Value {
     Absent,
     Field(usize),

@@ -9,7 +9,7 @@ ghost use Rattle.decisions.specs.At.{shape_of_contained, number_at, number_text}
 use field::reader::{body, tag_at};
 use page::number::{put_number, put_number_bytes};
 
-#[derive(Drop)]
+#[derive(Clone, Copy)]
 pub enum Shape {
     // no expression: an empty container
     Empty,

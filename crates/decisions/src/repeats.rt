@@ -12,7 +12,7 @@ use field::reader::{behind, body, tag_at};
 use names::{find_mark, is_xlink_href};
 
 // A place in a name: a letter, and whether the sign before it has been read.
-#[derive(Drop)]
+#[derive(Clone, Copy)]
 pub struct Place {
     pub letter: usize,
     pub behind_sign: bool,

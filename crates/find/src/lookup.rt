@@ -15,7 +15,7 @@ pub const ABSENT: usize = 0xffff_ffff_ffff_ffff;
 
 // The answer: 0 or the number of the refusal, how many records were read, and where those asked for begin.
 #[repr(C)]
-#[derive(Drop)]
+#[derive(Clone, Copy)]
 pub struct Places {
     pub number: u32,
     pub records: usize,

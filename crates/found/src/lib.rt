@@ -16,7 +16,7 @@ use text::jsx_text::is_blank;
 
 mod several;
 
-#[derive(Drop)]
+#[derive(Clone, Copy)]
 pub enum Kind {
     // no expression
     Nothing,
@@ -41,7 +41,7 @@ pub enum Kind {
 }
 
 // A place is a part of the slice that was looked at.
-#[derive(Drop)]
+#[derive(Clone, Copy)]
 pub struct Found {
     pub kind: Kind,
     pub from: usize,
@@ -49,7 +49,7 @@ pub struct Found {
 }
 
 // What a container adds to a run.
-#[derive(Drop)]
+#[derive(Clone, Copy)]
 enum Joined {
     Nothing,
     Something,

@@ -8,7 +8,7 @@ ghost use Rattle.names.specs.Table.{by_mark};
 use crate::table::{find_in, fits};
 
 // A row for each length; in a row, the names that pages have most stand first.
-#[derive(Drop)]
+#[derive(Clone, Copy)]
 struct Names {
     of_4: [u8; 10],
     of_7: [u8; 64],

@@ -13,14 +13,14 @@ pub mod templates;
 use page::Refusal;
 
 // What the records of templates out are: 80s, or 84s (document 02, A6).
-#[derive(Drop)]
+#[derive(Clone, Copy)]
 pub enum Kind {
     Old,
     New,
 }
 
 // What may still come in a body of a page out.
-#[derive(Drop)]
+#[derive(Clone, Copy)]
 pub enum Expect {
     // from its beginning: an import, the place of the templates, items
     Whole,

@@ -12,7 +12,7 @@ use page::{Refusal, Verdict};
 
 // What stands at the front of what is left of a body: its end, a refusal, a field that is done with, or one that is to be entered, whose
 // fields go from start up to end. After is what may come behind it.
-#[derive(Drop)]
+#[derive(Clone, Copy)]
 pub enum Front {
     End,
     Refused(Refusal),
@@ -30,7 +30,7 @@ pub enum Front {
 
 // A body that waits for a field in it to end: how many of its bytes come behind that field, and what may still come in them. Four bytes
 // without padding, so that the stack is cleared at once.
-#[derive(Drop)]
+#[derive(Clone, Copy)]
 pub struct Frame {
     pub rest: u16,
     pub after: Expect,

@@ -12,7 +12,7 @@ use page::name::check_end;
 use page::{Refusal, Verdict};
 
 // What stands at the front of a row: its end, a refusal, or a field that is done with and ends there.
-#[derive(Drop)]
+#[derive(Clone, Copy)]
 pub enum Passed {
     End,
     Refused(Refusal),

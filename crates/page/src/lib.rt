@@ -12,7 +12,7 @@ pub mod whole;
 pub const MAX_DEPTH: usize = 48;
 
 // The refusals of document 01, each under its trade's word.
-#[derive(Drop)]
+#[derive(Clone, Copy)]
 pub enum Refusal {
     // 1, short desk
     ScratchTooSmall,
@@ -45,7 +45,7 @@ pub enum Refusal {
 }
 
 // What a check says: nothing to refuse, or the first refusal from the front.
-#[derive(Drop)]
+#[derive(Clone, Copy)]
 pub enum Verdict {
     Fine,
     Refused(Refusal),

@@ -20,7 +20,7 @@ const MAX_DIGITS: u64 = 999_999_999_999_999;
 const MAX_PLACES: usize = 15;
 
 // Whether it was read, whether its number is within the limit, the place behind its field, and how many fields deep it is below the first.
-#[derive(Drop)]
+#[derive(Clone, Copy)]
 pub struct Held {
     pub read: bool,
     pub fits: bool,
@@ -29,13 +29,13 @@ pub struct Held {
 }
 
 // Where digits end, and their value as far as it counts.
-#[derive(Drop)]
+#[derive(Clone, Copy)]
 pub struct Digits {
     pub end: usize,
     pub value: u64,
 }
 
-#[derive(Drop)]
+#[derive(Clone, Copy)]
 pub enum Numeral {
     Nothing,
     Whole(u64),

@@ -20,14 +20,14 @@ const MAX_NAME: usize = 128;
 
 // A part of a name: where its bytes end; the sign that parts it from the next, 0 where it is the last; and where the next would begin, or what
 // follows the name.
-#[derive(Drop)]
+#[derive(Clone, Copy)]
 pub struct NamePart {
     pub end: usize,
     pub sep: u8,
     pub next: usize,
 }
 
-#[derive(Drop)]
+#[derive(Clone, Copy)]
 pub enum ScannedName {
     // not read
     Nothing,

@@ -4,7 +4,7 @@ ghost use Rattle.read_tag.specs.Sources.{Sourced};
 
 use crate::signs::{is_quote, is_source, quotes_end};
 
-#[derive(Drop)]
+#[derive(Clone, Copy)]
 pub enum Source {
     // not read
     Nothing,

@@ -8,7 +8,7 @@ use crate::entity::entity_code;
 use crate::signs::{string_end, text_end};
 use field::writer::{put_byte, put_bytes, put_head};
 
-#[derive(Drop)]
+#[derive(Clone, Copy)]
 pub enum Run {
     // no reading, whatever follows
     Nothing,
@@ -16,7 +16,7 @@ pub enum Run {
     Ends { end: usize, at: usize },
 }
 
-#[derive(Drop)]
+#[derive(Clone, Copy)]
 pub enum Entity {
     Nothing,
     // the byte it stands for, and the place behind `;`

@@ -25,7 +25,7 @@ use strings::due::with_body;
 use strings::{Open, children_strings, merged_children_strings, tag_strings};
 
 // The next number, the place behind what was written, and what is due.
-#[derive(Drop)]
+#[derive(Clone, Copy)]
 pub struct Records {
     pub next: usize,
     pub place: usize,

@@ -17,7 +17,7 @@ use page::number::number_in;
 
 // A body that waits for a field in it to end: where that field's head is to be written, counted from the head of the outermost field that is
 // open, with its tag, and how many bytes of the body come behind it. Eight bytes without padding, so that the stack is cleared at once.
-#[derive(Drop)]
+#[derive(Clone, Copy)]
 pub struct Frame {
     pub head: u32,
     pub rest: u16,
@@ -26,14 +26,14 @@ pub struct Frame {
 }
 
 // What the body of a field holds: bytes alone, or so many bytes and then fields.
-#[derive(Drop)]
+#[derive(Clone, Copy)]
 pub enum Holds {
     Bytes,
     Fields(usize),
 }
 
 // How many bytes there are to write, whether some body of them is over 65,535 bytes, and whether some number is over 65,535.
-#[derive(Drop)]
+#[derive(Clone, Copy)]
 pub struct Renumbered {
     pub bytes: usize,
     pub long: bool,

@@ -4,7 +4,7 @@ use jsx_precompile::jsx_precompile_transform;
 use transform::Answer;
 
 // What is not as stored.
-#[derive(Drop)]
+#[derive(Clone, Copy)]
 pub enum Difference {
     Nothing,
     Line,

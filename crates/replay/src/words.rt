@@ -3,7 +3,7 @@ ghost use Rattle.std.specs.Prelude.{◌-◌, ◌≤◌, length};
 ghost use Rattle.replay.specs.Read.{Within};
 
 // What a word, a digit or a pair of digits spells.
-#[derive(Drop)]
+#[derive(Clone, Copy)]
 pub enum Read {
     Nothing,
     Number(usize),

@@ -5,7 +5,7 @@
 
 // What a pass finds beside its value: a tag was left in the result, a run that is merged a second time is over 65,535 bytes, an element
 // that is serialized has two attributes of one name (document 02, A4), or is a void element only in small letters (A10).
-#[derive(Drop)]
+#[derive(Clone, Copy)]
 pub struct Flags {
     pub left: bool,
     pub long: bool,

@@ -9,7 +9,7 @@ use field::writer::{put_bytes, put_head};
 use text::jsx_text::jsx_text_to_str;
 
 // Where its head stands, how long it is, how many gaps stand before it, and what is due.
-#[derive(Drop)]
+#[derive(Clone, Copy)]
 pub struct Open {
     pub head: usize,
     pub len: usize,

@@ -13,7 +13,7 @@ pub const TWICE: u64 = 18014398509481982;
 pub const STAYS: u64 = 18014398509481983;
 
 // What a text comes to: nothing that may be written, a number from zero up, or one below zero by its size.
-#[derive(Drop)]
+#[derive(Clone, Copy)]
 pub enum Worked {
     Stays,
     Plus(u64),

@@ -7,7 +7,7 @@ use crate::state::{REFUSED, Reading};
 use utf8::is_utf8;
 
 #[repr(C)]
-#[derive(Drop)]
+#[derive(Clone, Copy)]
 pub struct TagAnswer {
     pub number: u32,
     pub tag_bytes: usize,

@@ -4,7 +4,7 @@ ghost use Rattle.tag_pass.specs.Turns.{at_mode, at_inner, with_numbers, with_sha
 
 use field::writer::put_head;
 
-#[derive(Drop)]
+#[derive(Clone, Copy)]
 pub struct Reading {
     pub mode: usize,
     // in the text

@@ -5,7 +5,7 @@ ghost use Rattle.text.specs.Lines.{line_at};
 ghost use Rattle.text.specs.Runs.{not_lf, run, all};
 
 // Where a line ends, and where the next one begins.
-#[derive(Drop)]
+#[derive(Clone, Copy)]
 pub struct Line {
     pub end: usize,
     pub next: usize,
@@ -86,7 +86,7 @@ fn line_at(s: &[u8], at: usize) -> Line
 }
 
 // A text, and the place in it where the next line begins.
-#[derive(Drop)]
+#[derive(Clone, Copy)]
 struct Lines<'a> {
     text: &'a [u8],
     place: usize,

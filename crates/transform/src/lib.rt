@@ -19,7 +19,7 @@ use strings::due::{LEFT, LONG, MIXED, REPEATED};
 use walk::state::Walk;
 
 #[repr(C)]
-#[derive(Drop)]
+#[derive(Clone, Copy)]
 pub struct Answer {
     pub number: u32,
     pub templates_bytes: usize,

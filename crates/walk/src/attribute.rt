@@ -87,7 +87,7 @@ fn begin_null(page: &mut [u8], st: Walk, a: &[u8]) -> Walk
 }
 
 // What an attribute leaves as a field of its own, in an opening tag or as a property. A name is normalised, or as it is written.
-#[derive(Drop)]
+#[derive(Clone, Copy)]
 pub enum Gap {
     // none: it is written into the static string, or ignored
     Nothing,

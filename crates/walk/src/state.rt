@@ -19,7 +19,7 @@ use strings::put_joined;
 use text::jsx_text::{jsx_text_to_str, normalize_lit_str};
 
 // What was called, and what is due.
-#[derive(Drop)]
+#[derive(Clone, Copy)]
 pub struct Seen {
     pub jsx: bool,
     pub attr: bool,
@@ -28,7 +28,7 @@ pub struct Seen {
 }
 
 // The next numbers of the first pass and of the second, the places behind what was written.
-#[derive(Drop)]
+#[derive(Clone, Copy)]
 pub struct Walk {
     pub first: usize,
     pub later: usize,
