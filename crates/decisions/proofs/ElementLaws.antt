@@ -1,5 +1,5 @@
 -- What the code of src/element.rt learns. Main statements: `upper_above`, `identifier_40`, `identifier_other`, `forbids_50`,
--- `forbids_53`, `serializable-parts`, `component_other` and the like. Assumes nothing.
+-- `forbids_53`, `serializable_parts`, `component_other` and the like. Assumes nothing.
 use mathlib.Core.Path.{◌≡◌, refl, sym, ap, ◌∙◌}
 use mathlib.Core.Bool.{Bool, true, false, ◌||◌, not, and-false, and-true}
 use Prim.Native.Nat.{ℕ, ◌≤◌, ◌<◌}

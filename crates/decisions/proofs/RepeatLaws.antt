@@ -1,4 +1,4 @@
--- Names as they are read for HTML, byte by byte. Main statements: `left_starts`, `left-goes-on`, `left-ends`. Assumes nothing.
+-- Names as they are read for HTML, byte by byte. Main statements: `left_starts`, `left_goes_on`, `left_ends`. Assumes nothing.
 use mathlib.Core.Path.{◌≡◌, refl, sym, ap, subst, ◌∙◌}
 use mathlib.Core.Bool.{Bool, true, false, ◌&&◌, ◌||◌, not, and-false, and-eq-true_iff, or-false, false≢true}
 use Prim.Native.Nat.{ℕ, zero, suc, ◌+◌, ◌-◌, ◌*◌, ◌/◌, ◌%◌, ◌≤◌, ◌<◌, ◌^◌}

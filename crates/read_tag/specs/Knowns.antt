@@ -1,4 +1,4 @@
--- What is promised of what braces hold: by `Known-of`, which reads it, and by the field that it becomes. Main definition: `Holds`.
+-- What is promised of what braces hold: by `known_of`, which reads it, and by the field that it becomes. Main definition: `Holds`.
 -- Assumes nothing: these are definitions.
 use Rattle.std.specs.Prelude.{ℕ, ◌+◌, ◌-◌, ◌^◌, ◌≤◌, ◌<◌, ◌≡◌, Bool, true, false, ◌&&◌, ◌||◌, ◌++◌, leb, ltb, length, take, drop}
 use Rattle.field.specs.Bytes.{Bytes}

@@ -1,5 +1,5 @@
 -- The arithmetic on values held as one number: a value is the difference to the bound, so that sums and differences are one law each.
--- Main statements: `up_is`, `add_is`, `subtract_is`, `multiply_up`, `multiply-mixed`, and their refusals. Assumes nothing.
+-- Main statements: `up_is`, `add_is`, `subtract_is`, `multiply_up`, `multiply_mixed`, and their refusals. Assumes nothing.
 use Prim.Native.Nat.{ℕ, zero, suc, ◌+◌, ◌-◌, ◌*◌, ◌/◌, ◌≤◌, ◌<◌}
 use mathlib.Core.Path.{◌≡◌, refl, sym, ◌∙◌, ap, ap₂}
 use mathlib.Core.Bool.{Bool, true, false}

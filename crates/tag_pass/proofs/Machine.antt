@@ -1,4 +1,4 @@
--- The grammar's reader at places of a text: white space, a sign behind it, and the text's end. Main statements: `sign`, `bad-sign`, `no_sign`.
+-- The grammar's reader at places of a text: white space, a sign behind it, and the text's end. Main statements: `sign`, `bad_sign`, `no_sign`.
 -- Assumes nothing.
 use Prim.Native.Nat.{ℕ, ◌+◌, ◌≤◌, ◌<◌}
 use mathlib.Core.Path.{◌≡◌, refl, ◌∙◌, ap, subst}

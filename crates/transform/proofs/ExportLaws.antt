@@ -1,5 +1,5 @@
 -- What the code of the export learns at each return and at each turn of a loop: the checks, the options, and the items of a page.
--- Main statements: `inputs-*`, `outputs-*`, `cleared-*`, `listed-*`, `source-*`, `sums-*`, `items-*`, `statement-*`, `from-*`, `html-*`, `piece-*`. Assumes nothing.
+-- Main statements: `inputs_*`, `outputs_*`, `cleared_*`, `listed_*`, `source_*`, `sums_*`, `items_*`, `statement_*`, `from_*`, `html_*`, `piece_*`. Assumes nothing.
 use mathlib.Core.Path.{◌≡◌, refl, sym, ap, ◌∙◌}
 use mathlib.Core.Bool.{Bool, true, false, ◌||◌}
 use Prim.Native.Nat.{ℕ, ◌≤◌, ◌<◌}

@@ -1,6 +1,6 @@
 -- The items of a page as the walk visits them: one item, the place of the templates, and each turn over the items; the import.
 -- b is the body of the item in front, r what lies behind it; total is where the loop is to end.
--- Main statements: `item-*`, `place-*`, `turn-*`, `before-*`, `items-*`, `import_written`. Assumes nothing.
+-- Main statements: `item_*`, `place_*`, `turn_*`, `before_*`, `items_*`, `import_written`. Assumes nothing.
 use mathlib.Core.Path.{◌≡◌, refl, sym, ap, ◌∙◌, subst}
 use mathlib.Core.Bool.{Bool, true, false, not}
 use Prim.Native.Nat.{ℕ, ◌+◌, ◌-◌, ◌≤◌, ◌<◌, ◌^◌}

@@ -1,6 +1,6 @@
 -- The expression in front of bytes, the elements of an array and the pieces of source, by the tag in front: what they read as, and each
 -- step of a visit to them. b is the body of the field in front, r what lies behind it; total is where a loop is to end.
--- Main statements: `array-*`, `source-*`, `see_element`, `see_fragment`, `literal-*`, `held-*`, `spread-*`, `hole-*`, `item-*`, `piece-*`.
+-- Main statements: `array_*`, `source_*`, `see_element`, `see_fragment`, `literal_*`, `held_*`, `spread_*`, `hole_*`, `item_*`, `piece_*`.
 -- Assumes nothing.
 use mathlib.Core.Path.{◌≡◌, refl, sym, ap, ◌∙◌, subst}
 use mathlib.Core.Bool.{true}

@@ -1,6 +1,6 @@
 -- A field begins, something is done, and it is closed: the room at each step, and what stands then; with a number, only where it is asked
 -- for, or with something in front. Two things one after the other. What a function writes to page out alone, in both outs. Room of a part.
--- Main statements: `field-*`, `template-*`, `field-if-*`, `fronted-*`, `started-*`, `then_low`, `then_on`, `turn_low`, `turn_on`,
+-- Main statements: `field_*`, `template_*`, `field_if_*`, `fronted_*`, `started_*`, `then_low`, `then_on`, `turn_low`, `turn_on`,
 -- `page_low`, `see_kept`, `kept_since`, `room_part`. Assumes nothing.
 use mathlib.Core.Path.{◌≡◌, sym, ap, ◌∙◌}
 use Prim.Native.Nat.{ℕ, ◌+◌, ◌≤◌, ◌<◌, ◌^◌}

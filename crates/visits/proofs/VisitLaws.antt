@@ -1,7 +1,7 @@
 -- A visit: the record walk, and then both passes with the numbers behind it. What a first pass gives is no tag, or the tag is left. What the
 -- children of a fragment give, by its kind; a fragment, by how many children it has and by the first.
--- Main statements: `see_visit`; `element-*`, `template-*` and `given-*` for the steps of a visit; `left_room`, `left_done`; `found_nothing`,
--- `found_tag`, `found_given`; `fragment-*`. Assumes nothing.
+-- Main statements: `see_visit`; `element_*`, `template_*` and `given_*` for the steps of a visit; `left_room`, `left_done`; `found_nothing`,
+-- `found_tag`, `found_given`; `fragment_*`. Assumes nothing.
 use mathlib.Core.Path.{◌≡◌, refl, sym, ap, ◌∙◌, subst}
 use Prim.Native.Nat.{ℕ, ◌+◌, ◌≤◌, ◌<◌, ◌^◌}
 use native.Mathlib.Omega.{arith}
