@@ -4,8 +4,9 @@
 
 ghost use Rattle.std.specs.Prelude.{◌≡◌, length};
 
-use libc::{STDERR_FILENO, STDIN_FILENO, STDOUT_FILENO};
+use input::read_full;
 use print_card::print_card;
+use std::io;
 
 // Room for a page, and one byte more: so a longer one is seen.
 fn page_room() -> [u8; 32769]
@@ -28,13 +29,13 @@ fn text_room() -> [u8; 2097280]
     [0; 2097280]
 }
 
-fn main() {
+fn main(rt: HostRuntime) -> io::Result<()> {
     let mut input = page_room();
     let mut scratch = out_room();
     let mut templates = out_room();
     let mut page = out_room();
     let mut text = text_room();
-    let n = io::read_full(STDIN_FILENO, &mut input);
+    let n = read_full(&mut rt.reader(), &mut input)?;
     let end = print_card(
         &input[..n],
         &mut scratch,
@@ -43,8 +44,7 @@ fn main() {
         &mut text,
     );
     if text.len() < end {
-        io::write_all(STDERR_FILENO, b"card: the text has no room\n");
-        return;
+        return eprintln!(rt; "card: the text has no room");
     }
-    io::write_all(STDOUT_FILENO, &text[..end]);
+    rt.write_all(&text[..end])
 }

@@ -23,34 +23,23 @@ fn before(i: usize) -> u8 {
 }
 
 fn fill(b: &mut [u8]) {
-    let mut i: usize = 0;
-    while i < b.len() {
-        b[i] = before(i);
-        i += 1;
+    for (i, x) in b.iter_mut().enumerate() {
+        *x = before(i);
     }
 }
 
 // Whether b is as before the call, from that place on.
 fn is_kept(b: &[u8], from: usize) -> bool {
-    let mut i = from;
-    while i < b.len() {
+    for i in from..b.len() {
         if b[i] != before(i) {
             return false;
         }
-        i += 1;
     }
     true
 }
 
 fn is_zero(b: &[u8]) -> bool {
-    let mut i: usize = 0;
-    while i < b.len() {
-        if b[i] != 0 {
-            return false;
-        }
-        i += 1;
-    }
-    true
+    b.iter().all(|x| *x == 0)
 }
 
 // Whether an out holds the n bytes that w spells; behind them it is kept after 0, and after another number all of it is zero.
@@ -75,7 +64,7 @@ fn is_scratch(scratch: &[u8], answer: u32) -> bool {
     is_zero(scratch)
 }
 
-fn compare_answer(line: &[u8], a: Answer) -> Difference {
+fn compare_answer(line: &[u8], a: &Answer) -> Difference {
     if !is_decimal(word(line, 5), a.number as u64) {
         return Difference::Number;
     }
@@ -93,7 +82,7 @@ fn compare_answer(line: &[u8], a: Answer) -> Difference {
 
 fn compare_lent(
     line: &[u8],
-    a: Answer,
+    a: &Answer,
     scratch: &[u8],
     templates: &[u8],
     page: &[u8],
@@ -122,9 +111,9 @@ fn call<'a>(
     fill(templates);
     fill(page);
     let a = jsx_precompile_transform(input, options, scratch, templates, page);
-    let d = compare_answer(line, a);
+    let d = compare_answer(line, &a);
     match d {
-        Difference::Nothing => compare_lent(line, a, scratch, templates, page),
+        Difference::Nothing => compare_lent(line, &a, scratch, templates, page),
         _ => d,
     }
 }

@@ -2,6 +2,8 @@
 ghost use Rattle.std.specs.Prelude.{◌-◌, ◌≤◌, length};
 ghost use Rattle.replay.specs.Read.{Within};
 
+use itoa::Buffer;
+
 // What a word, a digit or a pair of digits spells.
 #[derive(Clone, Copy)]
 pub enum Read {
@@ -11,29 +13,27 @@ pub enum Read {
 
 // What stands before the first b.
 pub fn front(s: &[u8], b: u8) -> &[u8] {
-    let n = bytes::scan::find(s, 0, s.len(), b);
-    &s[..n]
+    match s.iter().position(|x| *x == b) {
+        Some(n) => &s[..n],
+        None => s,
+    }
 }
 
 // What stands behind the first b.
 pub fn behind(s: &[u8], b: u8) -> &[u8]
     ensures { length result.now ≤ length s.now - 1 }
 {
-    let n = bytes::scan::find(s, 0, s.len(), b);
-    if n < s.len() {
-        return &s[n + 1..];
+    match s.iter().position(|x| *x == b) {
+        Some(n) => &s[n + 1..],
+        None => &s[..0],
     }
-    &s[..0]
 }
 
 // The word with k words before it; empty where there is none.
 pub fn word(line: &[u8], k: usize) -> &[u8] {
     let mut t = line;
-    let mut left = k;
-    while 0 < left {
-        let r = behind(t, b' ');
-        t = r;
-        left -= 1;
+    for _ in 0..k {
+        t = behind(t, b' ');
     }
     front(t, b' ')
 }
@@ -70,13 +70,11 @@ pub fn number(w: &[u8], most: usize) -> Read
         return Read::Nothing;
     }
     let mut n: usize = 0;
-    let mut i: usize = 0;
-    while i < w.len() {
-        let Read::Number(m) = one_more(n, w[i]) else {
+    for b in w {
+        let Read::Number(m) = one_more(n, *b) else {
             return Read::Nothing;
         };
         n = m;
-        i += 1;
     }
     if most < n {
         return Read::Nothing;
@@ -86,7 +84,7 @@ pub fn number(w: &[u8], most: usize) -> Read
 
 // How many bytes w spells, by its length: two digits each, and `-` where there are none.
 fn bytes_in(w: &[u8]) -> Read {
-    if check::same(w, b"-") {
+    if let b"-" = w {
         return Read::Number(0);
     }
     let n = w.len() / 2;
@@ -125,13 +123,11 @@ pub fn unhex(w: &[u8], out: &mut [u8]) -> Read
     if out.len() < n {
         return Read::Nothing;
     }
-    let mut i: usize = 0;
-    while i < n {
+    for i in 0..n {
         let Read::Number(b) = byte_at(w, i) else {
             return Read::Nothing;
         };
         out[i] = b as u8;
-        i += 1;
     }
     Read::Number(n)
 }
@@ -144,22 +140,19 @@ pub fn spells(w: &[u8], s: &[u8]) -> bool {
     if n != s.len() {
         return false;
     }
-    let mut i: usize = 0;
-    while i < s.len() {
+    for (i, x) in s.iter().enumerate() {
         let Read::Number(b) = byte_at(w, i) else {
             return false;
         };
-        if b != s[i] as usize {
+        if b != *x as usize {
             return false;
         }
-        i += 1;
     }
     true
 }
 
 // Whether w is n in decimal digits.
 pub fn is_decimal(w: &[u8], n: u64) -> bool {
-    let mut text = [0u8; 20];
-    let k = io::decimal(n, &mut text);
-    check::same(w, &text[..k])
+    let mut buffer = Buffer::new();
+    w == buffer.format(n).as_bytes()
 }

@@ -6,7 +6,8 @@ ghost use Rattle.std.specs.Prelude.{◌≡◌, length};
 
 mod tag_card;
 
-use libc::{STDERR_FILENO, STDIN_FILENO, STDOUT_FILENO};
+use input::read_full;
+use std::io;
 use tag_card::print_tag;
 
 // Room for a text and a line end behind it, and one byte more: so a longer one is seen.
@@ -44,7 +45,7 @@ fn printed_room() -> [u8; 2097280]
     [0; 2097280]
 }
 
-fn main() {
+fn main(rt: HostRuntime) -> io::Result<()> {
     let mut text = text_room();
     let mut tag = tag_room();
     let mut input = input_room();
@@ -52,7 +53,7 @@ fn main() {
     let mut templates = out_room();
     let mut page = out_room();
     let mut printed = printed_room();
-    let n = io::read_full(STDIN_FILENO, &mut text);
+    let n = read_full(&mut rt.reader(), &mut text)?;
     let end = print_tag(
         &text[..n],
         &mut tag,
@@ -63,8 +64,7 @@ fn main() {
         &mut printed,
     );
     if printed.len() < end {
-        io::write_all(STDERR_FILENO, b"tag: the text has no room\n");
-        return;
+        return eprintln!(rt; "tag: the text has no room");
     }
-    io::write_all(STDOUT_FILENO, &printed[..end]);
+    rt.write_all(&printed[..end])
 }
