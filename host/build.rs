@@ -7,7 +7,7 @@ use std::path::{Path, PathBuf};
 const VARIABLE: &str = "JSX_PRECOMPILE_LIB";
 const ARCHIVE: &str = "libjsx_precompile.a";
 
-/// What `rt staticlib` makes the library for.
+/// What `rt lib` makes the library for.
 const ARCHITECTURE: &str = "x86_64";
 const SYSTEM: &str = "linux";
 
@@ -46,7 +46,7 @@ fn archive() -> Result<PathBuf, String> {
     println!("cargo::rerun-if-changed={}", named.display());
     named.canonicalize().map_err(|error| {
         let place = named.display();
-        format!("{place}: {error}; make it by `rt staticlib jsx_precompile` in the repository, or say in {VARIABLE} where it is")
+        format!("{place}: {error}; make it by `tools/build.sh library` in the repository, or say in {VARIABLE} where it is")
     })
 }
 

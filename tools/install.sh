@@ -8,7 +8,7 @@ prefix=${DESTDIR:-}$1
 root=$(cd "$(dirname "$0")/.." && pwd)
 folder=${JSX_PRECOMPILE_LIB:-$root/target/staticlib}
 library=${folder%/libjsx_precompile.a}/libjsx_precompile.a
-[ -f "$library" ] || { echo "$library is not there: run \`rt staticlib jsx_precompile\` in $root" >&2; exit 1; }
+[ -f "$library" ] || { echo "$library is not there: run \`tools/build.sh library\` in $root" >&2; exit 1; }
 version=$(sed -n 's/^version = "\(.*\)"$/\1/p' "$root/host/Cargo.toml")
 
 put() {

@@ -316,7 +316,7 @@ fn cards_of_the_paper() {
     say(&format!("examples: {count} cards as document 01 has them"));
 }
 
-/// The program's own run in `rt check` is the worked example.
+/// The program's own run in `rt ci` is the worked example.
 #[test]
 fn files_of_the_program() {
     examples();

@@ -19,7 +19,7 @@ impl Program {
         let variable = format!("JSX_PRECOMPILE_{}", name.to_uppercase());
         let program = std::env::var_os(variable).map_or(built, PathBuf::from);
         if !program.is_file() {
-            panic!("{} is not there: run `rt check {name}` in the repository's root", program.display());
+            panic!("{} is not there: run `tools/build.sh {name}` in the repository's root", program.display());
         }
         Program(program)
     }
