@@ -1,0 +1,15 @@
+use borrow.Author.Rules.{rules}
+use mathlib.Core.Path.{◌≡◌, refl, sym, ap, ◌∙◌}
+use lib.ListN.{length}
+use Rattle.field.specs.Row.{read}
+use Rattle.field.proofs.FrontLaws.{behind_less}
+use Rattle.page.specs.Tree.{texts_in, first_in}
+use Rattle.decisions.proofs.Series.{texts_past}
+use Rattle.decisions.proofs.AttributeLaws.{first_40, first_none}
+use Rattle.decisions.proofs.attribute.first_name.Given as goal
+
+abbrev pub invariant-loop-r : goal.invariant-loop-r
+invariant-loop-r l = texts_in 0x40 (read l.t) ≡ texts_in 0x40 (read l.s)
+
+abbrev pub decreases-loop-r : goal.decreases-loop-r
+decreases-loop-r l = length l.t

@@ -1,0 +1,31 @@
+-- The invariant: the name is in the list where it is in what is left of it.
+use mathlib.Core.Path.{◌≡◌, refl, sym, ap, ◌∙◌}
+use native.Mathlib.Omega.{arith}
+use mathlib.Core.List.{◌∷◌, ◌++◌}
+use lib.ListN.{length}
+use Rattle.field.specs.Bytes.{among}
+use Rattle.field.specs.Row.{read}
+use Rattle.field.proofs.FrontLaws.{behind_less}
+use Rattle.names.specs.Names.{normalize_dom_attr_name}
+use Rattle.page.specs.Tree.{texts_in}
+use Rattle.decisions.proofs.Series.{texts_past}
+use Rattle.decisions.proofs.AttributeLaws.{listed_here, listed_on, listed_none}
+use Rattle.decisions.proofs.index.series_has_namespaced.Goals as goal
+
+pub returns-then-namespaced_is : goal.returns-then-namespaced_is
+returns-then-namespaced_is c = listed_here _ _ c.tag_at.ensures.0 c.in-32.is _ c.body.ensures c.namespaced_is.ensures c.if-namespaced_is.true ∙ c.loop-r.invariant
+
+pub loop-r-smaller-in-32 : goal.loop-r-smaller-in-32
+loop-r-smaller-in-32 c = behind_less _ _ c.tag_at.ensures.0 (λ z. omega (arith, c.in-32.is)) c.behind-r.ensures
+
+pub loop-r-preserved-in-32 : goal.loop-r-preserved-in-32
+loop-r-preserved-in-32 c = listed_on _ _ c.tag_at.ensures.0 c.in-32.is _ c.body.ensures c.namespaced_is.ensures c.if-namespaced_is.false c.behind-r.ensures ∙ c.loop-r.invariant
+
+pub returns-in-256 : goal.returns-in-256
+returns-in-256 c = listed_none _ _ (c.tag_at.ensures.1 c.in-256.is) ∙ c.loop-r.invariant
+
+pub loop-r-smaller : goal.loop-r-smaller
+loop-r-smaller c = behind_less _ _ c.tag_at.ensures.0 c.in_default.in_default-own.rest.1 c.behind-r-in_default.ensures
+
+pub loop-r-preserved : goal.loop-r-preserved
+loop-r-preserved c = ap (λ x. among (normalize_dom_attr_name (c.args.ns.now ++ (58 ∷ c.args.name.now))) (texts_in 0x20 (read x))) c.behind-r-in_default.ensures ∙ ap (among (normalize_dom_attr_name (c.args.ns.now ++ (58 ∷ c.args.name.now)))) (sym (texts_past _ _ c.tag_at.ensures.0 0x20 c.in_default.in_default-own.rest.1 c.in_default.in_default-own.rest.0.1)) ∙ c.loop-r.invariant

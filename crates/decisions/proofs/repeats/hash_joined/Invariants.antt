@@ -1,0 +1,15 @@
+use mathlib.Core.Path.{◌≡◌, sym, ◌∙◌}
+use native.Mathlib.Omega.{arith}
+use lib.ListN.{length}
+use borrow.Author.Rules.{rules}
+use Prim.Native.Nat.{◌<◌}
+use Rattle.names.specs.Names.{small_letters}
+use Rattle.decisions.specs.Repeats.{joined, left, hash_on}
+use Rattle.decisions.proofs.RepeatLaws.{hash_starts, hash_ends, hash_goes, joined_less, place_within}
+use Rattle.decisions.proofs.repeats.hash_joined.Given as goal
+
+abbrev pub invariant-loop-x : goal.invariant-loop-x
+invariant-loop-x l = (l.h < 4294967296) × (hash_on l.h (left l.s l.p l.two l.q l.x) ≡ hash_on 0 (small_letters (joined l.s l.p l.two l.q)))
+
+abbrev pub decreases-loop-x : goal.decreases-loop-x
+decreases-loop-x l = length (left l.s l.p l.two l.q l.x)

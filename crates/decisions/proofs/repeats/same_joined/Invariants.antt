@@ -1,0 +1,16 @@
+use mathlib.Core.Path.{◌≡◌, refl, sym, ap, ◌∙◌}
+use Prim.Native.Nat.{◌+◌, ◌≤◌}
+use native.Mathlib.Omega.{arith}
+use lib.ListN.{length}
+use borrow.Author.Rules.{rules}
+use Rattle.field.specs.Bytes.{same}
+use Rattle.names.specs.Names.{small_letters}
+use Rattle.decisions.specs.Repeats.{joined, left}
+use Rattle.decisions.proofs.RepeatLaws.{joined_starts, joined_off, joined_end, joined_on, joined_less, place_within, past_bound}
+use Rattle.decisions.proofs.repeats.same_joined.Given as goal
+
+abbrev pub invariant-loop-x : goal.invariant-loop-x
+invariant-loop-x l = same (left l.s l.p l.two l.q l.x) (left l.s2 l.p2 l.two2 l.q2 l.y) ≡ same (small_letters (joined l.s l.p l.two l.q)) (small_letters (joined l.s2 l.p2 l.two2 l.q2))
+
+abbrev pub decreases-loop-x : goal.decreases-loop-x
+decreases-loop-x l = length (left l.s l.p l.two l.q l.x)
