@@ -1,0 +1,8 @@
+use Rattle.found.proofs.FirstLaws.{first_room, first_place}
+use Rattle.found.proofs.first_child.Goals as goal
+
+pub overflow_sub-result : goal.overflow_sub-result
+overflow_sub-result c = first_room _ _ c.from_first.ensures
+
+pub returns : goal.returns
+returns c = first_place _ _ c.from_first.ensures

@@ -1,0 +1,14 @@
+use borrow.Author.Rules.{rules}
+use mathlib.Core.Path.{◌∙◌}
+use Rattle.found.proofs.KindLaws.{not_empty, then_behind, then_before, then_many}
+use borrow.Enum.Refused.{opened}
+use Rattle.found.proofs.then.Goals as goal
+
+pub returns-in-Empty : goal.returns-in-Empty
+returns-in-Empty c = then_behind c.args.a c.args.b c.in-Empty.is
+
+pub returns-in-Empty-second : goal.returns-in-Empty-second
+returns-in-Empty-second c = then_before c.args.a c.args.b (not_empty _ (opened c.in_default.in_default-own.keys2)) c.in-Empty-second.is
+
+pub returns-in_default-second : goal.returns-in_default-second
+returns-in_default-second c = c.nowhere.ensures ∙ then_many c.args.a c.args.b (not_empty _ (opened c.in_default.in_default-own.keys2)) (not_empty _ (opened c.in_default-second.in_default-second-own.keys2))

@@ -1,0 +1,7 @@
+-- No child follows where the series, from its first child on, is empty. Assumes nothing.
+use Rattle.strings.proofs.ElementLaws.{last_child}
+use borrow.Author.Rules.{rules}
+use Rattle.strings.proofs.elements.is_last.Goals as goal
+
+pub returns-then-parent : goal.returns-then-parent
+returns-then-parent c = last_child c.if-parent.true c.children_at.ensures.0
