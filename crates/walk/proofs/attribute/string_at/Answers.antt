@@ -1,0 +1,16 @@
+-- Only a string has a text.
+use borrow.Author.Rules.{rules}
+use mathlib.Core.Path.{ap, ◌∙◌}
+use Rattle.field.specs.Front.{body_of}
+use Rattle.decisions.specs.At.{opts}
+use Rattle.walk.proofs.ReadLaws.{text_absent, text_string, text_other}
+use Rattle.walk.proofs.attribute.string_at.Goals as goal
+
+pub returns-in_default : goal.returns-in_default
+returns-in_default c = λ skip props. text_absent _ c.value_at.ensures (opts skip props) c.in_default.is
+
+pub returns-then-tag-eq81 : goal.returns-then-tag-eq81
+returns-then-tag-eq81 c = λ skip props. text_string _ c.value_at.ensures c.in-Field.is (opts skip props) c.if-tag-eq81.true (c.body.ensures ∙ ap body_of c.behind.ensures)
+
+pub returns : goal.returns
+returns c = λ skip props. text_other _ c.value_at.ensures c.in-Field.is (opts skip props) c.if-tag-eq81.false
