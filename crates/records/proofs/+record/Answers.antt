@@ -52,7 +52,7 @@ pub record_entries-loop-scratch-smaller-in-48 : goal.record_entries-loop-scratch
 record_entries-loop-scratch-smaller-in-48 t c = behind_less _ _ c.tag_at.ensures.0 (λ z. omega (arith, c.in-48.is)) c.behind-r.ensures
 
 pub record_entries-loop-scratch-preserved-in-48 : goal.record_entries-loop-scratch-preserved-in-48
-record_entries-loop-scratch-preserved-in-48 t c = (c.record_serialize-cur.auto.1.1.1.0 ∙ c.loop-scratch.invariant.0, (omega (arith, behind_less _ _ c.tag_at.ensures.0 (λ z. omega (arith, c.in-48.is)) c.behind-r.ensures, c.loop-scratch.invariant.1.0), serialize_on _ _ _ _ c.tag_at.ensures.0 _ c.loop-scratch.invariant.1.1 c.in-48.is c.body.ensures c.behind-r.ensures c.record_serialize-cur.ensures))
+record_entries-loop-scratch-preserved-in-48 t c = (c.record_serialize-cur.auto.scratch ∙ c.loop-scratch.invariant.0, (omega (arith, behind_less _ _ c.tag_at.ensures.0 (λ z. omega (arith, c.in-48.is)) c.behind-r.ensures, c.loop-scratch.invariant.1.0), serialize_on _ _ _ _ c.tag_at.ensures.0 _ c.loop-scratch.invariant.1.1 c.in-48.is c.body.ensures c.behind-r.ensures c.record_serialize-cur.ensures))
 
 pub record_entries-record_found-cur-requires : goal.record_entries-record_found-cur-requires
 record_entries-record_found-cur-requires t c = let l = body_less _ _ c.tag_at.ensures.0 (λ z. omega (arith, c.in-49.is)) c.body-in-49.ensures in
@@ -62,7 +62,7 @@ pub record_entries-loop-scratch-smaller-in-49 : goal.record_entries-loop-scratch
 record_entries-loop-scratch-smaller-in-49 t c = behind_less _ _ c.tag_at.ensures.0 (λ z. omega (arith, c.in-49.is)) c.behind-r-in-49.ensures
 
 pub record_entries-loop-scratch-preserved-in-49 : goal.record_entries-loop-scratch-preserved-in-49
-record_entries-loop-scratch-preserved-in-49 t c = (c.record_found-cur.auto.1.1.1.0 ∙ c.loop-scratch.invariant.0, (omega (arith, behind_less _ _ c.tag_at.ensures.0 (λ z. omega (arith, c.in-49.is)) c.behind-r-in-49.ensures, c.loop-scratch.invariant.1.0), found_on _ _ _ _ c.tag_at.ensures.0 _ c.loop-scratch.invariant.1.1 c.in-49.is c.body-in-49.ensures c.behind-r-in-49.ensures c.record_found-cur.ensures))
+record_entries-loop-scratch-preserved-in-49 t c = (c.record_found-cur.auto.scratch ∙ c.loop-scratch.invariant.0, (omega (arith, behind_less _ _ c.tag_at.ensures.0 (λ z. omega (arith, c.in-49.is)) c.behind-r-in-49.ensures, c.loop-scratch.invariant.1.0), found_on _ _ _ _ c.tag_at.ensures.0 _ c.loop-scratch.invariant.1.1 c.in-49.is c.body-in-49.ensures c.behind-r-in-49.ensures c.record_found-cur.ensures))
 
 pub record_entries-shape_of-scratch-in-256 : goal.record_entries-shape_of-scratch-in-256
 record_entries-shape_of-scratch-in-256 t c = c.loop-scratch.invariant.0
@@ -128,7 +128,7 @@ pub record_parts-loop-scratch-smaller-in-48 : goal.record_parts-loop-scratch-sma
 record_parts-loop-scratch-smaller-in-48 t c = behind_less _ _ c.tag_at.ensures.0 (λ z. omega (arith, c.in-48.is)) c.behind-r.ensures
 
 pub record_parts-loop-scratch-preserved-in-48 : goal.record_parts-loop-scratch-preserved-in-48
-record_parts-loop-scratch-preserved-in-48 t c = (c.record_element-cur.auto.1.1.1.0 ∙ c.loop-scratch.invariant.0, (omega (arith, behind_less _ _ c.tag_at.ensures.0 (λ z. omega (arith, c.in-48.is)) c.behind-r.ensures, c.loop-scratch.invariant.1.0), element_on _ _ _ _ c.tag_at.ensures.0 _ c.loop-scratch.invariant.1.1 c.in-48.is c.body.ensures c.behind-r.ensures c.record_element-cur.ensures))
+record_parts-loop-scratch-preserved-in-48 t c = (c.record_element-cur.auto.scratch ∙ c.loop-scratch.invariant.0, (omega (arith, behind_less _ _ c.tag_at.ensures.0 (λ z. omega (arith, c.in-48.is)) c.behind-r.ensures, c.loop-scratch.invariant.1.0), element_on _ _ _ _ c.tag_at.ensures.0 _ c.loop-scratch.invariant.1.1 c.in-48.is c.body.ensures c.behind-r.ensures c.record_element-cur.ensures))
 
 pub record_parts-record_parts-cur-requires : goal.record_parts-record_parts-cur-requires
 record_parts-record_parts-cur-requires t c = let l = body_less _ _ c.tag_at.ensures.0 (λ z. omega (arith, c.in-49.is)) c.body-in-49.ensures in
@@ -138,7 +138,7 @@ pub record_parts-loop-scratch-smaller-in-49 : goal.record_parts-loop-scratch-sma
 record_parts-loop-scratch-smaller-in-49 t c = behind_less _ _ c.tag_at.ensures.0 (λ z. omega (arith, c.in-49.is)) c.behind-r-in-49.ensures
 
 pub record_parts-loop-scratch-preserved-in-49 : goal.record_parts-loop-scratch-preserved-in-49
-record_parts-loop-scratch-preserved-in-49 t c = (c.record_parts-cur.auto.1.1.1.0 ∙ c.loop-scratch.invariant.0, (omega (arith, behind_less _ _ c.tag_at.ensures.0 (λ z. omega (arith, c.in-49.is)) c.behind-r-in-49.ensures, c.loop-scratch.invariant.1.0), kids_on _ _ _ _ c.tag_at.ensures.0 _ c.loop-scratch.invariant.1.1 c.in-49.is c.body-in-49.ensures c.behind-r-in-49.ensures c.record_parts-cur.ensures))
+record_parts-loop-scratch-preserved-in-49 t c = (c.record_parts-cur.auto.scratch ∙ c.loop-scratch.invariant.0, (omega (arith, behind_less _ _ c.tag_at.ensures.0 (λ z. omega (arith, c.in-49.is)) c.behind-r-in-49.ensures, c.loop-scratch.invariant.1.0), kids_on _ _ _ _ c.tag_at.ensures.0 _ c.loop-scratch.invariant.1.1 c.in-49.is c.body-in-49.ensures c.behind-r-in-49.ensures c.record_parts-cur.ensures))
 
 pub record_parts-shape_of-scratch-in-256 : goal.record_parts-shape_of-scratch-in-256
 record_parts-shape_of-scratch-in-256 t c = c.loop-scratch.invariant.0
