@@ -1,10 +1,10 @@
 -- The check of a page out as a walk, and its turns by what a step finds. Main statements: `begins`, `refuses`, `passes`, `opens_up`, `closes`,
 -- `finishes`. Assumes nothing.
-use mathlib.Core.Path.{◌≡◌, refl, sym, ap, ◌∙◌, subst}
+use mathlib.Core.Path.{◌≡◌, refl, subst}
 use Prim.Native.Nat.{ℕ, ◌+◌, ◌-◌, ◌%◌, ◌≤◌, ◌<◌}
 use native.Mathlib.Omega.{arith}
 use mathlib.Core.List.{List}
-use lib.ListN.{length, get_or, set}
+use lib.ListN.{length, get_or}
 use Rattle.field.specs.Bytes.{Bytes}
 use Rattle.page.specs.Refusal.{after}
 use Rattle.page.specs.declared.Refusal.{Refusal}

@@ -1,7 +1,7 @@
 -- What the tests of the code say of an import. Main statements: `sum_long`, `sum_one`, `import_empty`, `import_torn`, `import_other`, `import_bad`,
 -- `import_sum`. Assumes nothing.
 use mathlib.Core.Path.{◌≡◌, refl, sym, ap, ◌∙◌}
-use mathlib.Core.Bool.{Bool, true, false, ◌&&◌}
+use mathlib.Core.Bool.{◌&&◌}
 use Prim.Native.Nat.{ℕ, ◌-◌}
 use native.Mathlib.Omega.{arith}
 use mathlib.Core.List.{[], ◌∷◌}

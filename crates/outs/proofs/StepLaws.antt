@@ -1,13 +1,13 @@
 -- What a header at the front of a body's rest says of `good`. Main statements: `ended`, `torn`, `unallowed`, `unnumbered`, `numbered`, `nested`,
 -- `leaf_bad`, `leaf_ends`. Assumes nothing.
-use mathlib.Core.Path.{◌≡◌, refl, sym, ap, ◌∙◌}
-use mathlib.Core.Bool.{Bool, true, false}
+use mathlib.Core.Path.{◌≡◌, sym, ap, ◌∙◌}
+use mathlib.Core.Bool.{true, false}
 use Prim.Native.Nat.{ℕ, ◌+◌, ◌-◌, ◌≤◌, ◌<◌}
 use native.Mathlib.Omega.{arith}
 use lib.ListN.{length, take, drop, length-take}
 use lib.Seq.{drop-drop, length-take-le}
 use borrow.Author.Tests.{eq-eqb, ne_eqb}
-use Rattle.field.specs.Bytes.{Bytes, pick}
+use Rattle.field.specs.Bytes.{Bytes}
 use Rattle.field.specs.Row.{Inside, only_bytes, fields_after}
 use Rattle.field.specs.Header.{header_of, Within}
 use Rattle.field.specs.declared.reader.Header.{Header}
@@ -20,7 +20,7 @@ use Rattle.page.specs.declared.Refusal.TheVariants as R
 use Rattle.page.specs.declared.Verdict.{Verdict}
 use Rattle.page.specs.declared.Verdict.TheVariants.{Fine, Refused}
 use Rattle.loops.proofs.Parts.{drop_take}
-use Rattle.loops.proofs.Headers.{header_short, read_empty, read_torn, front_of, inner_of, body, field_is, length_body}
+use Rattle.loops.proofs.Headers.{read_empty, read_torn, front_of, inner_of, body, field_is, length_body}
 use Rattle.outs.specs.Held.{nests, held, read_out}
 use Rattle.outs.specs.PageOut.{allowed, left, closed, within, front_right, check_leaf, good}
 use Rattle.outs.specs.Step.{LeafIs, OpenIs}

@@ -25,7 +25,7 @@ use Rattle.page.specs.declared.Refusal.TheVariants as R
 use Rattle.page.specs.declared.Verdict.{Verdict}
 use Rattle.page.specs.declared.Verdict.TheVariants.{Fine, Refused}
 use Rattle.loops.proofs.Parts.{part, drop_take, length_part, part_back}
-use Rattle.loops.proofs.Headers.{read_empty, read_torn, front_of, inner_of, body, field_is, length_body}
+use Rattle.loops.proofs.Headers.{read_empty, read_torn, front_of, inner_of, body, field_is}
 use Rattle.outs.specs.Templates.{record_tag, count_of, all_kinds, front_of_record, check_strings, check_any_strings, check_some_strings, check_strings_of, check_records, check_templates}
 use Rattle.outs.specs.Passed.{string_then, StringIs, front_then, record_body, record_field, RecordIs}
 use Rattle.outs.specs.declared.Kind.{Kind}

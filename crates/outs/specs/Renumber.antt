@@ -1,6 +1,6 @@
 -- A page out with the numbers of its calls in another width (02, A7): what is written, and what is found on the way. Assumes nothing: these are
 -- definitions.
-use Rattle.std.specs.Prelude.{ℕ, ◌≡◌, Bool, true, false, ◌&&◌, ◌||◌, [], eqb, ltb, length}
+use Rattle.std.specs.Prelude.{ℕ, ◌≡◌, Bool, false, ◌&&◌, ◌||◌, [], eqb, ltb, length}
 use Rattle.field.specs.Bytes.{Bytes, pick}
 use Rattle.field.specs.Number.{number_of, big_endian}
 use Rattle.field.specs.Row.{Row, end, loose, field, bytes, long_body}

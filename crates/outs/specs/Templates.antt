@@ -1,10 +1,9 @@
 -- The grammar of templates out (02, A6 and A7): a row of 80s, or of 84s, with the refusals 3, 4 and 6 front to back. What stands before the strings
 -- is looked at before them; a string too many is refused at its header. Assumes nothing: these are definitions.
-use Rattle.std.specs.Prelude.{ℕ, zero, suc, ◌+◌, Bool, true, false, ◌&&◌, [], ◌∷◌, eqb, leb, length, take, drop}
+use Rattle.std.specs.Prelude.{ℕ, zero, suc, ◌+◌, Bool, true, ◌&&◌, [], ◌∷◌, eqb, leb, length, take, drop}
 use Rattle.field.specs.Bytes.{Bytes}
 use Rattle.field.specs.Number.{number_of}
 use Rattle.field.specs.Row.{Row, end, loose, field, read}
-use Rattle.page.specs.Tree.{choose}
 use Rattle.page.specs.Check.{check_text}
 use Rattle.page.specs.Refusal.{after, unless}
 use Rattle.page.specs.declared.Refusal.TheVariants as R

@@ -1,0 +1,14 @@
+use Prim.Native.Nat.{◌+◌, ◌-◌}
+use mathlib.Core.Path.{◌≡◌}
+use lib.ListN.{length}
+use Rattle.page.specs.declared.Verdict.TheVariants.{Fine}
+use Rattle.loops.proofs.Turns.{Going}
+use Rattle.outs.specs.PageOut.{check_page_out}
+use Rattle.outs.proofs.Checks.{checks}
+use Rattle.outs.proofs.page_out.check_page_out.Given as goal
+
+abbrev pub invariant-loop-e : goal.invariant-loop-e
+invariant-loop-e l = Going (checks l.width) l.s l.stack l.height l.at l.end l.expect Fine (check_page_out l.width l.s) × (length l.stack ≡ 21846)
+
+abbrev pub decreases-loop-e : goal.decreases-loop-e
+decreases-loop-e l = length l.s - l.at + l.height
