@@ -7,7 +7,7 @@ use native.Mathlib.Omega.{arith}
 use mathlib.Core.List.{[]}
 use lib.Dec.{T, eqb, eqb→eq}
 use lib.ListN.{length}
-use borrow.Author.Tests.{eq-eqb, ne_eqb, eqb-true, eqb-false}
+use borrow.Author.Tests.{eq-eqb, eqb-true}
 use Rattle.field.specs.Bytes.{Bytes, AllBytes, pick}
 use Rattle.field.specs.Number.{number_of, big_endian}
 use Rattle.field.specs.Row.{Row, end, loose, field, bytes, Inside, only_bytes}
@@ -16,7 +16,6 @@ use Rattle.field.proofs.Reading.{FrontFits, ShapedBy, length_bytes, shaped, writ
 use Rattle.page.specs.Refusal.{after, unless}
 use Rattle.page.specs.Tree.{choose}
 use Rattle.page.specs.declared.Refusal.TheVariants as R
-use Rattle.page.specs.declared.Verdict.{Verdict}
 use Rattle.page.specs.declared.Verdict.TheVariants.{Fine}
 use Rattle.page.proofs.Verdicts.{after_fine, unless_fine}
 use Rattle.outs.specs.Held.{nests, held, read_out}

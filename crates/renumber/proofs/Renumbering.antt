@@ -7,16 +7,16 @@ use Prim.Native.Nat.{ℕ, zero, suc, ◌+◌, ◌-◌, ◌*◌, ◌%◌, ◌≤�
 use native.Mathlib.Omega.{arith}
 use native.Mathlib.Decide.{dec_le}
 use native.Mathlib.Numerals.{add-one}
-use mathlib.Core.List.{List, [], ◌∷◌, ◌++◌}
+use mathlib.Core.List.{List, [], ◌∷◌}
 use lib.Dec.{ltb, eqb}
 use lib.ListN.{length, get_or, take, drop, set, length-set, length-take, length-drop}
 use lib.Seq.{take_all, take-take, drop-drop, get_or-set_same, get_or-set_other}
 use borrow.Author.Tests.{eq-eqb, ne_eqb, eqb-true, eqb-false}
 use Rattle.field.specs.Bytes.{Bytes, AllBytes, pick}
 use Rattle.field.specs.Number.{number_of, number_from, big_endian}
-use Rattle.field.specs.Row.{Row, end, loose, field, field_bytes, bytes, Inside, only_bytes, fields_after}
+use Rattle.field.specs.Row.{Row, end, field, field_bytes, bytes, Inside, only_bytes, fields_after}
 use Rattle.field.specs.Header.{header_of, Within}
-use Rattle.field.specs.Put.{put, head, Wrote}
+use Rattle.field.specs.Put.{head, Wrote}
 use Rattle.field.specs.declared.reader.Header.{Header}
 use Rattle.field.specs.declared.reader.Header.TheVariants as H
 use Rattle.field.proofs.HeaderLaws.{within_field}

@@ -1,6 +1,6 @@
 -- How far the outermost field that is open reaches, by the frames: what is written of it is so short that heads are found again from four bytes.
 -- Main statements: `outer_low`, `outer_out`, `span_in`, `base_kept`, `base_first`, `head_in`. Assumes nothing.
-use mathlib.Core.Path.{◌≡◌, refl, sym, ap, ◌∙◌}
+use mathlib.Core.Path.{◌≡◌, refl, ap, ◌∙◌}
 use Prim.Native.Nat.{ℕ, zero, suc, ◌+◌, ◌-◌, ◌*◌, ◌%◌, ◌≤◌, ◌<◌}
 use native.Mathlib.Omega.{arith}
 use Rattle.loops.specs.Until.{until}

@@ -4,15 +4,15 @@ use mathlib.Core.Path.{◌≡◌, refl, sym, ap, ap₂, ◌∙◌}
 use mathlib.Core.Bool.{Bool, true, false, ◌&&◌, ◌||◌}
 use Prim.Native.Nat.{ℕ, ◌+◌, ◌-◌, ◌≤◌}
 use native.Mathlib.Omega.{arith}
-use mathlib.Core.List.{[], ◌∷◌, ◌++◌, append-nil}
+use mathlib.Core.List.{◌++◌}
 use lib.Dec.{ltb, eqb}
 use lib.ListN.{length, length-append}
 use borrow.Author.Tests.{ne_eqb, le-ltb}
-use Rattle.field.specs.Bytes.{Bytes, pick}
+use Rattle.field.specs.Bytes.{Bytes}
 use Rattle.field.specs.Row.{Row, end, loose, field, field_bytes, bytes, long_body}
 use Rattle.field.specs.Number.{big_endian, number_of}
 use Rattle.field.specs.Put.{put, head}
-use Rattle.field.proofs.PutLaws.{put_nil, put_put, put_back, length_head, length_field_bytes}
+use Rattle.field.proofs.PutLaws.{put_nil, put_put, put_back, length_field_bytes}
 use Rattle.outs.specs.Renumber.{renumbered_front, renumbered, has_wide, Renumbers}
 
 pub record World : Type 0 where
