@@ -7,11 +7,10 @@ use native.Mathlib.Decide.{dec_le}
 use mathlib.Core.Bool.{Bool, true, false, ◌&&◌}
 use mathlib.Core.Logic.{◌⊎◌, inl, inr}
 use mathlib.Core.List.{List, [], ◌∷◌, ◌++◌, append_assoc}
-use lib.Dec.{T, eqb, ltb, ltb→lt, eqb→eq, eqb_refl}
+use lib.Dec.{T, eqb, ltb, ltb→lt, eqb_refl}
 use lib.ListN.{length, get_or, take, drop, set, replicate}
 use lib.Seq.{take-suc, take_all, set_at, length-take-le}
 use borrow.Author.Tests.{ne_eqb, lt-ltb, le-ltb}
-use Rattle.field.specs.Bytes.{pick}
 use Rattle.find.specs.Find.{rising, index_of}
 use Rattle.find.specs.Search.{beyond, padded, Asked}
 
