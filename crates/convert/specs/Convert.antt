@@ -1,6 +1,6 @@
 -- 02, A7: templates out and page out from the old form into the new and back, with the whole answer at every input. Assumes nothing: these are
 -- definitions.
-use Rattle.std.specs.Prelude.{ℕ, Bool, true, false, ◌&&◌, ◌||◌, not, List, [], leb, eqb, length, take, drop, replicate}
+use Rattle.std.specs.Prelude.{ℕ, Bool, true, false, ◌&&◌, ◌||◌, not, List, [], leb, eqb, length, take, replicate}
 use Rattle.std.proofs.Math.Option.{Option, none, some}
 use Rattle.field.specs.Bytes.{Bytes, pick, same}
 use Rattle.field.specs.Number.{number_of}

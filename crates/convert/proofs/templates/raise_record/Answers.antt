@@ -1,0 +1,33 @@
+-- `templates::raise_record` meets its contract: the five writes make the record. Assumes nothing.
+use mathlib.Core.Path.{sym}
+use native.Mathlib.Omega.{arith}
+use lib.Seq.{length-take-le}
+use Rattle.convert.proofs.TemplateLaws.{raise_room, raise_wrote, head_end, number_end, marks_end}
+use Rattle.convert.proofs.templates.raise_record.Goals as goal
+
+pub slice_bounds-number_in-end : goal.slice_bounds-number_in-end
+slice_bounds-number_in-end c = sym (length-take-le 2 c.args.w.now c.requires.0)
+
+pub overflow_add-len : goal.overflow_add-len
+overflow_add-len c = omega (arith, raise_room c.args.w.now c.args.at c.requires.1 c.count_gaps-gaps.ensures)
+
+pub overflow_add-len-2 : goal.overflow_add-len-2
+overflow_add-len-2 c = omega (arith, raise_room c.args.w.now c.args.at c.requires.1 c.count_gaps-gaps.ensures)
+
+pub put_head-a-requires : goal.put_head-a-requires
+put_head-a-requires c = omega (arith, raise_room c.args.w.now c.args.at c.requires.1 c.count_gaps-gaps.ensures)
+
+pub put_four-b-requires : goal.put_four-b-requires
+put_four-b-requires c = omega (arith, raise_room c.args.w.now c.args.at c.requires.1 c.count_gaps-gaps.ensures, head_end _ _ c.put_head-a.ensures)
+
+pub put_two-c-requires : goal.put_two-c-requires
+put_two-c-requires c = omega (arith, raise_room c.args.w.now c.args.at c.requires.1 c.count_gaps-gaps.ensures, head_end _ _ c.put_head-a.ensures, number_end 4 _ c.put_four-b.ensures)
+
+pub put_kinds-m-requires : goal.put_kinds-m-requires
+put_kinds-m-requires c = omega (arith, raise_room c.args.w.now c.args.at c.requires.1 c.count_gaps-gaps.ensures, head_end _ _ c.put_head-a.ensures, number_end 4 _ c.put_four-b.ensures, number_end 2 _ c.put_two-c.ensures)
+
+pub put_bytes-e-requires : goal.put_bytes-e-requires
+put_bytes-e-requires c = omega (arith, raise_room c.args.w.now c.args.at c.requires.1 c.count_gaps-gaps.ensures, head_end _ _ c.put_head-a.ensures, number_end 4 _ c.put_four-b.ensures, number_end 2 _ c.put_two-c.ensures, marks_end _ _ _ c.put_kinds-m.ensures.0)
+
+pub returns : goal.returns
+returns c = raise_wrote c.args.w.now c.number_in-number.ensures c.count_gaps-gaps.ensures c.put_head-a.ensures c.put_four-b.ensures c.put_two-c.ensures c.put_kinds-m.ensures c.put_bytes-e.ensures
