@@ -1,5 +1,6 @@
 -- `kinds::in_opening` meets its contract: by the byte. Assumes nothing.
 use mathlib.Core.Path.{sym, ap}
+use Rattle.std.proofs.Common.{arith}
 use borrow.Author.Tests.{ne_eqb}
 use Rattle.convert.specs.Kinds.{passed}
 use Rattle.convert.specs.declared.kinds.Markup.TheVariants as M
@@ -19,4 +20,4 @@ returns-in-32 c = sym (ap (passed M.Opening) c.in-32.is)
 
 pub returns-in_default : goal.returns-in_default
 unfolding passed
-returns-in_default c = rw (ne_eqb _ 60 c.in_default.in_default-own.rest.0.0.1, ne_eqb _ 62 c.in_default.in_default-own.rest.0.1, ne_eqb _ 32 c.in_default.in_default-own.rest.1)
+returns-in_default c = rw (ne_eqb c.args.c 60 (omega arith), ne_eqb c.args.c 62 (omega arith), ne_eqb c.args.c 32 (omega arith))

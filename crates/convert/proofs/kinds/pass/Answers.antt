@@ -1,5 +1,6 @@
 -- `kinds::pass` meets its contract: by where we are, and the byte. Assumes nothing.
 use mathlib.Core.Path.{sym, ap, ap₂, ◌∙◌}
+use Rattle.std.proofs.Common.{arith}
 use borrow.Author.Tests.{ne_eqb}
 use Rattle.convert.specs.Kinds.{passed}
 use Rattle.convert.specs.declared.kinds.Markup.{Markup}
@@ -20,7 +21,7 @@ returns-in-62 c = sym (ap₂ passed c.in-Outside.is c.in-62.is)
 
 pub returns-in_default : goal.returns-in_default
 unfolding passed
-returns-in_default c = sym (ap (λ (x : Markup). passed x c.args.c) c.in-Outside.is ∙ rw (ne_eqb _ 60 c.in_default.in_default-own.rest.0.1, ne_eqb _ 62 c.in_default.in_default-own.rest.1))
+returns-in_default c = sym (ap (λ (x : Markup). passed x c.args.c) c.in-Outside.is ∙ rw (ne_eqb c.args.c 60 (omega arith), ne_eqb c.args.c 62 (omega arith)))
 
 pub returns-else-c-eq47 : goal.returns-else-c-eq47
 returns-else-c-eq47 c = c.in_opening.ensures ∙ entered_other c.args.c c.if-c-eq47.false ∙ sym (ap (λ (x : Markup). passed x c.args.c) c.in-Entered.is)
@@ -42,7 +43,7 @@ returns-in-62-c c = sym (ap₂ passed c.in-Closing.is c.in-62-c.is)
 
 pub returns-in_default-c : goal.returns-in_default-c
 unfolding passed
-returns-in_default-c c = sym (ap (λ (x : Markup). passed x c.args.c) c.in-Closing.is ∙ rw (ne_eqb _ 60 c.in_default-c.in_default-c-own.rest.0.1, ne_eqb _ 62 c.in_default-c.in_default-c-own.rest.1))
+returns-in_default-c c = sym (ap (λ (x : Markup). passed x c.args.c) c.in-Closing.is ∙ rw (ne_eqb c.args.c 60 (omega arith), ne_eqb c.args.c 62 (omega arith)))
 
 pub returns-in-Crossed : goal.returns-in-Crossed
 unfolding passed
