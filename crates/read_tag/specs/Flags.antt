@@ -1,6 +1,6 @@
 -- How deep the tag is that the grammar's reader is in. Main definition: `depth_of`. Assumes nothing: these are definitions.
-use Rattle.std.specs.Prelude.{ℕ, suc, List, [], ◌∷◌}
-use Rattle.grammar.specs.Reader.{Braces, child_braces, spread_child_braces, value_braces, spread_braces, Frame, within, value_of, in_braces, Stack}
+use Rattle.std.specs.Prelude.{ℕ, suc, [], ◌∷◌}
+use Rattle.grammar.specs.Reader.{Braces, child_braces, spread_child_braces, value_braces, spread_braces, within, value_of, in_braces, Stack}
 
 -- that of the tag which begins there. Around it stand a tag; a tag and a 50; a tag and braces; a tag, a 50 and braces
 

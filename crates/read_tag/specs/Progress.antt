@@ -1,6 +1,6 @@
 -- What is written of what was read, as bytes; fields that are still open have heads without a length. Main definitions: `begun`, `bytes_of_tag`.
 -- Assumes nothing: these are definitions.
-use Rattle.std.specs.Prelude.{ℕ, ◌≡◌, List, [], ◌∷◌, ◌++◌}
+use Rattle.std.specs.Prelude.{ℕ, ◌≡◌, [], ◌∷◌, ◌++◌}
 use Rattle.field.specs.Bytes.{Bytes}
 use Rattle.field.specs.Row.{end, bytes}
 use Rattle.field.specs.Put.{head}

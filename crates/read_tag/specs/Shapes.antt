@@ -1,7 +1,7 @@
 -- The shape of a name as the code counts it. Main definition: `shape_tag`. Assumes nothing: these are definitions.
-use Rattle.std.specs.Prelude.{ℕ, Bool, true, false, ◌&&◌, List, [], ◌∷◌, T, leb, eqb}
+use Rattle.std.specs.Prelude.{ℕ, Bool, true, ◌&&◌, [], ◌∷◌, T, leb, eqb}
 use Rattle.grammar.specs.Signs.{choose, separator}
-use Rattle.grammar.specs.Syntax.{Part, part, Name, short, no_hyphen}
+use Rattle.grammar.specs.Syntax.{part, Name, short, no_hyphen}
 
 -- the tag of a name's field: 40; 42 with a colon, 41 with points
 unfoldable pub name_tag : Name → ℕ

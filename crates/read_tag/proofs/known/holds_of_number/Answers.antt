@@ -1,0 +1,15 @@
+-- `read_tag::known::holds_of_number` meets its contract. Assumes nothing.
+use Rattle.read_tag.proofs.KnownLaws.{scanned_none, scanned_on, scanned_found, scanned_out}
+use Rattle.read_tag.proofs.known.holds_of_number.Goals as goal
+
+pub loop-k-init : goal.loop-k-init
+loop-k-init c = scanned_none _ _
+
+pub returns-then-is_of_number : goal.returns-then-is_of_number
+returns-then-is_of_number c = scanned_found _ _ _ _ c.loop-k.invariant c.loop-k-test.true c.is_of_number.ensures c.if-is_of_number.true
+
+pub loop-k-preserved : goal.loop-k-preserved
+loop-k-preserved c = scanned_on _ _ _ _ c.loop-k.invariant c.loop-k-test.true c.is_of_number.ensures c.if-is_of_number.false
+
+pub returns : goal.returns
+returns c = scanned_out _ _ _ c.loop-k.invariant c.loop-k-test.false

@@ -1,0 +1,11 @@
+use Prim.Native.Nat.{◌-◌}
+use lib.ListN.{length}
+use Rattle.grammar.specs.Known.{of_a_number}
+use Rattle.read_tag.proofs.KnownLaws.{Scanned}
+use Rattle.read_tag.proofs.known.holds_of_number.Given as goal
+
+abbrev pub invariant-loop-k : goal.invariant-loop-k
+invariant-loop-k l = Scanned of_a_number l.s l.k
+
+abbrev pub decreases-loop-k : goal.decreases-loop-k
+decreases-loop-k l = length l.s - l.k

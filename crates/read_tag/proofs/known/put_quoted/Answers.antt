@@ -1,0 +1,6 @@
+-- `read_tag::known::put_quoted` meets its contract. Assumes nothing.
+use Rattle.read_tag.proofs.HeldLaws.{held_quoted}
+use Rattle.read_tag.proofs.known.put_quoted.Goals as goal
+
+pub returns : goal.returns
+returns c = held_quoted _ c.requires.0 c.put_leaf-e.ensures

@@ -1,0 +1,9 @@
+-- `read_tag::name::scan_name` meets its contract. Assumes nothing.
+use Rattle.read_tag.proofs.NameLaws.{ident_found, ident_long}
+use Rattle.read_tag.proofs.name.scan_name.Goals as goal
+
+pub returns-then-e-i-gt-MAX_NAME : goal.returns-then-e-i-gt-MAX_NAME
+returns-then-e-i-gt-MAX_NAME c = let pre = c.requires in ident_long _ _ pre.0 pre.1 _ c.part_at-p.ensures c.if-p-ne0.false c.if-e-i-gt-MAX_NAME.true
+
+pub returns : goal.returns
+returns c = let pre = c.requires in ident_found _ _ pre.0 pre.1 _ c.part_at-p.ensures c.if-p-ne0.false c.if-e-i-gt-MAX_NAME.false

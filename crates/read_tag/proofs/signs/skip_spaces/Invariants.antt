@@ -1,0 +1,11 @@
+use Prim.Native.Nat.{◌-◌}
+use lib.ListN.{length}
+use Rattle.grammar.specs.Signs.{space}
+use Rattle.read_tag.proofs.RunLaws.{Running}
+use Rattle.read_tag.proofs.signs.skip_spaces.Given as goal
+
+abbrev pub invariant-loop-k : goal.invariant-loop-k
+invariant-loop-k l = Running space l.text l.i l.k
+
+abbrev pub decreases-loop-k : goal.decreases-loop-k
+decreases-loop-k l = length l.text - l.k
