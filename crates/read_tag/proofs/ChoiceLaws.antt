@@ -1,6 +1,6 @@
 -- Which of the known it is, by the tests in their order. Main statements: `barred_number` and those beside it, `rest_other`,
 -- `unquoted_rest`, `unquoted_whole`, `unquoted_scaled`, `trimmed_true` to `trimmed_unquoted`, `known_trims`. Assumes nothing.
-use Prim.Native.Nat.{ℕ, ◌+◌, ◌-◌, ◌≤◌, ◌<◌}
+use Prim.Native.Nat.{ℕ, ◌-◌, ◌≤◌, ◌<◌}
 use mathlib.Core.Path.{◌≡◌, refl, sym, ◌∙◌, ap, ap₂, subst}
 use mathlib.Core.Bool.{Bool, true, false, ◌&&◌, ◌||◌, not}
 use mathlib.Core.List.{[], ◌∷◌, ◌++◌}

@@ -4,7 +4,7 @@ use mathlib.Core.Path.{◌≡◌, refl, sym, ◌∙◌, ap}
 use mathlib.Core.Bool.{Bool, true, false}
 use Rattle.field.specs.Bytes.{Bytes, ascii, same}
 use Rattle.grammar.specs.Signs.{choose}
-use Rattle.grammar.specs.Known.{Found, none, some, entity_of}
+use Rattle.grammar.specs.Known.{none, some, entity_of}
 use Rattle.read_tag.specs.Entities.{entity_code}
 
 cascade : Bool → Bool → Bool → Bool → Bool → ℕ

@@ -1,9 +1,9 @@
 -- What flags say grows by what is read. Main statements: `every_attributes_more`, `every_children_more`, `shallow_attributes_more`,
 -- `shallow_children_more`, `long_attributes_more`, `long_children_more`. Assumes nothing.
 use Prim.Native.Nat.{ℕ, suc}
-use mathlib.Core.Path.{◌≡◌, refl, sym, ◌∙◌, ap, ap₂}
-use mathlib.Core.Bool.{Bool, true, false, ◌&&◌, ◌||◌, not}
-use mathlib.Core.List.{List, [], ◌∷◌, ◌++◌}
+use mathlib.Core.Path.{◌≡◌, refl, sym, ◌∙◌, ap}
+use mathlib.Core.Bool.{Bool, true, false, ◌&&◌, ◌||◌}
+use mathlib.Core.List.{[], ◌++◌}
 use lib.Dec.{leb, ltb}
 use lib.ListN.{length}
 use Rattle.field.specs.Bytes.{Bytes}

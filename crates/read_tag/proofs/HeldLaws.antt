@@ -18,7 +18,7 @@ use Rattle.field.proofs.PutLaws.{wrote_is, wrote_then, wrote_length, wrote_field
 use Rattle.page.specs.Number as N
 use Rattle.page.specs.Number.{number_tag, minus_tag, number_bytes, in_range}
 use Rattle.page.specs.Encode.{boolean_byte, tag_row, expr_row}
-use Rattle.grammar.specs.Known.{Known, whole, quoted, boolean, null, other, some}
+use Rattle.grammar.specs.Known.{Known, quoted, boolean, null, other, some}
 use Rattle.grammar.specs.Syntax.{known_expr}
 use Rattle.tag_tree.specs.PageTag.{page_known, page_tag, page_expr}
 use Rattle.tag_tree.specs.TagAnswer.{known_in_range, shallow}

@@ -1,8 +1,8 @@
 -- A name of one identifier, found again from its end: the white space behind it is dropped. Main statement: `ident_name`. Assumes nothing.
 use Prim.Native.Nat.{ℕ, ◌+◌, ◌-◌, ◌*◌, ◌^◌, ◌≤◌, ◌<◌}
-use mathlib.Core.Path.{◌≡◌, refl, sym, ◌∙◌, ap, subst}
-use mathlib.Core.Bool.{Bool, true, false, ◌||◌, not}
-use mathlib.Core.List.{List, [], ◌∷◌, ◌++◌, append-nil, append_assoc}
+use mathlib.Core.Path.{◌≡◌, refl, sym, ◌∙◌, ap}
+use mathlib.Core.Bool.{◌||◌, not}
+use mathlib.Core.List.{[], ◌∷◌, ◌++◌, append_assoc}
 use mathlib.Core.Logic.{◌⊎◌, inl, inr}
 use native.Mathlib.Omega.{arith}
 use lib.Dec.{T, eqb, not_T}
@@ -10,14 +10,14 @@ use lib.ListN.{length, take, drop, length-append, length-take, length-drop}
 use lib.Seq.{take_at}
 use Rattle.field.specs.Bytes.{Bytes}
 use Rattle.field.specs.Row.{field_bytes}
-use Rattle.grammar.specs.Signs.{choose, letter, digit, name_byte, space}
+use Rattle.grammar.specs.Signs.{letter, digit, name_byte, space}
 use Rattle.grammar.specs.Known.{kept, trimmed_end}
 use Rattle.grammar.specs.Syntax.{part, Name, tag_name_fits}
-use Rattle.grammar.specs.Grammar.{Run, run_ends, run_on, Spaces, no_space, space_on, IsIdent, ident, IsParts, no_parts, one_part, IsName, is_name}
+use Rattle.grammar.specs.Grammar.{Run, run_ends, run_on, Spaces, no_space, space_on, IsIdent, ident, no_parts, one_part, IsName, is_name}
 use Rattle.grammar.proofs.Tests.{chose, passed, or_cases, at_eq, clash, letter_no_space}
 use Rattle.read_tag.specs.Progress.{name_bytes}
 use Rattle.read_tag.specs.Shapes.{name_tag}
-use Rattle.read_tag.specs.Names.{NameAt, parts_bytes}
+use Rattle.read_tag.specs.Names.{NameAt}
 use Rattle.read_tag.specs.Sources.{Trimmed}
 use Rattle.read_tag.proofs.NameFieldLaws.{name_alone, one_part_bytes, name_one}
 use Rattle.read_tag.proofs.NameWalkLaws.{name_inside}

@@ -17,7 +17,7 @@ use Rattle.page.specs.Encode.{texts_row, name_row, attr_name_row}
 use Rattle.page.proofs.Verdicts.{and_both}
 use Rattle.grammar.specs.Signs.{choose}
 use Rattle.grammar.specs.Syntax.{Part, part, Name, short, no_hyphen, member_parts, attribute_name_fits, member_fits, tag_name_fits, Attributes, no_attributes, Children}
-use Rattle.grammar.specs.Reader.{Stack, For, for_tag, for_attribute, for_closing, State, in_ident, in_tag, attribute_named, close_named, refused, fits, named, no_reading, outcome}
+use Rattle.grammar.specs.Reader.{Stack, for_tag, for_attribute, for_closing, State, in_ident, in_tag, attribute_named, close_named, refused, fits, named, no_reading, outcome}
 use Rattle.grammar.proofs.Tests.{chose, passed, or_cases, or_left, at_eq}
 use Rattle.grammar.proofs.Complete.{refused_never}
 use Rattle.tag_tree.specs.PageTag.{idents, page_name, page_attr_name}

@@ -11,7 +11,7 @@ use native.Mathlib.Omega.{arith}
 use native.Mathlib.Numerals.{add-one}
 use borrow.Author.Tests.{le-leb, le-ltb}
 use lib.Dec.{T, leb, ltb, eqb, leb→le}
-use lib.ListN.{length, drop, length-append, length-drop}
+use lib.ListN.{length, length-append, length-drop}
 use Rattle.field.specs.Bytes.{Bytes, pick}
 use Rattle.field.specs.Row.{Row, end, field, field_bytes, bytes, long_body}
 use Rattle.field.proofs.PutLaws.{length_field_bytes}

@@ -10,7 +10,7 @@ use borrow.Author.Tests.{eq-eqb, ne_eqb}
 use lib.Dec.{T, leb, eqb, eqb→eq, leb→le, nleb→lt}
 use lib.ListN.{length, drop, drop_of_length-le}
 use Rattle.field.specs.Bytes.{Bytes, same}
-use Rattle.field.specs.Row.{end, field, field_bytes, bytes}
+use Rattle.field.specs.Row.{field_bytes, bytes}
 use Rattle.field.specs.Put.{Wrote}
 use Rattle.field.proofs.PutLaws.{wrote_none, wrote_then, wrote_is, wrote_length, length_field_bytes}
 use Rattle.page.specs.Encode.{texts_row}

@@ -1,18 +1,17 @@
 -- What is written grows by what is read, and a field that ends gets its length. Main statements: `attributes_more`, `children_more`,
 -- `head_last`, `field_closed`, `tag_field`. Assumes nothing.
-use Prim.Native.Nat.{ℕ, zero, suc, ◌+◌, ◌-◌, ◌≤◌, ◌<◌}
-use mathlib.Core.Path.{◌≡◌, refl, sym, ◌∙◌, ap, ap₂, subst}
-use mathlib.Core.List.{List, [], ◌∷◌, ◌++◌, append-nil, append_assoc}
+use Prim.Native.Nat.{ℕ, zero, suc, ◌+◌, ◌-◌, ◌≤◌}
+use mathlib.Core.Path.{◌≡◌, refl, sym, ◌∙◌, ap}
+use mathlib.Core.List.{[], ◌∷◌, ◌++◌, append-nil, append_assoc}
 use native.Mathlib.Omega.{arith}
 use lib.ListN.{length, length-append}
 use Rattle.field.specs.Bytes.{Bytes}
-use Rattle.field.specs.Number.{big_endian}
 use Rattle.field.specs.Row.{Row, end, field, field_bytes, bytes}
 use Rattle.field.specs.Put.{put, head}
 use Rattle.field.proofs.PutLaws.{put_put, put_back, length_head}
 use Rattle.names.specs.Names as A
 use Rattle.page.specs.Page as P
-use Rattle.page.specs.Encode.{texts_row, name_row, attr_name_row, tag_row, attributes_row, value_row, children_row, expr_row, pieces_row}
+use Rattle.page.specs.Encode.{texts_row, name_row, attr_name_row, tag_row, attributes_row, value_row, children_row, expr_row}
 use Rattle.grammar.specs.Syntax as S
 use Rattle.grammar.specs.Syntax.{Name, no_attributes, join_attributes, join_children}
 use Rattle.tag_tree.specs.PageTag.{page_name, page_attr_name, page_tag, page_tag_by, page_attributes, page_attribute, page_children, page_child, page_expr}

@@ -1,8 +1,8 @@
 -- Runs of text and source by the order of the code's tests: small letters, what stands behind them, what stands before the first sign, the rest.
 -- Main statements: `small_text` to `other_text`, `small_source` to `other_source`, `small_read`, `low_read`. Assumes nothing.
 use Prim.Native.Nat.{ℕ, ◌≤◌, ◌<◌}
-use mathlib.Core.Path.{◌≡◌, refl}
-use mathlib.Core.Bool.{Bool, true, false, ◌&&◌, ◌||◌, not, or-false}
+use mathlib.Core.Path.{◌≡◌}
+use mathlib.Core.Bool.{true, false, ◌&&◌, ◌||◌, not, or-false}
 use native.Mathlib.Omega.{arith}
 use borrow.Author.Tests.{ne_eqb}
 use lib.Dec.{eqb}

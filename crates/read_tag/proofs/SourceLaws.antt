@@ -4,17 +4,17 @@
 use Prim.Native.Nat.{ℕ, zero, suc, ◌+◌, ◌-◌, ◌≤◌, ◌<◌}
 use mathlib.Core.Path.{◌≡◌, refl, sym, ◌∙◌, ap, subst}
 use mathlib.Core.Bool.{Bool, true, false, not, false≢true}
-use mathlib.Core.List.{List, [], ◌∷◌, ◌++◌, append-nil, append_assoc}
+use mathlib.Core.List.{[], ◌∷◌, ◌++◌, append_assoc}
 use native.Mathlib.Omega.{arith}
 use native.Mathlib.Numerals.{add-one}
 use lib.Dec.{T, eqb, eqb→eq, not_T}
 use lib.ListN.{length, take, drop, get_or, length-append, length-drop, drop_of_length-le}
 use lib.Seq.{drop-cons, take_at, length-take-le}
 use Rattle.field.specs.Bytes.{Bytes}
-use Rattle.grammar.specs.Signs.{snoc, choose, quote, quoted_byte, source_byte}
+use Rattle.grammar.specs.Signs.{snoc, quote, quoted_byte, source_byte}
 use Rattle.grammar.specs.Known.{known_of}
-use Rattle.grammar.specs.Grammar.{Ends, Run, run_ends, run_on, IsSource, source_ends, source_on, quotes}
-use Rattle.grammar.specs.Reader.{Braces, Stack, State, in_source, in_quotes, refused, filled_if, no_reading, at_end, step, step_source, brace_ends, outcome}
+use Rattle.grammar.specs.Grammar.{Ends, Run, run_ends, run_on, source_ends, source_on, quotes}
+use Rattle.grammar.specs.Reader.{Braces, Stack, in_source, in_quotes, refused, filled_if, at_end, step, step_source, brace_ends, outcome}
 use Rattle.grammar.proofs.Tests.{chose, passed, quote_no_source}
 use Rattle.grammar.proofs.Complete.{go, sourced, brace_opens, brace_closes, source_ends_at, through, refused_never}
 use Rattle.grammar.proofs.Letters.{run_is}
