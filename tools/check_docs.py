@@ -38,7 +38,7 @@ WORDS = set(
     # of commands
     "rt cargo clippy rustfmt".split()
 )
-NAME = re.compile(r"[A-Za-z_][\w′-]*$")
+NAME = re.compile(r"[A-Za-z_][\w'-]*$")
 PLACED = re.compile(r"((?:`[^`\n]+`(?:, | and | or | to | of |: )?)+) \(([^()]*)\)")
 FOLDERS = ("crates", "docs", "examples", "host", "node", "oracle", "tools", ".ci")
 PATH = re.compile(r"(?<![\w./-])((?:%s)/[\w.*/+-]*)" % "|".join(re.escape(f) for f in FOLDERS))
@@ -247,6 +247,14 @@ def is_in(path, crate, file):
     return path.startswith("crates/%s/" % crate) and (not file or path.endswith("/" + file) or ("/" + file + "/") in path)
 
 
+def left_out(folder, names):
+    """What no copy of the tree needs: what was made in it."""
+    made = {"target", ".git", "__pycache__", "node_modules"}
+    if os.path.basename(os.path.dirname(folder)) == "crates":
+        made.add("out")
+    return made & set(names)
+
+
 def without_code(text):
     """The lines of a document, those of its blocks of code empty."""
     lines, inside = [], False
@@ -259,18 +267,18 @@ def without_code(text):
 
 # mistakes to plant: a file, what stands there (or a pattern of it), what is put in its place, and what must be found
 PLANTED = [
-    ("README.md", "`demand3-of-answer`", "`demand4-of-answer`", "`demand4-of-answer` is declared nowhere"),
+    ("README.md", "`demand3_of_answer`", "`demand4_of_answer`", "`demand4_of_answer` is declared nowhere"),
     ("docs/PROMISES.md", "`outcome` (spec, Answer.antt)", "`outcome` (spec, Marks.antt)", "`outcome` is not declared in crate spec, Marks.antt"),
     ("docs/PROMISES.md", "`outcome` (spec, Answer.antt)", "`outcome` (page)", "`outcome` is not declared in crate page"),
     ("docs/DECISIONS.md", "crates/spec/specs/Pass.antt", "crates/spec/specs/Passes.antt", "no file crates/spec/specs/Passes.antt"),
     ("docs/PROMISES.md", "| `put_two` |", "| `put_too` |", "`put_too` is no function of field"),
-    ("docs/PROMISES.md", "| `read_header` | `header-of` |", "| `read_header` | `body-of` |", "no contract of `read_header` names body-of"),
-    ("docs/PROMISES.md", "| `read_header` | `header-of` |", "| `read_header` | `outcome` |", "`outcome` is not of field, nor of a crate below it"),
+    ("docs/PROMISES.md", "| `read_header` | `header_of` |", "| `read_header` | `body_of` |", "no contract of `read_header` names body_of"),
+    ("docs/PROMISES.md", "| `read_header` | `header_of` |", "| `read_header` | `outcome` |", "`outcome` is not of field, nor of a crate below it"),
     ("crates/field/src/reader.rt", "pub fn tag_at(", "pub fn first_tag(", "`first_tag` has no row"),
     ("docs/PROMISES.md", "| `absent_tag` |", "| - |", "not named in docs/PROMISES.md, section field"),
     ("docs/PROMISES.md", "| `absent_tag` |", "| `body_behind` |", "not as tools/promises.py makes it"),
     ("crates/field/src/reader.rt", "Header::Absent => 256,", "Header::Absent => 0 + 256,", "its old: stands 0 times"),
-    ("docs/PROMISES.md", "as_string` | `expr-row` |", "as_string` | `number-in` |", "`literal_written_as_string` changes `expr-row`"),
+    ("docs/PROMISES.md", "as_string` | `expr_row` |", "as_string` | `number_in` |", "`literal_written_as_string` changes `expr_row`"),
     ("README.md", "| `utf8` |", "| `text` |", "crates.txt has utf8 here, not text"),
     ("docs/PROMISES.md", r"The last \w+ are used", "The last one are used", "are used within the crate only, not one"),
 ]
@@ -283,8 +291,7 @@ def self_test(root):
         return report(clean)
     with tempfile.TemporaryDirectory() as folder:
         copy = os.path.join(folder, "copy")
-        ignored = shutil.ignore_patterns("target", ".git", "__pycache__", "node_modules")
-        shutil.copytree(root, copy, ignore=ignored)
+        shutil.copytree(root, copy, ignore=left_out)
         for path, old, new, reason in PLANTED:
             file = os.path.join(copy, path)
             with open(file, encoding="utf-8") as f:

@@ -15,6 +15,8 @@ RUST = re.compile(r"\b(?:fn|const|static|enum|struct|mod|trait|type)\s+(\w+)")
 # a variable of the environment
 VARIABLE = re.compile(r'"([A-Z]+(?:_[A-Z]+)+)"')
 WORD = re.compile(r"[^\s(){}\[\],;⌜⌝]+")
+# what a reference points to, now or at a call's begin and end
+POINTED = {"now", "old", "new", "entry", "exit"}
 
 
 @dataclass
@@ -31,13 +33,18 @@ class Item:
     text: str = ""
 
     def contract(self):
-        """The words of a function's ensures, its parameters left out; none where it has no such clause."""
+        """The words of a function's ensures; none where it has no such clause. Its parameters and `result` are left out; of what is read
+        of them, as `result.text`, the field is there, as `.text`."""
         head = re.split(r"^\{$", self.text, maxsplit=1, flags=re.M)
         if len(head) < 2 or "ensures" not in head[0]:
             return []
         signature, clause = head[0].split("ensures", 1)
-        parameters = set(re.findall(r"(\w+):", signature))
-        return [w for w in WORD.findall(clause) if w not in parameters]
+        given = {"result", *re.findall(r"(\w+):", signature)}
+        words = []
+        for word in WORD.findall(clause):
+            first, *fields = word.split(".")
+            words += ["." + f for f in fields if f not in POINTED] if first in given else [word]
+        return words
 
 
 @dataclass
@@ -72,13 +79,15 @@ class Tree:
         depends = {}
         for line in self.read("crates.txt").splitlines():
             if line.strip() and not line.startswith("#"):
+                # NAME or NAME staticlib
                 name, below = line.split(":")
-                depends[name] = below.split()
+                depends[name.split()[0]] = below.split()
         return depends
 
     def _walk(self):
         for folder, folders, files in os.walk(self.root):
-            folders[:] = sorted(f for f in folders if f not in ("target", ".git", "node_modules", "__pycache__"))
+            made = ["out"] if os.path.dirname(os.path.relpath(folder, self.root)) == "crates" else []
+            folders[:] = sorted(f for f in folders if f not in ("target", ".git", "node_modules", "__pycache__", *made))
             for name in sorted(files):
                 path = os.path.relpath(os.path.join(folder, name), self.root)
                 self.files.add(path)
@@ -169,10 +178,12 @@ class Tree:
         through a module that has another name there (`ghost use … as M`, `M.a`), or as a field of a record (`.a`)."""
         text = self.read(function.path)
         taken, modules = set(), set()
-        for names in re.findall(r"^ghost use Rattle·[^;{]*specs\.[^;{]*\{([^}]*)\};", text, flags=re.M):
-            taken |= {n.strip() for n in names.split(",")}
-        for name in re.findall(r"^ghost use Rattle·[^;{]*specs\.[^;{]* as (\w+);", text, flags=re.M):
-            modules.add(name)
+        for crate, names in re.findall(r"^ghost use Rattle\.(\w+)\.specs\.[^;{]*\{([^}]*)\};", text, flags=re.M):
+            if crate in self.depends:
+                taken |= {n.strip() for n in names.split(",")}
+        for crate, name in re.findall(r"^ghost use Rattle\.(\w+)\.specs\.[^;{]* as (\w+);", text, flags=re.M):
+            if crate in self.depends:
+                modules.add(name)
         found = []
         for word in function.contract():
             module, _, name = word.rpartition(".")
@@ -187,8 +198,8 @@ class Tree:
         return any("/specs/" in path for path in self.declared.get(name, ()))
 
     def used_outside(self, function):
-        """Whether another crate's code names the function."""
-        path = re.compile(r"\b%s::(?:\w+::)*%s\b" % (function.crate, function.name))
+        """Whether another crate's code names the function, by its path or in the braces behind one."""
+        path = re.compile(r"\b%s::(?:\w+::)*(?:\{[^;]*\b)?%s\b" % (function.crate, function.name))
         return any(path.search(self._source(crate)) for crate in self.depends if crate != function.crate)
 
     def _source(self, crate):
