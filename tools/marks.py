@@ -152,56 +152,53 @@ row("a body over 65,535",page(F(0x30,name("p"),F(0x60,'(replicate 13107 38)'))),
 
 SPECS = """-- The marks and the limits of document 01, on bytes: page, options, length of scratch, room in templates out and in page out; then what
 -- the answer must be: number, templates, templates out, page out. Written by tools/marks.py. Assumes nothing: these are definitions.
-use Prim.Native.Nat.{ℕ}
-use mathlib.Core.Path.{_≡_}
-use mathlib.Core.List.{List, [], _∷_, _++_}
-use lib.ListN.{length, replicate}
-use Rattle·field.specs.Bytes.{Bytes, ascii}
-use Rattle·field.specs.Number.{big-endian}
-use Rattle·spec·specs.specs.Answer.{Outcome, refused, accepted, outcome, number}
+use Rattle.std.specs.Prelude.{ℕ, ◌≡◌, List, [], ◌∷◌, ◌++◌, length, replicate}
+use Rattle.field.specs.Bytes.{Bytes, ascii}
+use Rattle.field.specs.Number.{big_endian}
+use Rattle.spec.specs.Answer.{Outcome, refused, accepted, outcome, number}
 
 -- an answer to be compared: a refusal writes nothing
 pub record Reply : Type 0 where
   pub number : ℕ
   pub templates : ℕ
-  pub templates-out : Bytes
-  pub page-out : Bytes
+  pub templates_out : Bytes
+  pub page_out : Bytes
 
 unfoldable pub reply : Outcome → Reply
-reply (refused n) = record { number = number (refused n); templates = 0; templates-out = []; page-out = [] }
-reply (accepted w) = record { number = number (accepted w); templates = w .templates; templates-out = w .templates-out; page-out = w .page-out }
+reply (refused n) = record { number = number (refused n); templates = 0; templates_out = []; page_out = [] }
+reply (accepted w) = record { number = number (accepted w); templates = w.templates; templates_out = w.templates_out; page_out = w.page_out }
 
 pub record Mark : Type 0 where
   pub page : Bytes
   pub options : Bytes
   pub scratch : ℕ
-  pub templates-room : ℕ
-  pub page-room : ℕ
+  pub templates_room : ℕ
+  pub page_room : ℕ
   pub expected : Reply
 
 -- a field
 abbrev pub fld : ℕ → Bytes → Bytes
-unfolding big-endian
-fld t b = t ∷ (big-endian 2 (length b) [] ++ b)
+unfolding big_endian
+fld t b = t ∷ (big_endian 2 (length b) [] ++ b)
 
 abbrev pub mark : Bytes → Bytes → ℕ → ℕ → ℕ → ℕ → ℕ → Bytes → Bytes → Mark
-mark p o d s r n f so po = record { page = p; options = o; scratch = d; templates-room = s; page-room = r; expected = record { number = n; templates = f; templates-out = so; page-out = po } }
+mark p o d s r n f so po = record { page = p; options = o; scratch = d; templates_room = s; page_room = r; expected = record { number = n; templates = f; templates_out = so; page_out = po } }
 
 unfoldable pub AllHold : List Mark → Type 0
 AllHold [] = Unit {0}
-AllHold (m ∷ ms) = (reply (outcome (m .page) (m .options) (m .scratch) (m .templates-room) (m .page-room)) ≡ m .expected) × AllHold ms
+AllHold (m ∷ ms) = (reply (outcome m.page m.options m.scratch m.templates_room m.page_room) ≡ m.expected) × AllHold ms
 
 abbrev pub marks : List Mark
 marks =
 """
 
-PROOF = """-- The table of marks, by computation. Main statement: `k-table`. Written by tools/marks.py. Assumes nothing.
+PROOF = """-- The table of marks, by computation. Main statement: `k_table`. Written by tools/marks.py. Assumes nothing.
 use Prim.Native.Nat.{ℕ}
-use mathlib.Core.Path.{_≡_, refl}
-use Rattle·field.specs.Bytes.{Bytes}
-use Rattle·spec·specs.specs.Answer.{Outcome}
-use Rattle·spec·specs.specs.Marks as K
-use Rattle·spec·specs.specs.Marks.{AllHold, reply}
+use mathlib.Core.Path.{◌≡◌, refl}
+use Rattle.field.specs.Bytes.{Bytes}
+use Rattle.spec.specs.Answer.{Outcome}
+use Rattle.spec.specs.Marks as K
+use Rattle.spec.specs.Marks.{AllHold, reply}
 %s
 
 -- all that an answer computes with
@@ -209,9 +206,9 @@ unfoldable pub computed : Bytes → Bytes → ℕ → ℕ → ℕ → Outcome
 unfolding %s
 computed p o d s q = outcome p o d s q
 
-pub k-table : AllHold K.marks
+pub k_table : AllHold K.marks
 unfolding AllHold computed reply
-k-table = %s
+k_table = %s
 """
 
 
@@ -222,7 +219,7 @@ def main():
         text += "    -- %s\n    mark %s %s %d %d %d %d %d %s %s ∷\n" % (c, pg, opt, d, sr, pr, n, f, so, po)
     with open(os.path.join(spec, "specs", "Marks.antt"), "w") as f:
         f.write(text + "    []\n")
-    uses, names = gather("spec")
+    uses, names = gather()
     with open(os.path.join(spec, "proofs", "Marks.antt"), "w") as f:
         f.write(PROOF % ("\n".join(uses), " ".join(names), "(refl, " * len(rows) + "tt" + ")" * len(rows)))
     print(len(rows), "rows")

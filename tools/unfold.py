@@ -53,18 +53,18 @@ def defined(text):
     return [n for n in out if n not in TYPES]
 
 
-def gather(own, order=ORDER):
-    """use lines and names; `own` is the crate whose proofs use them, `order` the modules that it computes with. A name stands for one definition in a list of names to unfold, so two
+def gather(order=ORDER):
+    """use lines and names; `order` has the modules that a proof computes with. A name stands for one definition in a list of names to unfold, so two
     modules that define the same one are an error."""
     uses, names, owner, twice = [], [], {}, []
     for crate, wanted in order:
         for module, text in modules(crate, wanted):
             new = defined(text)
             if crate in QUALIFIED and new:
-                uses.append("use Rattle·%s.specs.%s as %s" % (crate, module, module))
+                uses.append("use Rattle.%s.specs.%s as %s" % (crate, module, module))
                 names += ["%s.%s" % (module, n) for n in new]
                 continue
-            path = "Rattle·%s·specs.specs.%s" % (crate, module) if crate == own else "Rattle·%s.specs.%s" % (crate, module)
+            path = "Rattle.%s.specs.%s" % (crate, module)
             twice += ["%s: %s and %s" % (n, owner[n], path) for n in new if n in owner]
             owner.update((n, path) for n in new)
             names += new
