@@ -8,13 +8,9 @@ COUNT lines from line FROM on, those of at most MOST characters (default 600). E
 crates in a temporary folder; nothing is written here. A vector with more than 4,096 lent bytes is held to the field, not to every byte
 lent. Exit status 0: all agree.
 """
-import os
-import shutil
-import subprocess
 import sys
-import tempfile
 
-from unfold import TAG_ORDER, gather, root
+from unfold import TAG_ORDER, checked, gather
 
 
 def row(text):
@@ -25,12 +21,12 @@ def row(text):
 def main():
     path, start, count = sys.argv[1], int(sys.argv[2]), int(sys.argv[3])
     most = int(sys.argv[4]) if len(sys.argv) > 4 else 600
-    uses, names = gather("tag_tree", TAG_ORDER)
-    text = "-- Stored answers to tag text.\nuse Prim.Native.Nat.{ℕ}\nuse mathlib.Core.Path.{_≡_, refl}\nuse mathlib.Core.List.{[], _∷_}\nuse lib.ListN.{replicate}\n"
-    text += "use Rattle·field.specs.Bytes.{Bytes}\nuse Rattle·tag_tree·specs.specs.TagAnswer.{TagOutcome}\n" + "\n".join(uses) + "\n\n"
+    uses, names = gather(TAG_ORDER)
+    text = "-- Stored answers to tag text.\nuse Rattle.std.proofs.Common.{ℕ, ◌≡◌, refl, [], ◌∷◌}\nuse Rattle.std.proofs.Math.ListN.{replicate}\n"
+    text += "use Rattle.field.specs.Bytes.{Bytes}\nuse Rattle.tag_tree.specs.TagAnswer.{TagOutcome}\n" + "\n".join(uses) + "\n\n"
     text += "pub record Reply : Type 0 where\n  pub number : ℕ\n  pub written : ℕ\n  pub out : Bytes\n\n"
-    text += "unfoldable reply : TagOutcome → Bytes → Reply\nunfolding " + " ".join(names) + "\nreply o b = record { number = tag-number o; written = tag-bytes o; out = tag-left o b }\n\n"
-    text += "unfoldable computed : Bytes → ℕ → TagOutcome\nunfolding " + " ".join(names) + "\ncomputed s room = tag-outcome s room\n\n"
+    text += "unfoldable reply : TagOutcome → Bytes → Reply\nunfolding " + " ".join(names) + "\nreply o b = record { number = tag_number o; written = bytes_of_tag o; out = tag_left o b }\n\n"
+    text += "unfoldable computed : Bytes → ℕ → TagOutcome\nunfolding " + " ".join(names) + "\ncomputed s room = tag_outcome s room\n\n"
     seen, taken = {}, 0
     for k, line in enumerate(open(path)):
         p = line.split()
@@ -42,25 +38,14 @@ def main():
         field = b"" if p[5] == "-" else bytes.fromhex(p[5])
         shown = lent if lent <= 4096 else len(field)
         out = field + b"\x6d" * (shown - len(field)) if p[3] == "0" else bytes(shown)
-        text += "-- %s\nv%d : reply (tag-outcome %s %d) (replicate %d 109) ≡ record { number = %s; written = %s; out = %s }\nunfolding computed reply\nv%d = refl\n\n" % (
+        text += "-- %s\nv%d : reply (tag_outcome %s %d) (replicate %d 109) ≡ record { number = %s; written = %s; out = %s }\nunfolding computed reply\nv%d = refl\n\n" % (
             p[0], k, row(p[1]), lent, shown, p[3], p[4], row(out.hex() or "-"), k)
-    with tempfile.TemporaryDirectory() as tmp:
-        shutil.copytree(os.path.join(root(), "crates"), os.path.join(tmp, "crates"))
-        shutil.copy(os.path.join(root(), "crates.txt"), tmp)
-        if os.path.isdir(os.path.join(root(), "target")):
-            shutil.copytree(os.path.join(root(), "target"), os.path.join(tmp, "target"), symlinks=True)
-        proofs = os.path.join(tmp, "crates", "tag_tree", "proofs")
-        shutil.rmtree(proofs)
-        os.mkdir(proofs)
-        open(os.path.join(proofs, "Lib.antt"), "w").write("pub mod Vectors\n")
-        open(os.path.join(proofs, "Vectors.antt"), "w").write(text)
-        run = subprocess.run([os.environ.get("RT", "rt"), "check", "tag_tree"], cwd=tmp, capture_output=True, text=True)
-    out = run.stdout + run.stderr
-    print(taken, "vectors, by answer:", dict(sorted(seen.items())), "-> exit", run.returncode)
+    out, status = checked("tag_tree", text)
+    print(taken, "vectors, by answer:", dict(sorted(seen.items())), "-> exit", status)
     for line in out.splitlines():
         if "error" in line:
             print(line[:600])
-    sys.exit(run.returncode)
+    sys.exit(status)
 
 
 if __name__ == "__main__":

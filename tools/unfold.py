@@ -1,11 +1,14 @@
 #!/usr/bin/env python3
-"""The definitions that an answer computes with, for proof files that compute: `use` lines and the names to unfold.
+"""The definitions that an answer computes with, for proof files that compute: `use` lines and the names to unfold; and a check of such a file.
 
 A definition marked `unfoldable` counts, and of an `unfoldable mutual` block its first member, in every specs/ file named. Files that only
 the contracts of helper functions cite are left out.
 """
 import os
 import re
+import shutil
+import subprocess
+import tempfile
 
 ORDER = [
     ("field", ["Bytes", "Number", "Row", "Put"]),
@@ -73,3 +76,20 @@ def gather(order=ORDER):
     if twice:
         raise SystemExit("unfold: defined twice, rename one: " + "; ".join(twice))
     return uses, names
+
+
+def checked(crate, text):
+    """What rt says of the crate where this text is its only proof, in a copy of the crates in a temporary folder, and its exit status."""
+    with tempfile.TemporaryDirectory() as tmp:
+        copy = os.path.join(tmp, "crates")
+        shutil.copytree(os.path.join(root(), "crates"), copy, ignore=shutil.ignore_patterns("out", "must-fail"))
+        shutil.copy(os.path.join(root(), "crates.txt"), tmp)
+        proofs = os.path.join(copy, crate, "proofs")
+        shutil.rmtree(proofs)
+        os.mkdir(proofs)
+        with open(os.path.join(proofs, "Lib.antt"), "w", encoding="utf-8") as f:
+            f.write("pub mod Vectors\n")
+        with open(os.path.join(proofs, "Vectors.antt"), "w", encoding="utf-8") as f:
+            f.write(text)
+        run = subprocess.run([os.environ.get("RT", "rt"), "check"], cwd=os.path.join(copy, crate), capture_output=True, text=True)
+    return run.stdout + run.stderr, run.returncode

@@ -6,13 +6,9 @@
 Takes COUNT lines of VECTORS (crates/replay/stdin) from line FROM on, those of at most MOST characters (default 3000). Each becomes a
 theorem, proved by computing, in a copy of the crates in a temporary folder; nothing is written here. Exit status 0: all agree.
 """
-import os
-import shutil
-import subprocess
 import sys
-import tempfile
 
-from unfold import gather, root
+from unfold import checked, gather
 
 
 def row(text):
@@ -23,9 +19,9 @@ def row(text):
 def main():
     path, start, count = sys.argv[1], int(sys.argv[2]), int(sys.argv[3])
     most = int(sys.argv[4]) if len(sys.argv) > 4 else 3000
-    uses, names = gather("spec")
-    text = "-- Vectors of the judge.\nuse Prim.Native.Nat.{ℕ}\nuse mathlib.Core.Path.{_≡_, refl}\nuse mathlib.Core.List.{[], _∷_}\nuse Rattle·field.specs.Bytes.{Bytes}\n"
-    text += "use Rattle·spec·specs.specs.Answer.{Outcome}\nuse Rattle·spec·specs.specs.Marks.{reply}\n" + "\n".join(uses) + "\n\n"
+    uses, names = gather()
+    text = "-- Vectors of the judge.\nuse Rattle.std.proofs.Common.{ℕ, ◌≡◌, refl, [], ◌∷◌}\nuse Rattle.field.specs.Bytes.{Bytes}\n"
+    text += "use Rattle.spec.specs.Answer.{Outcome}\nuse Rattle.spec.specs.Marks.{reply}\n" + "\n".join(uses) + "\n\n"
     text += "unfoldable computed : Bytes → Bytes → ℕ → ℕ → ℕ → Outcome\nunfolding " + " ".join(names) + "\ncomputed p o d s q = outcome p o d s q\n\n"
     seen, taken = {}, 0
     for k, line in enumerate(open(path)):
@@ -34,23 +30,14 @@ def main():
             continue
         taken += 1
         seen[int(p[5])] = seen.get(int(p[5]), 0) + 1
-        text += "-- %s\nv%d : reply (outcome %s %s %s %s %s) ≡ record { number = %s; templates = %s; templates-out = %s; page-out = %s }\nunfolding computed reply\nv%d = refl\n\n" % (
+        text += "-- %s\nv%d : reply (outcome %s %s %s %s %s) ≡ record { number = %s; templates = %s; templates_out = %s; page_out = %s }\nunfolding computed reply\nv%d = refl\n\n" % (
             p[11], k, row(p[0]), row(p[1]), p[2], p[3], p[4], p[5], p[8], row(p[9]), row(p[10]), k)
-    with tempfile.TemporaryDirectory() as tmp:
-        shutil.copytree(os.path.join(root(), "crates"), os.path.join(tmp, "crates"))
-        shutil.copy(os.path.join(root(), "crates.txt"), tmp)
-        proofs = os.path.join(tmp, "crates", "spec", "proofs")
-        shutil.rmtree(proofs)
-        os.mkdir(proofs)
-        open(os.path.join(proofs, "Lib.antt"), "w").write("pub mod Vectors\n")
-        open(os.path.join(proofs, "Vectors.antt"), "w").write(text)
-        run = subprocess.run([os.environ.get("RT", "rt"), "check", "spec"], cwd=tmp, capture_output=True, text=True)
-    out = run.stdout + run.stderr
-    print(taken, "vectors, by answer:", dict(sorted(seen.items())), "-> exit", run.returncode)
+    out, status = checked("spec", text)
+    print(taken, "vectors, by answer:", dict(sorted(seen.items())), "-> exit", status)
     for line in out.splitlines():
         if "error" in line:
             print(line[:600])
-    sys.exit(run.returncode)
+    sys.exit(status)
 
 
 if __name__ == "__main__":
