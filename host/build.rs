@@ -46,7 +46,9 @@ fn archive() -> Result<PathBuf, String> {
     println!("cargo::rerun-if-changed={}", named.display());
     named.canonicalize().map_err(|error| {
         let place = named.display();
-        format!("{place}: {error}; make it by `tools/build.sh library` in the repository, or say in {VARIABLE} where it is")
+        format!(
+            "{place}: {error}; make it by `tools/build.sh library` in the repository, or say in {VARIABLE} where it is"
+        )
     })
 }
 
