@@ -6,7 +6,7 @@ use Rattle.field.specs.Row.{end}
 use Rattle.field.specs.Put.{put, head}
 use Rattle.page.specs.Encode.{expr_row}
 use Rattle.grammar.specs.Known.{known_of}
-use Rattle.grammar.specs.Syntax.{Name, same_name, Tag, tag, Attributes, no_attributes, Children, no_children, Expr, every_expr}
+use Rattle.grammar.specs.Syntax.{Name, same_name, Tag, Attributes, no_attributes, Children, no_children, Expr, every_expr}
 use Rattle.grammar.specs.Grammar.{IsName}
 use Rattle.grammar.specs.Reader.{Braces, child_braces, in_braces, behind_tag, Frame, Stack, State, for_attribute, for_tag, in_ident, opened, in_tag, slashed, attribute_named, equals, in_string, spread_opened, one_point, braces_opened, in_children, closing, closed, filled, filled_if}
 use Rattle.tag_tree.specs.PageTag.{page_expr}

@@ -6,7 +6,7 @@ use Rattle.field.specs.Row.{end}
 use Rattle.field.specs.Put.{put, head}
 use Rattle.page.specs.Encode.{name_row, attr_name_row, tag_row, attributes_row, children_row}
 use Rattle.grammar.specs.Known.{Known}
-use Rattle.grammar.specs.Syntax.{Name, same_name, Tag, Attributes, Children, every_tag, every_attributes, every_children, every_child}
+use Rattle.grammar.specs.Syntax.{Name, same_name, Tag, Attributes, Children, every_tag, every_attributes, every_children}
 use Rattle.grammar.specs.Reader.{Braces, child_braces, spread_child_braces, value_braces, spread_braces, Frame, within, value_of, in_braces, Stack}
 use Rattle.tag_tree.specs.PageTag.{page_name, page_attr_name, page_tag, page_attributes, page_children}
 use Rattle.tag_tree.specs.TagAnswer.{shallow, known_in_range}

@@ -1,0 +1,13 @@
+-- `tag_pass::attributes::name_depth` meets its contract. Assumes nothing.
+use borrow.Author.Tests.{ne_eqb}
+use Rattle.grammar.specs.Signs.{choose}
+use Rattle.read_tag.specs.Names.{name_depth}
+use Rattle.tag_pass.proofs.attributes.name_depth.Goals as goal
+
+pub returns-then-tag-eq64 : goal.returns-then-tag-eq64
+unfolding name_depth choose
+returns-then-tag-eq64 c = rw c.if-tag-eq64.true
+
+pub returns : goal.returns
+unfolding name_depth choose
+returns c = simp (ne_eqb _ 0x40 c.if-tag-eq64.false)

@@ -1,0 +1,15 @@
+-- `tag_pass::attributes::string_value` meets its contract. Assumes nothing.
+use native.Mathlib.Omega.{arith}
+use mathlib.Core.Path.{refl, ap}
+use Rattle.tag_pass.specs.declared.state.Reading.{Reading}
+use Rattle.tag_pass.proofs.AttributeLaws.{string_none, string_some, string_small}
+use Rattle.tag_pass.proofs.attributes.string_value.Goals as goal
+
+pub end_attribute-requires : goal.end_attribute-requires
+end_attribute-requires c = omega (arith, c.requires.0.small, c.requires.0.inside, c.requires.0.grown, string_small _ _ _ _ _ _ _ c.read_string.ensures c.in-Ends.is, ap (λ (z : Reading). z.at) c.wrote-w.ensures)
+
+pub returns-in-Nothing : goal.returns-in-Nothing
+returns-in-Nothing c = string_none _ c.read_string.ensures c.in-Nothing.is c.refuse.ensures
+
+pub returns-in-Ends : goal.returns-in-Ends
+returns-in-Ends c = string_some _ c.requires.0.grown c.read_string.ensures c.in-Ends.is refl c.wrote-w.ensures c.end_attribute.ensures
