@@ -6,13 +6,13 @@ use native.Mathlib.Nat.{zero-add}
 use native.Mathlib.Omega.{arith}
 use mathlib.Core.Path.{◌≡◌, refl, sym, ap, ap₂, ◌∙◌, subst}
 use mathlib.Core.Bool.{Bool, true, false, not}
-use mathlib.Core.List.{[], ◌∷◌}
+use mathlib.Core.List.{[]}
 use mathlib.Core.Logic.{◌↔◌}
 use lib.Dec.{T, leb, eqb, leb→le, le→leb}
 use lib.ListN.{length, take, drop, replicate}
 use lib.Seq.{take_at, drop_at}
 use Rattle.field.specs.Bytes.{Bytes, AllBytes}
-use Rattle.field.specs.Row.{end, field, field_bytes, bytes, long_body, read}
+use Rattle.field.specs.Row.{end, field, field_bytes, long_body, read}
 use Rattle.field.specs.Put.{put}
 use Rattle.field.proofs.PutLaws.{put_fits}
 use Rattle.read_tag.proofs.ProgressLaws as L

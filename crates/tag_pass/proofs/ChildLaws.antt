@@ -9,7 +9,7 @@ use lib.Dec.{leb}
 use lib.ListN.{length, get_or}
 use Rattle.field.specs.Bytes.{Bytes}
 use Rattle.field.specs.Number.{big_endian}
-use Rattle.field.specs.Row.{field, field_bytes}
+use Rattle.field.specs.Row.{field_bytes}
 use Rattle.field.specs.Put.{head, Wrote}
 use Rattle.field.proofs.PutLaws.{length_head, length_field_bytes}
 use Rattle.page.specs.Page as P

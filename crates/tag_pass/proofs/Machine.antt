@@ -3,7 +3,6 @@
 use Prim.Native.Nat.{ℕ, ◌+◌, ◌≤◌, ◌<◌}
 use mathlib.Core.Path.{◌≡◌, refl, ◌∙◌, ap, subst}
 use mathlib.Core.Bool.{Bool, true, false, not}
-use mathlib.Core.List.{◌∷◌}
 use lib.Dec.{T}
 use lib.ListN.{length, drop, get_or, drop_of_length-le}
 use Rattle.field.specs.Bytes.{Bytes}

@@ -2,15 +2,15 @@
 -- `behind_filled`. Assumes nothing.
 use Prim.Native.Nat.{ℕ, suc, ◌+◌, ◌-◌, ◌*◌, ◌%◌, ◌≤◌, ◌<◌}
 use mathlib.Core.Path.{◌≡◌, refl, sym, ◌∙◌, ap, subst}
-use mathlib.Core.Bool.{Bool, true, false, not}
+use mathlib.Core.Bool.{Bool, true, false}
 use mathlib.Core.List.{List, [], ◌∷◌, ◌++◌, append-nil}
 use native.Mathlib.Omega.{arith}
 use borrow.Author.Tests.{ne_eqb, lt-ltb, ltb-true}
 use lib.Dec.{ltb, eqb}
 use lib.ListN.{length, drop, get_or, length-append, drop_of_length-le}
 use Rattle.field.specs.Bytes.{Bytes, pick}
-use Rattle.field.specs.Row.{end, bytes}
-use Rattle.field.specs.Put.{put, head}
+use Rattle.field.specs.Row.{end}
+use Rattle.field.specs.Put.{head}
 use Rattle.field.proofs.PutLaws.{length_head, put_nil}
 use Rattle.page.specs.Encode.{tag_row, expr_row}
 use Rattle.grammar.specs.Signs.{choose, letter, space}

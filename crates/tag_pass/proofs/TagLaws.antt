@@ -8,7 +8,7 @@ use borrow.Author.Tests.{eq-eqb, ne_eqb}
 use lib.Dec.{T, leb, eqb}
 use lib.ListN.{length, drop, get_or, length-drop, length-append}
 use Rattle.field.specs.Bytes.{Bytes, pick, same}
-use Rattle.field.specs.Row.{end, bytes}
+use Rattle.field.specs.Row.{bytes}
 use Rattle.field.specs.Put.{put, head, Wrote}
 use Rattle.field.proofs.PutLaws.{length_head, wrote_then}
 use Rattle.names.proofs.CompareLaws.{same_refl}
