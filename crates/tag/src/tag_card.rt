@@ -11,6 +11,7 @@ use tag_pass::answer::read_tag;
 use text::decimal::put_decimal;
 
 // A text file ends with a line end, which is no part of the tag.
+#[tactic(auto, using(crate::proofs::TagCardLaws::empty_kept, crate::proofs::TagCardLaws::end_dropped, crate::proofs::TagCardLaws::other_kept))]
 fn without_end(s: &[u8]) -> &[u8]
     ensures { result.now ≡ without_end s.now }
 {
