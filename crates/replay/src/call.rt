@@ -64,7 +64,7 @@ fn is_scratch(scratch: &[u8], answer: u32) -> bool {
     is_zero(scratch)
 }
 
-fn compare_answer(line: &[u8], a: &Answer) -> Difference {
+fn compare_answer(line: &[u8], a: Answer) -> Difference {
     if !is_decimal(word(line, 5), a.number as u64) {
         return Difference::Number;
     }
@@ -82,7 +82,7 @@ fn compare_answer(line: &[u8], a: &Answer) -> Difference {
 
 fn compare_lent(
     line: &[u8],
-    a: &Answer,
+    a: Answer,
     scratch: &[u8],
     templates: &[u8],
     page: &[u8],
@@ -111,9 +111,9 @@ fn call<'a>(
     fill(templates);
     fill(page);
     let a = jsx_precompile_transform(input, options, scratch, templates, page);
-    let d = compare_answer(line, &a);
+    let d = compare_answer(line, a);
     match d {
-        Difference::Nothing => compare_lent(line, &a, scratch, templates, page),
+        Difference::Nothing => compare_lent(line, a, scratch, templates, page),
         _ => d,
     }
 }
