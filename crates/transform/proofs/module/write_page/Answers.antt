@@ -1,0 +1,16 @@
+-- `write_page` meets its contract: what 02 and 03 list stands in the fields found. Assumes nothing.
+use mathlib.Core.Path.{refl}
+use native.Mathlib.Omega.{arith}
+use borrow.Author.Tests.{leb-true}
+use Rattle.field.specs.Row.{inside}
+use Rattle.transform.proofs.ListLaws.{by_series}
+use borrow.Author.Rules.{rules}
+use Rattle.transform.proofs.module.write_page.Goals as goal
+
+pub write_listed-requires : goal.write_listed-requires
+unfolding inside
+write_listed-requires c = record { ready = c.requires; props_value = (by_series _ c.if-skip-le32.true (c.names_in-skip.ensures.0 refl), by_series _ c.if-props-le32.true (c.names_in-props.ensures.0 refl)) }
+
+pub write_indexed-requires : goal.write_indexed-requires
+unfolding inside
+write_indexed-requires c = record { ready = c.requires; skip_len_bound = (omega (arith, c.names_in-skip.ensures.1, c.requires.options_short), omega (arith, c.names_in-props.ensures.1, c.requires.options_short)); skip_value = (c.names_in-skip.ensures.0 refl, c.names_in-props.ensures.0 refl) }
