@@ -6,10 +6,9 @@ use native.Mathlib.Nat.{not-suc-le-zero, le_of_suc-le-suc}
 use native.Mathlib.Numerals.{add-one}
 use native.Mathlib.Omega.{arith}
 use mathlib.Core.List.{[], ◌∷◌}
-use lib.Dec.{ltb}
 use lib.ListN.{length, drop, get_or}
 use borrow.Author.Tests.{lt-ltb}
-use Rattle.field.specs.Bytes.{Bytes, pick}
+use Rattle.field.specs.Bytes.{Bytes}
 use Rattle.field.specs.Number.{big_endian}
 use Rattle.field.specs.Put.{put, Wrote}
 use Rattle.field.proofs.PutLaws.{length_put, put_nil}

@@ -1,7 +1,7 @@
 -- Names as they are read for HTML, byte by byte. Main statements: `left_starts`, `left_goes_on`, `left_ends`. Assumes nothing.
 use mathlib.Core.Path.{◌≡◌, refl, sym, ap, subst, ◌∙◌}
 use mathlib.Core.Bool.{Bool, true, false, ◌&&◌, ◌||◌, not, and-false, and-eq-true_iff, or-false, false≢true}
-use Prim.Native.Nat.{ℕ, zero, suc, ◌+◌, ◌-◌, ◌*◌, ◌/◌, ◌%◌, ◌≤◌, ◌<◌, ◌^◌}
+use Prim.Native.Nat.{ℕ, suc, ◌+◌, ◌-◌, ◌*◌, ◌/◌, ◌%◌, ◌≤◌, ◌<◌, ◌^◌}
 use native.Mathlib.Nat.{mod-lt, mul-le-mul_right}
 use native.Mathlib.Numerals.{add-one}
 use native.Mathlib.Omega.{arith}
@@ -14,13 +14,13 @@ use Rattle.field.specs.Bytes.{Bytes, ascii, pick, same, among}
 use Rattle.field.specs.Row.{read}
 use Rattle.field.specs.Front.{tag_of_front, body_of, behind_of}
 use Rattle.field.proofs.FrontLaws.{behind_less}
-use Rattle.names.specs.Names.{AttrName, ident, namespaced, get_attr_name, normalize_dom_attr_name, rename_in, renamed, hyphenated_names, kept_names, parted, capital, small_letter, small_letters}
+use Rattle.names.specs.Names.{AttrName, ident, namespaced, get_attr_name, normalize_dom_attr_name, renamed, hyphenated_names, kept_names, parted, capital, small_letter, small_letters}
 use Rattle.names.specs.Table.{spelled_letter, spelled, by_mark}
 use Rattle.names.proofs.MarkLaws.{spelled_none, mark_other}
 use Rattle.names.proofs.NormalizeLaws.{over_lists, normalize_ind}
-use Rattle.names.proofs.CompareLaws.{same_eq, capital_below, capital_above, capital_within, length_small, letter_at}
+use Rattle.names.proofs.CompareLaws.{same_eq, capital_above, length_small, letter_at}
 use Rattle.decisions.specs.Repeats.{joined, signed_letter, left_in, left, code, tail, code_at, past, html_name, html_names, repeats, hash_on, name_hash, low_half, high_half, key_by, last_letter, letter_key, Keyed, untold, told, noted_at}
-use Rattle.names.proofs.NamespacedLaws.{namespaced_xlink, namespaced_other, small_append}
+use Rattle.names.proofs.NamespacedLaws.{namespaced_xlink, namespaced_other}
 use Rattle.page.specs.Tree.{texts_in, first_in, second_in, attributes_in, attr_name_in}
 use Rattle.decisions.proofs.IndexLaws.{among_append}
 use Rattle.decisions.proofs.Series.{attr_name_40, attr_name_42, attr_name_other, attributes_50, attributes_53, attributes_other}

@@ -2,7 +2,7 @@
 -- nothing: these are definitions.
 -- An index is longer than 4,096 bytes, which no series is: for each of 1,024 hashes the number of its last entry, in two bytes; 1,366
 -- entries of four bytes, the number of the entry before it and the name's place; then the series.
-use Rattle.std.specs.Prelude.{ℕ, zero, suc, ◌+◌, ◌*◌, ◌%◌, Bool, true, false, List, [], ◌∷◌, ◌++◌, eqb, leb, ltb, length, drop, get_or}
+use Rattle.std.specs.Prelude.{ℕ, zero, suc, ◌+◌, ◌*◌, ◌%◌, List, [], ◌∷◌, ◌++◌, eqb, leb, ltb, length, drop, get_or}
 use Rattle.field.specs.Bytes.{Bytes, pick}
 use Rattle.field.specs.Number.{big_endian}
 use Rattle.field.specs.Row.{read}

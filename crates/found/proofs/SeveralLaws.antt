@@ -1,13 +1,13 @@
 -- The loop of `is_many`: the entries that are surely there, of those passed and of the heavy fragment. Main statements: `seen_start`,
 -- `seen_past`, `seen_more`, `seen_apart`, `seen_heavy`, `seen_end`; for each arm what it leaves and what it returns. Assumes nothing.
-use mathlib.Core.Path.{◌≡◌, refl, sym, ap, ◌∙◌, subst}
+use mathlib.Core.Path.{◌≡◌, refl, sym, ap, ◌∙◌}
 use mathlib.Core.Bool.{Bool, true, false, not}
 use mathlib.Core.Option.{Option, none, some}
 use Prim.Native.Nat.{ℕ, ◌+◌, ◌≤◌}
 use native.Mathlib.Omega.{arith}
 use mathlib.Core.List.{List, [], ◌∷◌, ◌++◌, append_assoc}
 use lib.ListN.{length, length-append}
-use Rattle.field.specs.Bytes.{Bytes, pick, null?}
+use Rattle.field.specs.Bytes.{Bytes, null?}
 use Rattle.field.specs.Row.{Row, read, Ended}
 use Rattle.field.specs.Front.{tag_of_front, body_of, behind_of}
 use Rattle.field.proofs.RowLaws.{read_nil}

@@ -2,16 +2,15 @@
 use Prim.Native.Nat.{ℕ}
 use mathlib.Core.Path.{◌≡◌, refl, sym, ◌∙◌, ap, subst}
 use mathlib.Core.Bool.{Bool, true, false, not}
-use mathlib.Core.List.{List, [], ◌∷◌}
 use native.Mathlib.Omega.{arith}
 use mathlib.Core.Logic.{◌↔◌}
 use lib.Dec.{T}
 use Rattle.field.specs.Bytes.{Bytes}
 use Rattle.grammar.specs.Signs.{choose}
 use Rattle.grammar.specs.Syntax.{Tag, matched}
-use Rattle.grammar.specs.Grammar.{IsTag, ReadsAs, Reads}
-use Rattle.grammar.specs.Reader.{State, start, Outcome, read, no_reading, outcome, Answer, taken, refused_14, refused_15, judged, answer}
-use Rattle.grammar.proofs.Tests.{chose, passed, clash}
+use Rattle.grammar.specs.Grammar.{ReadsAs, Reads}
+use Rattle.grammar.specs.Reader.{start, Outcome, read, no_reading, outcome, taken, refused_14, refused_15, judged, answer}
+use Rattle.grammar.proofs.Tests.{chose, passed}
 use Rattle.grammar.proofs.Complete.{complete}
 use Rattle.grammar.proofs.Sound.{sound}
 

@@ -12,10 +12,10 @@ use lib.ListN.{length}
 use Rattle.field.specs.Bytes.{Bytes, ascii, same}
 use Rattle.utf8.specs.Utf8.{Range, ◌to◌, within, Form, ◌then◌, forms, begun, utf8_behind, utf8}
 use Rattle.utf8.proofs.Laws.{utf8_append, utf8_cons}
-use Rattle.grammar.specs.Signs.{choose, each, some_byte, letter, digit, name_byte, separator, space, text_byte, string_byte, entity_byte, quote}
+use Rattle.grammar.specs.Signs.{choose, each, some_byte, letter, digit, name_byte, separator, space, text_byte, string_byte, quote}
 use Rattle.grammar.specs.Known as K
 use Rattle.grammar.specs.Known.{Known, Found, kept, trimmed_end, number_of, string_from, string_of, rest_of, or_else, known_trimmed, known_of, entity_of}
-use Rattle.grammar.specs.Syntax.{Part, part, Name}
+use Rattle.grammar.specs.Syntax.{part, Name}
 use Rattle.grammar.specs.Grammar.{Ends, Run, run_ends, run_on, Decoded, decoded_ends, decoded_on, entity, Spaces, no_space, space_on, IsIdent, ident, IsParts, no_parts, one_part, IsName, is_name, IsSource, source_ends, source_on, quotes, braces}
 use Rattle.grammar.proofs.Tests.{chosen, or_cases, at_eq, quote_is}
 

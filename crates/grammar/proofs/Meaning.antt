@@ -1,16 +1,15 @@
 -- What a state still waits for, in the words of the grammar: `Means t x s` says that the text s, read from the state x, ends the tag t. Assumes nothing.
 use Prim.Native.Nat.{ℕ, zero, suc}
-use mathlib.Core.Path.{◌≡◌, refl, sym, ◌∙◌, ap, subst}
-use mathlib.Core.Bool.{Bool, true, false, ◌&&◌, ◌||◌, not}
-use mathlib.Core.List.{List, [], ◌∷◌, ◌++◌, append-nil, append_assoc}
-use mathlib.Core.Logic.{◌⊎◌, inl, inr}
-use lib.Dec.{T, eqb, eqb_refl}
+use mathlib.Core.Path.{◌≡◌}
+use mathlib.Core.Bool.{Bool}
+use mathlib.Core.List.{[], ◌∷◌, ◌++◌}
+use lib.Dec.{T}
 use Rattle.field.specs.Bytes.{Bytes}
-use Rattle.grammar.specs.Signs.{snoc, choose, letter, name_byte, separator, space, name_goes_on, equals_sign, text_byte, string_byte, entity_byte, quote, quoted_byte, source_byte, source_start}
-use Rattle.grammar.specs.Known.{Known, Found, none, some, known_of, entity_of}
-use Rattle.grammar.specs.Syntax.{Part, part, Name, tag_name_fits, attribute_name_fits, Tag, tag, Attributes, no_attributes, attribute, Attribute, no_value, string_value, container_value, tag_value, spread_attribute, Children, no_children, child, Child, text_child, tag_child, empty_child, container_child, spread_child, Expr, tag_expr, known_expr, matched, join_attributes, join_children, add_attribute, add_child}
-use Rattle.grammar.specs.Grammar.{Ends, Run, run_ends, run_on, Decoded, decoded_ends, decoded_on, entity, Spaces, no_space, space_on, IsIdent, ident, IsParts, no_parts, one_part, IsName, is_name, IsSource, source_ends, source_on, quotes, braces, Closing, closing_name, closing_fragment, IsTag, is_alone, is_around, is_fragment, IsAttributes, are_no_attributes, are_attributes, IsAttribute, is_no_value, is_string_value, is_container_value, is_tag_value, is_spread_attribute, IsChildren, are_no_children, are_children, IsChild, is_text_child, is_tag_child, is_empty_child, is_container_child, is_spread_child, IsExpr, is_tag_expr, is_known_expr}
-use Rattle.grammar.specs.Reader.{Braces, child_braces, spread_child_braces, value_braces, spread_braces, Frame, within, value_of, in_braces, Stack, For, for_tag, for_attribute, for_closing, Of, of_text, of_string, State, start, opened, in_ident, behind_ident, behind_sep, in_tag, slashed, attribute_named, equals, in_string, in_entity, spread_opened, one_point, two_points, braces_opened, in_source, in_quotes, behind_tag, in_children, in_text, closing, close_named, done, refused, closed, filled, filled_if, emptied, pointed, close_of, brace_ends, resumed, resumed_if, fits, named, step_tag, step_attribute_named, step_close_named, step_of_named, step_behind, step_source, step_children, step, Outcome, read, no_reading, at_end, outcome}
+use Rattle.grammar.specs.Signs.{snoc, name_byte, equals_sign, text_byte, string_byte, entity_byte, quote, quoted_byte}
+use Rattle.grammar.specs.Known.{Known, some, known_of, entity_of}
+use Rattle.grammar.specs.Syntax.{part, Name, tag_name_fits, Tag, tag, Attributes, no_attributes, no_value, string_value, container_value, tag_value, spread_attribute, Children, no_children, text_child, tag_child, empty_child, container_child, spread_child, Expr, tag_expr, known_expr, join_attributes, join_children, add_attribute, add_child}
+use Rattle.grammar.specs.Grammar.{Ends, Run, Decoded, Spaces, IsIdent, IsParts, IsName, IsSource, Closing, IsTag, IsAttributes, IsChildren, IsExpr}
+use Rattle.grammar.specs.Reader.{Braces, child_braces, spread_child_braces, value_braces, spread_braces, within, value_of, in_braces, Stack, For, for_tag, for_attribute, for_closing, Of, of_text, of_string, State, start, opened, in_ident, behind_ident, behind_sep, in_tag, slashed, attribute_named, equals, in_string, in_entity, spread_opened, one_point, two_points, braces_opened, in_source, in_quotes, behind_tag, in_children, in_text, closing, close_named, done, refused, fits}
 
 -- behind some children of an open tag
 pub data AfterChildren (P : Tag → Bytes → Type 0) (n : Name) (ps : Attributes) (ks : Children) (s : Bytes) : Type 0 where

@@ -1,13 +1,12 @@
 -- Texts and their answers, by computation. Assumes nothing.
 use mathlib.Core.Path.{◌≡◌, refl}
 use mathlib.Core.List.{List, [], ◌∷◌}
-use mathlib.Core.Bool.{Bool, true, false}
-use Prim.Native.Nat.{ℕ}
+use mathlib.Core.Bool.{true, false}
 use Prim.Native.String.{String}
-use Rattle.field.specs.Bytes.{Bytes, ascii, same}
+use Rattle.field.specs.Bytes.{ascii, same}
 use Rattle.grammar.specs.Signs.{choose, each, letter, digit, name_byte, separator, space, name_goes_on, equals_sign, text_byte, string_byte, entity_byte, quote, quoted_byte, source_byte, source_start}
 use Rattle.grammar.specs.Known.{Known, whole, minus_whole, decimal, minus_decimal, quoted, boolean, null, other, trimmed_front, kept, trimmed_end, value_from, is_whole, before_point, after_point, is_empty_text, is_decimal, number_of, unsigned, has_minus, string_from, string_of, digit_or_point, of_a_number, not_read, rest_of, or_else, known_trimmed, known_of, entity_of}
-use Rattle.grammar.specs.Syntax.{Part, part, Name, short, no_hyphen, member_parts, attribute_name_fits, member_fits, tag_name_fits, same_name, Tag, tag, Attributes, no_attributes, attribute, Attribute, no_value, string_value, container_value, tag_value, spread_attribute, Children, no_children, child, Child, text_child, tag_child, empty_child, container_child, spread_child, Expr, tag_expr, known_expr, every_tag, matched, join_attributes, join_children}
+use Rattle.grammar.specs.Syntax.{part, Name, short, no_hyphen, member_parts, attribute_name_fits, member_fits, tag_name_fits, same_name, Tag, tag, no_attributes, attribute, Attribute, no_value, string_value, container_value, tag_value, spread_attribute, Children, no_children, child, text_child, tag_child, empty_child, container_child, spread_child, tag_expr, known_expr, every_tag, matched, join_attributes, join_children}
 use Rattle.grammar.specs.Reader.{closed, filled, filled_if, emptied, pointed, close_of, brace_ends, resumed, resumed_if, fits, named, step_tag, step_attribute_named, step_close_named, step_of_named, step_behind, step_source, step_children, step, at_end, outcome, Answer, taken, refused_14, refused_15, judged, answer}
 
 abbrev a : Name

@@ -1,18 +1,18 @@
 -- What is read is in the grammar: a step back over a byte keeps what a state means. Assumes nothing.
 use Prim.Native.Nat.{ℕ, zero, suc}
 use mathlib.Core.Path.{◌≡◌, refl, sym, ◌∙◌, ap, subst}
-use mathlib.Core.Bool.{Bool, true, false, ◌&&◌, ◌||◌, not}
-use mathlib.Core.List.{List, [], ◌∷◌, ◌++◌, append-nil, append_assoc}
+use mathlib.Core.Bool.{Bool, true, false, not}
+use mathlib.Core.List.{[], ◌∷◌, ◌++◌, append-nil, append_assoc}
 use mathlib.Core.Logic.{◌⊎◌, inl, inr}
 use native.Mathlib.Omega.{arith}
-use lib.Dec.{T, eqb, eqb_refl, not_T}
+use lib.Dec.{T, eqb}
 use Rattle.field.specs.Bytes.{Bytes}
-use Rattle.grammar.specs.Signs.{snoc, choose, letter, name_byte, separator, space, name_goes_on, equals_sign, text_byte, string_byte, entity_byte, quote, quoted_byte, source_byte, source_start}
+use Rattle.grammar.specs.Signs.{snoc, letter, name_byte, separator, space, name_goes_on, equals_sign, text_byte, string_byte, entity_byte, quote, quoted_byte, source_byte, source_start}
 use Rattle.grammar.specs.Known.{Known, Found, none, some, known_of, entity_of}
-use Rattle.grammar.specs.Syntax.{Part, part, Name, tag_name_fits, attribute_name_fits, Tag, tag, Attributes, no_attributes, attribute, Attribute, no_value, string_value, container_value, tag_value, spread_attribute, Children, no_children, child, Child, text_child, tag_child, empty_child, container_child, spread_child, Expr, tag_expr, known_expr, matched, join_attributes, join_children, add_attribute, add_child}
-use Rattle.grammar.specs.Grammar.{Ends, Run, run_ends, run_on, Decoded, decoded_ends, decoded_on, entity, Spaces, no_space, space_on, IsIdent, ident, IsParts, no_parts, one_part, IsName, is_name, IsSource, source_ends, source_on, quotes, braces, Closing, closing_name, closing_fragment, IsTag, is_alone, is_around, is_fragment, IsAttributes, are_no_attributes, are_attributes, IsAttribute, is_no_value, is_string_value, is_container_value, is_tag_value, is_spread_attribute, IsChildren, are_no_children, are_children, IsChild, is_text_child, is_tag_child, is_empty_child, is_container_child, is_spread_child, IsExpr, is_tag_expr, is_known_expr}
-use Rattle.grammar.specs.Reader.{Braces, child_braces, spread_child_braces, value_braces, spread_braces, Frame, within, value_of, in_braces, Stack, For, for_tag, for_attribute, for_closing, Of, of_text, of_string, State, start, opened, in_ident, behind_ident, behind_sep, in_tag, slashed, attribute_named, equals, in_string, in_entity, spread_opened, one_point, two_points, braces_opened, in_source, in_quotes, behind_tag, in_children, in_text, closing, close_named, done, refused, closed, filled, filled_if, emptied, pointed, close_of, brace_ends, resumed, resumed_if, fits, named, step_tag, step_attribute_named, step_close_named, step_of_named, step_behind, step_source, step_children, step, Outcome, read, no_reading, at_end, outcome}
-use Rattle.grammar.proofs.Tests.{at_eq, chose, chosen, clash, nor, not_or, or_cases, end_quote, end_string, quote_is, join_attributes_none, join_attributes_one, join_children_none, join_children_one}
+use Rattle.grammar.specs.Syntax.{part, Name, tag_name_fits, attribute_name_fits, Tag, tag, Attributes, no_attributes, Attribute, no_value, string_value, Children, no_children, Child, text_child, Expr, tag_expr, known_expr, join_attributes, join_children, add_attribute, add_child}
+use Rattle.grammar.specs.Grammar.{Ends, Run, run_ends, run_on, decoded_ends, decoded_on, entity, Spaces, no_space, space_on, IsIdent, ident, IsParts, no_parts, one_part, IsName, is_name, IsSource, source_ends, source_on, quotes, braces, Closing, closing_name, closing_fragment, IsTag, is_alone, is_around, is_fragment, are_no_attributes, are_attributes, IsAttribute, is_no_value, is_string_value, is_container_value, is_tag_value, is_spread_attribute, are_no_children, are_children, IsChild, is_text_child, is_tag_child, is_empty_child, is_container_child, is_spread_child, IsExpr, is_tag_expr, is_known_expr}
+use Rattle.grammar.specs.Reader.{Braces, child_braces, spread_child_braces, value_braces, spread_braces, within, value_of, in_braces, Stack, For, for_tag, for_attribute, for_closing, Of, of_text, of_string, State, start, opened, in_ident, behind_ident, behind_sep, in_tag, slashed, attribute_named, equals, in_string, in_entity, spread_opened, one_point, two_points, braces_opened, in_source, in_quotes, behind_tag, in_children, in_text, closing, close_named, done, refused, closed, filled, filled_if, emptied, pointed, close_of, brace_ends, resumed, resumed_if, fits, step_tag, step_attribute_named, step_close_named, step_of_named, step_behind, step_source, step_children, step, read, no_reading, at_end, outcome}
+use Rattle.grammar.proofs.Tests.{at_eq, chosen, clash, nor, end_quote, end_string, join_attributes_none, join_attributes_one, join_children_none, join_children_one}
 use Rattle.grammar.proofs.Meaning.{AfterChildren, after_children, InTag, tag_alone, tag_around, SpacedTag, spaced, Filled, Emptied, Pointed, ClosedBy, by_name, by_nothing, CloseNamed, close_spaced, Opened, opens_named, opens_fragment, opens_closing, BehindIdent, behind, InIdent, ident_goes, BehindSep, sep_goes, InString, string_on, InEntity, entity_goes, Equals, equals_string, equals_container, equals_tag, AttributeNamed, named_no_value, named_value, BracesOpened, braces_expr, braces_empty, braces_points, TwoPoints, OnePoint, SpreadOpened, spread_goes, SourceUp, InSource, in_the_source, InQuotes, in_the_quotes, BehindTag, braces_ends, InText, text_on, Slashed, slash_spaced, TagThen, tag_then, Rest, CloseOf, Named, Resumed, Means}
 
 -- ---- one production more in front

@@ -1,12 +1,10 @@
 -- Facts about tests, choices and joined lists. Assumes nothing.
 use Prim.Native.Nat.{ℕ}
-use mathlib.Core.Path.{◌≡◌, refl, sym, ◌∙◌, ap, subst}
-use mathlib.Core.Bool.{Bool, true, false, ◌&&◌, ◌||◌, not}
-use mathlib.Core.List.{List, [], ◌∷◌, ◌++◌}
+use mathlib.Core.Path.{◌≡◌, refl, sym, ap, subst}
+use mathlib.Core.Bool.{Bool, true, false, ◌||◌, not}
 use mathlib.Core.Logic.{◌⊎◌, inl, inr}
-use lib.Dec.{T, leb, eqb, eqb→eq, eqb_refl, not_T}
-use Rattle.field.specs.Bytes.{Bytes}
-use Rattle.grammar.specs.Signs.{choose, letter, space, name_byte, text_byte, quote, quoted_byte, source_byte, string_byte, separator}
+use lib.Dec.{T, eqb, eqb→eq, eqb_refl, not_T}
+use Rattle.grammar.specs.Signs.{choose, letter, space, text_byte, quote, quoted_byte, source_byte, string_byte, separator}
 use Rattle.grammar.specs.Syntax.{Attributes, no_attributes, attribute, Attribute, Children, no_children, child, Child, join_attributes, join_children}
 
 pub chose : {A : Type 0} (b : Bool) (x y : A) → T b → choose b x y ≡ x

@@ -2,11 +2,11 @@
 -- text s begins with an X that reads as x, and that r is what follows it; so a production is a chain of places in the text.
 -- White space may part the signs of a tag. Main definitions: `ReadsAs`, and `Reads`, where closing names agree besides.
 -- Assumes nothing: these are definitions.
-use Rattle.std.specs.Prelude.{ℕ, ◌≡◌, Bool, true, false, not, List, [], ◌∷◌, ◌++◌, T, eqb}
+use Rattle.std.specs.Prelude.{ℕ, ◌≡◌, Bool, not, [], ◌∷◌, ◌++◌, T, eqb}
 use Rattle.field.specs.Bytes.{Bytes}
 use Rattle.grammar.specs.Signs.{letter, name_byte, separator, space, name_goes_on, equals_sign, text_byte, string_byte, entity_byte, quote, quoted_byte, source_byte, source_start}
-use Rattle.grammar.specs.Known.{Known, Found, some, known_of, entity_of}
-use Rattle.grammar.specs.Syntax.{Part, part, Name, tag_name_fits, attribute_name_fits, Tag, tag, Attributes, no_attributes, attribute, Attribute, no_value, string_value, container_value, tag_value, spread_attribute, Children, no_children, child, Child, text_child, tag_child, empty_child, container_child, spread_child, Expr, tag_expr, known_expr, matched}
+use Rattle.grammar.specs.Known.{Known, some, known_of, entity_of}
+use Rattle.grammar.specs.Syntax.{part, Name, tag_name_fits, attribute_name_fits, Tag, tag, Attributes, no_attributes, attribute, Attribute, no_value, string_value, container_value, tag_value, spread_attribute, Children, no_children, child, Child, text_child, tag_child, empty_child, container_child, spread_child, Expr, tag_expr, known_expr, matched}
 
 -- no byte of the sort p follows
 unfoldable pub Ends : (ℕ → Bool) → Bytes → Type 0

@@ -1,8 +1,8 @@
 -- What braces hold where it is no tag, by the text alone: numbers, strings, `true`, `false`, `null`, and the rest; and the five entities.
 -- Main definitions: `known_of`, `entity_of`. Assumes nothing: these are definitions.
-use Rattle.std.specs.Prelude.{ℕ, zero, suc, ◌+◌, ◌*◌, ◌-◌, Bool, true, false, ◌&&◌, ◌||◌, not, List, [], ◌∷◌, ◌++◌, T, leb, eqb, length}
+use Rattle.std.specs.Prelude.{ℕ, ◌+◌, ◌*◌, ◌-◌, Bool, true, false, ◌&&◌, ◌||◌, not, [], ◌∷◌, ◌++◌, leb, eqb, length}
 use Rattle.field.specs.Bytes.{Bytes, ascii, same}
-use Rattle.grammar.specs.Signs.{choose, each, some_byte, letter, digit, space, quote}
+use Rattle.grammar.specs.Signs.{choose, each, some_byte, digit, space, quote}
 
 pub data Known : Type 0 where
   whole : (value : ℕ) → Known  -- 71

@@ -1,11 +1,11 @@
 -- The grammar's reader as a machine: a state, a step for each byte, an answer at the end. What is open stands in a list. It is proved to answer
 -- what the grammar says (proofs/Exact.antt), so it need not be believed. Main definitions: `step`, `outcome`, `answer`.
 -- Assumes nothing: these are definitions.
-use Rattle.std.specs.Prelude.{ℕ, zero, suc, Bool, true, false, not, List, [], ◌∷◌, ◌++◌, T, eqb}
+use Rattle.std.specs.Prelude.{ℕ, zero, suc, Bool, List, [], ◌∷◌, ◌++◌, eqb}
 use Rattle.field.specs.Bytes.{Bytes}
 use Rattle.grammar.specs.Signs.{snoc, choose, letter, name_byte, separator, space, text_byte, string_byte, quote, quoted_byte, source_byte, source_start}
 use Rattle.grammar.specs.Known.{Known, Found, none, some, known_of, entity_of}
-use Rattle.grammar.specs.Syntax.{Part, part, Name, tag_name_fits, attribute_name_fits, Tag, tag, Attributes, no_attributes, attribute, Attribute, no_value, string_value, container_value, tag_value, spread_attribute, Children, no_children, child, Child, text_child, tag_child, empty_child, container_child, spread_child, Expr, tag_expr, known_expr, matched, add_attribute, add_child}
+use Rattle.grammar.specs.Syntax.{part, Name, tag_name_fits, attribute_name_fits, Tag, tag, Attributes, no_attributes, no_value, string_value, container_value, tag_value, spread_attribute, Children, no_children, text_child, tag_child, empty_child, container_child, spread_child, Expr, tag_expr, known_expr, matched, add_attribute, add_child}
 
 -- an open brace
 pub data Braces : Type 0 where

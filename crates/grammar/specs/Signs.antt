@@ -1,5 +1,5 @@
 -- The sorts of bytes that the grammar speaks of. Assumes nothing: these are definitions.
-use Rattle.std.specs.Prelude.{ℕ, Bool, true, false, ◌&&◌, ◌||◌, not, List, [], ◌∷◌, ◌++◌, leb, eqb}
+use Rattle.std.specs.Prelude.{ℕ, Bool, true, false, ◌&&◌, ◌||◌, not, [], ◌∷◌, ◌++◌, leb, eqb}
 use Rattle.field.specs.Bytes.{Bytes}
 
 -- one byte more at the end

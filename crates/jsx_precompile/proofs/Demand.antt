@@ -1,6 +1,5 @@
 -- What a caller of the export knows from its answer and its buffers alone. Main statements: `demand3_of_answer`, `kept_of_answer`,
 -- `behind_of_answer`, `refused_of_answer`. Assumes nothing.
-use Prim.Native.Nat.{ℕ}
 use mathlib.Core.Path.{◌≡◌}
 use lib.ListN.{length, take, drop}
 use Rattle.field.specs.Bytes.{Bytes, AllBytes}

@@ -9,7 +9,7 @@ use lib.Dec.{leb}
 use lib.ListN.{length, take, drop, get_or, length-drop}
 use lib.Seq.{take_all, length-take-le}
 use Rattle.field.specs.Bytes.{Bytes, pick}
-use Rattle.field.specs.Row.{Row, end, loose, field, Inside, only_bytes, fields_after, counted, counted_front, Next, nothing, no_field, next, next_of, opened, built_by, read_by}
+use Rattle.field.specs.Row.{Row, end, loose, field, Inside, only_bytes, fields_after, counted, counted_front, nothing, no_field, next, next_of, opened, built_by, read_by}
 use Rattle.field.specs.Header.{header_of, Within}
 use Rattle.field.specs.declared.reader.Header.{Header}
 use Rattle.field.specs.declared.reader.Header.TheVariants as H

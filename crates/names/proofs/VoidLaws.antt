@@ -4,13 +4,13 @@
 use mathlib.Core.Path.{◌≡◌, refl, sym, ap, ap₂, ◌∙◌}
 use mathlib.Core.Bool.{Bool, true, false, ◌&&◌, not, false≢true}
 use mathlib.Core.List.{List, [], ◌∷◌}
-use Prim.Native.Nat.{ℕ, zero, suc, ◌+◌, ◌-◌, ◌≤◌, ◌<◌, ◌/◌, ◌%◌, ◌^◌}
+use Prim.Native.Nat.{ℕ, zero, suc, ◌+◌, ◌-◌, ◌<◌, ◌/◌, ◌%◌, ◌^◌}
 use native.Mathlib.Nat.{zero-div}
 use native.Mathlib.Omega.{arith}
 use lib.Dec.{eqb, ltb}
 use borrow.Author.Tests.{ltb-true, ltb-false}
 use lib.ListN.{length, get_or, get_or-eq_default}
-use Rattle.field.specs.Bytes.{Bytes, pick, same, among}
+use Rattle.field.specs.Bytes.{Bytes, pick}
 use Rattle.names.specs.Names.{small_letter, small_letters, void_names, is_void_element}
 use Rattle.names.specs.Table.{read_as, fits_ends, void_ends, void_kind}
 use Rattle.names.proofs.CompareLaws.{length_read_as, letter_at}

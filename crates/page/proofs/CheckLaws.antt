@@ -10,12 +10,12 @@ use lib.Dec.{leb, eqb}
 use lib.ListN.{length}
 use borrow.Author.Tests.{le-leb, lt-leb, ne_eqb}
 use Rattle.field.specs.Bytes.{Bytes}
-use Rattle.field.specs.Row.{Row, end, loose, field, read, Ended, Inside, only_bytes, fields_after, counted, counted_front, inside, opened, Next, nothing, no_field, next, next_of, built}
+use Rattle.field.specs.Row.{Row, end, loose, field, read, Ended, Inside, only_bytes, fields_after, counted, inside, opened, Next, nothing, no_field, next, next_of, built}
 use Rattle.field.specs.Front.{tag_of_front, body_of, behind_of, behind_by}
 use Rattle.field.proofs.RowLaws.{read_step, next_sizes}
 use Rattle.field.proofs.FrontLaws.{read_empty, nest_at}
 use Rattle.utf8.specs.Utf8.{utf8}
-use Rattle.page.specs.Refusal.{after, unless}
+use Rattle.page.specs.Refusal.{after}
 use Rattle.page.specs.Tree.{choose}
 use Rattle.page.specs.Check.{check_header, check_end, check_text, check_empty, check_number, check_boolean, check_name_by, is_name_tag, is_tag, is_expr, is_child, check_child_by, check_expr_by, check_element, check_attributes, check_attribute, check_value, check_children, check_container, check_expr, check_items, check_pieces, check_nothing_after}
 use Rattle.page.specs.CheckField.{check_missing, check_element_name, check_nodes, check_tag_field, check_expr_field}

@@ -7,7 +7,7 @@ use mathlib.Core.Bool.{Bool, true, false, ◌&&◌, ◌||◌}
 use Prim.Native.Nat.{ℕ, zero, suc, ◌≤◌}
 use native.Mathlib.Omega.{arith}
 use mathlib.Core.List.{List, [], ◌∷◌}
-use lib.Dec.{T, leb, eqb, eqb_refl, leb→le}
+use lib.Dec.{T, eqb, eqb_refl, leb→le}
 use lib.ListN.{length}
 use borrow.Author.Tests.{ne_eqb}
 use Rattle.field.specs.Bytes.{Bytes}
@@ -18,10 +18,9 @@ use Rattle.names.specs.Names.{AttrName}
 use Rattle.page.specs.Number.{Number, whole, scaled, number_tag, minus_tag, number_bytes, number_in}
 use Rattle.page.specs.Page.{Name, identifier, member, namespaced, Tag, element, fragment, Attributes, no_attributes, attribute, spread_attribute, Value, absent, string_value, empty_value, container_value, tag_value, Children, no_children, text_child, empty_child, container_child, tag_child, spread_child, Expr, string_literal, number_literal, boolean_literal, null_literal, other_literal, minus_literal, array_literal, other_expr, tag_expr, Items, no_items, item, spread_item, hole_item, Pieces, no_pieces, source_piece, tag_piece, export_item, declaration_item, statement_item, empty_item, Page}
 use Rattle.page.specs.Tree.{choose, texts_in, first_in, second_in, name_by, attr_name_by, boolean_in, expr_by, contained, contained_value, contained_child, value_by, child_by, element_in, fragment_in, attributes_in, attr_name_in, value_in, value_behind, children_in, contained_in, expr_in, items_in, pieces_in, module_item_by, module_items_in, page_in}
-use Rattle.page.specs.Refusal.{unless}
-use Rattle.page.specs.Check.{check_end, check_text, check_empty, check_number, check_boolean, is_name, no_hyphen, check_name, check_members, at_least, check_ident, check_name_by, is_expr, is_child, check_expr_by, check_child_by, check_element, check_attributes, check_attribute, check_value, check_children, check_container, check_expr, check_items, check_pieces, check_module_items, check_nothing_after, check_page}
+use Rattle.page.specs.Check.{check_end, check_text, check_empty, check_boolean, is_name, no_hyphen, check_name, check_members, at_least, check_ident, check_name_by, is_expr, is_child, check_expr_by, check_child_by, check_element, check_attributes, check_attribute, check_value, check_children, check_container, check_expr, check_items, check_pieces, check_module_items, check_nothing_after, check_page}
 use Rattle.page.specs.Encode.{boolean_byte, texts_row, name_row, attr_name_row, tag_row, attributes_row, value_row, children_row, expr_row, items_row, pieces_row, module_items_row, page_row}
-use Rattle.page.specs.Limits.{Deep, NameOk, Utf8Ok, NumberOk, MembersOk, ElementNameOk, AttrNameOk, TagOk, AttributesOk, ValueOk, ChildrenOk, ExprOk, ItemsOk, PiecesOk, ModuleItemsOk}
+use Rattle.page.specs.Limits.{Deep, NameOk, Utf8Ok, MembersOk, ElementNameOk, AttrNameOk, TagOk, AttributesOk, ValueOk, ChildrenOk, ExprOk, ItemsOk, PiecesOk, ModuleItemsOk}
 use Rattle.page.specs.declared.Refusal.TheVariants as R
 use Rattle.page.specs.declared.Verdict.TheVariants.{Fine}
 use Rattle.page.proofs.NumberLaws.{whole_back, scaled_back}

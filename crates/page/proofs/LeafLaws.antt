@@ -1,12 +1,12 @@
 -- What the tests of the code say of leaves and of names. Main statements: `fine_if`, `refused_if`, `number_eight`, `start_small`,
 -- `part_small`, `name_from`, `parts_on`, `hyphen_on`. Assumes nothing.
 use mathlib.Core.Path.{◌≡◌, refl, sym, ap, ◌∙◌}
-use mathlib.Core.Bool.{Bool, true, false, ◌&&◌, ◌||◌, not, or-false}
+use mathlib.Core.Bool.{Bool, true, false, ◌&&◌, ◌||◌, or-false}
 use Prim.Native.Nat.{ℕ, zero, suc, ◌+◌, ◌*◌, ◌^◌, ◌≤◌, ◌<◌}
 use native.Mathlib.Omega.{arith}
 use native.Mathlib.Numerals.{add-one}
 use native.Mathlib.Nat.{pow-suc, pow-le-pow_right}
-use mathlib.Core.List.{List, [], ◌∷◌}
+use mathlib.Core.List.{[], ◌∷◌}
 use lib.ListN.{length, take, drop, get_or, drop_of_length-le}
 use lib.Seq.{drop-cons, take-suc, take_all}
 use lib.Dec.{leb, eqb}
@@ -18,7 +18,6 @@ use Rattle.page.specs.Refusal.{unless}
 use Rattle.page.specs.Check.{check_boolean, name_start, name_part, name_parts, no_hyphen, is_name}
 use Rattle.page.specs.declared.Refusal.{Refusal}
 use Rattle.page.specs.declared.Refusal.TheVariants as R
-use Rattle.page.specs.declared.Verdict.{Verdict}
 use Rattle.page.specs.declared.Verdict.TheVariants.{Fine, Refused}
 
 -- ---- one test

@@ -1,15 +1,14 @@
 -- What stands where no field does, and names: what the tests of the code say of the checks on the row that is read.
 -- Main statements: `end_extra`, `missing_some`, `after_some`, `members_on`, `first_missing`, `ident_then`. Assumes nothing.
 use mathlib.Core.Path.{◌≡◌, refl, sym, ap, ◌∙◌, subst}
-use mathlib.Core.Bool.{Bool, true, false, ◌&&◌, ◌||◌}
+use mathlib.Core.Bool.{Bool, true, false, ◌&&◌}
 use Prim.Native.Nat.{ℕ, zero, suc, ◌+◌, ◌-◌, ◌≤◌, ◌<◌}
 use native.Mathlib.Omega.{arith}
-use mathlib.Core.List.{[], ◌∷◌}
-use lib.Dec.{leb, eqb}
+use lib.Dec.{eqb}
 use lib.ListN.{length}
 use borrow.Author.Tests.{le-leb, lt-leb, ne_eqb}
 use Rattle.field.specs.Bytes.{Bytes}
-use Rattle.field.specs.Row.{Row, end, loose, field, read, Ended, Inside, only_bytes, fields_after, counted, counted_front, inside, opened, Next, nothing, no_field, next, next_of, built}
+use Rattle.field.specs.Row.{Row, end, loose, field, read, Ended, Inside, only_bytes, fields_after, counted, inside, opened, Next, nothing, no_field, next, next_of, built}
 use Rattle.field.specs.Front.{tag_of_front, body_of, behind_of, behind_by}
 use Rattle.field.proofs.RowLaws.{read_step, next_nothing}
 use Rattle.field.proofs.FrontLaws.{read_at, leaf_at, read_empty, read_torn}

@@ -8,22 +8,19 @@ use Prim.Native.Nat.{ℕ, zero, suc, ◌≤◌}
 use native.Mathlib.Omega.{arith}
 use mathlib.Core.List.{List, [], ◌∷◌}
 use lib.Dec.{T, leb, eqb, leb→le, le→leb, eqb→eq}
-use lib.ListN.{length, take}
-use lib.Seq.{take_all}
+use lib.ListN.{length}
 use borrow.Author.Tests.{eqb-true, eqb-false}
 use Rattle.field.specs.Bytes.{Bytes, AllBytes}
-use Rattle.field.specs.Number.{big_endian, number_of}
 use Rattle.field.specs.Row.{Row, end, loose, field, only_bytes, fields_after, inside}
-use Rattle.field.proofs.NumberLaws.{big_endian_back}
 use Rattle.field.proofs.RowLaws.{FrontFits, Sane}
 use Rattle.utf8.specs.Utf8.{utf8}
 use Rattle.page.specs.Number.{number_tag, minus_tag, number_in}
 use Rattle.page.specs.Page.{Tag, fragment, Attributes, no_attributes, Children, Expr, Items, item, Page}
 use Rattle.page.specs.Tree.{choose, texts_in, first_in, second_in, name_by, attr_name_by, boolean_in, expr_by, Contained, nothing_contained, contained, contained_value, contained_child, value_by, child_by, element_in, fragment_in, attributes_in, attr_name_in, value_in, value_behind, children_in, contained_in, expr_in, items_in, pieces_in, module_item_by, module_items_in, page_in}
-use Rattle.page.specs.Refusal.{after, unless}
-use Rattle.page.specs.Check.{check_end, check_text, check_empty, check_number, check_boolean, is_name, no_hyphen, check_name, check_members, at_least, check_ident, check_name_by, is_name_tag, is_tag, is_expr, is_child, is_attribute, check_expr_by, check_child_by, check_element, check_attributes, check_attribute, check_value, check_children, check_container, check_expr, check_items, check_pieces, check_module_items, check_nothing_after, check_page}
+use Rattle.page.specs.Refusal.{after}
+use Rattle.page.specs.Check.{check_end, check_text, check_empty, check_boolean, is_name, no_hyphen, check_name, check_members, at_least, check_ident, check_name_by, is_name_tag, is_tag, is_expr, is_child, is_attribute, check_expr_by, check_child_by, check_element, check_attributes, check_attribute, check_value, check_children, check_container, check_expr, check_items, check_pieces, check_module_items, check_nothing_after, check_page}
 use Rattle.page.specs.Encode.{boolean_byte, texts_row, name_row, attr_name_row, tag_row, attributes_row, value_row, children_row, expr_row, items_row, pieces_row, module_items_row, page_row}
-use Rattle.page.specs.Limits.{Deep, NameOk, Utf8Ok, NumberOk, MembersOk, ElementNameOk, AttrNameOk, TagOk, AttributesOk, ValueOk, ChildrenOk, ExprOk, ItemsOk, PiecesOk, ModuleItemsOk}
+use Rattle.page.specs.Limits.{Deep, NameOk, Utf8Ok, MembersOk, ElementNameOk, AttrNameOk, TagOk, AttributesOk, ValueOk, ChildrenOk, ExprOk, ItemsOk, PiecesOk, ModuleItemsOk}
 use Rattle.page.specs.declared.Refusal.TheVariants as R
 use Rattle.page.specs.declared.Verdict.{Verdict}
 use Rattle.page.specs.declared.Verdict.TheVariants.{Fine}

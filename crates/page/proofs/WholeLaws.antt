@@ -7,7 +7,7 @@ use native.Mathlib.Numerals.{add-one}
 use lib.Dec.{leb, eqb}
 use borrow.Author.Tests.{le-leb, lt-leb, leb-true, eq-eqb, ne_eqb}
 use Rattle.field.specs.Bytes.{Bytes}
-use Rattle.field.specs.Row.{Row, end, loose, field, read, Ended, inside}
+use Rattle.field.specs.Row.{Row, field, read, Ended, inside}
 use Rattle.field.specs.Front.{tag_of_front, body_of, behind_of}
 use Rattle.page.specs.Refusal.{after}
 use Rattle.page.specs.Tree.{choose}

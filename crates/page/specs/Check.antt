@@ -1,6 +1,6 @@
 -- The refusals 3 to 8 of 01, front to back: of a field its header (torn, misplaced), its depth, then its body; the number is the depth at
 -- which the fields of the row stand. Assumes nothing: these are definitions.
-use Rattle.std.specs.Prelude.{ℕ, zero, suc, Bool, true, false, ◌&&◌, ◌||◌, not, List, [], ◌∷◌, leb, eqb, length}
+use Rattle.std.specs.Prelude.{ℕ, zero, suc, Bool, true, false, ◌&&◌, ◌||◌, not, [], ◌∷◌, leb, eqb, length}
 use Rattle.field.specs.Bytes.{Bytes}
 use Rattle.field.specs.Row.{Row, end, loose, field}
 use Rattle.utf8.specs.Utf8.{utf8}

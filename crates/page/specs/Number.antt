@@ -1,5 +1,5 @@
 -- Number literals: all that depends on how a number is held stands here. Assumes nothing: these are definitions.
-use Rattle.std.specs.Prelude.{ℕ, Bool, true, false, ◌&&◌, ◌||◌, [], leb, eqb, take, drop}
+use Rattle.std.specs.Prelude.{ℕ, Bool, ◌&&◌, ◌||◌, [], leb, eqb, take, drop}
 use Rattle.field.specs.Bytes.{Bytes, pick}
 use Rattle.field.specs.Number.{big_endian, number_of}
 use Rattle.text.specs.Decimal.{decimal, shortest}

@@ -1,6 +1,6 @@
 -- The abstract syntax of a page: 01's fields in JSX's terms, a constructor for each. Names are plain bytes; that they are names is a
 -- check's to say. Assumes nothing: these are definitions.
-use Rattle.std.specs.Prelude.{ℕ, Bool, List}
+use Rattle.std.specs.Prelude.{Bool, List}
 use Rattle.field.specs.Bytes.{Bytes}
 use Rattle.names.specs.Names.{AttrName}
 use Rattle.page.specs.Number.{Number}

@@ -1,6 +1,6 @@
 -- The tree that a row of fields is read as, whatever the fields: a field that has no place in a series is passed over, an expression that
 -- is none is null. On the fields of a page it is the page (`read_exactly`). Assumes nothing: these are definitions.
-use Rattle.std.specs.Prelude.{ℕ, Bool, true, false, ◌&&◌, ◌||◌, List, [], ◌∷◌, leb, eqb}
+use Rattle.std.specs.Prelude.{ℕ, Bool, true, false, ◌||◌, List, [], ◌∷◌, eqb}
 use Rattle.field.specs.Bytes.{Bytes, ascii}
 use Rattle.field.specs.Row.{Row, end, loose, field}
 use Rattle.page.specs.Number.{is_number, is_minus, number_in}

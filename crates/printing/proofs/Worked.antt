@@ -2,8 +2,7 @@
 -- Main statements: `worked`, `calls`, `quotes`, `refusals`. Assumes nothing.
 use mathlib.Core.Path.{◌≡◌, refl, sym, ap, ◌∙◌}
 use mathlib.Core.List.{[], ◌∷◌, ◌++◌}
-use Prim.Native.Nat.{ℕ}
-use Rattle.field.specs.Bytes.{Bytes, ascii}
+use Rattle.field.specs.Bytes.{ascii}
 use Rattle.field.specs.Number.{big_endian, number_from}
 use Rattle.field.specs.Row.{field_bytes, inside, next_of, opened, built, read_from, read}
 use Rattle.page.specs.Number.{render, number_in}

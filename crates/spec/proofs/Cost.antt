@@ -8,11 +8,9 @@
 use Prim.Native.Nat.{ℕ, suc, ◌+◌, ◌≤◌}
 use native.Mathlib.Omega.{arith}
 use mathlib.Core.Path.{◌≡◌, refl, ap}
-use mathlib.Core.Bool.{Bool}
 use mathlib.Core.List.{List, [], ◌∷◌, ◌++◌}
 use lib.ListN.{length, length-append}
 use Rattle.field.specs.Bytes.{Bytes}
-use Rattle.field.specs.Number.{big_endian}
 use Rattle.field.specs.Row.{Row, end, loose, field, bytes}
 use Rattle.field.proofs.NumberLaws.{length_big_endian}
 use Rattle.field.proofs.RowLaws.{length_bytes}

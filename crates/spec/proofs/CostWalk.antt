@@ -19,8 +19,8 @@ use Rattle.page.specs.Number.{render}
 use Rattle.page.proofs.NumberLaws.{render_escaped, minus_escaped}
 use Rattle.page.specs.Tree.{choose}
 use Rattle.page.specs.Page.{Name, identifier, member, namespaced, Options}
-use Rattle.spec.specs.Pass.{Pass, pure, raise, long_if, Mid, none, node, ◌+++◌, Part, chars, gap, over}
-use Rattle.spec.specs.Output.{leaf, string_node, true_node, null_node, attr_node, choice_node, array_node, gen_template}
+use Rattle.spec.specs.Pass.{Pass, raise, long_if, Mid, none, node, ◌+++◌, Part, chars, gap, over}
+use Rattle.spec.specs.Output.{leaf, string_node, true_node, choice_node, array_node, gen_template}
 use Rattle.spec.specs.Merge.{Shape, string_shape, number_shape, boolean_shape, null_shape, literal_shape, minus_shape, other_shape, Entry, still, passed, Found, nothing_found, one_found, array_found, Element, Fragment, Child, text, empty, container, element, fragment, spread, is_last, flush, joined_text, merge, long_run, short_runs, becomes_template}
 use Rattle.spec.specs.Attributes as A
 use Rattle.spec.specs.Attributes.{Value, Attribute, first_upper, is_serializable, serialize_attr, attr_gap, listed_attr, dynamic_attr, container_attr, plain_attr, attr_parts, attrs_parts, is_component, prop_of, props_of, key_from, key_of}

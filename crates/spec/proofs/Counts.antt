@@ -11,7 +11,7 @@ use Rattle.field.specs.Number.{big_endian}
 use Rattle.field.specs.Row.{Row, end, loose, field}
 use Rattle.field.proofs.NumberLaws.{four_read}
 use Rattle.spec.specs.Pass.{Template}
-use Rattle.spec.specs.Output.{template_row, record_row, record_front, layout_84}
+use Rattle.spec.specs.Output.{template_row, record_row}
 use Rattle.spec.specs.Words.{places}
 use Rattle.spec.specs.Transform.{bit, templates_row}
 use Rattle.spec.specs.Demand.{begins, recorded_in, called_in, up_to}

@@ -12,8 +12,7 @@ use Rattle.page.specs.Number.{whole, scaled, number_tag, minus_tag}
 use Rattle.page.specs.Page as P
 use Rattle.page.specs.Page.{Name, identifier, member, namespaced, Options, Page}
 use Rattle.spec.specs.Pass.{Mid, none}
-use Rattle.spec.specs.Merge.{element, fragment}
-use Rattle.spec.specs.Attributes.{Value, is_component}
+use Rattle.spec.specs.Attributes.{is_component}
 use Rattle.spec.specs.Transform.{shape_of, child, raw_tag, attributes, value, children, expr, items, pieces, module_items}
 use Rattle.spec.specs.Kept.{own_pieces, in_tag, in_opening, in_call, in_value, in_children, in_expr, in_items, in_pieces, in_page}
 use Rattle.spec.proofs.Good.{FormedBy}

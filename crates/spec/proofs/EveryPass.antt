@@ -13,20 +13,19 @@ use Rattle.text.specs.Text.{normalize_lit_str}
 use Rattle.page.specs.Number.{render}
 use Rattle.names.specs.Names.{get_attr_name, is_void_element, is_boolean_attr}
 use Rattle.page.specs.Tree.{choose}
-use Rattle.page.specs.Page as P
 use Rattle.page.specs.Page.{Name, identifier, member, namespaced, Options}
 use Rattle.spec.specs.Pass.{Pass, pure, map, raise, long_if, Mid, none, node, raw, ◌+++◌, Part, chars, gap, mark, over}
-use Rattle.spec.specs.Output.{leaf, array_node, null_node, attr_node, gen_template}
+use Rattle.spec.specs.Output.{leaf, array_node, gen_template}
 use Rattle.spec.specs.Merge.{Shape, string_shape, number_shape, boolean_shape, null_shape, literal_shape, minus_shape, other_shape, Entry, still, passed, Found, nothing_found, one_found, array_found, Element, Fragment, Child, text, empty, container, element, fragment, spread, flush, joined_text, merge, long_run, short_runs, becomes_template}
 use Rattle.spec.specs.Attributes as A
 use Rattle.spec.specs.Attributes.{Value, Attribute, first_upper, keeps_from_serializing, is_serializable, serialize_attr, attr_gap, listed_attr, dynamic_attr, container_attr, plain_attr, attr_parts, attrs_parts, is_component, prop_of, props_of, key_from, key_of, tag_flags}
 use Rattle.spec.specs.Children.{maybe_wrap, merged_parts, children_to_string, serialize_jsx, stills, found_of, sole_mid, sole, flattened, spliced, entries, one_child, many_children, children_to_expr, entry_pass, entries_pass, found_pass, children_prop, props_node, members_row, name_expr, call_node, to_call_expr, open_close, element_to_string_vec}
 use Rattle.spec.specs.Visit.{visit_after, leave, visit_found, visit_only_child, visit_fragment}
-use Rattle.spec.specs.Transform.{element_of, fragment_of, element_raw, value, children, items}
-use Rattle.spec.specs.Kept.{is_tag, has_value, listed, reads_key, key_follows, is_void, own_flags, in_opening, in_call}
+use Rattle.spec.specs.Transform.{element_of, fragment_of, element_raw}
+use Rattle.spec.specs.Kept.{is_tag, has_value, listed, reads_key, key_follows, is_void, own_flags}
 use Rattle.spec.proofs.Nested.{escape_free, boolean_free, attr_free}
 use Rattle.spec.proofs.Good.{FormedBy, OneNode}
-use Rattle.spec.proofs.Ledger.{neither, or_either}
+use Rattle.spec.proofs.Ledger.{neither}
 use Rattle.spec.proofs.Invariant.{Split, Alone, AloneField, plain, Invariant}
 use Rattle.spec.proofs.Shapes.{chosen, or_left, or_right, and_right, is_text, Items, is_bare, FreeTexts, free_nil, merge_free}
 

@@ -4,7 +4,6 @@ use mathlib.Core.Path.{◌≡◌, refl, sym, ap, ◌∙◌, subst}
 use mathlib.Core.Bool.{Bool, true, false, ◌&&◌, ◌||◌, not, false≢true}
 use mathlib.Core.List.{List, [], ◌∷◌, ◌++◌}
 use lib.Dec.{T, eqb, eqb→eq}
-use native.Mathlib.Omega.{arith}
 use Rattle.field.specs.Bytes.{Bytes, same, among}
 use Rattle.names.specs.Names.{is_boolean_attr, boolean_names, is_void_element, void_names, small_letter, small_letters}
 use Rattle.text.specs.Escape.{escape_byte, escape_html}
@@ -14,7 +13,7 @@ use Rattle.page.specs.Check.{name_part, name_parts, is_name}
 use Rattle.page.proofs.NumberLaws.{render_escaped}
 use Rattle.spec.specs.Attributes.{serialize_attr, void_when_lowered}
 use Rattle.spec.specs.Words.{Comparison, in_small_letters, by_bytes, compared, WellNestedBy, free}
-use Rattle.spec.proofs.Markup.{NameFront, read_free_outside, both_true, eqb_false, free_front, not_name_byte, name_has_parts, name_front}
+use Rattle.spec.proofs.Markup.{NameFront, read_free_outside, both_true, free_front, not_name_byte, name_has_parts, name_front}
 
 -- 01, Well nested: text with neither sign is well nested, the empty text too
 pub free_nested : (how : Comparison) (b : Bytes) → T (free b) → WellNestedBy how b

@@ -1,16 +1,16 @@
 -- A run of the last merge needs no flag: where it is over 65,535 bytes, so is a body of an output, in which it stands whole. In a template that
 -- is a static string, wherever the run stands among the template's parts; in a call it is a 70.
 -- Main statements: `run_in_template`, `run_in_call`. Assumes nothing.
-use Prim.Native.Nat.{ℕ, ◌+◌, ◌≤◌, ◌<◌}
+use Prim.Native.Nat.{ℕ, ◌+◌}
 use native.Mathlib.Omega.{arith}
 use mathlib.Core.Path.{◌≡◌, refl, sym, ap, subst}
-use mathlib.Core.Bool.{Bool, true, false, ◌||◌}
+use mathlib.Core.Bool.{Bool, false, ◌||◌}
 use mathlib.Core.List.{List, [], ◌∷◌, ◌++◌, append-nil}
 use lib.Dec.{T, ltb, ltb→lt, lt→ltb}
 use lib.ListN.{length, length-append}
 use Rattle.field.specs.Bytes.{Bytes}
 use Rattle.field.specs.Row.{Row, end, loose, field, bytes, long_body}
-use Rattle.spec.specs.Pass.{Template, Done, Pass, pure, map, both, Mid, none, node, raw, ◌+++◌, ◌⧺◌, Part, chars, gap, mark, over}
+use Rattle.spec.specs.Pass.{Template, pure, both, Mid, none, node, raw, ◌+++◌, ◌⧺◌, Part, chars, gap, mark, over}
 use Rattle.spec.specs.Output.{string_node, strings_after, dynamic_exprs, strings_row, template_row, record_row, record_front, layout_84, gen_template}
 use Rattle.spec.specs.Merge.{Child, text, empty, container, element, fragment, spread, long_run}
 use Rattle.spec.specs.Children.{merged_parts, serialize_jsx, spliced, entries, entry_pass, entries_pass}

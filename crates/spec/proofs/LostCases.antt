@@ -2,12 +2,12 @@
 -- the clauses of `in_page` could count it. Main statement: `lost_cases`. Assumes nothing.
 use Prim.Native.Nat.{ℕ}
 use mathlib.Core.Path.{◌≡◌, refl}
-use mathlib.Core.List.{[], ◌∷◌, ◌++◌}
+use mathlib.Core.List.{[], ◌++◌}
 use Rattle.field.specs.Bytes.{Bytes, ascii}
 use Rattle.field.specs.Row.{read}
 use Rattle.spec.specs.Answer.{outcome}
 use Rattle.spec.specs.Kept.{in_row}
-use Rattle.spec.specs.Marks.{Reply, reply, fld}
+use Rattle.spec.specs.Marks.{reply, fld}
 use Rattle.spec.proofs.Marks.{computed}
 
 -- the number of the answer; how many 74s stand in the page, and in page out

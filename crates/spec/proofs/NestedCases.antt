@@ -1,5 +1,4 @@
 -- What is well nested and what is not, a case for each way of comparing names. Main statement: `nested_cases`. Assumes nothing.
-use Prim.Native.Nat.{ℕ}
 use mathlib.Core.Path.{◌≡◌, refl}
 use mathlib.Core.List.{[], ◌∷◌}
 use Rattle.field.specs.Bytes.{Bytes, ascii, same, among}

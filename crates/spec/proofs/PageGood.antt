@@ -3,9 +3,9 @@ use Prim.Native.Nat.{ℕ, suc, ◌+◌, ◌-◌, ◌≤◌}
 use native.Mathlib.Omega.{arith}
 use mathlib.Core.Path.{◌≡◌, refl}
 use mathlib.Core.Bool.{Bool, true, false, ◌&&◌, ◌||◌, not}
-use mathlib.Core.List.{List, [], ◌∷◌}
+use mathlib.Core.List.{[], ◌∷◌}
 use lib.Dec.{T, eqb}
-use Rattle.field.specs.Bytes.{Bytes, pick, among}
+use Rattle.field.specs.Bytes.{Bytes, pick}
 use Rattle.field.specs.Row.{inside}
 use Rattle.page.specs.Number.{whole, scaled, number_tag, minus_tag}
 use Rattle.page.specs.Page as P

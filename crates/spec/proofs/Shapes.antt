@@ -15,7 +15,6 @@ use Rattle.page.specs.Page as P
 use Rattle.page.specs.Page.{Options}
 use Rattle.spec.specs.Pass.{Mid, none, node, raw}
 use Rattle.spec.specs.Merge.{Shape, string_shape, number_shape, boolean_shape, null_shape, literal_shape, minus_shape, other_shape, Child, text, empty, container, element, fragment, spread, is_last, flush, joined_text, merge}
-use Rattle.spec.specs.Attributes as A
 use Rattle.spec.specs.Transform.{shape_of, expr, items, pieces}
 use Rattle.spec.specs.Kept.{own_pieces}
 use Rattle.spec.specs.Words.{free}

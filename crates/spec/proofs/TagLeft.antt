@@ -8,15 +8,14 @@ use lib.Dec.{T, eqb}
 use Rattle.field.specs.Bytes.{Bytes}
 use Rattle.field.specs.Row.{Row, end, loose, field}
 use Rattle.page.specs.Page.{Options, Page}
-use Rattle.spec.specs.declared.Flags.{Flags}
-use Rattle.spec.specs.Pass.{Done, Pass, pure, map, bind, both, raise, join, Raw, Mid, none, node, raw, ◌+++◌, ◌⧺◌, marks}
+use Rattle.spec.specs.Pass.{Done, Pass, pure, map, bind, both, raise, Mid, none, node, raw, ◌+++◌, ◌⧺◌, marks}
 use Rattle.spec.specs.Output.{dynamic_exprs, gen_template}
 use Rattle.spec.specs.Visit.{visit_exprs, visit_inside, visit_after, leave}
 use Rattle.spec.specs.Transform.{transform, stands, page_out_row, module_items}
 use Rattle.spec.proofs.PageOut.{page_stands}
 use Rattle.spec.proofs.Ledger.{or_either, down_both}
 use Rattle.spec.proofs.Shapes.{or_left, or_right}
-use Rattle.spec.proofs.Invariant.{Split, Alone}
+use Rattle.spec.proofs.Invariant.{Split}
 use Rattle.spec.proofs.Counting.{None, nothing_marked, Counting, every_page}
 
 -- ---- flags and rows

@@ -1,6 +1,6 @@
 -- The whole answer at every input: the number, the counts, and every byte of what is lent. Assumes nothing: these are definitions.
-use Rattle.std.specs.Prelude.{ℕ, suc, Bool, true, false, ◌&&◌, ◌||◌, not, List, [], ◌∷◌, leb, length, replicate}
-use Rattle.field.specs.Bytes.{Bytes, pick}
+use Rattle.std.specs.Prelude.{ℕ, Bool, true, false, ◌&&◌, ◌||◌, not, leb, length, replicate}
+use Rattle.field.specs.Bytes.{Bytes}
 use Rattle.field.specs.Row.{Row, read, bytes, long_body}
 use Rattle.field.specs.Put.{put}
 use Rattle.page.specs.Page.{Options, Page}
@@ -13,7 +13,7 @@ use Rattle.page.specs.declared.Verdict.{Verdict}
 use Rattle.page.specs.declared.Verdict.TheVariants.{Fine, Refused}
 use Rattle.worked.specs.Worked.{worked}
 use Rattle.spec.specs.declared.Flags.{Flags}
-use Rattle.spec.specs.Pass.{Done, Template}
+use Rattle.spec.specs.Pass.{Done}
 use Rattle.spec.specs.Transform.{transform, templates_row, page_out_row}
 
 -- what is written where nothing is refused

@@ -7,8 +7,8 @@ use Rattle.names.specs.Names.{AttrName, get_attr_name, is_boolean_attr, is_void_
 use Rattle.page.specs.Number.{render}
 use Rattle.page.specs.Page.{Name, identifier, member, namespaced, Options}
 use Rattle.spec.specs.declared.Flags.{Flags}
-use Rattle.spec.specs.Pass.{Pass, pure, Raw, Mid, none, node, raw, ◌+++◌, Part, chars, gap}
-use Rattle.spec.specs.Output.{leaf, string_node, true_node, null_node, attr_node, choice_node, prop_node}
+use Rattle.spec.specs.Pass.{pure, Raw, Mid, none, node, raw, ◌+++◌, Part, chars, gap}
+use Rattle.spec.specs.Output.{string_node, true_node, null_node, attr_node, choice_node, prop_node}
 use Rattle.spec.specs.Merge.{Shape, string_shape, number_shape, boolean_shape, null_shape, literal_shape, minus_shape, other_shape}
 
 -- an attribute's value

@@ -1,5 +1,5 @@
 -- Children in a template and in a call, elements either way: the serializing functions of 000. Assumes nothing: these are definitions.
-use Rattle.std.specs.Prelude.{Bool, true, false, ◌&&◌, ◌||◌, not, List, [], ◌∷◌, ◌++◌, eqb}
+use Rattle.std.specs.Prelude.{Bool, true, false, not, List, [], ◌∷◌, ◌++◌, eqb}
 use Rattle.field.specs.Bytes.{Bytes, ascii, pick, same}
 use Rattle.text.specs.Escape.{escape_html}
 use Rattle.text.specs.Text.{jsx_text_to_str}
@@ -8,7 +8,7 @@ use Rattle.page.specs.Page.{Name, identifier, member, namespaced, Options}
 use Rattle.page.specs.Tree.{choose}
 use Rattle.spec.specs.Pass.{Pass, pure, map, both, raise, long_if, Mid, none, node, raw, ◌+++◌, Part, chars, gap, mark}
 use Rattle.spec.specs.Output.{leaf, string_node, null_node, escape_node, prop_node, array_node, gen_template}
-use Rattle.spec.specs.Merge.{Shape, string_shape, number_shape, boolean_shape, null_shape, literal_shape, minus_shape, other_shape, Entry, still, passed, Found, nothing_found, one_found, array_found, Element, Fragment, Child, text, empty, container, element, fragment, spread, merge, long_run, short_runs, becomes_template}
+use Rattle.spec.specs.Merge.{Shape, string_shape, number_shape, boolean_shape, null_shape, literal_shape, minus_shape, other_shape, Entry, still, passed, Found, nothing_found, one_found, array_found, Element, Child, text, empty, container, element, fragment, spread, merge, long_run, short_runs, becomes_template}
 use Rattle.spec.specs.Attributes.{Attribute, is_serializable, attrs_parts, is_component, props_of, key_of, first_upper, tag_flags}
 
 -- ---- in a template

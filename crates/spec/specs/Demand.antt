@@ -1,6 +1,6 @@
 -- Demand 3, of the bytes of both outputs up to their written ends, in 01's words: recorded, called at any depth, dynamic expressions of a
 -- call, helper called and imported. Assumes nothing: these are definitions.
-use Rattle.std.specs.Prelude.{ℕ, zero, suc, ◌+◌, ◌*◌, ◌/◌, ◌%◌, ◌≡◌, Bool, true, false, ◌&&◌, ◌||◌, List, [], ◌∷◌, T, eqb, leb, length, take, drop}
+use Rattle.std.specs.Prelude.{ℕ, zero, suc, ◌+◌, ◌/◌, ◌%◌, ◌≡◌, Bool, false, ◌&&◌, ◌||◌, List, [], ◌∷◌, T, eqb, leb, length, take, drop}
 use Rattle.field.specs.Bytes.{Bytes}
 use Rattle.field.specs.Number.{number_of}
 use Rattle.field.specs.Row.{Row, end, loose, field, read}

@@ -1,11 +1,10 @@
 -- The fields of the outputs that 000's expressions become, and the making of a template. Assumes nothing: these are definitions.
-use Rattle.std.specs.Prelude.{ℕ, suc, ◌+◌, Bool, true, false, ◌||◌, List, [], ◌∷◌, ◌++◌, eqb, length}
-use Rattle.field.specs.Bytes.{Bytes, ascii, pick}
+use Rattle.std.specs.Prelude.{ℕ, ◌+◌, Bool, true, false, ◌||◌, List, [], ◌∷◌, ◌++◌, eqb, length}
+use Rattle.field.specs.Bytes.{Bytes, pick}
 use Rattle.field.specs.Number.{big_endian}
-use Rattle.field.specs.Row.{Row, end, loose, field}
-use Rattle.page.specs.Number.{Number, number_bytes}
+use Rattle.field.specs.Row.{Row, end, field}
 use Rattle.spec.specs.Words.{places}
-use Rattle.spec.specs.Pass.{join, Template, Done, Pass, pure, both, Mid, none, node, raw, ◌+++◌, Part, chars, gap, mark, marks}
+use Rattle.spec.specs.Pass.{join, Template, Pass, pure, both, Mid, none, node, raw, ◌+++◌, Part, chars, gap, mark, marks}
 
 -- ---- 01, Form and call: the calls and literals, each in front of nothing
 

@@ -1,6 +1,6 @@
 -- Passes: what 000 does with its state. A pass reads the next number and gives a value, how many numbers it took, the templates that it
 -- recorded and its flags. Between its two passes 000 holds expressions in which tags still stand (`Mid`). Assumes nothing: these are definitions.
-use Rattle.std.specs.Prelude.{ℕ, suc, ◌+◌, Bool, true, false, ◌||◌, List, [], ◌∷◌, ◌++◌, ltb, length}
+use Rattle.std.specs.Prelude.{ℕ, ◌+◌, Bool, false, ◌||◌, List, [], ◌∷◌, ◌++◌, ltb, length}
 use Rattle.field.specs.Bytes.{Bytes}
 use Rattle.field.specs.Row.{Row, end, loose, field}
 use Rattle.spec.specs.declared.Flags.{Flags}

@@ -7,8 +7,8 @@ use Rattle.page.specs.Number.{number_tag, minus_tag, number_bytes}
 use Rattle.page.specs.Encode.{boolean_byte}
 use Rattle.page.specs.Page as P
 use Rattle.page.specs.Page.{Options, Page}
-use Rattle.spec.specs.Pass.{Template, Done, Pass, Raw, Mid, none, node, raw}
-use Rattle.spec.specs.Output.{leaf, string_node, null_node, template_row}
+use Rattle.spec.specs.Pass.{Template, Done, Raw, Mid, none, node, raw}
+use Rattle.spec.specs.Output.{template_row}
 use Rattle.spec.specs.Merge as M
 use Rattle.spec.specs.Attributes as A
 use Rattle.spec.specs.Children.{children_to_string, children_to_expr, to_call_expr, element_to_string_vec, serialize_jsx}

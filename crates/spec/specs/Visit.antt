@@ -1,10 +1,9 @@
 -- visit_mut_expr and visit_mut_children_with: the second pass, and tags that are left. Assumes nothing: these are definitions.
-use Rattle.std.specs.Prelude.{ℕ, true, false, List, [], ◌∷◌}
-use Rattle.field.specs.Bytes.{Bytes}
-use Rattle.field.specs.Row.{Row, end, loose, field}
-use Rattle.spec.specs.Pass.{Done, Pass, pure, map, bind, both, raise, Raw, Mid, none, node, raw, ◌⧺◌}
+use Rattle.std.specs.Prelude.{true, false, List, [], ◌∷◌}
+use Rattle.field.specs.Row.{Row, end, field}
+use Rattle.spec.specs.Pass.{Pass, pure, bind, both, raise, Mid, none, node, raw, ◌⧺◌}
 use Rattle.spec.specs.Output.{gen_template}
-use Rattle.spec.specs.Merge.{Found, nothing_found, one_found, array_found, Element, Fragment, Child, text, empty, container, element, fragment, spread}
+use Rattle.spec.specs.Merge.{Found, nothing_found, one_found, array_found, Child, text, empty, container, element, fragment, spread}
 use Rattle.spec.specs.Children.{serialize_jsx, children_to_string, found_pass}
 
 -- visit_mut_expr on each expression of a row

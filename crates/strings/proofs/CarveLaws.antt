@@ -12,7 +12,7 @@ use Rattle.field.specs.Put.{put, head, Wrote}
 use Rattle.field.proofs.PutLaws.{put_put, put_nil, length_put}
 use Rattle.field.proofs.Actions.{Action, Lows, Keeps, Steps, by_steps, place_steps, keep_steps}
 use Rattle.text.specs.Escape.{escape_html}
-use Rattle.spec.specs.Pass.{Part, chars, gap, mark, Pass, Mid}
+use Rattle.spec.specs.Pass.{Part, chars, gap, mark}
 use Rattle.strings.specs.declared.writer.Open.{Open}
 use Rattle.strings.specs.Due.{graver, long_due, grave}
 use Rattle.strings.specs.Carve.{Carved, at, end, put_on, close, carve, flagged, Low, ended_at, flags_at, opening}

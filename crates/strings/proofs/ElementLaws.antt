@@ -1,7 +1,7 @@
 -- Elements and children as they are written: a container among children, a closing tag, the loop over children, and an element piece by piece.
 -- Main statements: `string_low`, `byte_on`, `closing_low`, `last_child`, `Left`, `text_on` and the like, `left_end`, `gap_end`, `void_end`, `close_end`.
 -- Assumes nothing.
-use mathlib.Core.Path.{◌≡◌, refl, sym, ap, ◌∙◌, subst}
+use mathlib.Core.Path.{◌≡◌, sym, ap, ◌∙◌, subst}
 use Prim.Native.Nat.{ℕ, ◌+◌, ◌*◌, ◌≤◌, ◌<◌, ◌^◌}
 use native.Mathlib.Numerals.{add-one}
 use native.Mathlib.Omega.{arith}

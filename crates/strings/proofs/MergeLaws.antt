@@ -3,16 +3,15 @@
 use mathlib.Core.Path.{◌≡◌, refl, sym, ap, ◌∙◌}
 use Prim.Native.Nat.{ℕ}
 use mathlib.Core.Bool.{Bool, true, false, ◌&&◌, ◌||◌}
-use mathlib.Core.List.{List, [], ◌∷◌, ◌++◌, append-nil}
+use mathlib.Core.List.{List, [], ◌∷◌, ◌++◌}
 use mathlib.Core.Option.{Option, none, some}
 use lib.Dec.{ltb}
 use lib.ListN.{length}
 use Rattle.field.specs.Bytes.{Bytes, pick}
-use Rattle.field.proofs.Actions.{Action}
 use Rattle.text.specs.Escape.{escape_html}
 use Rattle.text.specs.Lines.{lines}
 use Rattle.text.specs.Text.{jsx_text_to_str, joined, kept, trimmed_lines, escape_if}
-use Rattle.spec.specs.Pass.{Part, chars, gap, pure, Mid, over}
+use Rattle.spec.specs.Pass.{Part, chars, gap, pure, Mid}
 use Rattle.spec.specs.Merge.{Shape, Child, Element, Fragment, text, empty, container, element, fragment, spread, is_last, flush, joined_text, merge, long_run, short_runs}
 use Rattle.spec.specs.Children.{maybe_wrap, merged_parts, children_to_string}
 use Rattle.strings.specs.Due.{long_due}

@@ -10,11 +10,11 @@ use mathlib.Core.Option.{Option, none, some}
 use lib.Dec.{ltb}
 use lib.ListN.{length, take, drop, length-append}
 use lib.Seq.{length-take-le, take_at}
-use borrow.Author.Tests.{lt-ltb, le-ltb, ltb-true, ltb-false}
-use Rattle.field.specs.Bytes.{Bytes, pick}
+use borrow.Author.Tests.{lt-ltb, le-ltb, ltb-false}
+use Rattle.field.specs.Bytes.{Bytes}
 use Rattle.field.specs.Row.{read, Ended}
 use Rattle.field.specs.Front.{tag_of_front, body_of, behind_of}
-use Rattle.field.specs.Put.{put, Wrote}
+use Rattle.field.specs.Put.{Wrote}
 use Rattle.field.proofs.FrontLaws.{sizes}
 use Rattle.field.proofs.PutLaws.{put_fits, wrote_length}
 use Rattle.text.specs.Text.{jsx_text_to_str}
@@ -22,16 +22,16 @@ use Rattle.text.proofs.TextBounds.{length_text}
 use Rattle.page.specs.Tree.{contained_in, Contained, nothing_contained, contained}
 use Rattle.spec.specs.Pass as S
 use Rattle.spec.specs.Pass.{Part, chars, gap, pure}
-use Rattle.spec.specs.Merge.{Child, Shape, joined_text, merge, long_run, short_runs}
+use Rattle.spec.specs.Merge.{Child, joined_text, merge, long_run, short_runs}
 use Rattle.spec.specs.Children.{children_to_string}
 use Rattle.spec.specs.Transform.{shape_of, fragment_of, expr}
 use Rattle.decisions.specs.At.{opts, element_at}
 use Rattle.strings.specs.declared.writer.Open.{Open}
 use Rattle.strings.specs.Due.{graver, long_due}
-use Rattle.strings.specs.Carve.{Carved, at, carve, close, put_on, flagged, put_again, is_some, option_bytes, is_joined, joined_by, Low}
+use Rattle.strings.specs.Carve.{Carved, at, carve, close, flagged, put_again, is_some, option_bytes, is_joined, joined_by, Low}
 use Rattle.strings.proofs.CarveLaws.{lows, size, same_size}
 use Rattle.strings.proofs.FrontSizes.{behind_le}
-use Rattle.strings.proofs.MergeLaws.{again, twice, twice_is, run, twice_none, twice_text, twice_empty, twice_spread, twice_joined, twice_container, twice_element, twice_fragment, twice_low}
+use Rattle.strings.proofs.MergeLaws.{twice, twice_is, run, twice_none, twice_text, twice_empty, twice_spread, twice_joined, twice_container, twice_element, twice_fragment, twice_low}
 use Rattle.strings.proofs.ShapeLaws.{joined_length}
 use Rattle.strings.proofs.TreeLaws.{kids, held, kids_60, kids_52, kids_30, kids_31, kids_none, kids_other}
 

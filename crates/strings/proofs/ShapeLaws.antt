@@ -32,7 +32,7 @@ use Rattle.decisions.specs.declared.expr.Shape.{Shape}
 use Rattle.decisions.specs.declared.expr.Shape.TheVariants as Form
 use Rattle.decisions.proofs.Series.{value_in_at}
 use Rattle.decisions.proofs.Laws.{ValueAt, is_absent, is_string, is_container, is_element, is_fragment, value_view, string_held, container_held, absent_held, ContainedAt, is_empty, is_text, is_number, is_boolean, is_null, is_literal, is_minus, is_other, contained_view}
-use Rattle.strings.specs.Carve.{Carved, put_on, close, carve, name_at, option_bytes, is_some, joined_by, is_joined, child_parts, contained_parts}
+use Rattle.strings.specs.Carve.{Carved, close, carve, name_at, option_bytes, is_some, joined_by, is_joined, child_parts, contained_parts}
 use Rattle.strings.proofs.CarveLaws.{spaced, put_on_nil}
 use Rattle.strings.proofs.FrontSizes.{body_le}
 

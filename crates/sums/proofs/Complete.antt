@@ -1,14 +1,13 @@
 -- Whatever the grammar has is read, and read as the grammar has it: by induction on derivations, for every stack. Assumes nothing.
 use Prim.Native.Nat.{ℕ, ◌+◌, ◌-◌, ◌*◌}
-use mathlib.Core.Path.{◌≡◌, refl, sym, ◌∙◌, ap, subst}
-use mathlib.Core.Bool.{Bool, true, false, not}
-use mathlib.Core.List.{List, [], ◌∷◌}
-use lib.Dec.{T, eqb}
+use mathlib.Core.Path.{◌≡◌, refl, ◌∙◌, ap}
+use mathlib.Core.List.{[], ◌∷◌}
+use lib.Dec.{eqb}
 use Rattle.sums.specs.Choice.{choose, digit}
 use Rattle.field.specs.Bytes.{Bytes}
-use Rattle.sums.specs.Tree.{Tree, number, plus, minus, times}
+use Rattle.sums.specs.Tree.{Tree, number}
 use Rattle.sums.specs.Grammar.{Spaces, no_space, one_more, Ends, Digits, first, next, Number, zero_alone, digits, IsOperand, is_number, is_bracketed, IsProduct, is_operand, is_times, IsSum, is_product, is_plus, is_minus, ReadsAs, reads}
-use Rattle.sums.specs.Machine.{Before, no_sum, sum_plus, sum_minus, Factor, no_product, product_times, Frame, frame, Stack, State, awaits, in_digits, behind, refused, sum_with, product_with, closed, step_behind, step, Outcome, read, no_reading, whole, at_end, outcome, start}
+use Rattle.sums.specs.Machine.{Before, no_sum, sum_plus, sum_minus, Factor, no_product, product_times, frame, Stack, State, awaits, in_digits, behind, sum_with, product_with, closed, step_behind, step, read, whole, at_end, outcome, start}
 use Rattle.sums.proofs.Tests.{chose, passed, digit_no_space}
 
 go : (x y : State) (c : ℕ) (s : Bytes) → step x c ≡ y → outcome x (c ∷ s) ≡ outcome y s

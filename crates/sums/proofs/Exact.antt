@@ -1,9 +1,6 @@
 -- What is answered is what the grammar says, and a text has one reading. Assumes nothing.
-use Prim.Native.Nat.{ℕ}
-use mathlib.Core.Path.{◌≡◌, refl, sym, ◌∙◌, ap, subst}
-use mathlib.Core.List.{List, [], ◌∷◌}
+use mathlib.Core.Path.{◌≡◌, refl, sym, ◌∙◌, ap}
 use mathlib.Core.Logic.{◌↔◌}
-use native.Mathlib.Omega.{arith}
 use Rattle.field.specs.Bytes.{Bytes}
 use Rattle.sums.specs.Tree.{Tree}
 use Rattle.sums.specs.Grammar.{ReadsAs}

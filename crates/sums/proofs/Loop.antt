@@ -3,11 +3,11 @@
 -- `too_deep`, `closes_nothing`, `closes`. Assumes nothing.
 use Prim.Native.Nat.{ℕ, zero, suc, ◌+◌, ◌-◌, ◌*◌, ◌/◌, ◌%◌, ◌≤◌, ◌<◌}
 use mathlib.Core.Path.{◌≡◌, refl, sym, ◌∙◌, ap, subst}
-use mathlib.Core.Bool.{Bool, true, false, not}
+use mathlib.Core.Bool.{Bool, true, false}
 use mathlib.Core.List.{List, [], ◌∷◌}
 use native.Mathlib.Omega.{arith}
 use native.Mathlib.Numerals.{add-one}
-use lib.Dec.{T, leb, eqb}
+use lib.Dec.{eqb}
 use lib.ListN.{length, get_or, drop, set, length-drop, length-set}
 use borrow.Author.Tests.{eqb-true}
 use lib.Seq.{drop-cons, drop-length, get_or-set_same, get_or-set_other}
@@ -20,7 +20,7 @@ use Rattle.sums.specs.declared.value.Worked.{Worked}
 use Rattle.sums.specs.declared.value.Worked.TheVariants as W
 use Rattle.sums.specs.Small.{Before, NoSum, SumPlus, SumMinus, Factor, NoProduct, ProductTimes, State, Awaits, Digits, Behind}
 use Rattle.sums.specs.Small.{Act, On, Open, Close, Refused}
-use Rattle.sums.specs.Small.{finished, times_by, capped, grown, act_behind, act_awaits, act_digits, act, Frame, frame, Stack, Small, stands, stopped, moved, small_step, ended, small_end, result}
+use Rattle.sums.specs.Small.{finished, times_by, act_behind, act_awaits, act_digits, act, frame, Stack, stands, stopped, moved, small_step, ended, small_end, result}
 use Rattle.sums.specs.Packed.{before_tag, before_of, factor_tag, factor_of, words}
 use Rattle.sums.proofs.Packs.{before_low, factor_low, words_low, before_none, factor_none}
 use Rattle.sums.proofs.Sim.{result_is}

@@ -1,10 +1,10 @@
 -- Tags, digits, and what waits joined with a value. Assumes nothing.
-use Prim.Native.Nat.{ℕ, zero, suc, ◌+◌, ◌-◌, ◌*◌, ◌/◌, ◌%◌, ◌≤◌, ◌<◌}
-use mathlib.Core.Path.{◌≡◌, refl, sym, ◌∙◌, ap}
+use Prim.Native.Nat.{ℕ, zero, suc, ◌+◌, ◌-◌, ◌*◌, ◌≤◌, ◌<◌}
+use mathlib.Core.Path.{◌≡◌, refl, ◌∙◌, ap}
 use mathlib.Core.Bool.{Bool, true, false, ◌&&◌}
 use native.Mathlib.Omega.{arith}
 use lib.Dec.{leb, eqb}
-use borrow.Author.Tests.{le-leb, lt-leb, leb-true, leb-false}
+use borrow.Author.Tests.{le-leb, lt-leb, leb-true}
 use Rattle.sums.specs.Choice.{choose, digit}
 use Rattle.sums.specs.Value.{most, upward, added, taken, multiplied}
 use Rattle.sums.proofs.Tests.{takes, leaves}
@@ -13,7 +13,7 @@ use Rattle.sums.specs.declared.value.Worked.TheVariants as W
 use borrow.Author.Tests.{eq-eqb, ne_eqb}
 use Rattle.sums.specs.Small.{capped, grown, finished, times_by, ended}
 use Rattle.sums.specs.Packed.{value_of, before_tag, before_of, factor_tag, factor_of, words, state_of}
-use Rattle.sums.specs.Small.{Before, NoSum, SumPlus, SumMinus, Factor, NoProduct, ProductTimes, State, Awaits, Digits, Behind}
+use Rattle.sums.specs.Small.{Before, NoSum, SumPlus, SumMinus, Factor, NoProduct, ProductTimes}
 
 pub digit_low : (c : ℕ) → digit c ≡ true → 48 ≤ c
 unfolding digit

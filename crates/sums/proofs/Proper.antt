@@ -1,11 +1,9 @@
 -- What is answered may be written: a size within the bound, and below zero never zero. Assumes nothing.
 use Prim.Native.Nat.{ℕ, zero, suc, ◌+◌, ◌-◌, ◌*◌, ◌≤◌, ◌<◌}
-use mathlib.Core.Path.{◌≡◌, refl, sym, ◌∙◌, ap, subst}
-use mathlib.Core.Bool.{Bool, true, false, not}
+use mathlib.Core.Bool.{not}
 use native.Mathlib.Omega.{arith}
 use native.Mathlib.Nat.{one-le-mul}
 use lib.Dec.{T, leb, eqb, leb→le, nleb→lt, eqb_refl}
-use Rattle.sums.specs.Choice.{choose}
 use Rattle.sums.specs.Tree.{Tree, number, plus, minus, times}
 use Rattle.field.specs.Bytes.{Bytes}
 use Rattle.sums.specs.Machine.{Outcome, read, no_reading, outcome, start, found, sum_of}

@@ -1,8 +1,8 @@
 -- The small machine answers as the machine over trees does. Assumes nothing.
-use Prim.Native.Nat.{ℕ, zero, suc, ◌+◌, ◌-◌, ◌*◌, ◌≤◌, ◌<◌}
-use mathlib.Core.Path.{◌≡◌, refl, sym, ◌∙◌, ap, subst}
-use mathlib.Core.Bool.{Bool, true, false, not, ◌&&◌}
-use mathlib.Core.List.{List, [], ◌∷◌}
+use Prim.Native.Nat.{ℕ, ◌+◌, ◌-◌, ◌*◌, ◌≤◌, ◌<◌}
+use mathlib.Core.Path.{◌≡◌, refl, sym, ◌∙◌, ap}
+use mathlib.Core.Bool.{Bool, true, false, ◌&&◌}
+use mathlib.Core.List.{[], ◌∷◌}
 use native.Mathlib.Omega.{arith}
 use lib.Dec.{T, leb, eqb}
 use borrow.Author.Tests.{le-leb, lt-leb, leb-true, leb-false}
@@ -16,8 +16,8 @@ use Rattle.sums.proofs.Tests.{takes, leaves}
 use Rattle.sums.specs.declared.value.Worked.{Worked}
 use Rattle.sums.specs.declared.value.Worked.TheVariants as W
 use Rattle.sums.specs.Small.{Before, NoSum, SumPlus, SumMinus, Factor, NoProduct, ProductTimes, State, Awaits, Digits, Behind}
-use Rattle.sums.specs.Small.{Act, On, Open, Close, Refused}
-use Rattle.sums.specs.Small.{finished, times_by, capped, grown, act_behind, act_awaits, act_digits, act, Frame, frame, Stack, Small, stands, stopped, moved, small_step, ended, small_end, result}
+use Rattle.sums.specs.Small.{Act, Close}
+use Rattle.sums.specs.Small.{finished, times_by, capped, grown, act_behind, act_awaits, act_digits, act, frame, Stack, Small, stands, stopped, moved, small_step, ended, small_end, result}
 
 before_worked : M.Before → Before
 before_worked M.no_sum = NoSum

@@ -1,16 +1,15 @@
 -- Whatever is read the grammar has. `Holds S x s`: the text S has been read up to s, and the state x says, in the grammar's own words, what stood
 -- in front of s. A step keeps this, without induction. Assumes nothing.
-use Prim.Native.Nat.{ℕ, ◌+◌, ◌-◌, ◌*◌}
-use mathlib.Core.Path.{◌≡◌, refl, sym, ◌∙◌, ap, subst}
-use mathlib.Core.Bool.{Bool, true, false, not}
-use mathlib.Core.List.{List, [], ◌∷◌}
+use Prim.Native.Nat.{ℕ}
+use mathlib.Core.Path.{◌≡◌, subst}
+use mathlib.Core.List.{[], ◌∷◌}
 use native.Mathlib.Omega.{arith}
 use lib.Dec.{T, eqb}
-use Rattle.sums.specs.Choice.{choose, digit}
+use Rattle.sums.specs.Choice.{digit}
 use Rattle.field.specs.Bytes.{Bytes}
-use Rattle.sums.specs.Tree.{Tree, number, plus, minus, times}
-use Rattle.sums.specs.Grammar.{Spaces, no_space, one_more, Ends, Digits, first, next, Number, zero_alone, digits, IsOperand, is_number, is_bracketed, IsProduct, is_operand, is_times, IsSum, is_product, is_plus, is_minus, ReadsAs, reads}
-use Rattle.sums.specs.Machine.{Before, no_sum, sum_plus, sum_minus, Factor, no_product, product_times, Frame, frame, Stack, State, awaits, in_digits, behind, refused, sum_with, product_with, closed, step_behind, step, Outcome, read, no_reading, whole, at_end, outcome, start}
+use Rattle.sums.specs.Tree.{Tree, number}
+use Rattle.sums.specs.Grammar.{Spaces, no_space, one_more, Ends, Digits, first, next, zero_alone, digits, IsOperand, is_number, is_bracketed, IsProduct, is_operand, is_times, IsSum, is_product, is_plus, is_minus, ReadsAs, reads}
+use Rattle.sums.specs.Machine.{Before, no_sum, sum_plus, sum_minus, Factor, no_product, product_times, frame, Stack, State, awaits, in_digits, behind, refused, sum_with, product_with, closed, step_behind, step, read, whole, at_end, outcome, start}
 use Rattle.sums.proofs.Tests.{either, at_eq}
 
 -- from s up to r stands what waits for a product

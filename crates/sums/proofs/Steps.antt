@@ -1,6 +1,6 @@
 -- The arithmetic on values held as one number: a value is the difference to the bound, so that sums and differences are one law each.
 -- Main statements: `up_is`, `add_is`, `subtract_is`, `multiply_up`, `multiply_mixed`, and their refusals. Assumes nothing.
-use Prim.Native.Nat.{ℕ, zero, suc, ◌+◌, ◌-◌, ◌*◌, ◌/◌, ◌≤◌, ◌<◌}
+use Prim.Native.Nat.{ℕ, ◌+◌, ◌-◌, ◌*◌, ◌/◌, ◌≤◌, ◌<◌}
 use mathlib.Core.Path.{◌≡◌, refl, sym, ◌∙◌, ap, ap₂}
 use mathlib.Core.Bool.{Bool, true, false}
 use native.Mathlib.Omega.{arith}

@@ -1,11 +1,10 @@
 -- The turns of the loop once more, with the state in numbers. Assumes nothing.
-use Prim.Native.Nat.{ℕ, zero, suc, ◌+◌, ◌-◌, ◌*◌, ◌/◌, ◌%◌, ◌≤◌, ◌<◌}
+use Prim.Native.Nat.{ℕ, zero, suc, ◌+◌, ◌-◌, ◌≤◌, ◌<◌}
 use mathlib.Core.Path.{◌≡◌, refl, sym, ◌∙◌, ap, subst}
-use mathlib.Core.Bool.{Bool, true, false, not}
-use mathlib.Core.List.{List, [], ◌∷◌}
+use mathlib.Core.Bool.{true, false}
+use mathlib.Core.List.{List}
 use native.Mathlib.Omega.{arith}
-use lib.Dec.{T, leb, eqb}
-use lib.ListN.{length, get_or, drop, set, length-set}
+use lib.ListN.{length, get_or}
 use borrow.Author.Tests.{eq-eqb, ne_eqb}
 use Rattle.sums.specs.Choice.{choose, digit}
 use Rattle.field.specs.Bytes.{Bytes}
@@ -14,12 +13,12 @@ use Rattle.sums.specs.Machine.{sum_of}
 use Rattle.sums.proofs.Tests.{takes, leaves}
 use Rattle.sums.specs.declared.value.Worked.{Worked}
 use Rattle.sums.specs.declared.value.Worked.TheVariants as W
-use Rattle.sums.specs.Small.{Before, NoSum, SumPlus, SumMinus, Factor, NoProduct, ProductTimes, State, Awaits, Digits, Behind}
-use Rattle.sums.specs.Small.{Act, On, Open, Close, Refused}
+use Rattle.sums.specs.Small.{Before, NoSum, SumPlus, SumMinus, Factor, NoProduct, State, Awaits, Digits, Behind}
+use Rattle.sums.specs.Small.{Act, Open, Close}
 use Rattle.sums.specs.Small.{finished, times_by, grown, act_behind, act_awaits, act_digits, act}
-use Rattle.sums.specs.Packed.{value_of, before_tag, before_of, factor_tag, factor_of, words, state_of}
+use Rattle.sums.specs.Packed.{value_of, before_tag, before_of, factor_tag, factor_of, state_of}
 use Rattle.sums.proofs.Packs.{tag_before, tag_factor}
-use Rattle.sums.proofs.Loop.{Going, goes, refuses, too_high, pushes, closes_nothing, closes_low, closes_lower, closes, begins, again, weight, lighter}
+use Rattle.sums.proofs.Loop.{Going, goes, refuses, begins, again, weight, lighter}
 
 -- what the loop holds, with the state in numbers
 pub record Runs (s : Bytes) (fs : List ℕ) (top i mode n bt bs ft fz : ℕ) : Type 0 where

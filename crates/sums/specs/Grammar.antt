@@ -1,7 +1,7 @@
 -- 02, A12, the grammar of sums: whole numbers, spaces, `+`, `-`, `*` between two operands and round brackets under the usual precedence,
 -- left first among equals. `IsX s x r`: the text s begins with an X that reads as x, and r is what follows it. The left operand is of the
 -- same level, the right one of the level above. Assumes nothing: these are definitions.
-use Rattle.std.specs.Prelude.{ℕ, ◌+◌, ◌-◌, ◌*◌, Bool, not, List, [], ◌∷◌, T, eqb}
+use Rattle.std.specs.Prelude.{ℕ, ◌+◌, ◌-◌, ◌*◌, not, [], ◌∷◌, T, eqb}
 use Rattle.sums.specs.Choice.{digit}
 use Rattle.field.specs.Bytes.{Bytes}
 use Rattle.sums.specs.Tree.{Tree, number, plus, minus, times}

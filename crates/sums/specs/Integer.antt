@@ -1,5 +1,5 @@
 -- The same in the library's integers: what exact arithmetic gives, and when a sum is worked out. Assumes nothing: these are definitions.
-use Rattle.std.specs.Prelude.{ℕ, suc, ◌≤◌, ◌≡◌, Bool, true, false, eqb, ℤ, pos, negsuc, nat_abs, ◌+ℤ◌, ◌-ℤ◌, ◌*ℤ◌}
+use Rattle.std.specs.Prelude.{suc, ◌≤◌, ◌≡◌, Bool, false, eqb, ℤ, pos, negsuc, nat_abs, ◌+ℤ◌, ◌-ℤ◌, ◌*ℤ◌}
 use Rattle.sums.specs.Tree.{Tree, number, plus, minus, times}
 use Rattle.sums.specs.Value.{most}
 use Rattle.sums.specs.declared.value.Worked.{Worked}

@@ -1,5 +1,5 @@
 -- The reader: a state, a step for each byte, an answer at the end. Open brackets stand in a list. Assumes nothing.
-use Rattle.std.specs.Prelude.{ℕ, ◌+◌, ◌-◌, ◌*◌, Bool, true, false, List, [], ◌∷◌, eqb}
+use Rattle.std.specs.Prelude.{ℕ, ◌+◌, ◌-◌, ◌*◌, List, [], ◌∷◌, eqb}
 use Rattle.sums.specs.Choice.{choose, digit}
 use Rattle.field.specs.Bytes.{Bytes}
 use Rattle.sums.specs.Tree.{Tree, number, plus, minus, times}

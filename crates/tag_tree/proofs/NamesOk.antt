@@ -1,24 +1,23 @@
 -- Names that the grammar reads are names of 01. Main statements: `element_name_ok`, `attr_name_ok`. Assumes nothing.
-use Prim.Native.Nat.{ℕ, suc, ◌≤◌}
-use mathlib.Core.Path.{◌≡◌, refl, sym, ◌∙◌, ap, subst}
-use mathlib.Core.Bool.{Bool, true, false, ◌&&◌, ◌||◌, not}
-use mathlib.Core.List.{List, [], ◌∷◌}
+use Prim.Native.Nat.{ℕ, suc}
+use mathlib.Core.Path.{◌≡◌, refl, sym, ap, subst}
+use mathlib.Core.Bool.{Bool, true, false, ◌&&◌, not}
+use mathlib.Core.List.{[], ◌∷◌}
 use mathlib.Core.Logic.{◌⊎◌, inl, inr}
 use native.Mathlib.Omega.{arith}
 use lib.Dec.{T, leb, eqb, leb→le, le→leb, eqb→eq}
 use lib.ListN.{length}
 use Rattle.field.specs.Bytes.{Bytes, pick}
-use Rattle.field.specs.Row.{Row, end, loose, field}
-use Rattle.names.specs.Names as A
+use Rattle.field.specs.Row.{Row, end, field}
 use Rattle.page.specs.Page as P
 use Rattle.page.specs.Check.{name_parts, is_name, no_hyphen}
 use Rattle.page.specs.Encode.{texts_row, name_row, attr_name_row}
 use Rattle.page.specs.Limits.{Deep, NameOk, MembersOk, ElementNameOk, AttrNameOk}
 use Rattle.page.proofs.Verdicts.{and_both, both_and}
-use Rattle.grammar.specs.Signs.{each, letter, digit, name_byte, some_byte}
+use Rattle.grammar.specs.Signs.{each, letter, digit, name_byte}
 use Rattle.grammar.specs.Syntax as S
 use Rattle.grammar.specs.Syntax.{part, Name, short, member_parts, attribute_name_fits, member_fits, tag_name_fits}
-use Rattle.grammar.proofs.Tests.{or_cases, at_eq}
+use Rattle.grammar.proofs.Tests.{or_cases}
 use Rattle.grammar.proofs.Letters.{is_ident, Idents}
 use Rattle.tag_tree.specs.PageTag.{idents, page_name, page_attr_name}
 use Rattle.tag_tree.specs.TagAnswer.{shallow}

@@ -3,7 +3,7 @@
 use Prim.Native.Nat.{ℕ}
 use mathlib.Core.Path.{◌≡◌, refl, sym, ◌∙◌, ap, subst}
 use mathlib.Core.Bool.{Bool, true, false, not}
-use mathlib.Core.List.{List, [], ◌∷◌}
+use mathlib.Core.List.{[], ◌∷◌}
 use mathlib.Core.Logic.{◌↔◌}
 use lib.Dec.{T, leb}
 use lib.ListN.{length}
@@ -14,15 +14,15 @@ use Rattle.page.specs.Page as P
 use Rattle.page.specs.Tree.{page_in}
 use Rattle.page.specs.Check.{check_page}
 use Rattle.page.specs.Encode.{encode}
-use Rattle.page.specs.Limits.{TagOk, PiecesOk, ModuleItemsOk, WithinLimits}
+use Rattle.page.specs.Limits.{TagOk, ModuleItemsOk, WithinLimits}
 use Rattle.page.specs.declared.Verdict.TheVariants.{Fine}
 use Rattle.page.proofs.Exact.{page_read}
-use Rattle.grammar.specs.Syntax.{Tag, matched}
-use Rattle.grammar.specs.Grammar.{ReadsAs, Reads}
+use Rattle.grammar.specs.Syntax.{Tag}
+use Rattle.grammar.specs.Grammar.{Reads}
 use Rattle.grammar.specs.Reader.{Answer, taken, refused_14, refused_15, answer}
-use Rattle.grammar.proofs.Exact.{unique, taken_exactly, fourteen_exactly, fifteen_exactly}
+use Rattle.grammar.proofs.Exact.{taken_exactly, fourteen_exactly, fifteen_exactly}
 use Rattle.tag_tree.specs.PageTag.{page_tag}
-use Rattle.tag_tree.specs.TagAnswer.{TagRefusal, input_too_long, not_utf8, no_reading, names_differ, number_too_large, too_deep, output_too_long, tag_too_small, TagOutcome, tag_refused, tag_accepted, numbers_in_range, shallow, tag_field, tag_encode, IsAnswered, is_long, is_no_utf8, has_no_reading, has_other_names, has_number_over, is_deep, has_long_body, has_no_room, is_read, given, within, answered, tag_outcome}
+use Rattle.tag_tree.specs.TagAnswer.{TagRefusal, input_too_long, not_utf8, number_too_large, too_deep, output_too_long, tag_too_small, TagOutcome, tag_refused, tag_accepted, numbers_in_range, shallow, tag_field, tag_encode, IsAnswered, is_long, is_no_utf8, has_no_reading, has_other_names, has_number_over, is_deep, has_long_body, has_no_room, is_read, given, within, answered, tag_outcome}
 use Rattle.tag_tree.proofs.TagLimits.{tag_ok}
 
 -- ---- a test and what follows it

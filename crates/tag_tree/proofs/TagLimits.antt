@@ -1,27 +1,22 @@
 -- What the grammar reads of a UTF-8 text is within the limits of a page's tag, where its numbers and its depth are. Main statement: `tag_ok`.
 -- Assumes nothing.
-use Prim.Native.Nat.{ℕ, suc, ◌<◌}
-use mathlib.Core.Path.{◌≡◌, refl, sym, ◌∙◌, ap, subst}
-use mathlib.Core.Bool.{Bool, true, false, ◌&&◌, not}
-use mathlib.Core.List.{List, [], ◌∷◌}
+use Prim.Native.Nat.{ℕ, suc}
+use mathlib.Core.Path.{sym, subst}
+use mathlib.Core.Bool.{Bool, true}
+use mathlib.Core.List.{[], ◌∷◌}
 use native.Mathlib.Omega.{arith}
-use lib.Dec.{T, leb, eqb}
+use lib.Dec.{T, leb}
 use Rattle.field.specs.Bytes.{Bytes}
-use Rattle.field.specs.Row.{Row, end, loose, field}
-use Rattle.utf8.specs.Utf8.{utf8}
-use Rattle.names.specs.Names as A
-use Rattle.page.specs.Number as N
-use Rattle.page.specs.Number.{number_bytes}
+use Rattle.field.specs.Row.{Row, end, field}
 use Rattle.page.specs.Page as P
-use Rattle.page.specs.Encode.{boolean_byte, name_row, attr_name_row, tag_row, attributes_row, value_row, children_row, expr_row, pieces_row}
-use Rattle.page.specs.Limits.{Deep, Utf8Ok, NumberOk, TagOk, AttributesOk, ValueOk, ChildrenOk, ExprOk, PiecesOk, ElementNameOk, AttrNameOk}
+use Rattle.page.specs.Encode.{name_row, attr_name_row, tag_row, attributes_row, children_row, expr_row}
+use Rattle.page.specs.Limits.{Deep, Utf8Ok, TagOk, AttributesOk, ChildrenOk, ExprOk, ElementNameOk}
 use Rattle.page.proofs.Verdicts.{and_both, both_and}
-use Rattle.grammar.specs.Signs.{quote, text_byte, string_byte}
 use Rattle.grammar.specs.Known as K
 use Rattle.grammar.specs.Known.{Known}
 use Rattle.grammar.specs.Syntax as S
 use Rattle.grammar.specs.Syntax.{Name, every_tag, every_attributes, every_attribute, every_children, every_child, every_expr, tag_name_fits, attribute_name_fits, member_fits}
-use Rattle.grammar.specs.Grammar.{Spaces, IsName, Closing, closing_name, closing_fragment, IsTag, is_alone, is_around, is_fragment, IsAttributes, are_no_attributes, are_attributes, IsAttribute, is_no_value, is_string_value, is_container_value, is_tag_value, is_spread_attribute, IsChildren, are_no_children, are_children, IsChild, is_text_child, is_tag_child, is_empty_child, is_container_child, is_spread_child, IsExpr, is_tag_expr, is_known_expr}
+use Rattle.grammar.specs.Grammar.{Spaces, Closing, closing_name, closing_fragment, IsTag, is_alone, is_around, is_fragment, IsAttributes, are_no_attributes, are_attributes, IsAttribute, is_no_value, is_string_value, is_container_value, is_tag_value, is_spread_attribute, IsChildren, are_no_children, are_children, IsChild, is_text_child, is_tag_child, is_empty_child, is_container_child, is_spread_child, IsExpr, is_tag_expr, is_known_expr}
 use Rattle.grammar.proofs.Letters.{Whole, skip_ascii, spaces_utf8, text_utf8, string_utf8, quote_small, source_utf8, KnownUtf8, known_utf8, name_utf8, Idents, name_idents}
 use Rattle.tag_tree.specs.PageTag.{page_name, page_attr_name, page_known, page_tag_by, page_tag, page_attributes, page_attribute, page_children, page_child, page_expr}
 use Rattle.tag_tree.specs.TagAnswer.{known_in_range, shallow}

@@ -1,6 +1,6 @@
 -- The page's tree of a tag as it was read: a field of 01 for each thing, closing names dropped. Main definition: `page_tag`.
 -- Assumes nothing: these are definitions.
-use Rattle.std.specs.Prelude.{ℕ, Bool, List, [], ◌∷◌, eqb}
+use Rattle.std.specs.Prelude.{List, [], ◌∷◌, eqb}
 use Rattle.field.specs.Bytes.{Bytes, pick}
 use Rattle.names.specs.Names as A
 use Rattle.names.specs.Names.{AttrName}

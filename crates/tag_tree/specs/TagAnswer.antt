@@ -1,7 +1,7 @@
 -- What the reader of tag text answers at every text and room: the number, and every byte of what is lent. Main definitions: `IsAnswered`, in
 -- the grammar's words, and `tag_outcome`, which computes; proofs/TagExact.antt has them equal.
 -- Assumes nothing: these are definitions.
-use Rattle.std.specs.Prelude.{ℕ, suc, Bool, true, false, ◌&&◌, not, List, [], ◌∷◌, T, leb, length, replicate}
+use Rattle.std.specs.Prelude.{ℕ, suc, Bool, true, false, ◌&&◌, not, T, leb, length, replicate}
 use Rattle.field.specs.Bytes.{Bytes}
 use Rattle.field.specs.Row.{Row, end, loose, field, bytes, long_body}
 use Rattle.field.specs.Put.{put}
@@ -11,7 +11,7 @@ use Rattle.page.specs.Number.{in_range}
 use Rattle.page.specs.Page as P
 use Rattle.page.specs.Encode.{tag_row}
 use Rattle.grammar.specs.Known.{Known, whole, minus_whole, decimal, minus_decimal, quoted, boolean, null, other}
-use Rattle.grammar.specs.Syntax.{Name, Tag, every_tag, matched}
+use Rattle.grammar.specs.Syntax.{Tag, every_tag, matched}
 use Rattle.grammar.specs.Grammar.{ReadsAs, Reads}
 use Rattle.grammar.specs.Reader.{Answer, taken, refused_14, refused_15, answer}
 use Rattle.tag_tree.specs.PageTag.{page_tag}

@@ -13,7 +13,6 @@ use Rattle.field.specs.Bytes.{Bytes, pick, null?}
 use Rattle.text.specs.Lines.{starts_with_lf, onto_first, lines}
 use Rattle.text.specs.Runs.{all, indent, is_space}
 use Rattle.text.specs.Text.{trimmed, some_line, trimmed_lines, kept, joined, escape_if, jsx_text_to_str}
-use Rattle.text.specs.Trim.{trim_by, trim_start, trim_end}
 use Rattle.text.proofs.TrimLaws.{trim_spaces, trim_visible}
 use Rattle.text.proofs.TextLaws.{escape_if_nil, null_kept, trimmed_nil}
 

@@ -10,7 +10,7 @@ use mathlib.Core.List.{List, [], ◌∷◌, ◌++◌, append-nil}
 use lib.Dec.{T, eqb, ltb, leb-suc-suc}
 use lib.ListN.{length, length-append}
 use Rattle.field.specs.Bytes.{Bytes, ascii, pick, same, among}
-use Rattle.field.specs.Row.{Row, end, loose, field, field_bytes, bytes, read, long_body}
+use Rattle.field.specs.Row.{Row, end, loose, field, field_bytes, bytes, long_body}
 use Rattle.field.specs.Put.{put}
 use Rattle.field.proofs.PutLaws.{put_back}
 use Rattle.field.proofs.RowLaws.{length_bytes}

@@ -9,7 +9,7 @@ use lib.Dec.{eqb, leb, ltb}
 use lib.ListN.{length, length-append}
 use borrow.Author.Tests.{lt-ltb, le-ltb, ne_eqb}
 use Rattle.field.specs.Bytes.{Bytes, ascii, pick, among}
-use Rattle.field.specs.Row.{Row, end, loose, field, bytes, read, long_body}
+use Rattle.field.specs.Row.{Row, end, loose, field, bytes, long_body}
 use Rattle.field.specs.Put.{put}
 use Rattle.field.proofs.RowLaws.{length_bytes}
 use Rattle.page.specs.Page.{Options, Page}

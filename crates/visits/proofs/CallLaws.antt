@@ -9,7 +9,7 @@ use mathlib.Core.List.{List, [], ◌∷◌}
 use lib.Dec.{eqb}
 use borrow.Author.Tests.{eqb-true, eq-eqb}
 use lib.ListN.{length}
-use Rattle.field.specs.Bytes.{Bytes, ascii, pick, same}
+use Rattle.field.specs.Bytes.{Bytes, ascii, pick}
 use Rattle.field.specs.Row.{Row, read}
 use Rattle.field.specs.Front.{tag_of_front, body_of, behind_of}
 use Rattle.field.proofs.FrontLaws.{read_empty}
@@ -38,9 +38,9 @@ use Rattle.walk.specs.declared.attribute.Gap.TheVariants as G
 use Rattle.walk.specs.declared.state.Walk.{Walk}
 use Rattle.walk.specs.See.{World, at, see, act, passed, to_page, begun, wrap, wrap_if, props_closed, Low}
 use Rattle.walk.specs.Plan.{Plan, prop_gap, plan_by, plan_front, plan_back, attr_plan, prop_plan, key_string, key_held}
-use Rattle.walk.proofs.SeeLaws.{Grows, grows_same, grows_then, see_grows, begun_grows, wrap_grows, low_back, low_is, see_none, see_node, see_rest, see_page, see_state, see_templates_length, see_page_length, plain, lift, lift_world, lift_wrap, lift_wrap_if, lift_begun, lift_props_closed}
+use Rattle.walk.proofs.SeeLaws.{Grows, grows_same, grows_then, see_grows, begun_grows, wrap_grows, low_back, low_is, see_none, see_node, see_page, see_state, see_templates_length, see_page_length, plain, lift, lift_world, lift_wrap, lift_wrap_if, lift_begun, lift_props_closed}
 use Rattle.walk.proofs.ActLaws.{see_append, act_grows, act_pure, act_map_pure, passed_see, passed_props_closed, call_named, call_props, children_begun, call_closed, act_call_none, act_call_some, act_to_call, is_none, template_stands, raised_stands, call_stands, array_stands}
-use Rattle.walk.proofs.GapLaws.{plan_mid, plan_done, prop_plan_is, plan_front_same, plan_back_same, plan_held_same, key_is, key_string_same}
+use Rattle.walk.proofs.GapLaws.{plan_mid, prop_plan_is, plan_front_same, plan_back_same, plan_held_same, key_is, key_string_same}
 use Rattle.visits.specs.Visiting.{expr_at, found_out, is_found}
 use Rattle.visits.proofs.FieldLaws.{field_begin, field_inner, field_close, field_done}
 use Rattle.visits.proofs.PartLaws.{passed_plan, plan_is, front_at, back_at, front_page, back_grows}

@@ -3,17 +3,17 @@
 -- Main statements: `see_visit`; `element_*`, `template_*` and `given_*` for the steps of a visit; `left_room`, `left_done`; `found_nothing`,
 -- `found_tag`, `found_given`; `fragment_*`. Assumes nothing.
 use mathlib.Core.Path.{◌≡◌, refl, sym, ap, ◌∙◌, subst}
-use Prim.Native.Nat.{ℕ, ◌+◌, ◌≤◌, ◌<◌, ◌^◌}
+use Prim.Native.Nat.{ℕ, ◌+◌, ◌≤◌}
 use native.Mathlib.Omega.{arith}
 use mathlib.Core.List.{List, [], ◌∷◌, ◌++◌}
 use mathlib.Core.Bool.{Bool, true, false, ◌||◌, or-false, false≢true}
-use lib.Dec.{T, eqb}
+use lib.Dec.{eqb}
 use lib.ListN.{length, drop, length-take, length-drop}
 use borrow.Author.Tests.{ne_eqb}
 use denote.Enum.Declared.{tag_of}
 use types.Run.{OneOf, miss}
 use Rattle.field.specs.Bytes.{Bytes, pick}
-use Rattle.field.specs.Row.{Row, end, loose, field, read, bytes, long_body}
+use Rattle.field.specs.Row.{Row, end, field, read, bytes, long_body}
 use Rattle.field.specs.Front.{tag_of_front, body_of, behind_of}
 use Rattle.field.proofs.PutLaws.{put_nil}
 use Rattle.page.specs.Number.{Number, whole, scaled, number_tag, minus_tag, number_in}
@@ -27,7 +27,7 @@ use Rattle.spec.specs.Merge as M
 use Rattle.spec.specs.Merge.{nothing_found, one_found, array_found}
 use Rattle.spec.specs.Children.{children_to_string, serialize_jsx, found_of, entry_pass, found_pass, children_to_expr, call_node, to_call_expr}
 use Rattle.spec.specs.Visit.{visit_exprs, visit_inside, visit_after, visit_found, visit_only_child, visit_fragment, leave}
-use Rattle.spec.specs.Transform.{templates_row, stands, element_of, fragment_of, element_raw, shape_of, raw_tag, expr, children, child}
+use Rattle.spec.specs.Transform.{templates_row, stands, element_of, fragment_of, element_raw, shape_of, expr, children, child}
 use Rattle.decisions.specs.At.{opts, element_at, children_at, is_none, few, FirstChild}
 use Rattle.decisions.proofs.Series.{tested, any_front, children_61, expr_70, expr_71, expr_72, expr_74, expr_75, expr_76, expr_79, expr_7a, expr_7b, expr_30, expr_31}
 use Rattle.strings.specs.Recorded.{recorded}
@@ -40,12 +40,11 @@ use Rattle.found.specs.declared.Kind.{Kind}
 use Rattle.found.specs.declared.Kind.TheVariants as F
 use Rattle.found.specs.contracts.Kind.{the_type}
 use Rattle.walk.specs.declared.state.Walk.{Walk}
-use Rattle.walk.specs.Plan.{contained_mid}
 use Rattle.strings.specs.Due.{graver, long_due, grave}
 use Rattle.walk.specs.See.{World, at, wrote, see, passed, act, numbered, wrap, left, Low}
 use Rattle.walk.proofs.SeeLaws.{Split, wrote_then, lift, lift_left, low_is}
 use Rattle.walk.proofs.ActLaws.{see_raw, after_fields, passed_see, act_gen_template, act_grows, act_first}
-use Rattle.visits.specs.Visiting.{Place, expr_at, held_at, element_mid, fragment_mid, untagged_kind, found_out, recording, entered, enter, with_first, returned, Given, Untagged}
+use Rattle.visits.specs.Visiting.{Place, expr_at, element_mid, fragment_mid, untagged_kind, found_out, recording, entered, enter, with_first, returned, Given, Untagged}
 use Rattle.visits.proofs.FieldLaws.{template_begin, template_inner, template_close, template_done}
 
 -- ---- a visit

@@ -1,11 +1,9 @@
 -- The page walk's cycle: what stands in bytes, and how a visit begins with the record walk. Assumes nothing: these are definitions.
-use Rattle.std.specs.Prelude.{ℕ, ◌≤◌, ◌<◌, ◌^◌, Bool, true, false, ◌||◌, ◌≡◌, eqb, List, [], length}
+use Rattle.std.specs.Prelude.{ℕ, ◌≤◌, ◌<◌, ◌^◌, Bool, true, false, ◌||◌, ◌≡◌, eqb, length}
 use Rattle.field.specs.Bytes.{Bytes}
 use Rattle.field.specs.Row.{read}
 use Rattle.field.specs.Front.{tag_of_front}
-use Rattle.page.specs.Page as P
-use Rattle.page.specs.Page.{Options}
-use Rattle.page.specs.Tree.{expr_in, items_in, pieces_in, contained_in, Contained, nothing_contained, contained}
+use Rattle.page.specs.Tree.{expr_in, items_in, pieces_in, contained_in}
 use Rattle.spec.specs.Pass as S
 use Rattle.spec.specs.Pass.{Pass, Mid, raw}
 use Rattle.spec.specs.Merge.{Found}

@@ -1,6 +1,6 @@
 -- What stands in page out for an attribute in an opening tag, and for a property of a call: a field with a front, an expression that is held
 -- in the page and visited, and what is written behind it. Assumes nothing: these are definitions.
-use Rattle.std.specs.Prelude.{ℕ, Bool, true, false, ◌||◌, not, List, [], ◌∷◌}
+use Rattle.std.specs.Prelude.{ℕ, Bool, true, false, ◌||◌, List, []}
 use Rattle.field.specs.Bytes.{Bytes, ascii, pick, same, among}
 use Rattle.field.specs.Row.{read}
 use Rattle.names.specs.Names.{AttrName, get_attr_name, is_boolean_attr}

@@ -1,6 +1,6 @@
 -- The page walk: both outs with the places in them, and what both passes do to them. Assumes nothing: these are definitions.
-use Rattle.std.specs.Prelude.{ℕ, ◌+◌, ◌-◌, ◌<◌, ◌^◌, Bool, true, false, ◌||◌, List, [], ◌∷◌, ◌++◌, eqb, ltb, length}
-use Rattle.field.specs.Bytes.{Bytes, ascii, pick}
+use Rattle.std.specs.Prelude.{ℕ, ◌+◌, ◌-◌, ◌<◌, ◌^◌, Bool, true, false, ◌||◌, [], ◌∷◌, ◌++◌, eqb, ltb, length}
+use Rattle.field.specs.Bytes.{Bytes, pick}
 use Rattle.field.specs.Number.{big_endian}
 use Rattle.field.specs.Row.{Row, bytes, long_body}
 use Rattle.field.specs.Put.{put, head}
@@ -8,7 +8,7 @@ use Rattle.page.specs.Page as P
 use Rattle.page.specs.Number.{number_tag, minus_tag, number_bytes}
 use Rattle.page.specs.Tree.{texts_in, first_in, second_in}
 use Rattle.page.specs.Encode.{boolean_byte}
-use Rattle.spec.specs.Pass.{Template, Done, Pass, Mid, none, node, raw}
+use Rattle.spec.specs.Pass.{Done, Pass, Mid, none, node}
 use Rattle.spec.specs.Output.{leaf, null_node}
 use Rattle.spec.specs.Visit as W
 use Rattle.spec.specs.Visit.{visit_exprs}

@@ -1,18 +1,16 @@
 -- The bytes that are written of a page that is accepted are the worked page's own. Main statements: `page_row_worked`, `accepted_worked`.
 -- Assumes nothing.
-use Prim.Native.Nat.{ℕ}
 use mathlib.Core.Path.{◌≡◌, refl, sym, ◌∙◌, ap, ap₂}
-use mathlib.Core.Bool.{Bool, true, false}
 use mathlib.Core.List.{[], ◌∷◌}
-use Rattle.field.specs.Bytes.{Bytes, AllBytes, pick}
-use Rattle.field.specs.Row.{Row, end, loose, field, bytes, read}
+use Rattle.field.specs.Bytes.{Bytes, AllBytes}
+use Rattle.field.specs.Row.{Row, end, field, bytes, read}
 use Rattle.field.proofs.RowLaws.{read_sane}
 use Rattle.names.specs.Names as A
 use Rattle.names.specs.Names.{AttrName}
-use Rattle.page.specs.Number.{Number, whole, scaled, number_tag, minus_tag, number_bytes}
-use Rattle.page.specs.Page.{Name, identifier, member, namespaced, Tag, element, fragment, Attributes, no_attributes, attribute, spread_attribute, Value, absent, string_value, empty_value, container_value, tag_value, Children, no_children, text_child, empty_child, container_child, tag_child, spread_child, Expr, string_literal, number_literal, boolean_literal, null_literal, other_literal, minus_literal, array_literal, other_expr, tag_expr, Items, no_items, item, spread_item, hole_item, Pieces, no_pieces, source_piece, tag_piece, ModuleItem, export_item, declaration_item, statement_item, empty_item, Page}
+use Rattle.page.specs.Number.{Number, whole, scaled, number_tag, minus_tag}
+use Rattle.page.specs.Page.{Name, identifier, member, namespaced, Tag, element, fragment, Attributes, no_attributes, attribute, spread_attribute, Value, absent, string_value, empty_value, container_value, tag_value, Children, no_children, text_child, empty_child, container_child, tag_child, spread_child, Expr, string_literal, number_literal, boolean_literal, null_literal, other_literal, minus_literal, array_literal, other_expr, tag_expr, Items, no_items, item, spread_item, hole_item, Pieces, no_pieces, source_piece, tag_piece, export_item, declaration_item, statement_item, empty_item, Page}
 use Rattle.page.specs.Tree.{choose, pieces_in, page_in}
-use Rattle.page.specs.Encode.{texts_row, name_row, attr_name_row, tag_row, attributes_row, value_row, children_row, expr_row, items_row, pieces_row, module_items_row, page_row, encode}
+use Rattle.page.specs.Encode.{name_row, attr_name_row, tag_row, attributes_row, value_row, children_row, expr_row, items_row, pieces_row, module_items_row, page_row, encode}
 use Rattle.page.specs.Check.{check_page}
 use Rattle.page.specs.declared.Verdict.TheVariants.{Fine}
 use Rattle.page.proofs.Sound.{page_sound}

@@ -1,21 +1,20 @@
 -- What is written reads as the worked page. Main statements: `read_worked`, `bytes_worked`, `worked_bound`, and of the lent buffer
 -- `buffer_fits`, `buffer_bytes`, `buffer_worked`.
 -- Assumes nothing.
-use Prim.Native.Nat.{ℕ, zero, suc, ◌+◌, ◌*◌, ◌≤◌, ◌<◌}
+use Prim.Native.Nat.{ℕ, ◌+◌, ◌≤◌, ◌<◌}
 use mathlib.Core.Path.{◌≡◌, refl, sym, ◌∙◌, ap, subst}
-use mathlib.Core.Bool.{Bool, true, false, not}
-use mathlib.Core.List.{[], ◌∷◌, ◌++◌}
+use mathlib.Core.Bool.{Bool, true, false}
+use mathlib.Core.List.{[], ◌++◌}
 use native.Mathlib.Omega.{arith}
-use lib.Dec.{T, eqb}
 use lib.ListN.{length, take, drop}
 use lib.Seq.{take_at, length-take-le}
 use Rattle.field.specs.Bytes.{Bytes, AllBytes, pick}
-use Rattle.field.specs.Row.{Row, end, loose, field, bytes, Inside, only_bytes, fields_after, inside, read}
-use Rattle.field.specs.Put.{put, Wrote}
+use Rattle.field.specs.Row.{Row, end, loose, field, bytes, Inside, fields_after, inside, read}
+use Rattle.field.specs.Put.{Wrote}
 use Rattle.field.proofs.PutLaws.{put_fits, wrote_length}
 use Rattle.field.proofs.NumberLaws.{all_big_endian}
 use Rattle.field.proofs.RowLaws.{FrontFits, Shaped, Sane, read_shaped, read_sane, sane_bytes, read_back}
-use Rattle.page.specs.Number.{whole, number_bytes}
+use Rattle.page.specs.Number.{number_bytes}
 use Rattle.page.specs.Tree.{page_in}
 use Rattle.page.proofs.PageRow.{short_row}
 use Rattle.sums.specs.declared.value.Worked.{Worked}

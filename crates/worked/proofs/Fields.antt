@@ -1,22 +1,22 @@
 -- The worked bytes of a row, field by field. Main statements: `worked_front`, `worked_none`, `worked_leaf`, `worked_nest`, `worked_plus`,
 -- `worked_minus`. Assumes nothing.
-use Prim.Native.Nat.{ℕ, ◌+◌, ◌*◌, ◌≤◌, ◌<◌}
-use mathlib.Core.Path.{◌≡◌, refl, sym, ◌∙◌, ap, ap₂, subst}
-use mathlib.Core.Bool.{Bool, true, false, ◌&&◌, ◌||◌}
-use mathlib.Core.List.{[], ◌∷◌, ◌++◌, append-nil, append_assoc}
+use Prim.Native.Nat.{ℕ, ◌≤◌}
+use mathlib.Core.Path.{◌≡◌, refl, sym, ◌∙◌, ap, ap₂}
+use mathlib.Core.Bool.{Bool, true, false, ◌&&◌}
+use mathlib.Core.List.{[], ◌++◌, append-nil}
 use native.Mathlib.Omega.{arith}
 use lib.Dec.{leb, eqb}
-use lib.ListN.{length, take, drop, take-append-drop}
-use borrow.Author.Tests.{eqb-true, eq-eqb, ne_eqb, leb-true, eqb-false}
+use lib.ListN.{take, drop, take-append-drop}
+use borrow.Author.Tests.{eqb-true, leb-true, eqb-false}
 use Rattle.field.specs.Bytes.{Bytes, AllBytes, pick}
-use Rattle.field.specs.Row.{Row, end, loose, field, field_bytes, bytes, Inside, only_bytes, fields_after, counted, counted_front, inside, Next, nothing, no_field, next, next_of, opened, built, read, Ended}
+use Rattle.field.specs.Row.{Row, end, field, field_bytes, bytes, Inside, only_bytes, fields_after, counted, counted_front, inside, next, next_of, opened, built, read, Ended}
 use Rattle.field.proofs.NumberLaws.{all_drop}
 use Rattle.field.proofs.RowLaws.{read_step, read_nil, read_ind, next_nothing, bytes_read}
 use Rattle.page.specs.Number.{whole, number_bytes}
 use Rattle.sums.specs.declared.value.Worked.{Worked}
 use Rattle.sums.specs.declared.value.Worked.TheVariants.{Stays, Plus, Minus}
 use Rattle.worked.specs.Row.{holds, field_sum, number_or, worked_row, worked_bytes, worked_field}
-use Rattle.worked.proofs.Tests.{or_false, or_true, both}
+use Rattle.worked.proofs.Tests.{or_true, both}
 use Rattle.worked.proofs.Pieces.{no_79}
 
 -- ---- one field and those behind it

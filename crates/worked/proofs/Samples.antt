@@ -3,7 +3,7 @@ use mathlib.Core.Path.{◌≡◌, refl}
 use mathlib.Core.List.{List, [], ◌∷◌}
 use Rattle.field.specs.Bytes.{Bytes, ascii}
 use Rattle.page.specs.Number.{whole}
-use Rattle.page.specs.Page.{Tag, fragment, no_children, container_child, Expr, string_literal, number_literal, minus_literal, array_literal, other_expr, tag_expr, no_items, item, spread_item, hole_item, no_pieces, source_piece, tag_piece, ModuleItem, statement_item}
+use Rattle.page.specs.Page.{fragment, no_children, container_child, Expr, string_literal, number_literal, minus_literal, array_literal, other_expr, no_items, spread_item, hole_item, no_pieces, source_piece, tag_piece, statement_item}
 use Rattle.sums.specs.Choice.{choose, digit}
 use Rattle.sums.specs.Value.{upward, downward, difference, added, taken, multiplied, value}
 use Rattle.sums.specs.Machine as M

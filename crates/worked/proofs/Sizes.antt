@@ -1,21 +1,20 @@
 -- A worked page is at most eleven sevenths as long: the shortest sum is a 79 of seven bytes, and a number has eleven.
 -- Main statements: `worked_size`, `worked_room`, `field_room`. Assumes nothing.
-use Prim.Native.Nat.{ℕ, ◌+◌, ◌*◌, ◌≤◌, ◌<◌}
-use mathlib.Core.Path.{◌≡◌, refl, sym, ◌∙◌, ap, subst}
-use mathlib.Core.Bool.{Bool, true, false, ◌||◌}
-use mathlib.Core.List.{[], ◌∷◌, ◌++◌}
+use Prim.Native.Nat.{ℕ, ◌+◌, ◌*◌, ◌≤◌}
+use mathlib.Core.Path.{◌≡◌, refl, sym, ◌∙◌, ap}
+use mathlib.Core.Bool.{Bool, true, false}
+use mathlib.Core.List.{[], ◌∷◌}
 use native.Mathlib.Omega.{arith}
 use lib.Dec.{eqb}
 use lib.ListN.{length, take, drop, length-append, take-append-drop}
-use borrow.Author.Tests.{eqb-true}
 use Rattle.field.specs.Bytes.{Bytes, pick}
 use Rattle.field.specs.Number.{big_endian}
-use Rattle.field.specs.Row.{Row, end, loose, field, bytes, Inside, only_bytes, fields_after, counted, counted_front, inside, next_of, nothing, no_field, next, opened, read}
+use Rattle.field.specs.Row.{Row, end, loose, field, bytes, Inside, only_bytes, fields_after, counted, counted_front, inside, opened, read}
 use Rattle.field.proofs.NumberLaws.{length_big_endian}
-use Rattle.field.proofs.RowLaws.{read_ind, read_nil, next_nothing, next_sizes, length_bytes}
+use Rattle.field.proofs.RowLaws.{read_ind, next_nothing, next_sizes, length_bytes}
 use Rattle.page.specs.Number.{whole, number_bytes}
 use Rattle.page.specs.Page.{Pieces, no_pieces, source_piece, tag_piece}
-use Rattle.page.specs.Tree.{choose, pieces_in, element_in, fragment_in}
+use Rattle.page.specs.Tree.{pieces_in}
 use Rattle.sums.specs.Machine.{sum_of, found, outcome, at_end}
 use Rattle.sums.specs.declared.value.Worked.{Worked}
 use Rattle.sums.specs.declared.value.Worked.TheVariants.{Stays, Plus, Minus}

@@ -1,14 +1,14 @@
 -- The tree of a worked row is the worked tree, whatever the row. `Alike i j`: every reading of j is the worked reading of i; one induction
 -- on rows. Main statement: `page_worked`. Assumes nothing.
-use Prim.Native.Nat.{ℕ, ◌≤◌, ◌<◌, ◌^◌}
+use Prim.Native.Nat.{ℕ, ◌<◌, ◌^◌}
 use mathlib.Core.Path.{◌≡◌, refl, sym, ◌∙◌, ap, ap₂, subst}
-use mathlib.Core.Bool.{Bool, true, false, ◌||◌}
+use mathlib.Core.Bool.{Bool, true, false}
 use mathlib.Core.List.{[], ◌∷◌}
 use native.Mathlib.Omega.{arith}
 use lib.Dec.{eqb}
-use lib.ListN.{length, take}
+use lib.ListN.{take}
 use lib.Seq.{take_all}
-use borrow.Author.Tests.{eqb-true, eq-eqb}
+use borrow.Author.Tests.{eqb-true}
 use Rattle.field.specs.Bytes.{Bytes, pick}
 use Rattle.field.specs.Number.{big_endian, number_of}
 use Rattle.field.specs.Row.{Row, end, loose, field}
@@ -16,7 +16,7 @@ use Rattle.field.proofs.NumberLaws.{length_big_endian, eight_read}
 use Rattle.names.specs.Names as A
 use Rattle.names.specs.Names.{AttrName}
 use Rattle.page.specs.Number.{whole, number_bytes, number_in}
-use Rattle.page.specs.Page.{Name, identifier, member, namespaced, Tag, element, fragment, Attributes, no_attributes, attribute, spread_attribute, Value, absent, string_value, empty_value, container_value, tag_value, Children, no_children, text_child, empty_child, container_child, tag_child, spread_child, Expr, string_literal, number_literal, boolean_literal, null_literal, other_literal, minus_literal, array_literal, other_expr, tag_expr, Items, no_items, item, spread_item, hole_item, Pieces, no_pieces, source_piece, tag_piece, ModuleItem, export_item, declaration_item, statement_item, empty_item, Page}
+use Rattle.page.specs.Page.{Name, identifier, member, namespaced, Tag, element, fragment, attribute, spread_attribute, Value, tag_value, Children, text_child, tag_child, spread_child, Expr, number_literal, minus_literal, array_literal, other_expr, tag_expr, Items, item, spread_item, hole_item, Pieces, no_pieces, source_piece, tag_piece, ModuleItem, export_item, declaration_item, statement_item, empty_item, Page}
 use Rattle.page.specs.Tree.{choose, texts_in, first_in, second_in, name_by, attr_name_by, expr_by, Contained, nothing_contained, contained, contained_value, contained_child, value_by, child_by, element_in, fragment_in, attributes_in, attr_name_in, value_in, value_behind, children_in, contained_in, expr_in, items_in, pieces_in, module_item_by, module_items_in, page_in}
 use Rattle.sums.proofs.Proper.{Proper, sum_proper}
 use Rattle.sums.specs.declared.value.Worked.{Worked}

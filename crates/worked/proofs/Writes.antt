@@ -1,27 +1,27 @@
 -- What the code leaves in the lent buffer. Main statements: `number_written`; of a field `leaf_written`, `plus_written`, `minus_written`,
 -- `nest_written`; of a row `left_start`, `left_on`, `left_end`. Assumes nothing.
-use Prim.Native.Nat.{ℕ, ◌+◌, ◌-◌, ◌*◌, ◌≤◌, ◌<◌}
-use mathlib.Core.Path.{◌≡◌, refl, sym, ◌∙◌, ap, subst}
+use Prim.Native.Nat.{ℕ, ◌+◌, ◌-◌, ◌*◌, ◌≤◌}
+use mathlib.Core.Path.{◌≡◌, refl, sym, ◌∙◌, ap}
 use mathlib.Core.Bool.{Bool, true, false}
-use mathlib.Core.List.{[], ◌∷◌, ◌++◌}
+use mathlib.Core.List.{[], ◌++◌}
 use native.Mathlib.Omega.{arith}
 use lib.ListN.{length, take, drop, length-append}
 use Rattle.field.specs.Bytes.{Bytes, AllBytes}
 use Rattle.field.specs.Number.{big_endian}
-use Rattle.field.specs.Row.{field_bytes, next_of, next, read, Ended}
+use Rattle.field.specs.Row.{field_bytes, read}
 use Rattle.field.specs.Header.{header_of}
 use Rattle.field.specs.declared.reader.Header.{Header}
 use Rattle.field.specs.declared.reader.Header.TheVariants as H
 use Rattle.field.specs.Put.{put, Wrote, head}
 use Rattle.field.proofs.RowLaws.{next_sizes}
 use Rattle.field.proofs.HeaderLaws.{next_field, no_field_read}
-use Rattle.field.proofs.PutLaws.{put_put, wrote_then, wrote_is, wrote_field, wrote_behind}
+use Rattle.field.proofs.PutLaws.{put_put, wrote_is, wrote_field, wrote_behind}
 use Rattle.page.specs.Number.{whole, number_bytes}
 use Rattle.sums.specs.declared.value.Worked.{Worked}
 use Rattle.sums.specs.declared.value.Worked.TheVariants as W
 use Rattle.worked.specs.Row.{holds, field_sum, worked_bytes, worked_field}
 use Rattle.worked.proofs.Fields.{worked_front, worked_none, worked_leaf, worked_nest, worked_plus, worked_minus}
-use Rattle.worked.proofs.Sizes.{worked_room, field_room}
+use Rattle.worked.proofs.Sizes.{field_room}
 
 pub number_written : {o o₁ o₂ : Bytes} {n n₁ n₂ : ℕ} (t k : ℕ) → Wrote o n (head t 8) o₁ n₁ → Wrote o₁ n₁ (big_endian 8 k []) o₂ n₂ → Wrote o n (field_bytes t (number_bytes (whole k))) o₂ n₂
 unfolding number_bytes big_endian

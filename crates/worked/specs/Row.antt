@@ -1,6 +1,6 @@
 -- The same on rows of fields, whatever the fields: a 79 goes by the tree that its pieces are read as. Assumes nothing: these are
 -- definitions.
-use Rattle.std.specs.Prelude.{ℕ, Bool, true, false, ◌&&◌, ◌||◌, [], ◌∷◌, leb, eqb}
+use Rattle.std.specs.Prelude.{ℕ, Bool, ◌&&◌, ◌||◌, [], leb, eqb}
 use Rattle.field.specs.Bytes.{Bytes, pick}
 use Rattle.field.specs.Row.{Row, end, loose, field, bytes, inside, opened, read}
 use Rattle.page.specs.Number.{whole, number_bytes}

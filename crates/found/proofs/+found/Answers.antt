@@ -1,18 +1,15 @@
 -- The invariant: what was found is the entries so far, and what is left gives the others. A fragment's body is shorter than the series; found_of
 -- calls entries_of on the same bytes, so its measure is the greater one.
-use borrow.Author.Rules.{rules}
 use mathlib.Core.Path.{refl}
 use native.Mathlib.Omega.{arith}
-use lib.ListN.{length}
 use Rattle.field.proofs.FrontLaws.{behind_less, body_less}
 use Rattle.decisions.proofs.ChildrenLaws.{few_none, few_one, few_more}
 use Rattle.found.proofs.Places.{tail_room, stands_room, stands_body}
 use Rattle.found.proofs.KindLaws.{settled}
 use Rattle.found.proofs.FirstLaws.{first_room, first_place, first_slice}
-use Rattle.found.proofs.WalkLaws.{Looked, looked_start, looked_many, looked_end}
+use Rattle.found.proofs.WalkLaws.{looked_start, looked_many, looked_end}
 use Rattle.found.proofs.StepLaws.{room_inside, step_blank, step_text, step_run, step_joined, step_more, step_expr, step_element, step_fragment, step_other}
 use Rattle.found.proofs.FoundLaws.{stands_inside, found_none, found_60, found_52, found_empty, found_30, found_31, found_61, found_template, found_several, found_many}
-use Prim.Native.Nat.{ℕ, ◌+◌, ◌*◌, ◌<◌}
 use Rattle.found.proofs.+found.Goals as goal
 
 pub entries_of-loop-t-init : goal.entries_of-loop-t-init

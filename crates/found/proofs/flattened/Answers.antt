@@ -1,4 +1,3 @@
-use borrow.Author.Rules.{rules}
 use Rattle.found.proofs.Places.{slice_is}
 use Rattle.found.proofs.FlattenLaws.{flat_77, flat_78, flat_other, flat_many, flat_placed, flat_rest}
 use borrow.Enum.Refused.{opened}

@@ -1,13 +1,11 @@
 -- The invariant: what is left holds the same children.
-use borrow.Author.Rules.{rules}
 use mathlib.Core.Path.{refl, sym, ap, ◌∙◌}
-use lib.ListN.{length}
 use Rattle.field.specs.Row.{read}
 use Rattle.field.proofs.FrontLaws.{behind_less}
 use Rattle.page.specs.Tree.{children_in}
 use Rattle.decisions.proofs.Series.{children_other}
 use Rattle.found.proofs.Places.{tail_all, stands_behind}
-use Rattle.found.proofs.FirstLaws.{Passed, first_at, first_none}
+use Rattle.found.proofs.FirstLaws.{first_at, first_none}
 use Rattle.found.proofs.from_first.Goals as goal
 
 pub loop-r-init : goal.loop-r-init
@@ -36,6 +34,6 @@ loop-r-smaller c = behind_less _ _ c.tag_at.ensures.0 c.in_default.in_default-ow
 
 pub loop-r-preserved : goal.loop-r-preserved
 loop-r-preserved c = record {
-      tail = stands_behind _ _ c.loop-r.invariant.tail _ c.tag_at.ensures.0 c.in_default.in_default-own.rest.1 c.behind-r.ensures;
-      same_children = ap (λ x. children_in (read x)) c.behind-r.ensures ∙ sym (children_other _ _ c.tag_at.ensures.0 c.in_default.in_default-own.rest.1 c.in_default.in_default-own.rest.0.0.0.0.0.1 c.in_default.in_default-own.rest.0.0.0.0.1 c.in_default.in_default-own.rest.0.0.0.1 c.in_default.in_default-own.rest.0.0.1 c.in_default.in_default-own.rest.0.1) ∙ c.loop-r.invariant.same_children;
-    }
+  tail = stands_behind _ _ c.loop-r.invariant.tail _ c.tag_at.ensures.0 c.in_default.in_default-own.rest.1 c.behind-r.ensures;
+  same_children = ap (λ x. children_in (read x)) c.behind-r.ensures ∙ sym (children_other _ _ c.tag_at.ensures.0 c.in_default.in_default-own.rest.1 c.in_default.in_default-own.rest.0.0.0.0.0.1 c.in_default.in_default-own.rest.0.0.0.0.1 c.in_default.in_default-own.rest.0.0.0.1 c.in_default.in_default-own.rest.0.0.1 c.in_default.in_default-own.rest.0.1) ∙ c.loop-r.invariant.same_children;
+}

@@ -1,4 +1,3 @@
-use borrow.Author.Rules.{rules}
 use Rattle.found.proofs.KindLaws.{many_settled, others_unsettled}
 use borrow.Enum.Refused.{opened}
 use Rattle.found.proofs.is_settled.Goals as goal

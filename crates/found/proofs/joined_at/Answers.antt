@@ -1,4 +1,3 @@
-use borrow.Author.Rules.{rules}
 use Rattle.found.proofs.JoinLaws.{joined_empty, joined_blank, joined_string, joined_number, joined_boolean, joined_null, joined_literal, joined_minus, joined_other}
 use Rattle.found.proofs.joined_at.Goals as goal
 

@@ -1,4 +1,3 @@
-use borrow.Author.Rules.{rules}
 use Rattle.found.proofs.Places.{slice_is}
 use Rattle.found.proofs.SpliceLaws.{splice_nothing, splice_none, splice_one, splice_more, splice_plain, splice_rest}
 use borrow.Enum.Refused.{opened}

@@ -1,4 +1,3 @@
-use borrow.Author.Rules.{rules}
 use mathlib.Core.Path.{◌∙◌}
 use Rattle.found.proofs.KindLaws.{not_empty, then_behind, then_before, then_many}
 use borrow.Enum.Refused.{opened}

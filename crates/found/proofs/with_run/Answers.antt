@@ -1,4 +1,3 @@
-use borrow.Author.Rules.{rules}
 use Rattle.found.proofs.KindLaws.{run_behind}
 use Rattle.found.proofs.with_run.Goals as goal
 

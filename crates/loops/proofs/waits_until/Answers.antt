@@ -1,6 +1,5 @@
 -- `loops::waits_until` meets its contract. Assumes nothing.
 use Rattle.loops.proofs.Parts.{until_under}
-use borrow.Author.Rules.{rules}
 use Rattle.loops.proofs.waits_until.Goals as goal
 
 -- src/lib.rt:150:1

@@ -1,24 +1,16 @@
 -- The invariants of both loops: scratch keeps its length, no more is left than came, and what is left records, from here on, what the whole
 -- records from the start.
-use mathlib.Core.Path.{◌≡◌, refl, sym, ◌∙◌, subst, ap}
+use mathlib.Core.Path.{refl, sym, ◌∙◌, subst, ap}
 use mathlib.Core.Bool.{false, not}
 use mathlib.Core.List.{[]}
-use Prim.Native.Nat.{ℕ, ◌+◌, ◌*◌, ◌≤◌, ◌<◌}
 use native.Mathlib.Nat.{le_refl}
 use native.Mathlib.Omega.{arith}
-use lib.ListN.{length}
-use Rattle.field.specs.Row.{read}
-use Rattle.spec.specs.Merge.{merge}
-use Rattle.spec.specs.Output.{dynamic_exprs}
-use Rattle.spec.specs.Children.{children_to_string, entries, entries_pass}
-use Rattle.decisions.specs.At.{children_at}
 use Rattle.field.proofs.FrontLaws.{body_less, behind_less}
-use Rattle.records.specs.Keep.{at, keep, Low}
+use Rattle.records.specs.Keep.{at, Low}
 use Rattle.records.proofs.KeepLaws.{keep_low, length_kept, inner_low, outer_low, outer_is}
-use Rattle.records.proofs.ChildLaws.{within, called, parts_within, merged_called}
+use Rattle.records.proofs.ChildLaws.{parts_within, merged_called}
 use Rattle.records.proofs.ReadLaws.{behind_shorter, serialize_call, serialize_template, serialize_kids, serialize_none, inner_call, inner_void, inner_kids, inner_none, found_0, only_30, only_31, only_other, found_2, found_merged}
 use Rattle.records.proofs.WalkLaws.{test_failed, test_held, element_room, element_on, kids_room, kids_on, parts_past, parts_end, serialize_room, serialize_on, found_room, found_on, entries_past, entries_end}
-use borrow.Author.Rules.{rules}
 use Rattle.records.proofs.+record.Goals as goal
 
 pub record_element-returns-then-s-eq0 : goal.record_element-returns-then-s-eq0

@@ -1,6 +1,5 @@
 -- `closed` meets its contract: the strings are closed, the kinds put before them, and the front before these. Assumes nothing.
 use Rattle.records.proofs.Templates.{end_is}
-use borrow.Author.Rules.{rules}
 use Rattle.records.proofs.closed.Goals as goal
 
 pub returns : goal.returns

@@ -1,6 +1,5 @@
 -- `put_gaps` meets its contract: by its tests, each as a law. Assumes nothing.
 use Rattle.records.proofs.Templates.{no_gaps, too_long, no_room, kinds_put}
-use borrow.Author.Rules.{rules}
 use Rattle.records.proofs.put_gaps.Goals as goal
 
 pub returns-then-gaps-eq0 : goal.returns-then-gaps-eq0

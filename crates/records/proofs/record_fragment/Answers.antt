@@ -6,7 +6,6 @@ use Rattle.spec.specs.Children.{children_to_string}
 use Rattle.decisions.specs.At.{children_at}
 use Rattle.records.specs.Keep.{at}
 use Rattle.records.proofs.KeepLaws.{keep_low, keep_gen, inner_low, outer_low, outer_is}
-use borrow.Author.Rules.{rules}
 use Rattle.records.proofs.record_fragment.Goals as goal
 
 pub taken-requires : goal.taken-requires

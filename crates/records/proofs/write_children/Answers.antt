@@ -4,7 +4,6 @@ use Rattle.field.specs.Row.{read}
 use Rattle.spec.specs.Children.{children_to_string}
 use Rattle.decisions.specs.At.{children_at}
 use Rattle.records.proofs.Templates.{begin_low, carve_low, plain_behind, plain_low, plain_written}
-use borrow.Author.Rules.{rules}
 use Rattle.records.proofs.write_children.Goals as goal
 
 pub opened-a-requires : goal.opened-a-requires

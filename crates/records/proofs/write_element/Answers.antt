@@ -2,7 +2,6 @@
 use mathlib.Core.Bool.{false}
 use Rattle.decisions.specs.At.{element_at}
 use Rattle.records.proofs.Templates.{begin_low, carve_low, plain_behind, plain_low, plain_written}
-use borrow.Author.Rules.{rules}
 use Rattle.records.proofs.write_element.Goals as goal
 
 pub opened-a-requires : goal.opened-a-requires

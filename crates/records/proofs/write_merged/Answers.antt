@@ -6,7 +6,6 @@ use Rattle.spec.specs.Children.{children_to_string}
 use Rattle.field.specs.Row.{read}
 use Rattle.decisions.specs.At.{children_at}
 use Rattle.records.proofs.Templates.{begin_low, carve_low, end_behind, end_low, written}
-use borrow.Author.Rules.{rules}
 use Rattle.records.proofs.write_merged.Goals as goal
 
 pub opened-a-requires : goal.opened-a-requires

@@ -1,6 +1,5 @@
 -- `check_inputs` meets its contract: one check after the other. Assumes nothing.
 use Rattle.transform.proofs.ExportLaws.{inputs_scratch, inputs_page_long, inputs_options_long, inputs_options, inputs_page}
-use borrow.Author.Rules.{rules}
 use Rattle.transform.proofs.check_inputs.Goals as goal
 
 pub returns-then-scratch-lt65536 : goal.returns-then-scratch-lt65536

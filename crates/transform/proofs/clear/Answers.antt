@@ -1,11 +1,11 @@
 -- `clear` meets its contract: what is passed is zero, and the rest is as it was. Assumes nothing.
-use Prim.Native.Nat.{ℕ, ◌-◌, ◌≤◌}
+use Prim.Native.Nat.{ℕ}
 use mathlib.Core.Path.{◌≡◌, refl, ap, ◌∙◌}
 use mathlib.Core.List.{List, ◌++◌, append-nil}
 use native.Mathlib.Omega.{arith}
 use borrow.Author.Rules.{rules}
 use borrow.Author.Fill.{fill_none, fill_more}
-use lib.ListN.{length, drop, replicate, set, length-set, drop_of_length-le}
+use lib.ListN.{length, replicate, set, length-set, drop_of_length-le}
 use Rattle.transform.proofs.clear.Goals as goal
 
 pub loop-i-init : goal.loop-i-init

@@ -1,6 +1,5 @@
 -- `clear_scratch` meets its contract: by the refusal. Assumes nothing.
 use Rattle.transform.proofs.ExportLaws.{cleared_not, cleared_all}
-use borrow.Author.Rules.{rules}
 use borrow.Enum.Refused.{opened}
 use Rattle.transform.proofs.clear_scratch.Goals as goal
 

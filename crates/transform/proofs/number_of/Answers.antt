@@ -1,7 +1,6 @@
 -- `number_of` meets its contract: by the refusal. Assumes nothing.
 use mathlib.Core.Path.{sym, ap}
 use Rattle.page.specs.Refusal.{refusal_number}
-use borrow.Author.Rules.{rules}
 use Rattle.transform.proofs.number_of.Goals as goal
 
 pub returns-in-ScratchTooSmall : goal.returns-in-ScratchTooSmall

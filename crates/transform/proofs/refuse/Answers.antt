@@ -1,17 +1,16 @@
 -- `refuse` meets its contract: each part is what its function ensures. Assumes nothing.
 use mathlib.Core.Path.{refl}
 use Rattle.spec.specs.Answer.{number, bytes_of_templates, bytes_of_page, templates, templates_left, page_left}
-use borrow.Author.Rules.{rules}
 use Rattle.transform.proofs.refuse.Goals as goal
 
 pub returns : goal.returns
 unfolding number bytes_of_templates bytes_of_page templates templates_left page_left
 returns c = record {
-      number_is = c.number_of.ensures;
-      templates_bytes_is = refl;
-      page_bytes_is = refl;
-      templates_is = refl;
-      scratch_is = c.clear_scratch.ensures;
-      templates_out_is = c.clear.ensures;
-      page_out_is = c.clear-2.ensures;
-    }
+  number_is = c.number_of.ensures;
+  templates_bytes_is = refl;
+  page_bytes_is = refl;
+  templates_is = refl;
+  scratch_is = c.clear_scratch.ensures;
+  templates_out_is = c.clear.ensures;
+  page_out_is = c.clear-2.ensures;
+}

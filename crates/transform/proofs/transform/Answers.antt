@@ -1,7 +1,6 @@
 -- `transform` meets its contract: what the inputs are refused for, or the transform of inputs that are fine. Assumes nothing.
 use mathlib.Core.Path.{sym, ◌∙◌}
 use Rattle.transform.proofs.AnswerLaws.{refused_inputs}
-use borrow.Author.Rules.{rules}
 use Rattle.transform.proofs.transform.Goals as goal
 
 pub transform_checked-requires : goal.transform_checked-requires

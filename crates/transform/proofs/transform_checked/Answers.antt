@@ -1,6 +1,5 @@
 -- `transform_checked` meets its contract: the verdict is that of the outputs, and a refusal clears what was written. Assumes nothing.
 use Rattle.transform.proofs.AnswerLaws.{later_one, refused_outputs, accepted_outputs}
-use borrow.Author.Rules.{rules}
 use Rattle.transform.proofs.transform_checked.Goals as goal
 
 pub overflow_sub-result : goal.overflow_sub-result

@@ -3,14 +3,13 @@
 use mathlib.Core.Path.{refl}
 use Prim.Native.Nat.{◌+◌}
 use native.Mathlib.Omega.{arith}
-use borrow.Author.Rules.{rules}
 use Rattle.utf8.specs.Utf8.{ascii}
 use Rattle.utf8.proofs.Words.{word_step}
 use Rattle.utf8.proofs.ascii_word.Goals as goal
 
 pub returns : goal.returns
 unfolding ascii
-returns c = -- c7 is where seven bytes are read, and so back to c1
+returns c =  -- c7 is where seven bytes are read, and so back to c1
     let byte = c.type_inv.s in let s = c.args.s.now in let i = c.args.i in word_step s 7 _ _ i (i + 1) (omega arith) (omega arith) (omega (arith, byte i)) c.digits.ensures.0
     (word_step s 6 _ _ (i + 1) (i + 2) (omega arith) (omega arith) (omega (arith, byte (i + 1))) c.digits-b.ensures.0
     (word_step s 5 _ _ (i + 2) (i + 3) (omega arith) (omega arith) (omega (arith, byte (i + 2))) c.digits-c.ensures.0

@@ -1,10 +1,7 @@
 -- `utf8::is_utf8` meets its contract. The invariant: the whole is UTF-8 exactly if the rest is.
 -- Assumes nothing.
-use Prim.Native.Nat.{◌-◌, ◌+◌}
+use Prim.Native.Nat.{◌+◌}
 use native.Mathlib.Omega.{arith}
-use borrow.Author.Rules.{rules}
-use lib.ListN.{length}
-use Rattle.utf8.specs.Parts.{Skips}
 use Rattle.utf8.proofs.Places.{skips_one, skips_width, skips_on, ends_true, stops_false}
 use Rattle.utf8.proofs.is_utf8.Goals as goal
 

@@ -1,9 +1,6 @@
-use Prim.Native.Nat.{◌-◌, ◌+◌}
-use native.Mathlib.Omega.{arith}
-use borrow.Author.Rules.{rules}
+use Prim.Native.Nat.{◌-◌}
 use lib.ListN.{length}
 use Rattle.utf8.specs.Parts.{Skips}
-use Rattle.utf8.proofs.Places.{skips_one, skips_width, skips_on, ends_true, stops_false}
 use Rattle.utf8.proofs.is_utf8.Given as goal
 
 abbrev pub invariant-loop-i : goal.invariant-loop-i

@@ -1,10 +1,6 @@
 -- `utf8::skip_ascii` meets its contract. The invariant is the contract at the place reached.
 -- Assumes nothing.
-use Prim.Native.Nat.{◌-◌}
 use native.Mathlib.Omega.{arith}
-use borrow.Author.Rules.{rules}
-use lib.ListN.{length}
-use Rattle.utf8.specs.Parts.{Skips}
 use Rattle.utf8.proofs.Places.{skips_one, skips_on}
 use Rattle.utf8.proofs.skip_ascii.Goals as goal
 

@@ -1,9 +1,6 @@
 use Prim.Native.Nat.{◌-◌}
-use native.Mathlib.Omega.{arith}
-use borrow.Author.Rules.{rules}
 use lib.ListN.{length}
 use Rattle.utf8.specs.Parts.{Skips}
-use Rattle.utf8.proofs.Places.{skips_one, skips_on}
 use Rattle.utf8.proofs.skip_ascii.Given as goal
 
 abbrev pub invariant-loop-k : goal.invariant-loop-k

@@ -1,12 +1,7 @@
 -- `utf8::skip_words` meets its contract. The invariant of both loops is the contract at the place reached.
 -- Assumes nothing.
 use mathlib.Core.Path.{◌∙◌, sym}
-use Prim.Native.Nat.{◌-◌}
 use native.Mathlib.Omega.{arith}
-use borrow.Author.Rules.{rules}
-use borrow.Author.Tests.{not-false}
-use lib.ListN.{length}
-use Rattle.utf8.specs.Parts.{Skips}
 use Rattle.utf8.proofs.Places.{skips_none, skips_many, skips_on, skips_last}
 use Rattle.utf8.proofs.skip_words.Goals as goal
 

@@ -1,11 +1,6 @@
-use mathlib.Core.Path.{◌∙◌, sym}
 use Prim.Native.Nat.{◌-◌}
-use native.Mathlib.Omega.{arith}
-use borrow.Author.Rules.{rules}
-use borrow.Author.Tests.{not-false}
 use lib.ListN.{length}
 use Rattle.utf8.specs.Parts.{Skips}
-use Rattle.utf8.proofs.Places.{skips_none, skips_many, skips_on, skips_last}
 use Rattle.utf8.proofs.skip_words.Given as goal
 
 abbrev pub invariant-loop-k : goal.invariant-loop-k

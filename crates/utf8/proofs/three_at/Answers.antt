@@ -4,7 +4,6 @@ use mathlib.Core.Path.{◌∙◌}
 use native.Mathlib.Omega.{arith}
 use Prim.Native.Nat.{◌+◌}
 use lib.ListN.{drop, length-drop}
-use borrow.Author.Rules.{rules}
 use Rattle.utf8.specs.Utf8.{utf8}
 use Rattle.utf8.proofs.Places.{cut_off, none_at, taken, refused}
 use mathlib.Core.Bool.{not}
@@ -26,8 +25,8 @@ returns-then-not-is_within-2 c = let s = c.args.s.now in let i = c.args.i in non
 pub returns : goal.returns
 unfolding utf8
 returns c = let s = c.args.s.now in let i = c.args.i in record {
-      inside = omega arith;
-      same =
-          taken s i _ _ 1 (omega arith) _ c.is_within.ensures (ap not c.if-not-is_within.false)
-          ∙ taken s i _ _ 2 (omega arith) _ c.is_within-2.ensures (ap not c.if-not-is_within-2.false);
-    }
+  inside = omega arith;
+  same =
+      taken s i _ _ 1 (omega arith) _ c.is_within.ensures (ap not c.if-not-is_within.false)
+      ∙ taken s i _ _ 2 (omega arith) _ c.is_within-2.ensures (ap not c.if-not-is_within-2.false);
+}

@@ -1,10 +1,8 @@
 -- `utf8::two_at` meets its contract: the ranges behind the first byte are tried one after the other, and each `return` says where that ended.
 -- Assumes nothing.
-use mathlib.Core.Path.{◌∙◌}
 use native.Mathlib.Omega.{arith}
 use Prim.Native.Nat.{◌+◌}
 use lib.ListN.{drop, length-drop}
-use borrow.Author.Rules.{rules}
 use Rattle.utf8.specs.Utf8.{utf8}
 use Rattle.utf8.proofs.Places.{cut_off, none_at, taken, refused}
 use mathlib.Core.Bool.{not}
@@ -21,7 +19,7 @@ returns-then-not-is_within c = let s = c.args.s.now in let i = c.args.i in none_
 pub returns : goal.returns
 unfolding utf8
 returns c = let s = c.args.s.now in let i = c.args.i in record {
-      inside = omega arith;
-      same =
-          taken s i _ _ 1 (omega arith) _ c.is_within.ensures (ap not c.if-not-is_within.false);
-    }
+  inside = omega arith;
+  same =
+      taken s i _ _ 1 (omega arith) _ c.is_within.ensures (ap not c.if-not-is_within.false);
+}

@@ -2,7 +2,6 @@
 -- Assumes nothing.
 use mathlib.Core.Path.{refl}
 use native.Mathlib.Omega.{arith}
-use borrow.Author.Rules.{rules}
 use Rattle.utf8.specs.Utf8.{forms, utf8}
 use Rattle.utf8.proofs.Places.{takes_at, none_at}
 use Rattle.utf8.proofs.width_at.Goals as goal

@@ -1,15 +1,12 @@
 -- The two functions meet their contracts by one induction: the bytes left fall, and a field stands above the row that it holds. The loop
 -- keeps that what is left of the row, written from here on, gives what the whole gives from the start. Assumes nothing.
-use mathlib.Core.Path.{◌≡◌, refl, sym, ◌∙◌, ap}
+use mathlib.Core.Path.{refl}
 use native.Mathlib.Omega.{arith}
 use lib.ListN.{length}
-use borrow.Author.Rules.{rules}
-use borrow.Author.Tests.{not-true, not-false}
 use Rattle.field.proofs.NumberLaws.{all_from}
 use Rattle.field.proofs.HeaderLaws.{within_field}
 use Rattle.field.proofs.PutLaws.{length_head, wrote_length}
-use Rattle.worked.proofs.Writes.{Left, left_start, left_on, left_end, part_sizes, leaf_written, plus_written, minus_written, nest_written}
-use Prim.Native.Nat.{ℕ, ◌+◌, ◌*◌, ◌<◌}
+use Rattle.worked.proofs.Writes.{left_start, left_on, left_end, part_sizes, leaf_written, plus_written, minus_written, nest_written}
 use Rattle.worked.proofs.+work.Goals as goal
 
 pub work_field-put_head-a-requires : goal.work_field-put_head-a-requires

@@ -1,13 +1,7 @@
-use mathlib.Core.Path.{◌≡◌, refl, sym, ◌∙◌, ap}
-use native.Mathlib.Omega.{arith}
+use mathlib.Core.Path.{◌≡◌}
 use lib.ListN.{length}
-use borrow.Author.Rules.{rules}
-use borrow.Author.Tests.{not-true, not-false}
-use Rattle.field.proofs.NumberLaws.{all_from}
-use Rattle.field.proofs.HeaderLaws.{within_field}
-use Rattle.field.proofs.PutLaws.{length_head, wrote_length}
-use Rattle.worked.proofs.Writes.{Left, left_start, left_on, left_end, part_sizes, leaf_written, plus_written, minus_written, nest_written}
-use Prim.Native.Nat.{ℕ, ◌+◌, ◌*◌, ◌<◌}
+use Rattle.worked.proofs.Writes.{Left}
+use Prim.Native.Nat.{◌+◌, ◌*◌}
 use Rattle.worked.proofs.+work.Given as goal
 
 abbrev pub decreases-work_field : goal.decreases-work_field

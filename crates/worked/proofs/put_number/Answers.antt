@@ -2,7 +2,6 @@
 use native.Mathlib.Omega.{arith}
 use Rattle.field.proofs.PutLaws.{length_head}
 use Rattle.worked.proofs.Writes.{number_written}
-use borrow.Author.Rules.{rules}
 use Rattle.worked.proofs.put_number.Goals as goal
 
 pub put_eight-requires : goal.put_eight-requires

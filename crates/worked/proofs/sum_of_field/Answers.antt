@@ -2,7 +2,6 @@
 use native.Mathlib.Omega.{arith}
 use Rattle.field.proofs.FrontLaws.{body_less}
 use Rattle.worked.proofs.Pieces.{no_79, no_source, not_alone, alone}
-use borrow.Author.Rules.{rules}
 use Rattle.worked.proofs.sum_of_field.Goals as goal
 
 pub returns-then-tag-ne121 : goal.returns-then-tag-ne121

@@ -1,11 +1,7 @@
 -- `worked::to_piece` meets its contract. Assumes nothing.
-use mathlib.Core.Path.{◌≡◌, refl, sym, ◌∙◌, ap}
-use Prim.Native.Nat.{◌≤◌}
+use mathlib.Core.Path.{refl, sym, ◌∙◌, ap}
 use native.Mathlib.Omega.{arith}
-use lib.ListN.{length}
-use Rattle.field.specs.Row.{read}
 use Rattle.field.proofs.FrontLaws.{behind_less}
-use Rattle.page.specs.Tree.{pieces_in}
 use Rattle.worked.specs.Row.{is_piece}
 use Rattle.worked.proofs.Pieces.{passed_over, stands}
 use Rattle.worked.proofs.to_piece.Goals as goal

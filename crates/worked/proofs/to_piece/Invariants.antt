@@ -1,12 +1,8 @@
-use mathlib.Core.Path.{◌≡◌, refl, sym, ◌∙◌, ap}
+use mathlib.Core.Path.{◌≡◌}
 use Prim.Native.Nat.{◌≤◌}
-use native.Mathlib.Omega.{arith}
 use lib.ListN.{length}
 use Rattle.field.specs.Row.{read}
-use Rattle.field.proofs.FrontLaws.{behind_less}
 use Rattle.page.specs.Tree.{pieces_in}
-use Rattle.worked.specs.Row.{is_piece}
-use Rattle.worked.proofs.Pieces.{passed_over, stands}
 use Rattle.worked.proofs.to_piece.Given as goal
 
 abbrev pub invariant-loop-t : goal.invariant-loop-t

@@ -1,7 +1,5 @@
 -- The invariant: what is left holds the same names.
-use borrow.Author.Rules.{rules}
-use mathlib.Core.Path.{◌≡◌, refl, sym, ap, ◌∙◌}
-use lib.ListN.{length}
+use mathlib.Core.Path.{sym, ap, ◌∙◌}
 use Rattle.field.specs.Row.{read}
 use Rattle.field.proofs.FrontLaws.{behind_less}
 use Rattle.page.specs.Tree.{texts_in, first_in}

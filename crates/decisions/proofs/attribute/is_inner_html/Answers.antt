@@ -1,4 +1,3 @@
-use borrow.Author.Rules.{rules}
 use mathlib.Core.Path.{refl}
 use Rattle.field.specs.Bytes.{ascii, same}
 use Rattle.decisions.proofs.AttributeLaws.{named_40, never_inner_html}

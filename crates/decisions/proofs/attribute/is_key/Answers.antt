@@ -1,4 +1,3 @@
-use borrow.Author.Rules.{rules}
 use Rattle.field.specs.Bytes.{ascii, same}
 use Rattle.decisions.proofs.AttributeLaws.{named_40, never_key}
 use Rattle.decisions.proofs.attribute.is_key.Goals as goal

@@ -1,4 +1,3 @@
-use borrow.Author.Rules.{rules}
 use mathlib.Core.Path.{refl, sym}
 use Rattle.field.specs.Bytes.{among}
 use Rattle.decisions.specs.Index.{names_of}

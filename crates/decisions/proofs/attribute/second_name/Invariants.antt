@@ -1,11 +1,7 @@
-use borrow.Author.Rules.{rules}
-use mathlib.Core.Path.{◌≡◌, refl, sym, ap, ◌∙◌}
+use mathlib.Core.Path.{◌≡◌}
 use lib.ListN.{length}
 use Rattle.field.specs.Row.{read}
-use Rattle.field.proofs.FrontLaws.{behind_less}
-use Rattle.page.specs.Tree.{texts_in, second_in}
-use Rattle.decisions.proofs.Series.{texts_past}
-use Rattle.decisions.proofs.AttributeLaws.{second_40, second_none}
+use Rattle.page.specs.Tree.{texts_in}
 use Rattle.decisions.proofs.attribute.second_name.Given as goal
 
 abbrev pub invariant-loop-r : goal.invariant-loop-r

@@ -1,13 +1,11 @@
 -- The invariant: the tags that were passed, at most one, and those that are left are as many as the whole has. Assumes nothing.
-use mathlib.Core.Path.{◌≡◌, ◌∙◌}
-use Prim.Native.Nat.{◌+◌, ◌≤◌}
+use mathlib.Core.Path.{◌∙◌}
 use native.Mathlib.Nat.{zero-add}
 use native.Mathlib.Omega.{arith}
-use lib.ListN.{length}
 use Rattle.field.specs.Row.{read}
 use Rattle.field.proofs.FrontLaws.{behind_less}
 use Rattle.page.specs.Tree.{children_in}
-use Rattle.decisions.proofs.ChildrenLaws.{tags_in, no_tag, tag_counted, tag_passed, tag_other, becomes_none, becomes_one, becomes_two}
+use Rattle.decisions.proofs.ChildrenLaws.{no_tag, tag_counted, tag_passed, tag_other, becomes_none, becomes_one, becomes_two}
 use Rattle.decisions.proofs.children.becomes_template.Goals as goal
 
 pub loop-r-init : goal.loop-r-init

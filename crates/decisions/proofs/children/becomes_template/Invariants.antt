@@ -1,12 +1,9 @@
-use mathlib.Core.Path.{◌≡◌, ◌∙◌}
+use mathlib.Core.Path.{◌≡◌}
 use Prim.Native.Nat.{◌+◌, ◌≤◌}
-use native.Mathlib.Nat.{zero-add}
-use native.Mathlib.Omega.{arith}
 use lib.ListN.{length}
 use Rattle.field.specs.Row.{read}
-use Rattle.field.proofs.FrontLaws.{behind_less}
 use Rattle.page.specs.Tree.{children_in}
-use Rattle.decisions.proofs.ChildrenLaws.{tags_in, no_tag, tag_counted, tag_passed, tag_other, becomes_none, becomes_one, becomes_two}
+use Rattle.decisions.proofs.ChildrenLaws.{tags_in}
 use Rattle.decisions.proofs.children.becomes_template.Given as goal
 
 abbrev pub invariant-loop-r : goal.invariant-loop-r

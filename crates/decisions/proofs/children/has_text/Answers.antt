@@ -1,11 +1,7 @@
 -- The invariant: what is left has such a text as the whole has. Assumes nothing.
-use mathlib.Core.Path.{◌≡◌, refl, ◌∙◌}
+use mathlib.Core.Path.{◌∙◌}
 use native.Mathlib.Omega.{arith}
-use lib.ListN.{length}
-use Rattle.field.specs.Row.{read}
 use Rattle.field.proofs.FrontLaws.{behind_less}
-use Rattle.page.specs.Tree.{children_in}
-use Rattle.decisions.specs.At.{some_text}
 use Rattle.decisions.proofs.ChildrenLaws.{no_text, text_kept, text_blank, text_other}
 use Rattle.decisions.proofs.children.has_text.Goals as goal
 

@@ -1,4 +1,3 @@
-use borrow.Author.Rules.{rules}
 use Rattle.decisions.proofs.ElementLaws.{identifier_40, identifier_other}
 use Rattle.decisions.proofs.element.identifier.Goals as goal
 

@@ -1,4 +1,3 @@
-use borrow.Author.Rules.{rules}
 use Rattle.decisions.proofs.ElementLaws.{upper_above, upper_below, upper_none}
 use Rattle.decisions.proofs.element.is_upper.Goals as goal
 

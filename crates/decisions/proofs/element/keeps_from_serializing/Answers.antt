@@ -1,11 +1,7 @@
 -- The invariant: what is left forbids where the whole does.
-use mathlib.Core.Path.{◌≡◌, refl, ◌∙◌}
+use mathlib.Core.Path.{◌∙◌}
 use native.Mathlib.Omega.{arith}
-use lib.ListN.{length}
-use Rattle.field.specs.Row.{read}
 use Rattle.field.proofs.FrontLaws.{behind_less}
-use Rattle.page.specs.Tree.{attributes_in}
-use Rattle.decisions.specs.At.{forbids}
 use Rattle.decisions.proofs.ElementLaws.{forbids_50, forbids_on, forbids_53, forbids_other}
 use Rattle.decisions.proofs.element.keeps_from_serializing.Goals as goal
 

@@ -1,11 +1,8 @@
-use mathlib.Core.Path.{◌≡◌, refl, ◌∙◌}
-use native.Mathlib.Omega.{arith}
+use mathlib.Core.Path.{◌≡◌}
 use lib.ListN.{length}
 use Rattle.field.specs.Row.{read}
-use Rattle.field.proofs.FrontLaws.{behind_less}
 use Rattle.page.specs.Tree.{attributes_in}
 use Rattle.decisions.specs.At.{forbids}
-use Rattle.decisions.proofs.ElementLaws.{forbids_50, forbids_on, forbids_53, forbids_other}
 use Rattle.decisions.proofs.element.keeps_from_serializing.Given as goal
 
 abbrev pub invariant-loop-r : goal.invariant-loop-r

@@ -1,4 +1,3 @@
-use borrow.Author.Rules.{rules}
 use Rattle.decisions.proofs.ExprLaws.{boolean_first, boolean_none}
 use Rattle.decisions.proofs.expr.boolean_in.Goals as goal
 

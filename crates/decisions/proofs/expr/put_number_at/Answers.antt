@@ -6,7 +6,6 @@ use Prim.Native.Nat.{ℕ}
 use Rattle.field.specs.Bytes.{Bytes}
 use Rattle.field.proofs.PutLaws.{wrote_is}
 use Rattle.page.specs.Number.{render, number_in}
-use borrow.Author.Rules.{rules}
 use Rattle.decisions.proofs.expr.put_number_at.Goals as goal
 
 pub put_number-requires : goal.put_number-requires

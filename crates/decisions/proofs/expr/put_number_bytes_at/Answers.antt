@@ -4,7 +4,6 @@ use Prim.Native.Nat.{ℕ}
 use Rattle.field.specs.Bytes.{Bytes}
 use Rattle.field.proofs.PutLaws.{wrote_is}
 use Rattle.page.specs.Number.{number_bytes, number_in}
-use borrow.Author.Rules.{rules}
 use Rattle.decisions.proofs.expr.put_number_bytes_at.Goals as goal
 
 pub returns : goal.returns

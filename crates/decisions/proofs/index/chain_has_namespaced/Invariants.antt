@@ -1,11 +1,9 @@
 use Prim.Native.Nat.{◌<◌}
-use borrow.Author.Rules.{rules}
-use mathlib.Core.Path.{◌≡◌, ◌∙◌}
+use mathlib.Core.Path.{◌≡◌}
 use mathlib.Core.List.{◌∷◌, ◌++◌}
 use Rattle.names.specs.Names.{normalize_dom_attr_name}
 use Rattle.field.specs.Bytes.{among}
 use Rattle.decisions.specs.Index.{chain}
-use Rattle.decisions.proofs.IndexLaws.{chain_spent, chain_none, chain_here, chain_on}
 use Rattle.decisions.proofs.index.chain_has_namespaced.Given as goal
 
 abbrev pub invariant-loop-left : goal.invariant-loop-left

@@ -1,4 +1,3 @@
-use borrow.Author.Rules.{rules}
 use Rattle.decisions.proofs.IndexLaws.{listed_series, listed_chain}
 use Rattle.decisions.proofs.index.finds.Goals as goal
 

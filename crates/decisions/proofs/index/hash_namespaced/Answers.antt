@@ -1,4 +1,3 @@
-use borrow.Author.Rules.{rules}
 use Rattle.decisions.proofs.IndexLaws.{hash_is, hash_other}
 use Rattle.decisions.proofs.index.hash_namespaced.Goals as goal
 

@@ -1,10 +1,6 @@
 -- The invariant: the hash of all bytes is that of those left, behind what gave x.
-use Prim.Native.Nat.{◌-◌, ◌≤◌, ◌<◌}
-use borrow.Author.Rules.{rules}
-use mathlib.Core.Path.{◌≡◌, sym, ◌∙◌}
+use mathlib.Core.Path.{sym, ◌∙◌}
 use native.Mathlib.Omega.{arith}
-use lib.ListN.{length, drop}
-use Rattle.decisions.specs.Index.{hash_from}
 use Rattle.decisions.proofs.IndexLaws.{hash_on, hash_end}
 use Rattle.decisions.proofs.index.hash_on.Goals as goal
 

@@ -1,10 +1,7 @@
 use Prim.Native.Nat.{◌-◌, ◌≤◌, ◌<◌}
-use borrow.Author.Rules.{rules}
-use mathlib.Core.Path.{◌≡◌, sym, ◌∙◌}
-use native.Mathlib.Omega.{arith}
+use mathlib.Core.Path.{◌≡◌}
 use lib.ListN.{length, drop}
 use Rattle.decisions.specs.Index.{hash_from}
-use Rattle.decisions.proofs.IndexLaws.{hash_on, hash_end}
 use Rattle.decisions.proofs.index.hash_on.Given as goal
 
 abbrev pub invariant-loop-i : goal.invariant-loop-i

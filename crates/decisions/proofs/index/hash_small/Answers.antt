@@ -1,11 +1,6 @@
 -- The invariant: the hash of all small letters is that of those left, behind what gave x.
-use Prim.Native.Nat.{◌-◌, ◌≤◌, ◌<◌}
-use borrow.Author.Rules.{rules}
-use mathlib.Core.Path.{◌≡◌, sym, ◌∙◌}
+use mathlib.Core.Path.{sym, ◌∙◌}
 use native.Mathlib.Omega.{arith}
-use lib.ListN.{length, drop}
-use Rattle.names.specs.Names.{small_letters}
-use Rattle.decisions.specs.Index.{hash_from}
 use Rattle.decisions.proofs.IndexLaws.{small_on, small_end}
 use Rattle.decisions.proofs.index.hash_small.Goals as goal
 

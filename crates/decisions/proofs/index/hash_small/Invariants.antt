@@ -1,11 +1,8 @@
 use Prim.Native.Nat.{◌-◌, ◌≤◌, ◌<◌}
-use borrow.Author.Rules.{rules}
-use mathlib.Core.Path.{◌≡◌, sym, ◌∙◌}
-use native.Mathlib.Omega.{arith}
+use mathlib.Core.Path.{◌≡◌}
 use lib.ListN.{length, drop}
 use Rattle.names.specs.Names.{small_letters}
 use Rattle.decisions.specs.Index.{hash_from}
-use Rattle.decisions.proofs.IndexLaws.{small_on, small_end}
 use Rattle.decisions.proofs.index.hash_small.Given as goal
 
 abbrev pub invariant-loop-i : goal.invariant-loop-i

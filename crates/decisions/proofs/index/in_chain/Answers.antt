@@ -1,9 +1,5 @@
 -- The invariant: the name is in the chain where it is in what is left of it.
-use Prim.Native.Nat.{◌<◌}
-use borrow.Author.Rules.{rules}
-use mathlib.Core.Path.{◌≡◌, ◌∙◌}
-use Rattle.field.specs.Bytes.{among}
-use Rattle.decisions.specs.Index.{chain}
+use mathlib.Core.Path.{◌∙◌}
 use Rattle.decisions.proofs.IndexLaws.{chain_spent, chain_none, chain_here, chain_on}
 use Rattle.decisions.proofs.index.in_chain.Goals as goal
 

@@ -1,9 +1,7 @@
 use Prim.Native.Nat.{◌<◌}
-use borrow.Author.Rules.{rules}
-use mathlib.Core.Path.{◌≡◌, ◌∙◌}
+use mathlib.Core.Path.{◌≡◌}
 use Rattle.field.specs.Bytes.{among}
 use Rattle.decisions.specs.Index.{chain}
-use Rattle.decisions.proofs.IndexLaws.{chain_spent, chain_none, chain_here, chain_on}
 use Rattle.decisions.proofs.index.in_chain.Given as goal
 
 abbrev pub invariant-loop-left : goal.invariant-loop-left

@@ -1,7 +1,6 @@
 -- The invariant: the name is in the list where it is in what is left of it.
-use mathlib.Core.Path.{◌≡◌, refl, sym, ap, ◌∙◌}
+use mathlib.Core.Path.{sym, ap, ◌∙◌}
 use native.Mathlib.Omega.{arith}
-use lib.ListN.{length}
 use Rattle.field.specs.Bytes.{among}
 use Rattle.field.specs.Row.{read}
 use Rattle.field.proofs.FrontLaws.{behind_less}

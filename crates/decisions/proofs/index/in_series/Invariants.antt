@@ -1,12 +1,8 @@
-use mathlib.Core.Path.{◌≡◌, refl, sym, ap, ◌∙◌}
-use native.Mathlib.Omega.{arith}
+use mathlib.Core.Path.{◌≡◌}
 use lib.ListN.{length}
 use Rattle.field.specs.Bytes.{among}
 use Rattle.field.specs.Row.{read}
-use Rattle.field.proofs.FrontLaws.{behind_less}
 use Rattle.page.specs.Tree.{texts_in}
-use Rattle.decisions.proofs.Series.{texts_past}
-use Rattle.decisions.proofs.AttributeLaws.{listed_here, listed_on, listed_none}
 use Rattle.decisions.proofs.index.in_series.Given as goal
 
 abbrev pub invariant-loop-r : goal.invariant-loop-r

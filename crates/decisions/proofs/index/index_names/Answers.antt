@@ -1,11 +1,9 @@
 -- The invariant: the entries and what is left of the series have its names. a is the place where a name was found in front.
 use mathlib.Core.Path.{sym, ap, ◌∙◌}
 use native.Mathlib.Omega.{arith}
-use borrow.Author.Rules.{rules}
-use lib.ListN.{length}
 use Rattle.field.proofs.FrontLaws.{behind_less}
 use Rattle.decisions.specs.Index.{hash}
-use Rattle.decisions.proofs.BuildLaws.{Built, built_none, built_more, built_past, built_all, few}
+use Rattle.decisions.proofs.BuildLaws.{built_none, built_more, built_past, built_all, few}
 use Rattle.decisions.proofs.index.index_names.Goals as goal
 
 pub loop-h-init : goal.loop-h-init

@@ -1,5 +1,4 @@
 -- Three numbers are written, of which the first was read before any.
-use borrow.Author.Rules.{rules}
 use Rattle.decisions.proofs.LinkLaws.{linked_is}
 use Rattle.decisions.proofs.index.link.Goals as goal
 

@@ -1,5 +1,4 @@
 -- `lists` meets its contract: nothing stands among no names. Assumes nothing.
-use borrow.Author.Rules.{rules}
 use mathlib.Core.Path.{sym}
 use Rattle.decisions.proofs.IndexLaws.{listed_empty}
 use Rattle.decisions.proofs.index.lists.Goals as goal

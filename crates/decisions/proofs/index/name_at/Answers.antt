@@ -1,4 +1,3 @@
-use borrow.Author.Rules.{rules}
 use Rattle.decisions.proofs.IndexLaws.{name_within, name_past}
 use Rattle.decisions.proofs.index.name_at.Goals as goal
 

@@ -1,14 +1,10 @@
-use mathlib.Core.Path.{◌≡◌, refl, sym, ap, ◌∙◌}
-use native.Mathlib.Omega.{arith}
+use mathlib.Core.Path.{◌≡◌}
 use mathlib.Core.List.{◌∷◌, ◌++◌}
 use lib.ListN.{length}
 use Rattle.field.specs.Bytes.{among}
 use Rattle.field.specs.Row.{read}
-use Rattle.field.proofs.FrontLaws.{behind_less}
 use Rattle.names.specs.Names.{normalize_dom_attr_name}
 use Rattle.page.specs.Tree.{texts_in}
-use Rattle.decisions.proofs.Series.{texts_past}
-use Rattle.decisions.proofs.AttributeLaws.{listed_here, listed_on, listed_none}
 use Rattle.decisions.proofs.index.series_has_namespaced.Given as goal
 
 abbrev pub invariant-loop-r : goal.invariant-loop-r

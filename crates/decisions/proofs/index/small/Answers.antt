@@ -1,4 +1,3 @@
-use borrow.Author.Rules.{rules}
 use Rattle.decisions.proofs.IndexLaws.{small_below, small_above, small_within}
 use Rattle.decisions.proofs.index.small.Goals as goal
 

@@ -1,10 +1,7 @@
 -- `by_tables` meets its contract, by induction on whether it is called for the first time. Assumes nothing.
 use mathlib.Core.Path.{sym, ◌∙◌}
 use native.Mathlib.Omega.{arith}
-use Rattle.field.specs.Bytes.{pick}
 use Rattle.decisions.proofs.RepeatLaws.{falls_once, table_length}
-use Prim.Native.Nat.{ℕ, ◌<◌}
-use borrow.Author.Rules.{rules}
 use Rattle.decisions.proofs.repeats.+by_tables.Goals as goal
 
 pub by_tables-requires : goal.by_tables-requires

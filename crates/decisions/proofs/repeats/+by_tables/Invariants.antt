@@ -1,9 +1,4 @@
-use mathlib.Core.Path.{sym, ◌∙◌}
-use native.Mathlib.Omega.{arith}
 use Rattle.field.specs.Bytes.{pick}
-use Rattle.decisions.proofs.RepeatLaws.{falls_once, table_length}
-use Prim.Native.Nat.{ℕ, ◌<◌}
-use borrow.Author.Rules.{rules}
 use Rattle.decisions.proofs.repeats.+by_tables.Given as goal
 
 abbrev pub decreases-by_tables : goal.decreases-by_tables

@@ -2,7 +2,6 @@ use Rattle.field.specs.Bytes.{same}
 use Rattle.names.specs.Names.{small_letters}
 use Rattle.decisions.specs.Repeats.{joined}
 use Rattle.decisions.proofs.RepeatLaws.{html_40, html_42, html_other}
-use borrow.Author.Rules.{rules}
 use Rattle.decisions.proofs.repeats.attr_is.Goals as goal
 
 pub returns-in-64 : goal.returns-in-64

@@ -1,13 +1,12 @@
 -- The loop keeps that no two of the names that it passed are one, and that each is noted under both halves of its hash.
-use mathlib.Core.Path.{◌≡◌, refl, sym, ap}
-use Prim.Native.Nat.{◌<◌}
+use mathlib.Core.Path.{refl, ap}
 use native.Mathlib.Omega.{arith}
 use lib.ListN.{length, take}
 use Rattle.field.specs.Row.{read}
 use Rattle.field.proofs.FrontLaws.{behind_less}
 use Rattle.page.specs.Tree.{attributes_in}
 use Rattle.decisions.specs.Repeats.{html_names, low_half, high_half}
-use Rattle.decisions.proofs.RepeatLaws.{Passed, passed_none, passed_all, passed_spread, passed_found, passed_less, passed_room, passed_one, passed_noted, Noted, low_key, high_key, noted_none, may_not, noted_length, half_low, half_high}
+use Rattle.decisions.proofs.RepeatLaws.{passed_none, passed_all, passed_spread, passed_found, passed_less, passed_room, passed_one, passed_noted, low_key, high_key, noted_none, may_not, noted_length, half_low, half_high}
 use Rattle.decisions.proofs.repeats.by_hashes.Goals as goal
 
 pub loop-a-init : goal.loop-a-init

@@ -1,13 +1,13 @@
 -- The loop keeps that no two of the names that it passed are one, and that each is noted under its key.
-use mathlib.Core.Path.{◌≡◌, refl, sym}
+use mathlib.Core.Path.{refl, sym}
 use mathlib.Core.Bool.{false≢true}
 use native.Mathlib.Omega.{arith}
-use lib.ListN.{length, take}
+use lib.ListN.{take}
 use Rattle.field.specs.Row.{read}
 use Rattle.field.proofs.FrontLaws.{behind_less}
 use Rattle.page.specs.Tree.{attributes_in}
 use Rattle.decisions.specs.Repeats.{html_names, letter_key}
-use Rattle.decisions.proofs.RepeatLaws.{Passed, passed_none, passed_all, passed_spread, passed_less, passed_room, passed_one, passed_keyed, Noted, noted_none, keys_none, keys_length, key_may_not}
+use Rattle.decisions.proofs.RepeatLaws.{passed_none, passed_all, passed_spread, passed_less, passed_room, passed_one, passed_keyed, noted_none, keys_none, keys_length, key_may_not}
 use Rattle.decisions.proofs.repeats.by_keys.Goals as goal
 
 pub loop-key-init : goal.loop-key-init

@@ -1,6 +1,5 @@
 use mathlib.Core.Path.{refl, ap}
 use Rattle.decisions.proofs.RepeatLaws.{code_sign, code_plain, code_alone, code_at_colon, code_behind_colon, code_out}
-use borrow.Author.Rules.{rules}
 use mathlib.Core.Bool.{not}
 use Rattle.decisions.proofs.repeats.code_at.Goals as goal
 

@@ -1,6 +1,4 @@
 use native.Mathlib.Omega.{arith}
-use Prim.Native.Nat.{◌+◌, ◌≤◌}
-use lib.ListN.{length}
 use Rattle.field.proofs.FrontLaws.{behind_less}
 use Rattle.decisions.proofs.repeats.count.Goals as goal
 

@@ -1,7 +1,5 @@
-use native.Mathlib.Omega.{arith}
 use Prim.Native.Nat.{◌+◌, ◌≤◌}
 use lib.ListN.{length}
-use Rattle.field.proofs.FrontLaws.{behind_less}
 use Rattle.decisions.proofs.repeats.count.Given as goal
 
 abbrev pub invariant-loop-r : goal.invariant-loop-r

@@ -1,15 +1,10 @@
-use mathlib.Core.Path.{◌≡◌, refl, sym, ap, ◌∙◌}
-use Prim.Native.Nat.{ℕ, ◌+◌, ◌-◌, ◌≤◌}
-use native.Mathlib.Omega.{arith}
+use mathlib.Core.Path.{◌≡◌}
+use Prim.Native.Nat.{◌-◌, ◌≤◌}
 use lib.ListN.{length, take}
-use mathlib.Core.List.{List}
-use borrow.Author.Rules.{rules}
-use Rattle.field.specs.Bytes.{Bytes, among}
+use Rattle.field.specs.Bytes.{among}
 use Rattle.field.specs.Row.{read}
-use Rattle.field.proofs.FrontLaws.{behind_less}
 use Rattle.page.specs.Tree.{attributes_in, attr_name_in}
 use Rattle.decisions.specs.Repeats.{html_name, html_names}
-use Rattle.decisions.proofs.RepeatLaws.{names_at_50, names_at_53, names_none, earlier_here, earlier_on, earlier_none, earlier_end}
 use Rattle.decisions.proofs.repeats.earlier_has.Given as goal
 
 abbrev pub invariant-loop-i : goal.invariant-loop-i

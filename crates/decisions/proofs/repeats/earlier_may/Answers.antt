@@ -1,5 +1,4 @@
 use mathlib.Core.Path.{sym}
-use borrow.Author.Rules.{rules}
 use Rattle.decisions.proofs.repeats.earlier_may.Goals as goal
 
 pub returns-then-may : goal.returns-then-may

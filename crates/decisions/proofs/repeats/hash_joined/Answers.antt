@@ -1,10 +1,6 @@
-use mathlib.Core.Path.{◌≡◌, sym, ◌∙◌}
+use mathlib.Core.Path.{◌∙◌}
 use native.Mathlib.Omega.{arith}
-use lib.ListN.{length}
 use borrow.Author.Rules.{rules}
-use Prim.Native.Nat.{◌<◌}
-use Rattle.names.specs.Names.{small_letters}
-use Rattle.decisions.specs.Repeats.{joined, left, hash_on}
 use Rattle.decisions.proofs.RepeatLaws.{hash_starts, hash_ends, hash_goes, joined_less, place_within}
 use Rattle.decisions.proofs.repeats.hash_joined.Goals as goal
 

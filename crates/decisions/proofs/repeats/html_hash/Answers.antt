@@ -1,6 +1,5 @@
 use Rattle.decisions.specs.Repeats.{name_hash}
 use Rattle.decisions.proofs.RepeatLaws.{of_40, of_42, of_none}
-use borrow.Author.Rules.{rules}
 use Rattle.decisions.proofs.repeats.html_hash.Goals as goal
 
 pub returns-in-64 : goal.returns-in-64

@@ -1,6 +1,5 @@
 use Rattle.decisions.specs.Repeats.{name_hash}
 use Rattle.decisions.proofs.RepeatLaws.{of_stays, of_class, of_for, of_href, of_panose, of_other}
-use borrow.Author.Rules.{rules}
 use Rattle.decisions.proofs.repeats.ident_hash.Goals as goal
 
 pub returns-in-61 : goal.returns-in-61

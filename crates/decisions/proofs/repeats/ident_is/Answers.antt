@@ -1,7 +1,6 @@
 use Rattle.names.specs.Names.{small_letters}
 use Rattle.decisions.specs.Repeats.{joined}
 use Rattle.decisions.proofs.RepeatLaws.{ident_stays, ident_class, ident_for, ident_href, ident_panose, ident_other}
-use borrow.Author.Rules.{rules}
 use Rattle.decisions.proofs.repeats.ident_is.Goals as goal
 
 pub returns-in-61 : goal.returns-in-61

@@ -2,7 +2,6 @@ use Rattle.field.specs.Row.{read}
 use Rattle.page.specs.Tree.{attr_name_in}
 use Rattle.decisions.specs.Repeats.{html_name}
 use Rattle.decisions.proofs.RepeatLaws.{as_stays, as_class, as_for, as_href, as_panose, as_other}
-use borrow.Author.Rules.{rules}
 use Rattle.decisions.proofs.repeats.ident_same.Goals as goal
 
 pub returns-in-61 : goal.returns-in-61

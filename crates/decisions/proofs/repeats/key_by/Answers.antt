@@ -1,6 +1,5 @@
 use native.Mathlib.Omega.{arith}
 use Rattle.decisions.proofs.RepeatLaws.{key_room, key_sum_room}
-use borrow.Author.Rules.{rules}
 use Rattle.decisions.proofs.repeats.key_by.Goals as goal
 
 pub overflow_mul-result-2 : goal.overflow_mul-result-2

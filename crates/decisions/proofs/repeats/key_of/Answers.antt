@@ -2,7 +2,6 @@
 use mathlib.Core.Path.{sym, ◌∙◌}
 use Rattle.decisions.specs.Repeats.{untold}
 use Rattle.decisions.proofs.RepeatLaws.{keyed, key_of_one, key_of_more}
-use borrow.Author.Rules.{rules}
 use Rattle.decisions.proofs.repeats.key_of.Goals as goal
 
 pub returns-then-tag_at-ne64 : goal.returns-then-tag_at-ne64

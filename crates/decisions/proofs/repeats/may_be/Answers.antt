@@ -1,6 +1,5 @@
 use mathlib.Core.Path.{sym}
 use mathlib.Core.Bool.{false≢true}
-use borrow.Author.Rules.{rules}
 use Rattle.decisions.proofs.repeats.may_be.Goals as goal
 
 pub returns-then-key-ge64 : goal.returns-then-key-ge64

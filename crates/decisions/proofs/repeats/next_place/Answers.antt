@@ -1,5 +1,4 @@
 use Rattle.decisions.proofs.RepeatLaws.{past_sign, past_letter, past_other}
-use borrow.Author.Rules.{rules}
 use Rattle.decisions.proofs.repeats.next_place.Goals as goal
 
 pub returns-then-p-i : goal.returns-then-p-i

@@ -1,5 +1,4 @@
 use Rattle.decisions.proofs.RepeatLaws.{noted_in, noted_out}
-use borrow.Author.Rules.{rules}
 use Rattle.decisions.proofs.repeats.note_key.Goals as goal
 
 pub returns-then-key-lt64 : goal.returns-then-key-lt64

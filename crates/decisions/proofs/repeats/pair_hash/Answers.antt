@@ -1,6 +1,5 @@
 use Rattle.decisions.specs.Repeats.{name_hash}
 use Rattle.decisions.proofs.RepeatLaws.{of_xlink, of_pair}
-use borrow.Author.Rules.{rules}
 use Rattle.decisions.proofs.repeats.pair_hash.Goals as goal
 
 pub returns-then-is_xlink_href : goal.returns-then-is_xlink_href

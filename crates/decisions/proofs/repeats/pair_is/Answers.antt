@@ -1,8 +1,6 @@
-use mathlib.Core.Path.{refl}
 use Rattle.names.specs.Names.{small_letters}
 use Rattle.decisions.specs.Repeats.{joined}
 use Rattle.decisions.proofs.RepeatLaws.{pair_is_href, pair_is_joined}
-use borrow.Author.Rules.{rules}
 use Rattle.decisions.proofs.repeats.pair_is.Goals as goal
 
 pub returns-then-is_xlink_href : goal.returns-then-is_xlink_href

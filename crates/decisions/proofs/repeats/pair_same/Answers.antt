@@ -2,7 +2,6 @@ use Rattle.field.specs.Row.{read}
 use Rattle.page.specs.Tree.{attr_name_in}
 use Rattle.decisions.specs.Repeats.{html_name}
 use Rattle.decisions.proofs.RepeatLaws.{href_is_pair, joined_is_pair}
-use borrow.Author.Rules.{rules}
 use Rattle.decisions.proofs.repeats.pair_same.Goals as goal
 
 pub returns-then-is_xlink_href : goal.returns-then-is_xlink_href

@@ -3,7 +3,6 @@ use Rattle.field.specs.Row.{read}
 use Rattle.page.specs.Tree.{attr_name_in}
 use Rattle.decisions.specs.Repeats.{html_name}
 use Rattle.decisions.proofs.RepeatLaws.{html_40, html_42, html_other}
-use borrow.Author.Rules.{rules}
 use Rattle.decisions.proofs.repeats.same_html.Goals as goal
 
 pub returns-in-64 : goal.returns-in-64

@@ -1,12 +1,6 @@
-use mathlib.Core.Path.{◌≡◌, refl, sym, ap, ◌∙◌}
-use Prim.Native.Nat.{◌+◌, ◌≤◌}
+use mathlib.Core.Path.{sym, ◌∙◌}
 use native.Mathlib.Omega.{arith}
-use lib.ListN.{length}
-use borrow.Author.Rules.{rules}
-use Rattle.field.specs.Bytes.{same}
-use Rattle.names.specs.Names.{small_letters}
-use Rattle.decisions.specs.Repeats.{joined, left}
-use Rattle.decisions.proofs.RepeatLaws.{joined_starts, joined_off, joined_end, joined_on, joined_less, place_within, past_bound}
+use Rattle.decisions.proofs.RepeatLaws.{joined_starts, joined_off, joined_end, joined_on, joined_less, place_within}
 use Rattle.decisions.proofs.repeats.same_joined.Goals as goal
 
 pub loop-x-init : goal.loop-x-init

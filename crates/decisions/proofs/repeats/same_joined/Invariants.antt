@@ -1,12 +1,8 @@
-use mathlib.Core.Path.{◌≡◌, refl, sym, ap, ◌∙◌}
-use Prim.Native.Nat.{◌+◌, ◌≤◌}
-use native.Mathlib.Omega.{arith}
+use mathlib.Core.Path.{◌≡◌}
 use lib.ListN.{length}
-use borrow.Author.Rules.{rules}
 use Rattle.field.specs.Bytes.{same}
 use Rattle.names.specs.Names.{small_letters}
 use Rattle.decisions.specs.Repeats.{joined, left}
-use Rattle.decisions.proofs.RepeatLaws.{joined_starts, joined_off, joined_end, joined_on, joined_less, place_within, past_bound}
 use Rattle.decisions.proofs.repeats.same_joined.Given as goal
 
 abbrev pub invariant-loop-x : goal.invariant-loop-x

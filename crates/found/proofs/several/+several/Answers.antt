@@ -1,16 +1,12 @@
 -- The invariant of has_one: what is left, and the fragment that is looked into last, have no more entries that stay than all the children. A
 -- fragment's body is shorter than the series; gives calls has_one on the same bytes, so its measure is the greater one.
-use borrow.Author.Rules.{rules}
-use borrow.Author.Tests.{not-true, not-false}
 use mathlib.Core.Path.{refl}
 use native.Mathlib.Omega.{arith}
-use lib.ListN.{length}
 use Rattle.field.proofs.FrontLaws.{behind_less, body_less}
 use Rattle.found.proofs.Places.{tail_room, stands_room}
 use Rattle.found.proofs.FoundLaws.{stands_inside}
 use Rattle.found.proofs.SteadyLaws.{never}
-use Rattle.found.proofs.OneLaws.{Ahead, gives_60, gives_52, gives_30, gives_31, gives_template, gives_many, one_text, one_joined, one_expr, one_element, one_fragment, one_aside, ahead_start, ahead_blank, ahead_joined, ahead_expr, ahead_fragment, ahead_aside, ahead_other}
-use Prim.Native.Nat.{ℕ, ◌+◌, ◌*◌, ◌<◌}
+use Rattle.found.proofs.OneLaws.{gives_60, gives_52, gives_30, gives_31, gives_template, gives_many, one_text, one_joined, one_expr, one_element, one_fragment, one_aside, ahead_start, ahead_blank, ahead_joined, ahead_expr, ahead_fragment, ahead_aside, ahead_other}
 use Rattle.found.proofs.several.+several.Goals as goal
 
 pub gives-slice_bounds-a-count : goal.gives-slice_bounds-a-count

@@ -1,11 +1,9 @@
 -- The invariant: the entries that are surely there are no more than those of the children passed and of the run so far.
-use borrow.Author.Rules.{rules}
 use mathlib.Core.Path.{◌≡◌, refl}
 use Prim.Native.Nat.{ℕ}
 use native.Mathlib.Omega.{arith}
-use lib.ListN.{length}
 use Rattle.field.proofs.FrontLaws.{behind_less}
-use Rattle.found.proofs.SeveralLaws.{Seen, seen_start, seen_end, run_seen, blank_seen, text_seen, text_many, joined_seen, more_longer, more_seen, more_many, expr_seen, expr_many, element_seen, element_many, fragment_heavy, fragment_unsure, fragment_seen, fragment_many, other_seen}
+use Rattle.found.proofs.SeveralLaws.{seen_start, seen_end, run_seen, blank_seen, text_seen, text_many, joined_seen, more_longer, more_seen, more_many, expr_seen, expr_many, element_seen, element_many, fragment_heavy, fragment_unsure, fragment_seen, fragment_many, other_seen}
 use Rattle.found.proofs.several.is_many.Goals as goal
 
 pub loop-r-init : goal.loop-r-init

@@ -1,5 +1,4 @@
 -- What is no array stays; an array by its first element.
-use borrow.Author.Rules.{rules}
 use Rattle.found.proofs.SteadyLaws.{never, stays_plain, stays_array}
 use Rattle.found.proofs.several.stays.Goals as goal
 

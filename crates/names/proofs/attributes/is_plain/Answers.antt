@@ -1,11 +1,10 @@
 -- `is_plain` meets its contract. The invariant of both loops: what is left of the name decides.
 use mathlib.Core.Path.{◌≡◌, refl, sym, ◌∙◌}
 use mathlib.Core.Logic.{inl, inr}
-use Prim.Native.Nat.{◌+◌, ◌≤◌, ◌<◌, ◌-◌}
+use Prim.Native.Nat.{◌+◌}
 use native.Mathlib.Omega.{arith}
-use lib.ListN.{length, drop}
+use lib.ListN.{length}
 use borrow.Author.Rules.{rules}
-use Rattle.names.specs.Table.{plain_name}
 use Rattle.names.proofs.SpellLaws.{plain_on, plain_off, plain_end}
 use Rattle.names.proofs.attributes.is_plain.Goals as goal
 

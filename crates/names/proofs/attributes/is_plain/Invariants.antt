@@ -1,11 +1,7 @@
-use mathlib.Core.Path.{◌≡◌, refl, sym, ◌∙◌}
-use mathlib.Core.Logic.{inl, inr}
-use Prim.Native.Nat.{◌+◌, ◌≤◌, ◌<◌, ◌-◌}
-use native.Mathlib.Omega.{arith}
-use lib.ListN.{length, drop}
-use borrow.Author.Rules.{rules}
+use mathlib.Core.Path.{◌≡◌}
+use Prim.Native.Nat.{◌≤◌, ◌<◌, ◌-◌}
+use lib.ListN.{drop}
 use Rattle.names.specs.Table.{plain_name}
-use Rattle.names.proofs.SpellLaws.{plain_on, plain_off, plain_end}
 use Rattle.names.proofs.attributes.is_plain.Given as goal
 
 abbrev pub invariant-loop-i-2 : goal.invariant-loop-i-2

@@ -1,7 +1,5 @@
 -- `is_xlink_href` meets its contract.
-use borrow.Author.Rules.{rules}
 use mathlib.Core.Path.{sym, ◌∙◌}
-use borrow.Author.Tests.{not-true, not-false}
 use Rattle.names.proofs.attributes.is_xlink_href.Goals as goal
 
 pub returns-then-not-same_bytes : goal.returns-then-not-same_bytes

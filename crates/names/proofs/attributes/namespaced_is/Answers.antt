@@ -1,5 +1,4 @@
 -- `namespaced_is` meets its contract: xlink:href, and all others part by part.
-use borrow.Author.Rules.{rules}
 use mathlib.Core.Path.{sym, ap, ◌∙◌}
 use mathlib.Core.Bool.{and-false}
 use native.Mathlib.Omega.{arith}
@@ -7,7 +6,7 @@ use native.Mathlib.Nat.{le_of_lt}
 use Prim.Native.Nat.{◌+◌, ◌-◌}
 use lib.ListN.{length, take, drop, get_or, length-drop}
 use lib.Seq.{length-take-le, take_all}
-use borrow.Author.Tests.{not-true, not-false, eq-eqb, ne_eqb}
+use borrow.Author.Tests.{eq-eqb, ne_eqb}
 use Rattle.field.specs.Bytes.{Bytes, same}
 use Rattle.names.specs.Names.{small_letters}
 use Rattle.names.proofs.NamespacedLaws.{namespaced_xlink, namespaced_same, namespaced_short}

@@ -1,5 +1,4 @@
 -- `normalize_dom_attr_name` meets its contract: className, plain names, and all others by the table, the hyphenated first.
-use borrow.Author.Rules.{rules}
 use mathlib.Core.Path.{sym, ◌∙◌}
 use Rattle.field.proofs.PutLaws.{wrote_is}
 use Rattle.names.proofs.MarkLaws.{mark_hyphen}

@@ -1,5 +1,4 @@
 -- `normalize_namespaced` meets its contract: xlink:href, and all others in small letters on both sides of the colon.
-use borrow.Author.Rules.{rules}
 use mathlib.Core.Path.{◌≡◌, sym, ap, ap₂, ◌∙◌}
 use mathlib.Core.List.{◌∷◌, [], ◌++◌, append_assoc}
 use native.Mathlib.Omega.{arith}

@@ -1,5 +1,4 @@
 -- `normalizes_to_ref` meets its contract: no listed name becomes `ref`, so small letters are enough.
-use borrow.Author.Rules.{rules}
 use mathlib.Core.Path.{◌≡◌, refl, sym, ◌∙◌}
 use mathlib.Core.Bool.{true, ◌&&◌, not}
 use Rattle.field.specs.Bytes.{ascii, same}

@@ -1,5 +1,4 @@
 -- `put_letter` meets its contract: a test on each side of the capitals, and one for the byte in front.
-use borrow.Author.Rules.{rules}
 use Rattle.field.proofs.PutLaws.{wrote_is, wrote_then}
 use Rattle.names.proofs.SpellLaws.{letter_below, letter_above, letter_alone, letter_parted}
 use Rattle.names.proofs.attributes.put_letter.Goals as goal

@@ -1,5 +1,4 @@
 -- `put_marked` meets its contract, mark by mark.
-use borrow.Author.Rules.{rules}
 use mathlib.Core.Path.{sym, ap}
 use Prim.Native.Nat.{ℕ}
 use Rattle.field.proofs.PutLaws.{wrote_is}

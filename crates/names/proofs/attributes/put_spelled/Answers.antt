@@ -1,11 +1,10 @@
 -- `put_spelled` meets its contract. The loop's invariant: the letters so far are written.
 use mathlib.Core.Path.{ap}
-use Prim.Native.Nat.{◌≤◌, ◌-◌}
+use Prim.Native.Nat.{◌≤◌}
 use native.Mathlib.Omega.{arith}
-use lib.ListN.{length, take}
+use lib.ListN.{length}
 use lib.Seq.{take_all}
 use borrow.Author.Rules.{rules}
-use Rattle.field.specs.Put.{Wrote}
 use Rattle.field.proofs.PutLaws.{wrote_none, wrote_is, wrote_then, wrote_length}
 use Rattle.names.specs.Table.{spelled}
 use Rattle.names.proofs.SpellLaws.{spelled_next, spelled_bound, spelled_least}

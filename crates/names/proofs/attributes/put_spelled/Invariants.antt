@@ -1,13 +1,7 @@
-use mathlib.Core.Path.{ap}
 use Prim.Native.Nat.{◌≤◌, ◌-◌}
-use native.Mathlib.Omega.{arith}
-use lib.ListN.{length, take}
-use lib.Seq.{take_all}
-use borrow.Author.Rules.{rules}
+use lib.ListN.{take}
 use Rattle.field.specs.Put.{Wrote}
-use Rattle.field.proofs.PutLaws.{wrote_none, wrote_is, wrote_then, wrote_length}
 use Rattle.names.specs.Table.{spelled}
-use Rattle.names.proofs.SpellLaws.{spelled_next, spelled_bound, spelled_least}
 use Rattle.names.proofs.attributes.put_spelled.Given as goal
 
 abbrev pub invariant-loop-i : goal.invariant-loop-i

@@ -2,8 +2,6 @@
 use mathlib.Core.Path.{refl, sym, ◌∙◌}
 use Prim.Native.Nat.{◌<◌}
 use lib.ListN.{length}
-use borrow.Author.Rules.{rules}
-use borrow.Author.Tests.{not-true, not-false}
 use Rattle.field.specs.Bytes.{same, among}
 use Rattle.names.specs.Names.{boolean_names, is_boolean_attr}
 use Rattle.names.specs.Table.{read_as, fits_in, mark_from}

@@ -1,6 +1,4 @@
 -- `letter` meets its contract: a test on each side of the capitals.
-use borrow.Author.Rules.{rules}
-use borrow.Author.Tests.{not-true, not-false}
 use Rattle.names.specs.Names.{small_letter}
 use Rattle.names.proofs.CompareLaws.{capital_below, capital_above, capital_within}
 use Rattle.names.proofs.compare.letter.Goals as goal

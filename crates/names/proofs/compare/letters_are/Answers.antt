@@ -1,10 +1,7 @@
 -- `letters_are` meets its contract. The loop's invariant: what is left of the two names decides.
-use mathlib.Core.Path.{◌≡◌, refl, sym, ◌∙◌}
-use Prim.Native.Nat.{◌≤◌, ◌-◌}
+use mathlib.Core.Path.{refl, sym, ◌∙◌}
 use native.Mathlib.Omega.{arith}
-use lib.ListN.{drop}
 use borrow.Author.Rules.{rules}
-use Rattle.field.specs.Bytes.{same}
 use Rattle.names.specs.Table.{read_as}
 use Rattle.names.proofs.CompareLaws.{same_on, same_off, same_end, same_other, length_read_as, letter_at}
 use Rattle.names.proofs.compare.letters_are.Goals as goal

@@ -1,11 +1,8 @@
-use mathlib.Core.Path.{◌≡◌, refl, sym, ◌∙◌}
+use mathlib.Core.Path.{◌≡◌}
 use Prim.Native.Nat.{◌≤◌, ◌-◌}
-use native.Mathlib.Omega.{arith}
 use lib.ListN.{drop}
-use borrow.Author.Rules.{rules}
 use Rattle.field.specs.Bytes.{same}
 use Rattle.names.specs.Table.{read_as}
-use Rattle.names.proofs.CompareLaws.{same_on, same_off, same_end, same_other, length_read_as, letter_at}
 use Rattle.names.proofs.compare.letters_are.Given as goal
 
 abbrev pub invariant-loop-i : goal.invariant-loop-i

@@ -1,7 +1,6 @@
 -- The table has the void names and no others, by tests that antt computes over the whole table.
 use mathlib.Core.Path.{refl}
 use native.Mathlib.Omega.{arith}
-use borrow.Author.Rules.{rules}
 use Rattle.field.specs.Bytes.{same, among}
 use Rattle.names.specs.Names.{void_names, is_void_element}
 use Rattle.names.specs.Table.{read_as, mark_from}

@@ -1,7 +1,5 @@
 use mathlib.Core.Path.{sym, ◌∙◌}
 use mathlib.Core.Bool.{false}
-use borrow.Author.Rules.{rules}
-use borrow.Author.Tests.{not-true, not-false}
 use Rattle.names.proofs.VoidLaws.{never_void}
 use Rattle.names.proofs.elements.is_void_element.Goals as goal
 

@@ -4,7 +4,6 @@ use Prim.Native.Nat.{ℕ, ◌-◌}
 use lib.ListN.{length, get_or}
 use Rattle.names.specs.Table.{fits_ends}
 use Rattle.names.proofs.VoidLaws.{ends_short, ends_long, ends_bits}
-use borrow.Author.Rules.{rules}
 use Rattle.names.proofs.elements.may_be_void.Goals as goal
 
 pub returns-then-n-lt2 : goal.returns-then-n-lt2

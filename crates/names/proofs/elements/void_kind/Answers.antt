@@ -1,7 +1,5 @@
 use mathlib.Core.Path.{refl, sym, ◌∙◌}
 use mathlib.Core.Bool.{true, false}
-use borrow.Author.Rules.{rules}
-use borrow.Author.Tests.{not-true, not-false}
 use Rattle.names.proofs.VoidLaws.{never_void, kind_is}
 use Rattle.names.proofs.elements.void_kind.Goals as goal
 

@@ -1,10 +1,8 @@
 -- `put_attr_name` meets its contract: className, plain names, hyphenated ones, names with a sign, and all others by the table.
-use borrow.Author.Rules.{rules}
 use mathlib.Core.Path.{◌≡◌, sym, ap, ◌∙◌}
 use mathlib.Core.Logic.{◌⊎◌, ⊎_elim}
 use Prim.Native.Nat.{ℕ}
 use native.Mathlib.Omega.{arith}
-use borrow.Author.Tests.{not-true, not-false}
 use Rattle.field.proofs.PutLaws.{wrote_is}
 use Rattle.text.specs.Escape.{escape_byte, escape_html}
 use Rattle.names.proofs.MarkLaws.{mark_hyphen}

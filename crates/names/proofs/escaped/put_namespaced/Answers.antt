@@ -1,5 +1,4 @@
 -- `put_namespaced` meets its contract: xlink:href, and all others in small letters on both sides of the colon.
-use borrow.Author.Rules.{rules}
 use mathlib.Core.Path.{sym, ap, ◌∙◌}
 use native.Mathlib.Omega.{arith}
 use Rattle.field.proofs.PutLaws.{wrote_is, wrote_then}

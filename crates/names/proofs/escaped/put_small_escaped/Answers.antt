@@ -1,12 +1,11 @@
 -- `put_small_escaped` meets its contract. The loop's invariant: the letters so far are written.
 use mathlib.Core.Path.{ap}
 use mathlib.Core.List.{◌∷◌, []}
-use Prim.Native.Nat.{◌+◌, ◌≤◌, ◌-◌}
+use Prim.Native.Nat.{◌+◌, ◌≤◌}
 use native.Mathlib.Omega.{arith}
 use lib.ListN.{length, take, length-append}
 use lib.Seq.{take_all}
 use borrow.Author.Rules.{rules}
-use Rattle.field.specs.Put.{Wrote}
 use Rattle.field.proofs.PutLaws.{wrote_none, wrote_is, wrote_then, wrote_length}
 use Rattle.text.specs.Escape.{escape_html}
 use Rattle.names.specs.Names.{small_letters}

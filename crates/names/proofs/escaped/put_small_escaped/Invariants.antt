@@ -1,15 +1,8 @@
-use mathlib.Core.Path.{ap}
-use mathlib.Core.List.{◌∷◌, []}
-use Prim.Native.Nat.{◌+◌, ◌≤◌, ◌-◌}
-use native.Mathlib.Omega.{arith}
-use lib.ListN.{length, take, length-append}
-use lib.Seq.{take_all}
-use borrow.Author.Rules.{rules}
+use Prim.Native.Nat.{◌≤◌, ◌-◌}
+use lib.ListN.{take}
 use Rattle.field.specs.Put.{Wrote}
-use Rattle.field.proofs.PutLaws.{wrote_none, wrote_is, wrote_then, wrote_length}
 use Rattle.text.specs.Escape.{escape_html}
 use Rattle.names.specs.Names.{small_letters}
-use Rattle.names.proofs.EscapedLaws.{escaped_next, escaped_bound}
 use Rattle.names.proofs.escaped.put_small_escaped.Given as goal
 
 abbrev pub invariant-loop-i : goal.invariant-loop-i

@@ -8,8 +8,7 @@ use Prim.Native.Nat.{ℕ, ◌<◌}
 use native.Mathlib.Omega.{arith}
 use lib.Dec.{eqb}
 use lib.ListN.{length}
-use borrow.Author.Rules.{rules}
-use borrow.Author.Tests.{not-true, ne_eqb}
+use borrow.Author.Tests.{ne_eqb}
 use Rattle.field.specs.Bytes.{Bytes, ascii, same, among}
 use Rattle.text.specs.Escape.{escape_byte, escape_html}
 use Rattle.names.specs.Names.{hyphenated_names, kept_names, renamed, small_letter, small_letters, parted, rename_in, normalize_dom_attr_name}

@@ -1,5 +1,4 @@
 -- `find_mark` meets its contract.
-use borrow.Author.Rules.{rules}
 use Rattle.names.proofs.listed.find_mark.Goals as goal
 
 pub returns : goal.returns

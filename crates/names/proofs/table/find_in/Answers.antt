@@ -1,12 +1,11 @@
 -- `find_in` meets its contract. The outer invariant: what is left of the row decides. The inner one: what is left of the two names
 -- decides whether they are the same.
-use mathlib.Core.Path.{◌≡◌, refl, sym, ◌∙◌}
-use Prim.Native.Nat.{◌+◌, ◌≤◌, ◌<◌, ◌-◌}
+use mathlib.Core.Path.{refl, sym, ◌∙◌}
+use Prim.Native.Nat.{◌+◌}
 use native.Mathlib.Omega.{arith}
 use lib.ListN.{length, take, drop}
 use borrow.Author.Rules.{rules}
-use Rattle.field.specs.Bytes.{same}
-use Rattle.names.specs.Table.{read_as, mark_in}
+use Rattle.names.specs.Table.{read_as}
 use Rattle.names.proofs.CompareLaws.{same_on, same_off, same_end, length_read_as, letter_at}
 use Rattle.names.proofs.RowLaws.{length_entry, entry_letter, row_found, row_passed, row_ended}
 use Rattle.names.proofs.table.find_in.Goals as goal

@@ -1,12 +1,8 @@
-use mathlib.Core.Path.{◌≡◌, refl, sym, ◌∙◌}
-use Prim.Native.Nat.{◌+◌, ◌≤◌, ◌<◌, ◌-◌}
-use native.Mathlib.Omega.{arith}
-use lib.ListN.{length, take, drop}
-use borrow.Author.Rules.{rules}
+use mathlib.Core.Path.{◌≡◌}
+use Prim.Native.Nat.{◌≤◌, ◌<◌, ◌-◌}
+use lib.ListN.{take, drop}
 use Rattle.field.specs.Bytes.{same}
 use Rattle.names.specs.Table.{read_as, mark_in}
-use Rattle.names.proofs.CompareLaws.{same_on, same_off, same_end, length_read_as, letter_at}
-use Rattle.names.proofs.RowLaws.{length_entry, entry_letter, row_found, row_passed, row_ended}
 use Rattle.names.proofs.table.find_in.Given as goal
 
 abbrev pub invariant-loop-i : goal.invariant-loop-i

@@ -1,6 +1,5 @@
 -- `fits` meets its contract.
 use mathlib.Core.Path.{sym}
-use borrow.Author.Rules.{rules}
 use Rattle.names.proofs.FitsLaws.{fits_none, fits_long, fits_bit}
 use Rattle.names.proofs.table.fits.Goals as goal
 

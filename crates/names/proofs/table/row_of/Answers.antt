@@ -1,6 +1,5 @@
 -- `row_of` meets its contract.
 use mathlib.Core.Path.{refl}
-use borrow.Author.Rules.{rules}
 use Rattle.names.specs.Table.{row_of}
 use Rattle.names.proofs.table.row_of.Goals as goal
 

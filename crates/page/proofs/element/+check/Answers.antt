@@ -1,17 +1,12 @@
 -- What `check_attribute` needs to meet its contract. Assumes nothing.
-use Prim.Native.Nat.{ℕ, ◌≤◌, ◌+◌, ◌*◌, ◌<◌}
-use mathlib.Core.Path.{refl, ◌∙◌, ◌≡◌, sym, ap}
+use mathlib.Core.Path.{refl, ◌∙◌, sym, ap}
 use native.Mathlib.Omega.{arith}
 use mathlib.Core.Logic.{⊎_elim}
 use borrow.Author.Rules.{rules}
 use Rattle.field.proofs.FrontLaws.{behind_less, body_less}
 use Rattle.page.proofs.Steps.{deep_at, refused_at, last_at, next_at, fine_at, on_at}
 use Rattle.page.proofs.CheckLaws.{attribute_name, attribute_other, attribute_end, container_empty, container_expr, expr_step, expr_end, expr_text, expr_number, expr_72, expr_73, expr_minus, expr_76, expr_79, expr_tag, items_step, items_end, item_77, item_78, item_expr, text_fine, text_bad, nodes_child, nodes_50, nodes_53, nodes_late, nodes_end, child_60, child_52, child_61, child_tag, pieces_step, pieces_end, piece_20, piece_tag, element_then, element_nodes, fragment_nodes, behind_short, tag_30, tag_31, tag_other, value_step, value_end, value_51, value_52, value_tag}
-use lib.ListN.{length}
-use Rattle.field.specs.Row.{read}
 use Rattle.page.specs.Check as Check
-use borrow.Author.Tests.{not-true, not-false}
-use Rattle.page.specs.CheckField as Field
 use Rattle.page.proofs.element.+check.Goals as goal
 use Rattle.page.proofs.element.+check.Goals.{check_tag-in-48+else-depth-gt-MAX_DEPTH+in-Fine, check_tag-in-49+else-depth-gt-MAX_DEPTH-2}
 
@@ -295,16 +290,20 @@ pub check_tag-overflow_add-depth-2 : goal.check_tag-overflow_add-depth-2
 check_tag-overflow_add-depth-2 t c = elim c.match-tag.branch [ check_tag-in-48+else-depth-gt-MAX_DEPTH+in-Fine w ↦ omega (arith, w.if-depth-gt-MAX_DEPTH.false) | check_tag-in-49+else-depth-gt-MAX_DEPTH-2 w ↦ omega (arith, w.if-depth-gt-MAX_DEPTH-2.false) ]
 
 pub check_tag-check_nodes-requires : goal.check_tag-check_nodes-requires
-check_tag-check_nodes-requires t c =
-    (elim c.match-tag.branch [
-      check_tag-in-48+else-depth-gt-MAX_DEPTH+in-Fine w ↦ rw (w.t-is, w.behind-r.ensures) (omega (arith, c.decreases, behind_short c.args.b.now))
-    | check_tag-in-49+else-depth-gt-MAX_DEPTH-2 w ↦ rw w.t-is (omega (arith, c.decreases)) ], tt)
+check_tag-check_nodes-requires t c = (
+  elim c.match-tag.branch [
+    | check_tag-in-48+else-depth-gt-MAX_DEPTH+in-Fine w ↦ rw (w.t-is, w.behind-r.ensures) (omega (arith, c.decreases, behind_short c.args.b.now))
+    | check_tag-in-49+else-depth-gt-MAX_DEPTH-2 w ↦ rw w.t-is (omega (arith, c.decreases))
+  ],
+  tt,
+)
 
 pub check_tag-returns : goal.check_tag-returns
 check_tag-returns t c =
     elim c.match-tag.branch [
-      check_tag-in-48+else-depth-gt-MAX_DEPTH+in-Fine w ↦ fine_at (tag_30 _ _ w.in-48.is) w.if-depth-gt-MAX_DEPTH.false (element_nodes _ _ _ _ c.check_nodes.ensures w.check_element_name.ensures w.in-Fine.is (ap (λ y. y.now) w.t-is ∙ w.behind-r.ensures) w.attributes-is)
-    | check_tag-in-49+else-depth-gt-MAX_DEPTH-2 w ↦ fine_at (tag_31 _ _ w.in-49.is) w.if-depth-gt-MAX_DEPTH-2.false (fragment_nodes _ _ _ _ c.check_nodes.ensures (ap (λ y. y.now) w.t-is) w.attributes-is) ]
+      | check_tag-in-48+else-depth-gt-MAX_DEPTH+in-Fine w ↦ fine_at (tag_30 _ _ w.in-48.is) w.if-depth-gt-MAX_DEPTH.false (element_nodes _ _ _ _ c.check_nodes.ensures w.check_element_name.ensures w.in-Fine.is (ap (λ y. y.now) w.t-is ∙ w.behind-r.ensures) w.attributes-is)
+      | check_tag-in-49+else-depth-gt-MAX_DEPTH-2 w ↦ fine_at (tag_31 _ _ w.in-49.is) w.if-depth-gt-MAX_DEPTH-2.false (fragment_nodes _ _ _ _ c.check_nodes.ensures (ap (λ y. y.now) w.t-is) w.attributes-is)
+    ]
 
 pub check_value-returns-then-depth-gt-MAX_DEPTH : goal.check_value-returns-then-depth-gt-MAX_DEPTH
 check_value-returns-then-depth-gt-MAX_DEPTH t c = let key1 = c.in-81.is in let tag = c.tag_at-tag.ensures.0 in refused_at (value_step _ _ _ tag (λ z. omega (arith, key1)) refl c.behind-r.ensures) (deep_at (value_51 _ _ key1) c.if-depth-gt-MAX_DEPTH.true) refl

@@ -1,15 +1,8 @@
-use Prim.Native.Nat.{ℕ, ◌≤◌, ◌+◌, ◌*◌, ◌<◌}
-use mathlib.Core.Path.{refl, ◌∙◌, ◌≡◌, sym, ap}
-use native.Mathlib.Omega.{arith}
-use mathlib.Core.Logic.{⊎_elim}
-use borrow.Author.Rules.{rules}
-use Rattle.field.proofs.FrontLaws.{behind_less, body_less}
-use Rattle.page.proofs.Steps.{deep_at, refused_at, last_at, next_at, fine_at, on_at}
-use Rattle.page.proofs.CheckLaws.{attribute_name, attribute_other, attribute_end, container_empty, container_expr, expr_step, expr_end, expr_text, expr_number, expr_72, expr_73, expr_minus, expr_76, expr_79, expr_tag, items_step, items_end, item_77, item_78, item_expr, text_fine, text_bad, nodes_child, nodes_50, nodes_53, nodes_late, nodes_end, child_60, child_52, child_61, child_tag, pieces_step, pieces_end, piece_20, piece_tag, element_then, element_nodes, fragment_nodes, behind_short, tag_30, tag_31, tag_other, value_step, value_end, value_51, value_52, value_tag}
+use Prim.Native.Nat.{◌≤◌, ◌+◌, ◌*◌}
+use mathlib.Core.Path.{◌≡◌}
 use lib.ListN.{length}
 use Rattle.field.specs.Row.{read}
 use Rattle.page.specs.Check as Check
-use borrow.Author.Tests.{not-true, not-false}
 use Rattle.page.specs.CheckField as Field
 use Rattle.page.proofs.element.+check.Given as goal
 

@@ -2,7 +2,6 @@
 use mathlib.Core.Path.{sym, ◌∙◌}
 use borrow.Author.Tests.{lt-leb, le-leb}
 use Rattle.page.proofs.LeafLaws.{fine_if, refused_if, boolean_long, boolean_one}
-use borrow.Author.Rules.{rules}
 use Rattle.page.specs.declared.Refusal.TheVariants as R
 use Rattle.page.proofs.leaf.check_boolean.Goals as goal
 

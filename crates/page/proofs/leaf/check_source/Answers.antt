@@ -1,9 +1,7 @@
 -- `page::leaf::check_source` meets its contract. Assumes nothing.
-use mathlib.Core.Path.{sym, ◌∙◌}
 use borrow.Author.Tests.{lt-leb, le-leb}
 use Rattle.page.specs.Check.{check_source}
 use Rattle.page.specs.Refusal.{after}
-use borrow.Author.Rules.{rules}
 use Rattle.page.proofs.leaf.check_source.Goals as goal
 
 pub returns-then-s-lt1 : goal.returns-then-s-lt1

@@ -2,7 +2,6 @@
 use mathlib.Core.Path.{sym, ◌∙◌}
 use Rattle.page.specs.Check.{check_text}
 use Rattle.page.proofs.LeafLaws.{fine_if, refused_if}
-use borrow.Author.Rules.{rules}
 use Rattle.page.specs.declared.Refusal.TheVariants as R
 use Rattle.page.proofs.leaf.check_text.Goals as goal
 

@@ -1,7 +1,5 @@
 -- `page::name::check_element_name` meets its contract. Assumes nothing.
 use mathlib.Core.Path.{refl, ◌∙◌}
-use native.Mathlib.Omega.{arith}
-use borrow.Author.Rules.{rules}
 use Rattle.page.proofs.Steps.{deep_at, fine_at}
 use Rattle.page.proofs.CheckLaws.{element_name, element_below, element_above, element_end}
 use Rattle.page.proofs.name.check_element_name.Goals as goal

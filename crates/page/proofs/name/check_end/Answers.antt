@@ -1,6 +1,5 @@
 -- `page::name::check_end` meets its contract. Assumes nothing.
 use Rattle.page.proofs.RowEnds.{end_empty, end_torn, end_extra}
-use borrow.Author.Rules.{rules}
 use Rattle.page.proofs.name.check_end.Goals as goal
 
 pub returns-then-s-eq0 : goal.returns-then-s-eq0

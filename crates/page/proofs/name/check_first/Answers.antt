@@ -1,7 +1,6 @@
 -- `page::name::check_first` meets its contract. Assumes nothing.
 use Rattle.page.proofs.RowEnds.{first_missing, first_other, first_deep, first_fine, first_bad}
 use mathlib.Core.Path.{◌∙◌}
-use borrow.Author.Rules.{rules}
 use Rattle.page.proofs.name.check_first.Goals as goal
 
 pub returns-then-depth-gt-MAX_DEPTH : goal.returns-then-depth-gt-MAX_DEPTH

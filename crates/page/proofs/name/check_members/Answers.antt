@@ -1,13 +1,8 @@
 -- `page::name::check_members` meets its contract: n members are passed, so that n fewer may and n fewer must come. Assumes nothing.
-use Prim.Native.Nat.{◌≤◌, ◌-◌}
-use mathlib.Core.Path.{◌≡◌, refl, sym, ◌∙◌}
+use mathlib.Core.Path.{refl, ◌∙◌}
 use native.Mathlib.Omega.{arith}
 use borrow.Author.Rules.{rules}
-use borrow.Author.Tests.{not-true, not-false}
-use lib.ListN.{length}
-use Rattle.field.specs.Row.{read}
 use Rattle.field.proofs.FrontLaws.{behind_less}
-use Rattle.page.specs.CheckField.{check_counted}
 use Rattle.page.proofs.RowEnds.{members_few, members_enough, members_other, members_many, members_deep, members_bad, members_on}
 use Rattle.page.proofs.name.check_members.Goals as goal
 

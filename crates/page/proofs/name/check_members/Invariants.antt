@@ -1,13 +1,8 @@
 use Prim.Native.Nat.{◌≤◌, ◌-◌}
-use mathlib.Core.Path.{◌≡◌, refl, sym, ◌∙◌}
-use native.Mathlib.Omega.{arith}
-use borrow.Author.Rules.{rules}
-use borrow.Author.Tests.{not-true, not-false}
+use mathlib.Core.Path.{◌≡◌}
 use lib.ListN.{length}
 use Rattle.field.specs.Row.{read}
-use Rattle.field.proofs.FrontLaws.{behind_less}
 use Rattle.page.specs.CheckField.{check_counted}
-use Rattle.page.proofs.RowEnds.{members_few, members_enough, members_other, members_many, members_deep, members_bad, members_on}
 use Rattle.page.proofs.name.check_members.Given as goal
 
 abbrev pub invariant-loop-n : goal.invariant-loop-n

@@ -4,7 +4,6 @@ use borrow.Author.Tests.{eq-eqb, ne_eqb}
 use Rattle.page.specs.Tree.{choose}
 use Rattle.page.specs.Check.{check_name_by, check_name}
 use Rattle.page.specs.CheckField.{check_counted, check_namespaced}
-use borrow.Author.Rules.{rules}
 use Rattle.page.proofs.name.check_name_by.Goals as goal
 
 pub returns-then-tag-eq65 : goal.returns-then-tag-eq65

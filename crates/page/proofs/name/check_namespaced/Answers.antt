@@ -1,6 +1,5 @@
 -- `page::name::check_namespaced` meets its contract. Assumes nothing.
 use Rattle.page.proofs.RowEnds.{space_refused, name_refused, name_end}
-use borrow.Author.Rules.{rules}
 use Rattle.page.proofs.name.check_namespaced.Goals as goal
 
 pub returns-in-Fine-check_first : goal.returns-in-Fine-check_first

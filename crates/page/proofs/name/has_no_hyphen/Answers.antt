@@ -1,10 +1,6 @@
 -- `page::name::has_no_hyphen` meets its contract: the bytes left hold a hyphen exactly when all do. Assumes nothing.
-use Prim.Native.Nat.{◌≤◌, ◌-◌}
-use mathlib.Core.Path.{◌≡◌, refl, sym, ◌∙◌}
-use native.Mathlib.Omega.{arith}
+use mathlib.Core.Path.{refl, sym, ◌∙◌}
 use borrow.Author.Rules.{rules}
-use lib.ListN.{length, drop}
-use Rattle.page.specs.Check.{no_hyphen}
 use Rattle.page.proofs.LeafLaws.{hyphen_on, hyphen_off, hyphen_all}
 use Rattle.page.proofs.name.has_no_hyphen.Goals as goal
 

@@ -1,10 +1,7 @@
 use Prim.Native.Nat.{◌≤◌, ◌-◌}
-use mathlib.Core.Path.{◌≡◌, refl, sym, ◌∙◌}
-use native.Mathlib.Omega.{arith}
-use borrow.Author.Rules.{rules}
+use mathlib.Core.Path.{◌≡◌}
 use lib.ListN.{length, drop}
 use Rattle.page.specs.Check.{no_hyphen}
-use Rattle.page.proofs.LeafLaws.{hyphen_on, hyphen_off, hyphen_all}
 use Rattle.page.proofs.name.has_no_hyphen.Given as goal
 
 abbrev pub invariant-loop-i : goal.invariant-loop-i

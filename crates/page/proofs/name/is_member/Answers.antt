@@ -1,6 +1,5 @@
 -- `page::name::is_member` meets its contract. Assumes nothing.
 use mathlib.Core.Path.{sym, ◌∙◌}
-use borrow.Author.Rules.{rules}
 use Rattle.page.proofs.name.is_member.Goals as goal
 
 pub returns-then-is_name : goal.returns-then-is_name

@@ -1,12 +1,7 @@
 -- `page::name::is_name` meets its contract: behind the first letter, the bytes left are name parts exactly when all are. Assumes nothing.
-use Prim.Native.Nat.{◌≤◌, ◌-◌}
-use mathlib.Core.Path.{◌≡◌, refl, sym, ◌∙◌}
-use mathlib.Core.Bool.{◌&&◌}
-use native.Mathlib.Omega.{arith}
+use mathlib.Core.Path.{refl, sym, ◌∙◌}
 use borrow.Author.Rules.{rules}
-use borrow.Author.Tests.{not-true, not-false, le-leb, lt-leb}
-use lib.ListN.{length, drop}
-use Rattle.page.specs.Check.{name_parts}
+use borrow.Author.Tests.{le-leb, lt-leb}
 use Rattle.page.proofs.LeafLaws.{name_empty, name_from, parts_on, parts_off, parts_all}
 use Rattle.page.proofs.name.is_name.Goals as goal
 

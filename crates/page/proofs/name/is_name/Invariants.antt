@@ -1,12 +1,7 @@
 use Prim.Native.Nat.{◌≤◌, ◌-◌}
-use mathlib.Core.Path.{◌≡◌, refl, sym, ◌∙◌}
-use mathlib.Core.Bool.{◌&&◌}
-use native.Mathlib.Omega.{arith}
-use borrow.Author.Rules.{rules}
-use borrow.Author.Tests.{not-true, not-false, le-leb, lt-leb}
+use mathlib.Core.Path.{◌≡◌}
 use lib.ListN.{length, drop}
 use Rattle.page.specs.Check.{name_parts}
-use Rattle.page.proofs.LeafLaws.{name_empty, name_from, parts_on, parts_off, parts_all}
 use Rattle.page.proofs.name.is_name.Given as goal
 
 abbrev pub invariant-loop-i : goal.invariant-loop-i

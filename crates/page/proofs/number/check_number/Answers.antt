@@ -3,7 +3,6 @@ use mathlib.Core.Path.{sym, ◌∙◌}
 use borrow.Author.Tests.{lt-leb, le-leb, eq-eqb, ne_eqb}
 use Rattle.page.specs.Refusal.{after}
 use Rattle.page.proofs.NumberLaws.{whole_checked, scaled_checked}
-use borrow.Author.Rules.{rules}
 use Rattle.page.proofs.number.check_number.Goals as goal
 
 pub returns-then-s-ne9 : goal.returns-then-s-ne9

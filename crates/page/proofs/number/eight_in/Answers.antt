@@ -1,6 +1,5 @@
 -- `page::number::eight_in` meets its contract: each byte in its turn. Assumes nothing.
 use Rattle.page.proofs.LeafLaws.{number_eight}
-use borrow.Author.Rules.{rules}
 use Rattle.page.proofs.number.eight_in.Goals as goal
 
 pub returns : goal.returns

@@ -1,7 +1,6 @@
 -- `page::number::number_in` meets its contract. Assumes nothing.
 use mathlib.Core.Path.{sym}
 use lib.Seq.{length-take-le}
-use borrow.Author.Rules.{rules}
 use Rattle.page.proofs.number.number_in.Goals as goal
 
 pub slice_bounds-eight_in-end : goal.slice_bounds-eight_in-end

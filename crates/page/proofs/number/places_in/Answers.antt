@@ -2,7 +2,6 @@
 use Prim.Native.Nat.{◌<◌}
 use native.Mathlib.Omega.{arith}
 use lib.ListN.{get_or}
-use borrow.Author.Rules.{rules}
 use Rattle.page.proofs.LeafLaws.{one_at, none_at}
 use Rattle.page.proofs.number.places_in.Goals as goal
 

@@ -5,7 +5,6 @@ use lib.ListN.{length}
 use Rattle.field.specs.Bytes.{Bytes}
 use Rattle.field.proofs.PutLaws.{wrote_is}
 use Rattle.page.proofs.NumberLaws.{whole_text, scaled_text}
-use borrow.Author.Rules.{rules}
 use Rattle.page.proofs.number.put_number.Goals as goal
 
 pub put_shortest-requires : goal.put_shortest-requires

@@ -5,7 +5,6 @@ use mathlib.Core.Path.{sym, ◌∙◌}
 use Rattle.field.proofs.NumberLaws.{length_big_endian}
 use Rattle.field.proofs.PutLaws.{wrote_is, wrote_then}
 use Rattle.page.proofs.NumberLaws.{whole_body, scaled_body}
-use borrow.Author.Rules.{rules}
 use Rattle.page.proofs.number.put_number_bytes.Goals as goal
 
 pub put_byte-requires : goal.put_byte-requires

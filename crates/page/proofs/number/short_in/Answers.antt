@@ -1,10 +1,5 @@
 -- The invariant: n is the number in the first i bytes, and has room for what is still to come.
-use borrow.Author.Rules.{rules}
-use mathlib.Core.Path.{◌≡◌}
-use Prim.Native.Nat.{◌≤◌, ◌<◌, ◌-◌, ◌^◌}
 use native.Mathlib.Omega.{arith}
-use lib.ListN.{take}
-use Rattle.field.specs.Number.{number_of}
 use Rattle.page.proofs.LeafLaws.{number_start, number_next, number_all, number_end, number_room, number_grown}
 use Rattle.page.proofs.number.short_in.Goals as goal
 

@@ -1,7 +1,6 @@
 -- `page::whole::check_module_item` meets its contract. Assumes nothing.
 use mathlib.Core.Path.{◌∙◌}
 use Rattle.page.proofs.WholeLaws.{module_below, module_above, module_pieces, module_13}
-use borrow.Author.Rules.{rules}
 use Rattle.page.proofs.whole.check_module_item.Goals as goal
 
 pub returns-in-19 : goal.returns-in-19

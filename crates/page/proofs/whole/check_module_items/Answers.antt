@@ -1,11 +1,6 @@
 -- `page::whole::check_module_items` meets its contract: what is left is checked as the whole was. Assumes nothing.
-use Prim.Native.Nat.{◌≤◌}
-use mathlib.Core.Path.{◌≡◌, refl, sym, ◌∙◌}
-use borrow.Author.Rules.{rules}
-use lib.ListN.{length}
-use Rattle.field.specs.Row.{read}
+use mathlib.Core.Path.{sym, ◌∙◌}
 use Rattle.field.proofs.FrontLaws.{behind_less}
-use Rattle.page.specs.Check.{check_module_items}
 use Rattle.page.proofs.Steps.{on_at, refused_at}
 use Rattle.page.proofs.WholeLaws.{module_step, module_end}
 use Rattle.page.proofs.whole.check_module_items.Goals as goal

@@ -1,12 +1,7 @@
-use Prim.Native.Nat.{◌≤◌}
-use mathlib.Core.Path.{◌≡◌, refl, sym, ◌∙◌}
-use borrow.Author.Rules.{rules}
+use mathlib.Core.Path.{◌≡◌}
 use lib.ListN.{length}
 use Rattle.field.specs.Row.{read}
-use Rattle.field.proofs.FrontLaws.{behind_less}
 use Rattle.page.specs.Check.{check_module_items}
-use Rattle.page.proofs.Steps.{on_at, refused_at}
-use Rattle.page.proofs.WholeLaws.{module_step, module_end}
 use Rattle.page.proofs.whole.check_module_items.Given as goal
 
 abbrev pub invariant-loop-t : goal.invariant-loop-t

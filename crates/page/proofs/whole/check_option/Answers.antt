@@ -1,7 +1,6 @@
 -- `page::whole::check_option` meets its contract. Assumes nothing.
 use mathlib.Core.Path.{◌∙◌}
 use Rattle.page.proofs.WholeLaws.{option_below, option_above, option_source, option_sums, option_texts}
-use borrow.Author.Rules.{rules}
 use Rattle.page.proofs.whole.check_option.Goals as goal
 
 pub returns-then-tag-from : goal.returns-then-tag-from

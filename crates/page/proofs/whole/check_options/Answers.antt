@@ -1,12 +1,9 @@
 -- `page::whole::check_options` meets its contract: what is left is checked from the least tag that may still come. Assumes nothing.
-use Prim.Native.Nat.{◌≤◌}
-use mathlib.Core.Path.{◌≡◌, refl, sym, ◌∙◌}
+use mathlib.Core.Path.{refl, sym, ◌∙◌}
 use native.Mathlib.Omega.{arith}
 use borrow.Author.Rules.{rules}
-use lib.ListN.{length}
-use Rattle.field.specs.Row.{read}
 use Rattle.field.proofs.FrontLaws.{behind_less}
-use Rattle.page.specs.Check.{check_options, check_options_from}
+use Rattle.page.specs.Check.{check_options}
 use Rattle.page.proofs.Steps.{on_at, refused_at}
 use Rattle.page.proofs.WholeLaws.{options_step, options_end, option_in}
 use Rattle.page.proofs.whole.check_options.Goals as goal

@@ -3,7 +3,6 @@ use mathlib.Core.Path.{refl}
 use native.Mathlib.Omega.{arith}
 use Rattle.page.proofs.Steps.{refused_at, last_at}
 use Rattle.page.proofs.WholeLaws.{page_01, page_other, page_none}
-use borrow.Author.Rules.{rules}
 use Rattle.page.proofs.whole.check_page.Goals as goal
 
 pub returns-in-Fine : goal.returns-in-Fine

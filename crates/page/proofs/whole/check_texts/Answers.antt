@@ -1,12 +1,7 @@
 -- `page::whole::check_texts` meets its contract: what is left is checked as the whole was. Assumes nothing.
-use Prim.Native.Nat.{◌≤◌}
-use mathlib.Core.Path.{◌≡◌, refl, sym, ◌∙◌}
+use mathlib.Core.Path.{refl, sym, ◌∙◌}
 use native.Mathlib.Omega.{arith}
-use borrow.Author.Rules.{rules}
-use lib.ListN.{length}
-use Rattle.field.specs.Row.{read}
 use Rattle.field.proofs.FrontLaws.{behind_less}
-use Rattle.page.specs.Check.{check_texts}
 use Rattle.page.proofs.Steps.{on_at, refused_at}
 use Rattle.page.proofs.WholeLaws.{texts_20, texts_other, texts_end}
 use Rattle.page.proofs.whole.check_texts.Goals as goal

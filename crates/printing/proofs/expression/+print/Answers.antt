@@ -1,7 +1,6 @@
 -- The measures of the cycle: the bytes left, three a byte, and within one slice a rank. Assumes nothing.
-use Prim.Native.Nat.{ℕ, ◌+◌, ◌*◌, ◌<◌, ◌≤◌}
 use lib.ListN.{length, length-append}
-use Rattle.printing.specs.Front.{inner_of, front_of}
+use Rattle.printing.specs.Front.{front_of}
 use mathlib.Core.Path.{refl, sym, ap, ◌∙◌}
 use native.Mathlib.Nat.{le_refl}
 use native.Mathlib.Omega.{arith}
@@ -9,10 +8,9 @@ use Rattle.field.specs.Row.{read}
 use Rattle.field.proofs.PutLaws.{wrote_length, wrote_then, wrote_is, wrote_none}
 use Rattle.field.proofs.FrontLaws.{behind_less}
 use Rattle.printing.specs.Card.{all_text, first_text, behind_text, quoted, text_by, prop_name, template_name}
-use Rattle.printing.proofs.RoomLaws.{Left, left_begin, left_room, left_on, left_done, room_is}
+use Rattle.printing.proofs.RoomLaws.{left_begin, left_room, left_on, left_done, room_is}
 use Rattle.printing.proofs.ByTag.{all_on, all_ended, behind_on, behind_ended, front_second, first_at, first_bytes, first_quoted, first_number, first_minus, first_spread, first_other, inner_at, inner_spread, parted_on, parted_ended, front_first, text_second, behind_within}
 use Rattle.field.specs.Bytes.{ascii, Bytes}
-use borrow.Author.Rules.{rules}
 use Rattle.page.specs.Tree.{choose}
 use Rattle.printing.proofs.expression.+print.Goals as goal
 

@@ -5,7 +5,6 @@ use Prim.Native.Nat.{ℕ}
 use lib.ListN.{length}
 use Rattle.printing.specs.Front.{at_most}
 use Rattle.printing.proofs.FrontLaws.{counted_short, counted_is}
-use borrow.Author.Rules.{rules}
 use Rattle.printing.proofs.front.counted_len.Goals as goal
 
 pub returns-then-n-lt6 : goal.returns-then-n-lt6

@@ -2,7 +2,6 @@
 use mathlib.Core.Path.{sym}
 use lib.Seq.{length-take-le}
 use Rattle.printing.proofs.FrontLaws.{front_fits, front_is}
-use borrow.Author.Rules.{rules}
 use Rattle.printing.proofs.front.front.Goals as goal
 
 pub slice_bounds-result-end : goal.slice_bounds-result-end

@@ -2,7 +2,6 @@
 use lib.Dec.{leb-zero}
 use borrow.Author.Tests.{ne_eqb}
 use Rattle.field.specs.Row.{inside}
-use borrow.Author.Rules.{rules}
 use Rattle.printing.proofs.front.front_len.Goals as goal
 
 pub returns-then-tag-eq144 : goal.returns-then-tag-eq144

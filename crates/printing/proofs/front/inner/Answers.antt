@@ -1,7 +1,6 @@
 -- `printing::front::inner` meets its contract. Assumes nothing.
 use native.Mathlib.Omega.{arith}
 use Rattle.printing.proofs.FrontLaws.{front_fits, inner_is}
-use borrow.Author.Rules.{rules}
 use Rattle.printing.proofs.front.inner.Goals as goal
 
 pub slice_bounds-result-count : goal.slice_bounds-result-count

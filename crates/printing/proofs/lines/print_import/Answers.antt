@@ -1,7 +1,6 @@
 -- `print_import` meets its contract: a piece after the other.
 use mathlib.Core.Path.{refl}
 use native.Mathlib.Omega.{arith}
-use borrow.Author.Rules.{rules}
 use Rattle.field.proofs.PutLaws.{wrote_is, wrote_then}
 use Rattle.printing.proofs.LineLaws.{import_is, import_room}
 use Rattle.printing.proofs.lines.print_import.Goals as goal

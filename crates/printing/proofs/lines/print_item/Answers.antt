@@ -1,7 +1,6 @@
 -- `print_item` meets its contract.
 use native.Mathlib.Omega.{arith}
 use mathlib.Core.List.{[], ◌∷◌}
-use borrow.Author.Rules.{rules}
 use Rattle.field.specs.Row.{read}
 use Rattle.field.proofs.PutLaws.{wrote_then}
 use Rattle.printing.specs.Card.{all_text}

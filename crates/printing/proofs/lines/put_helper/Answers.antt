@@ -3,8 +3,6 @@ use mathlib.Core.Path.{sym, subst}
 use Prim.Native.Nat.{◌+◌, ◌<◌, ◌^◌}
 use mathlib.Core.List.{◌++◌}
 use lib.ListN.{length}
-use borrow.Author.Rules.{rules}
-use borrow.Author.Tests.{not-true, not-false}
 use Rattle.field.specs.Bytes.{Bytes, ascii}
 use Rattle.field.proofs.PutLaws.{wrote_none, wrote_is, wrote_then}
 use Rattle.printing.proofs.LineLaws.{helper_none, helper_later, helper_first}

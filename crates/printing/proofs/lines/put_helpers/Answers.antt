@@ -1,7 +1,6 @@
 -- `put_helpers` meets its contract: a helper after the other.
 use mathlib.Core.Path.{refl}
 use native.Mathlib.Omega.{arith}
-use borrow.Author.Rules.{rules}
 use Rattle.field.proofs.PutLaws.{wrote_is, wrote_then}
 use Rattle.printing.proofs.LineLaws.{helpers_is, helpers_room}
 use Rattle.printing.proofs.lines.put_helpers.Goals as goal

@@ -2,7 +2,6 @@
 use native.Mathlib.Omega.{arith}
 use mathlib.Core.List.{◌++◌}
 use lib.ListN.{length-append}
-use borrow.Author.Rules.{rules}
 use Rattle.field.specs.Bytes.{ascii}
 use Rattle.field.proofs.PutLaws.{wrote_then}
 use Rattle.printing.proofs.lines.put_renamed.Goals as goal

@@ -1,5 +1,4 @@
 -- `sum_in` meets its contract. The sum is the byte behind the source; anything else there is none.
-use borrow.Author.Rules.{rules}
 use Rattle.printing.proofs.LineLaws.{sum_field, sum_none, sum_loose}
 use Rattle.printing.proofs.lines.sum_in.Goals as goal
 

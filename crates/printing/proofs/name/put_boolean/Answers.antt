@@ -1,7 +1,6 @@
 -- `put_boolean` meets its contract.
 use mathlib.Core.Path.{sym, ap, ◌∙◌}
 use mathlib.Core.Bool.{Bool}
-use borrow.Author.Rules.{rules}
 use Rattle.field.specs.Bytes.{ascii, pick}
 use Rattle.field.proofs.PutLaws.{wrote_is}
 use Rattle.printing.proofs.name.put_boolean.Goals as goal

@@ -1,5 +1,4 @@
 -- `put_minus` meets its contract.
-use borrow.Author.Rules.{rules}
 use Rattle.field.proofs.PutLaws.{wrote_then}
 use Rattle.printing.proofs.name.put_minus.Goals as goal
 

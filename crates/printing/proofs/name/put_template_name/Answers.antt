@@ -2,7 +2,6 @@
 use mathlib.Core.Path.{sym, ap, ◌∙◌}
 use lib.ListN.{take}
 use lib.Seq.{length-take-le}
-use borrow.Author.Rules.{rules}
 use Rattle.field.specs.Number.{number_of}
 use Rattle.field.proofs.PutLaws.{wrote_is, wrote_then}
 use Rattle.text.specs.Decimal.{decimal}

@@ -1,6 +1,5 @@
 -- `printing::quoted::hex_digit` meets its contract: the code tests what the definition tests. Assumes nothing.
 use borrow.Author.Tests.{lt-ltb, le-ltb}
-use borrow.Author.Rules.{rules}
 use Rattle.printing.proofs.quoted.hex_digit.Goals as goal
 
 pub returns-then-n-lt10 : goal.returns-then-n-lt10

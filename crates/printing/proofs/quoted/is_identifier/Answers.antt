@@ -1,13 +1,7 @@
 -- `printing::quoted::is_identifier` meets its contract. The loop's invariant: it is a name where the bytes from i on go on as a name.
 -- Assumes nothing.
 use native.Mathlib.Omega.{arith}
-use mathlib.Core.Path.{◌≡◌}
-use Prim.Native.Nat.{◌≤◌, ◌-◌}
-use lib.ListN.{length, drop}
-use borrow.Author.Tests.{not-true, not-false}
-use Rattle.printing.specs.Card.{goes_on, is_identifier}
 use Rattle.printing.proofs.QuotedLaws.{name_none, name_not, name_starts, name_stops, name_goes_on, name_ends}
-use borrow.Author.Rules.{rules}
 use Rattle.printing.proofs.quoted.is_identifier.Goals as goal
 
 pub returns-then-s-eq0 : goal.returns-then-s-eq0

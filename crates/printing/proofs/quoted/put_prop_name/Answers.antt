@@ -1,6 +1,5 @@
 -- `printing::quoted::put_prop_name` meets its contract. Assumes nothing.
 use mathlib.Core.Path.{sym, ◌∙◌}
-use borrow.Author.Rules.{rules}
 use Rattle.printing.proofs.quoted.put_prop_name.Goals as goal
 
 pub returns-then-is_identifier : goal.returns-then-is_identifier

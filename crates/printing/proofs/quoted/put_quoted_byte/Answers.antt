@@ -6,7 +6,6 @@ use borrow.Author.Tests.{eq-eqb, ne_eqb}
 use Rattle.field.specs.Bytes.{Bytes}
 use Rattle.field.proofs.PutLaws.{wrote_is}
 use Rattle.printing.specs.Card.{quoted_byte}
-use borrow.Author.Rules.{rules}
 use Rattle.printing.proofs.quoted.put_quoted_byte.Goals as goal
 
 pub returns-then-c : goal.returns-then-c

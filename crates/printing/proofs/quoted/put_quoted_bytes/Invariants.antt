@@ -1,14 +1,7 @@
-use native.Mathlib.Omega.{arith}
-use mathlib.Core.Path.{ap}
-use Prim.Native.Nat.{◌+◌, ◌≤◌, ◌-◌, ◌^◌}
-use lib.ListN.{length, get_or, take}
-use lib.Seq.{take_all}
-use Rattle.field.specs.Bytes.{Bytes}
+use Prim.Native.Nat.{◌≤◌, ◌-◌}
+use lib.ListN.{length, take}
 use Rattle.field.specs.Put.{Wrote}
-use Rattle.field.proofs.PutLaws.{wrote_none, wrote_is, wrote_length}
-use Rattle.text.proofs.WriteLaws.{room_for, wrote_more}
-use Rattle.printing.specs.Card.{quoted_byte, quoted_bytes}
-use Rattle.printing.proofs.QuotedLaws.{quoted_more, quoted_le}
+use Rattle.printing.specs.Card.{quoted_bytes}
 use Rattle.printing.proofs.quoted.put_quoted_bytes.Given as goal
 
 abbrev pub invariant-loop-i : goal.invariant-loop-i

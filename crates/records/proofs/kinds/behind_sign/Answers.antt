@@ -1,5 +1,4 @@
 -- `behind_sign` meets its contract. Assumes nothing.
-use borrow.Author.Rules.{rules}
 use Rattle.records.proofs.KindLaws.{unchanged, right_behind, closing_tag, opening_tag}
 use Rattle.records.proofs.kinds.behind_sign.Goals as goal
 

@@ -1,8 +1,6 @@
 -- `put_kinds` meets its contract: i kinds are written, and the strings stand as they came. Assumes nothing.
-use Prim.Native.Nat.{◌-◌}
 use native.Mathlib.Omega.{arith}
-use borrow.Author.Rules.{rules}
-use Rattle.records.proofs.KindLaws.{Written, none_written, past_field, after_field, after_none, all_written}
+use Rattle.records.proofs.KindLaws.{none_written, past_field, after_field, after_none, all_written}
 use Rattle.records.proofs.kinds.put_kinds.Goals as goal
 
 pub loop-i-init : goal.loop-i-init

@@ -1,7 +1,5 @@
 use Prim.Native.Nat.{◌-◌}
-use native.Mathlib.Omega.{arith}
-use borrow.Author.Rules.{rules}
-use Rattle.records.proofs.KindLaws.{Written, none_written, past_field, after_field, after_none, all_written}
+use Rattle.records.proofs.KindLaws.{Written}
 use Rattle.records.proofs.kinds.put_kinds.Given as goal
 
 abbrev pub invariant-loop-i : goal.invariant-loop-i

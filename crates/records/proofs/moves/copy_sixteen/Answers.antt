@@ -6,7 +6,7 @@ use mathlib.Core.List.{◌∷◌, []}
 use lib.ListN.{set, length, take, get_or}
 use lib.Seq.{take-suc, length-take-le}
 use Rattle.field.specs.Bytes.{Bytes}
-use Prim.Native.Nat.{ℕ, ◌+◌, ◌-◌, ◌≤◌, ◌<◌}
+use Prim.Native.Nat.{ℕ, ◌+◌, ◌<◌}
 use Rattle.field.proofs.PutLaws.{length_put, put_one, put_then, put_nil}
 use mathlib.Core.Path.{◌≡◌, refl, sym, ap, ◌∙◌}
 use borrow.Author.Rules.{rules}

@@ -7,7 +7,6 @@ use lib.Seq.{take_all, length-take-le}
 use Rattle.field.specs.Bytes.{Bytes}
 use Rattle.field.specs.Put.{put}
 use Rattle.field.proofs.PutLaws.{put_whole}
-use borrow.Author.Rules.{rules}
 use Rattle.records.proofs.moves.move_block.Goals as goal
 
 -- what the local holds

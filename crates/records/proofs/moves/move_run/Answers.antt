@@ -1,10 +1,9 @@
 -- `move_run` meets its contract: the bytes from i on are moved already, and those in front of them stand as they did. Assumes nothing.
-use Prim.Native.Nat.{◌+◌, ◌-◌, ◌≤◌}
-use mathlib.Core.Path.{◌≡◌, ap, ◌∙◌}
+use Prim.Native.Nat.{◌-◌}
+use mathlib.Core.Path.{ap, ◌∙◌}
 use native.Mathlib.Omega.{arith}
 use native.Mathlib.Nat.{le_refl}
-use lib.ListN.{length, take, drop}
-use Rattle.field.specs.Put.{put}
+use lib.ListN.{length}
 use Rattle.field.proofs.PutLaws.{length_put}
 use borrow.Author.Rules.{rules}
 use Rattle.records.proofs.MoveLaws.{move_none, move_block}

@@ -4,7 +4,6 @@ use mathlib.Core.Path.{sym, ◌∙◌}
 use native.Mathlib.Omega.{arith}
 use lib.ListN.{length}
 use Rattle.field.proofs.PutLaws.{put_out}
-use borrow.Author.Rules.{rules}
 use Rattle.records.proofs.MoveLaws.{move_clip}
 use Rattle.records.proofs.moves.move_up.Goals as goal
 

@@ -1,5 +1,4 @@
 -- A listed attribute, then one without a value, then by the kind of value: what the attribute gives is what is written.
-use borrow.Author.Rules.{rules}
 use mathlib.Core.Path.{sym, ap, ◌∙◌, subst}
 use Rattle.field.specs.Front.{body_of}
 use Rattle.decisions.specs.At.{opts}

@@ -1,12 +1,10 @@
 -- The invariant: what is left to write ends where the whole does.
-use mathlib.Core.Path.{◌≡◌, refl}
+use mathlib.Core.Path.{refl}
 use native.Mathlib.Omega.{arith}
-use lib.ListN.{length}
 use Rattle.field.proofs.Actions.{by, on, finish, room, keeps}
 use Rattle.field.proofs.FrontLaws.{behind_less}
-use Rattle.strings.specs.Carve.{at, carve}
 use Rattle.strings.proofs.CarveLaws.{carving, lows, same_size}
-use Rattle.strings.proofs.TreeLaws.{attrs_at, attr_at, attrs_50, attrs_53, attrs_other}
+use Rattle.strings.proofs.TreeLaws.{attr_at, attrs_50, attrs_53, attrs_other}
 use Rattle.strings.proofs.attributes.attributes_strings.Goals as goal
 
 pub attribute_strings-cur-requires : goal.attribute_strings-cur-requires

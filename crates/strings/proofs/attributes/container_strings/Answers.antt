@@ -1,5 +1,4 @@
 -- An arm for each shape: what the container gives is what the arm writes.
-use borrow.Author.Rules.{rules}
 use mathlib.Core.Path.{sym, ◌∙◌, subst}
 use Rattle.decisions.specs.At.{opts}
 use Rattle.strings.specs.Carve.{at, name_at, Low}

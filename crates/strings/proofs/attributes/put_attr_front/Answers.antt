@@ -1,5 +1,4 @@
 -- The space, the name and the rest, one after the other.
-use borrow.Author.Rules.{rules}
 use mathlib.Core.List.{◌∷◌, []}
 use native.Mathlib.Omega.{arith}
 use lib.ListN.{length-append}

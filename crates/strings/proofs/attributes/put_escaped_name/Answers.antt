@@ -1,5 +1,4 @@
 -- As put_name, each part by the function that escapes it.
-use borrow.Author.Rules.{rules}
 use mathlib.Core.Path.{sym, ap, subst}
 use Prim.Native.Nat.{◌+◌, ◌<◌, ◌^◌}
 use lib.ListN.{length}

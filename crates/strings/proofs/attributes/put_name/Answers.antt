@@ -1,5 +1,4 @@
 -- A name in one part, in two, or none.
-use borrow.Author.Rules.{rules}
 use mathlib.Core.Path.{sym, subst}
 use Prim.Native.Nat.{◌+◌, ◌<◌, ◌^◌}
 use lib.ListN.{length}

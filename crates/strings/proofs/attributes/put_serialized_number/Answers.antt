@@ -1,5 +1,4 @@
 -- The front, the number and the quote, one after the other; no escape changes a number.
-use borrow.Author.Rules.{rules}
 use mathlib.Core.Path.{refl}
 use native.Mathlib.Omega.{arith}
 use Rattle.field.proofs.PutLaws.{wrote_then, wrote_is}

@@ -1,5 +1,4 @@
 -- The space and the name, one after the other.
-use borrow.Author.Rules.{rules}
 use mathlib.Core.List.{◌∷◌}
 use native.Mathlib.Omega.{arith}
 use Rattle.field.proofs.PutLaws.{wrote_then}

@@ -1,4 +1,3 @@
-use borrow.Author.Rules.{rules}
 use Rattle.strings.proofs.DueLaws.{body_long, body_short}
 use Rattle.strings.proofs.due.with_body.Goals as goal
 

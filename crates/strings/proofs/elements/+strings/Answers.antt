@@ -1,19 +1,15 @@
 -- The three functions meet their contracts by one induction: the bytes left fall, eight a byte, and within one slice an element stands above
 -- its tags, and they above the series.
 -- The loop keeps that what is left of the series, written from here on, gives what the whole gives from the start. Assumes nothing.
-use borrow.Author.Tests.{not-true, not-false}
 use Rattle.field.proofs.Actions.{kept}
 use Rattle.field.proofs.FrontLaws.{behind_less}
 use Rattle.names.proofs.VoidLaws.{void_by_kind, not_void_by_kind}
 use Rattle.strings.proofs.CarveLaws.{same_size}
 use Rattle.strings.proofs.FrontSizes.{behind_le}
-use borrow.Author.Rules.{rules}
 use mathlib.Core.Path.{refl, sym, ◌∙◌}
-use Prim.Native.Nat.{ℕ, ◌+◌, ◌*◌, ◌<◌}
 use native.Mathlib.Omega.{arith}
-use lib.ListN.{length}
 use Rattle.strings.specs.Carve.{at}
-use Rattle.strings.proofs.ElementLaws.{Left, left_start, left_size, left_end, body_falls, text_room, text_on, container_room, container_on, element_room, element_on, fragment_room, fragment_on, other_on, gap_room, gap_end, open_room, attrs_room, end_room, void_end, kids_room, close_room, close_end}
+use Rattle.strings.proofs.ElementLaws.{left_start, left_size, left_end, body_falls, text_room, text_on, container_room, container_on, element_room, element_on, fragment_room, fragment_on, other_on, gap_room, gap_end, open_room, attrs_room, end_room, void_end, kids_room, close_room, close_end}
 use Rattle.strings.proofs.elements.+strings.Goals as goal
 
 pub children_strings-loop-r-init : goal.children_strings-loop-r-init

@@ -6,7 +6,6 @@ use Rattle.strings.specs.Carve.{at, Low}
 use Rattle.strings.proofs.CarveLaws.{put_is}
 use Rattle.strings.proofs.ShapeLaws.{child_empty, child_string, child_number, child_boolean, child_null, child_literal, child_minus, child_other}
 use Rattle.strings.proofs.ElementLaws.{string_low, number_low}
-use borrow.Author.Rules.{rules}
 use Rattle.strings.proofs.elements.container_child.Goals as goal
 
 pub overflow_add-st : goal.overflow_add-st

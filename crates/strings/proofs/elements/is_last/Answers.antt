@@ -1,6 +1,5 @@
 -- No child follows where the series, from its first child on, is empty. Assumes nothing.
 use Rattle.strings.proofs.ElementLaws.{last_child}
-use borrow.Author.Rules.{rules}
 use Rattle.strings.proofs.elements.is_last.Goals as goal
 
 pub returns-then-parent : goal.returns-then-parent

@@ -1,4 +1,3 @@
-use borrow.Author.Rules.{rules}
 use Rattle.strings.specs.Carve.{at}
 use Rattle.strings.proofs.CarveLaws.{opening_low, opening_is}
 use Rattle.strings.proofs.elements.open_tag.Goals as goal

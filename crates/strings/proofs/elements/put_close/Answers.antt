@@ -3,7 +3,6 @@ use native.Mathlib.Omega.{arith}
 use Rattle.field.proofs.PutLaws.{wrote_then}
 use Rattle.strings.proofs.CarveLaws.{put_is}
 use Rattle.strings.proofs.ElementLaws.{closing_low}
-use borrow.Author.Rules.{rules}
 use Rattle.strings.proofs.elements.put_close.Goals as goal
 
 pub overflow_add-st : goal.overflow_add-st

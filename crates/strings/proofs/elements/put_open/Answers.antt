@@ -4,7 +4,6 @@ use mathlib.Core.List.{◌∷◌}
 use Rattle.field.proofs.PutLaws.{wrote_then}
 use Rattle.text.specs.Escape.{escape_html}
 use Rattle.strings.proofs.CarveLaws.{put_low, put_is}
-use borrow.Author.Rules.{rules}
 use Rattle.strings.proofs.elements.put_open.Goals as goal
 
 pub overflow_add-st : goal.overflow_add-st

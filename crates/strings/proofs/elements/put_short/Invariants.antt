@@ -1,11 +1,6 @@
-use native.Mathlib.Omega.{arith}
 use Prim.Native.Nat.{◌≤◌, ◌-◌}
 use lib.ListN.{length, take}
-use lib.Seq.{take_all}
 use Rattle.field.specs.Put.{Wrote}
-use Rattle.field.proofs.PutLaws.{wrote_none, wrote_is, wrote_length}
-use Rattle.strings.proofs.ElementLaws.{byte_low, byte_on}
-use borrow.Author.Rules.{rules}
 use Rattle.strings.proofs.elements.put_short.Given as goal
 
 abbrev pub invariant-loop-i : goal.invariant-loop-i

@@ -1,5 +1,4 @@
 use mathlib.Core.Path.{refl}
-use borrow.Author.Rules.{rules}
 use Rattle.names.proofs.VoidLaws.{lowered_by_kind, not_lowered_by_kind}
 use Rattle.strings.proofs.TagLaws.{repeated_due, mixed_due, no_due}
 use Rattle.strings.proofs.elements.tag_due.Goals as goal

@@ -1,7 +1,6 @@
 -- Whether a container joins a run, by its shape. Assumes nothing.
 use mathlib.Core.Path.{sym, ◌∙◌}
 use Rattle.strings.proofs.ShapeLaws.{joins_shape}
-use borrow.Author.Rules.{rules}
 use Rattle.strings.proofs.merged.joins.Goals as goal
 
 pub returns-in-Empty : goal.returns-in-Empty

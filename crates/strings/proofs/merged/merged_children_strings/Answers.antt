@@ -1,10 +1,8 @@
 -- A turn of the loop keeps what scratch holds of the run, and what is left to do. Assumes nothing.
 use mathlib.Core.Path.{refl}
 use native.Mathlib.Omega.{arith}
-use lib.ListN.{length}
 use Rattle.field.proofs.FrontLaws.{behind_less}
-use Rattle.strings.specs.Carve.{at}
-use Rattle.strings.proofs.MergedLaws.{Merging, merging_start, text_room, joined_room, text_on, joined_on, cut_run, cut_room, cut_on, element_run, element_room, element_on, fragment_run, fragment_room, fragment_on, other_on, last_room, merging_end, same_out}
+use Rattle.strings.proofs.MergedLaws.{merging_start, text_room, joined_room, text_on, joined_on, cut_run, cut_room, cut_on, element_run, element_room, element_on, fragment_run, fragment_room, fragment_on, other_on, last_room, merging_end, same_out}
 use Rattle.strings.proofs.merged.merged_children_strings.Goals as goal
 
 pub loop-scratch-init : goal.loop-scratch-init

@@ -4,7 +4,6 @@ use native.Mathlib.Omega.{arith}
 use lib.ListN.{length}
 use Rattle.field.proofs.PutLaws.{wrote_is, wrote_none}
 use Rattle.strings.proofs.ShapeLaws.{joined_shape, joined_string, joined_number}
-use borrow.Author.Rules.{rules}
 use Rattle.strings.proofs.merged.put_joined.Goals as goal
 
 pub put_escaped-requires : goal.put_escaped-requires

@@ -5,7 +5,6 @@ use lib.ListN.{take}
 use lib.Seq.{length-take-le}
 use Rattle.strings.specs.Carve.{Low}
 use Rattle.strings.proofs.MergedLaws.{run_long, run_short}
-use borrow.Author.Rules.{rules}
 use Rattle.strings.proofs.merged.put_run.Goals as goal
 
 pub returns-then-n-gt65535 : goal.returns-then-n-gt65535

@@ -1,5 +1,4 @@
 use Rattle.strings.proofs.CarveLaws.{cut_is}
-use borrow.Author.Rules.{rules}
 use Rattle.strings.proofs.writer.cut.Goals as goal
 
 pub returns : goal.returns

@@ -1,6 +1,5 @@
 use native.Mathlib.Omega.{arith}
 use Rattle.strings.proofs.CarveLaws.{put_low, put_is, end_low}
-use borrow.Author.Rules.{rules}
 use Rattle.strings.proofs.writer.put_chars.Goals as goal
 
 -- src/writer.rt:36:30

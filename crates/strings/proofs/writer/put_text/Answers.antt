@@ -2,7 +2,6 @@ use native.Mathlib.Omega.{arith}
 use mathlib.Core.Bool.{true}
 use Rattle.text.specs.Text.{jsx_text_to_str}
 use Rattle.strings.proofs.CarveLaws.{put_low, put_is, end_low}
-use borrow.Author.Rules.{rules}
 use Rattle.strings.proofs.writer.put_text.Goals as goal
 
 -- src/writer.rt:75:36

@@ -1,10 +1,5 @@
-use mathlib.Core.Path.{refl, ◌∙◌, ap}
-use mathlib.Core.List.{◌∷◌, []}
-use Rattle.field.proofs.Actions.{room, on, fits}
-use Rattle.spec.specs.Pass.{Part, chars, gap, pure, none}
-use Rattle.strings.specs.Carve.{close, carve}
-use Rattle.strings.proofs.CarveLaws.{carving, lows, space_cut, space_room, cut_room}
-use borrow.Author.Rules.{rules}
+use mathlib.Core.Path.{◌∙◌}
+use Rattle.strings.proofs.CarveLaws.{space_cut, space_room, cut_room}
 use Rattle.strings.proofs.writer.space_and_cut.Goals as goal
 
 -- src/writer.rt:66:9

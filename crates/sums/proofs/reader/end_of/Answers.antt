@@ -1,6 +1,5 @@
 -- `sums::reader::end_of` meets its contract. Assumes nothing.
 use Rattle.sums.proofs.Packs.{ended_awaits, ended_digits, ended_behind}
-use borrow.Author.Rules.{rules}
 use Rattle.sums.proofs.reader.end_of.Goals as goal
 
 pub returns-then-mode-eq-AWAITS : goal.returns-then-mode-eq-AWAITS

@@ -1,11 +1,6 @@
 -- `sums::reader::grow` meets its contract. Assumes nothing.
 use Rattle.sums.proofs.Packs.{grown_past, grown_fits}
 use native.Mathlib.Omega.{arith}
-use Rattle.sums.proofs.Tests.{takes, leaves}
-use borrow.Author.Tests.{le-leb, lt-leb, leb-true, not-false, eq-eqb, ne_eqb}
-use mathlib.Core.Path.{◌≡◌, refl, sym, ◌∙◌, ap}
-use Rattle.sums.specs.Small.{grown, capped}
-use borrow.Author.Rules.{rules}
 use Rattle.sums.proofs.reader.grow.Goals as goal
 
 pub returns-then-n-gt-MOST : goal.returns-then-n-gt-MOST

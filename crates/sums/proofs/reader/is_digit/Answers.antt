@@ -1,5 +1,5 @@
 -- `sums::reader::is_digit` meets its contract. Assumes nothing.
-use mathlib.Core.Path.{◌≡◌, refl, sym, ◌∙◌, ap}
+use mathlib.Core.Path.{refl}
 use Rattle.sums.specs.Choice.{digit}
 use Rattle.sums.proofs.reader.is_digit.Goals as goal
 

@@ -1,11 +1,6 @@
 -- `sums::reader::product` meets its contract. Assumes nothing.
-use mathlib.Core.Path.{◌≡◌, refl, sym, ◌∙◌, ap}
-use Prim.Native.Nat.{◌*◌}
-use native.Mathlib.Omega.{arith}
-use borrow.Author.Tests.{leb-true}
-use Rattle.sums.specs.Value.{most}
+use mathlib.Core.Path.{◌∙◌}
 use Rattle.sums.proofs.Packs.{times_none, times_some}
-use borrow.Author.Rules.{rules}
 use Rattle.sums.proofs.reader.product.Goals as goal
 
 pub returns-then-tag-eq-NOTHING : goal.returns-then-tag-eq-NOTHING

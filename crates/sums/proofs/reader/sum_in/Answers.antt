@@ -1,14 +1,12 @@
 -- `sums::reader::sum_in` meets its contract, one law for each turn of its loop. Assumes nothing.
-use Rattle.sums.specs.Small.{ended, times_by}
+use Rattle.sums.specs.Small.{times_by}
 use Rattle.sums.proofs.Packs.{digit_low}
 use Rattle.sums.proofs.Steps.{up_is}
-use Rattle.sums.proofs.Turns.{Runs, starts, before_is, factor_is, digit_on, digits_done, space_on, zero_on, first_on, no_operand, opening, plus_on, minus_on, times_on, no_operator, closing, put_behind, put_open}
+use Rattle.sums.proofs.Turns.{starts, before_is, factor_is, digit_on, digits_done, space_on, zero_on, first_on, no_operand, opening, plus_on, minus_on, times_on, no_operator, closing, put_behind, put_open}
 use Rattle.sums.proofs.Loop.{finishes, unfinished, inside, too_high, pushes, closes_nothing, closes_tag, closes_low, closes_lower, closes}
-use lib.ListN.{length, length-set}
+use lib.ListN.{length-set}
 use native.Mathlib.Omega.{arith}
-use mathlib.Core.Path.{◌≡◌, refl, sym, ◌∙◌, ap}
-use Prim.Native.Nat.{◌+◌, ◌-◌, ◌*◌}
-use borrow.Author.Rules.{rules}
+use mathlib.Core.Path.{refl, sym, ◌∙◌, ap}
 use Rattle.sums.proofs.reader.sum_in.Goals as goal
 
 pub loop-i-init : goal.loop-i-init

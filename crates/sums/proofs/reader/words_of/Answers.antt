@@ -1,8 +1,7 @@
 -- `sums::reader::words_of` meets its contract. Assumes nothing.
 use Rattle.sums.proofs.Tests.{takes, leaves}
-use borrow.Author.Tests.{le-leb, lt-leb, leb-true, not-false, eq-eqb, ne_eqb}
+use borrow.Author.Tests.{eq-eqb, ne_eqb}
 use native.Mathlib.Omega.{arith}
-use mathlib.Core.Path.{◌≡◌, refl, sym, ◌∙◌, ap}
 use Rattle.sums.specs.Packed.{words}
 use Rattle.sums.proofs.reader.words_of.Goals as goal
 

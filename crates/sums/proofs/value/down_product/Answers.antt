@@ -1,11 +1,10 @@
 -- `sums::value::down_product` meets its contract. Assumes nothing.
-use mathlib.Core.Path.{◌≡◌, refl, sym, ◌∙◌, ap}
+use mathlib.Core.Path.{sym, ◌∙◌}
 use Prim.Native.Nat.{◌*◌}
 use native.Mathlib.Omega.{arith}
 use borrow.Author.Tests.{leb-true}
 use Rattle.sums.specs.Value.{most}
 use Rattle.sums.proofs.Steps.{mixed_zero, mixed_stays, mixed_is, stayed}
-use borrow.Author.Rules.{rules}
 use Rattle.sums.proofs.value.down_product.Goals as goal
 
 pub returns-then-x-eq0 : goal.returns-then-x-eq0

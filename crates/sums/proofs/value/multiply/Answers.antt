@@ -1,11 +1,6 @@
 -- `sums::value::multiply` meets its contract. Assumes nothing.
-use mathlib.Core.Path.{◌≡◌, refl, sym, ◌∙◌, ap}
-use Prim.Native.Nat.{◌*◌}
-use native.Mathlib.Omega.{arith}
-use borrow.Author.Tests.{leb-true}
-use Rattle.sums.specs.Value.{most}
+use mathlib.Core.Path.{◌∙◌}
 use Rattle.sums.proofs.Steps.{multiply_first, multiply_second, multiply_up, multiply_down, multiply_left, multiply_right, stayed}
-use borrow.Author.Rules.{rules}
 use Rattle.sums.proofs.value.multiply.Goals as goal
 
 pub returns-then-a-gt-TWICE : goal.returns-then-a-gt-TWICE

@@ -1,11 +1,6 @@
 -- `sums::value::up` meets its contract. Assumes nothing.
-use mathlib.Core.Path.{◌≡◌, refl, sym, ◌∙◌, ap}
-use Prim.Native.Nat.{◌*◌}
-use native.Mathlib.Omega.{arith}
-use borrow.Author.Tests.{leb-true}
-use Rattle.sums.specs.Value.{most}
+use mathlib.Core.Path.{◌∙◌}
 use Rattle.sums.proofs.Steps.{up_is, up_passes, stayed}
-use borrow.Author.Rules.{rules}
 use Rattle.sums.proofs.value.up.Goals as goal
 
 pub returns-then-n-le-MOST : goal.returns-then-n-le-MOST

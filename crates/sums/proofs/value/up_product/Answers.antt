@@ -1,11 +1,10 @@
 -- `sums::value::up_product` meets its contract. Assumes nothing.
-use mathlib.Core.Path.{◌≡◌, refl, sym, ◌∙◌, ap}
+use mathlib.Core.Path.{sym, ◌∙◌}
 use Prim.Native.Nat.{◌*◌}
 use native.Mathlib.Omega.{arith}
 use borrow.Author.Tests.{leb-true}
 use Rattle.sums.specs.Value.{most}
 use Rattle.sums.proofs.Steps.{up_product_stays, up_is, stayed}
-use borrow.Author.Rules.{rules}
 use Rattle.sums.proofs.value.up_product.Goals as goal
 
 pub overflow_mul-result : goal.overflow_mul-result

@@ -1,11 +1,6 @@
 -- `sums::value::worked_of` meets its contract. Assumes nothing.
-use mathlib.Core.Path.{◌≡◌, refl, sym, ◌∙◌, ap}
-use Prim.Native.Nat.{◌*◌}
-use native.Mathlib.Omega.{arith}
-use borrow.Author.Tests.{leb-true}
-use Rattle.sums.specs.Value.{most}
+use mathlib.Core.Path.{sym}
 use Rattle.sums.proofs.Steps.{stays_of, plus_of, minus_of}
-use borrow.Author.Rules.{rules}
 use Rattle.sums.proofs.value.worked_of.Goals as goal
 
 pub returns-then-v-gt-TWICE : goal.returns-then-v-gt-TWICE

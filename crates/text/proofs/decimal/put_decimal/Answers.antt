@@ -1,14 +1,13 @@
 -- `text::decimal::put_decimal` meets its contract. The loop's invariant: the digits still to come, in front of those from i on, are the
 -- number's, and the buffer has a place for each. Assumes nothing.
 use native.Mathlib.Omega.{arith}
-use mathlib.Core.Path.{◌≡◌, refl, ap, ◌∙◌, subst}
-use Prim.Native.Nat.{◌-◌}
+use mathlib.Core.Path.{refl, ap, ◌∙◌, subst}
 use lib.ListN.{length, length-set}
 use Rattle.field.specs.Bytes.{Bytes}
 use Rattle.field.specs.Put.{Wrote}
 use Rattle.field.proofs.PutLaws.{wrote_is, wrote_length}
 use Rattle.text.specs.Decimal.{decimal}
-use Rattle.text.proofs.DecimalLaws.{Filling, filling_start, filled, filling_more}
+use Rattle.text.proofs.DecimalLaws.{filling_start, filled, filling_more}
 use Rattle.text.proofs.decimal.put_decimal.Goals as goal
 
 pub loop-m-init : goal.loop-m-init

@@ -2,11 +2,10 @@
 -- number's, what is above them is its whole part, and the buffer has a place for each and for the point. Assumes nothing.
 use native.Mathlib.Omega.{arith}
 use mathlib.Core.Path.{refl, ap}
-use Prim.Native.Nat.{◌-◌}
 use lib.ListN.{length, length-set, length-append}
 use Rattle.field.specs.Bytes.{Bytes}
 use Rattle.field.proofs.PutLaws.{wrote_is, wrote_then, wrote_length}
-use Rattle.text.proofs.PlacesLaws.{Placing, placing_start, placing_more, placed}
+use Rattle.text.proofs.PlacesLaws.{placing_start, placing_more, placed}
 use Rattle.text.proofs.decimal.put_pointed.Goals as goal
 
 pub overflow_sub-first : goal.overflow_sub-first

@@ -1,12 +1,6 @@
-use native.Mathlib.Omega.{arith}
-use mathlib.Core.Path.{◌≡◌, refl, sym, ap, ◌∙◌, subst}
+use mathlib.Core.Path.{◌≡◌}
 use Prim.Native.Nat.{◌≤◌}
-use lib.ListN.{length}
-use Rattle.field.specs.Bytes.{Bytes}
-use Rattle.field.specs.Put.{Wrote}
-use Rattle.field.proofs.PutLaws.{wrote_is, wrote_length}
 use Rattle.text.specs.Decimal.{shortest}
-use Rattle.text.proofs.PlacesLaws.{shortest_whole, shortest_less, shortest_pointed}
 use Rattle.text.proofs.decimal.put_shortest.Given as goal
 
 abbrev pub invariant-loop-left : goal.invariant-loop-left

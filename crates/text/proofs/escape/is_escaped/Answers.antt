@@ -6,7 +6,6 @@ use lib.Dec.{eqb}
 use lib.ListN.{length}
 use Rattle.text.specs.Runs.{plain, run}
 use Rattle.text.proofs.EscapeLaws.{is_escaped_by_run}
-use borrow.Author.Rules.{rules}
 use Rattle.text.proofs.escape.is_escaped.Goals as goal
 
 pub returns : goal.returns

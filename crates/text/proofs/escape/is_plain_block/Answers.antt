@@ -1,9 +1,6 @@
 -- `text::escape::is_plain_block` meets its contract. The loop's invariant: the flag says whether the bytes passed are plain. Assumes nothing.
 use mathlib.Core.Path.{◌≡◌, refl}
-use Prim.Native.Nat.{◌≤◌, ◌-◌}
 use native.Mathlib.Omega.{arith}
-use borrow.Author.Rules.{rules}
-use lib.ListN.{take, drop}
 use Rattle.text.specs.Runs.{plain, all}
 use Rattle.text.proofs.RunLaws.{all_more}
 use Rattle.text.proofs.escape.is_plain_block.Goals as goal

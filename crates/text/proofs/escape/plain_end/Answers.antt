@@ -1,13 +1,9 @@
 -- `text::escape::plain_end` meets its contract. The invariant of both loops: the run that is looked for ends where the run from i on ends.
 -- Assumes nothing.
 use native.Mathlib.Omega.{arith}
-use mathlib.Core.Path.{◌≡◌, refl, sym, ◌∙◌}
-use Prim.Native.Nat.{◌+◌, ◌≤◌, ◌-◌}
-use lib.ListN.{length, drop}
-use borrow.Author.Tests.{not-true, not-false}
-use Rattle.text.specs.Runs.{plain, run}
+use mathlib.Core.Path.{refl, sym, ◌∙◌}
+use Rattle.text.specs.Runs.{plain}
 use Rattle.text.proofs.RunLaws.{scan_step, scan_block, scan_last, scan_stop, scan_end}
-use borrow.Author.Rules.{rules}
 use Rattle.text.proofs.escape.plain_end.Goals as goal
 
 pub loop-i-init : goal.loop-i-init

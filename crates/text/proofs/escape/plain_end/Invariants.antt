@@ -1,11 +1,7 @@
-use native.Mathlib.Omega.{arith}
-use mathlib.Core.Path.{◌≡◌, refl, sym, ◌∙◌}
+use mathlib.Core.Path.{◌≡◌}
 use Prim.Native.Nat.{◌+◌, ◌≤◌, ◌-◌}
 use lib.ListN.{length, drop}
-use borrow.Author.Tests.{not-true, not-false}
 use Rattle.text.specs.Runs.{plain, run}
-use Rattle.text.proofs.RunLaws.{scan_step, scan_block, scan_last, scan_stop, scan_end}
-use borrow.Author.Rules.{rules}
 use Rattle.text.proofs.escape.plain_end.Given as goal
 
 abbrev pub invariant-loop-i : goal.invariant-loop-i

@@ -8,7 +8,6 @@ use Rattle.field.specs.Bytes.{Bytes}
 use Rattle.field.proofs.PutLaws.{wrote_is}
 use Rattle.text.specs.Escape.{escape_byte}
 use Rattle.text.proofs.EscapeLaws.{escape_other}
-use borrow.Author.Rules.{rules}
 use Rattle.text.proofs.escape.put_escape.Goals as goal
 
 pub put_five_bytes-requires : goal.put_five_bytes-requires

@@ -1,17 +1,7 @@
-use native.Mathlib.Omega.{arith}
-use mathlib.Core.Path.{sym, ap, ◌∙◌}
-use Prim.Native.Nat.{◌+◌, ◌≤◌, ◌-◌, ◌^◌}
-use lib.ListN.{length, get_or, take, drop}
-use lib.Seq.{take_all}
-use Rattle.field.specs.Bytes.{Bytes}
+use Prim.Native.Nat.{◌≤◌, ◌-◌}
+use lib.ListN.{length, take}
 use Rattle.field.specs.Put.{Wrote}
-use Rattle.field.proofs.PutLaws.{wrote_none, wrote_is, wrote_length}
-use Rattle.text.specs.Escape.{escape_byte, escape_html}
-use Rattle.text.specs.Runs.{plain}
-use Rattle.text.proofs.RunLaws.{scan_le, scan_back}
-use Rattle.text.proofs.WriteLaws.{room_for, wrote_more}
-use Rattle.text.proofs.EscapeLaws.{escaped_run, escaped_sign, escaped_le}
-use borrow.Author.Rules.{rules}
+use Rattle.text.specs.Escape.{escape_html}
 use Rattle.text.proofs.escape.put_escaped.Given as goal
 
 abbrev pub invariant-loop-i : goal.invariant-loop-i

@@ -2,17 +2,14 @@
 use native.Mathlib.Omega.{arith}
 use mathlib.Core.Path.{sym, ap, ◌∙◌}
 use mathlib.Core.List.{[], ◌∷◌}
-use Prim.Native.Nat.{◌≤◌, ◌-◌, ◌+◌, ◌^◌}
+use Prim.Native.Nat.{◌-◌, ◌+◌, ◌^◌}
 use lib.ListN.{length, get_or, take, drop}
 use lib.Seq.{take_all}
-use borrow.Author.Tests.{not-false}
 use Rattle.field.specs.Bytes.{Bytes}
-use Rattle.field.specs.Put.{Wrote}
 use Rattle.field.proofs.PutLaws.{wrote_none, wrote_is, wrote_length}
 use Rattle.text.specs.Escape.{escape_html}
 use Rattle.text.proofs.WriteLaws.{room_for, wrote_more}
 use Rattle.text.proofs.EscapeLaws.{escaped_plain, escaped_rest, escaped_le}
-use borrow.Author.Rules.{rules}
 use Rattle.text.proofs.escape.put_short_escaped.Goals as goal
 
 pub loop-i-init : goal.loop-i-init

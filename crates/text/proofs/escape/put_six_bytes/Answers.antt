@@ -3,7 +3,6 @@ use native.Mathlib.Omega.{arith}
 use mathlib.Core.Path.{refl}
 use lib.ListN.{length-set}
 use Rattle.text.proofs.WriteLaws.{store_six}
-use borrow.Author.Rules.{rules}
 use Rattle.text.proofs.escape.put_six_bytes.Goals as goal
 
 pub bounds-out-at-then-at-out : goal.bounds-out-at-then-at-out

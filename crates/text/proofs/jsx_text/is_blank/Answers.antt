@@ -2,14 +2,12 @@
 use native.Mathlib.Omega.{arith}
 use mathlib.Core.Path.{◌≡◌, refl, sym, ap, ◌∙◌}
 use mathlib.Core.Bool.{Bool, true, false, ◌&&◌, and-eq-true_iff}
-use Prim.Native.Nat.{◌<◌}
 use mathlib.Core.List.{[], ◌∷◌}
 use lib.Dec.{ltb}
 use lib.ListN.{length, get_or}
-use borrow.Author.Rules.{rules}
 use borrow.Author.Tests.{eq-eqb, ltb-true}
 use Rattle.field.specs.Bytes.{Bytes, null?}
-use Rattle.text.specs.Lines.{starts_with_lf, lines}
+use Rattle.text.specs.Lines.{lines}
 use Rattle.text.specs.Runs.{all, indent}
 use Rattle.text.specs.Text.{trimmed_lines, kept, joined, escape_if, jsx_text_to_str}
 use Rattle.text.proofs.IndentLaws.{indent_none, visible_stays}

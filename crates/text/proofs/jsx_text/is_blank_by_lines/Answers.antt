@@ -1,10 +1,7 @@
 -- `text::jsx_text::is_blank_by_lines` meets its contract. The loop's invariant: the lines read so far leave nothing. Assumes nothing.
 use native.Mathlib.Omega.{arith}
-use Prim.Native.Nat.{◌≤◌, ◌-◌}
-use lib.ListN.{length}
 use Rattle.text.proofs.LineLaws.{line_cut}
-use Rattle.text.proofs.TextLaws.{Blank, blank_start, blank_step, blank_skip, blank_line, blank_end}
-use borrow.Author.Rules.{rules}
+use Rattle.text.proofs.TextLaws.{blank_start, blank_step, blank_skip, blank_line, blank_end}
 use Rattle.text.proofs.jsx_text.is_blank_by_lines.Goals as goal
 
 pub loop-i-init : goal.loop-i-init

@@ -1,11 +1,7 @@
 -- `text::jsx_text::is_indent` meets its contract. The invariant of both loops: all bytes pass exactly if those from i on do. Assumes nothing.
 use native.Mathlib.Omega.{arith}
-use mathlib.Core.Path.{◌≡◌, refl, sym, ◌∙◌}
-use Prim.Native.Nat.{◌≤◌, ◌-◌}
-use borrow.Author.Rules.{rules}
-use borrow.Author.Tests.{not-true, not-false}
-use lib.ListN.{length, drop}
-use Rattle.text.specs.Runs.{all, indent}
+use mathlib.Core.Path.{refl, sym, ◌∙◌}
+use Rattle.text.specs.Runs.{indent}
 use Rattle.text.proofs.RunLaws.{all_on, all_refused, all_one, all_end, all_last}
 use Rattle.text.proofs.jsx_text.is_indent.Goals as goal
 

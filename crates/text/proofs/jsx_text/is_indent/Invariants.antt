@@ -1,11 +1,7 @@
-use native.Mathlib.Omega.{arith}
-use mathlib.Core.Path.{◌≡◌, refl, sym, ◌∙◌}
+use mathlib.Core.Path.{◌≡◌}
 use Prim.Native.Nat.{◌≤◌, ◌-◌}
-use borrow.Author.Rules.{rules}
-use borrow.Author.Tests.{not-true, not-false}
 use lib.ListN.{length, drop}
 use Rattle.text.specs.Runs.{all, indent}
-use Rattle.text.proofs.RunLaws.{all_on, all_refused, all_one, all_end, all_last}
 use Rattle.text.proofs.jsx_text.is_indent.Given as goal
 
 abbrev pub invariant-loop-i : goal.invariant-loop-i

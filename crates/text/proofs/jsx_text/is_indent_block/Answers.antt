@@ -1,9 +1,6 @@
 -- `text::jsx_text::is_indent_block` meets its contract. The loop's invariant: the flag says whether the bytes passed are of an indent. Assumes nothing.
 use mathlib.Core.Path.{◌≡◌, refl}
-use Prim.Native.Nat.{◌≤◌, ◌-◌}
 use native.Mathlib.Omega.{arith}
-use borrow.Author.Rules.{rules}
-use lib.ListN.{take, drop}
 use Rattle.text.specs.Runs.{indent, all}
 use Rattle.text.proofs.RunLaws.{all_more}
 use Rattle.text.proofs.jsx_text.is_indent_block.Goals as goal

@@ -1,10 +1,7 @@
-use mathlib.Core.Path.{◌≡◌, refl}
+use mathlib.Core.Path.{◌≡◌}
 use Prim.Native.Nat.{◌≤◌, ◌-◌}
-use native.Mathlib.Omega.{arith}
-use borrow.Author.Rules.{rules}
 use lib.ListN.{take, drop}
 use Rattle.text.specs.Runs.{indent, all}
-use Rattle.text.proofs.RunLaws.{all_more}
 use Rattle.text.proofs.jsx_text.is_indent_block.Given as goal
 
 abbrev pub invariant-loop-k : goal.invariant-loop-k

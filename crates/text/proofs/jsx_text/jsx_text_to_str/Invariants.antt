@@ -1,12 +1,6 @@
-use native.Mathlib.Omega.{arith}
-use mathlib.Core.Path.{sym, ◌∙◌}
 use Prim.Native.Nat.{◌≤◌, ◌-◌}
 use lib.ListN.{length}
-use Rattle.field.proofs.PutLaws.{wrote_length, wrote_none, wrote_is}
-use Rattle.text.proofs.LineLaws.{Cut, line_cut}
-use Rattle.text.proofs.TextLaws.{Joining, joining_start, joining_room, joining_step, joining_skip, joining_end}
-use Rattle.text.proofs.IndentLaws.{indent_none}
-use borrow.Author.Rules.{rules}
+use Rattle.text.proofs.TextLaws.{Joining}
 use Rattle.text.proofs.jsx_text.jsx_text_to_str.Given as goal
 
 abbrev pub invariant-loop-i : goal.invariant-loop-i

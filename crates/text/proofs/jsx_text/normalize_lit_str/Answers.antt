@@ -1,13 +1,10 @@
 -- `text::jsx_text::normalize_lit_str` meets its contract. The loop's invariant: what the lines read so far give is written, and the rest of the
 -- string comes from the lines that are left. Assumes nothing.
 use native.Mathlib.Omega.{arith}
-use Prim.Native.Nat.{◌≤◌, ◌-◌}
-use lib.ListN.{length}
 use Rattle.field.proofs.PutLaws.{wrote_length}
 use Rattle.text.specs.Text.{trimmed}
 use Rattle.text.proofs.LineLaws.{line_cut}
-use Rattle.text.proofs.TextLaws.{Spacing, spacing_start, spacing_room, spacing_step, spacing_end}
-use borrow.Author.Rules.{rules}
+use Rattle.text.proofs.TextLaws.{spacing_start, spacing_room, spacing_step, spacing_end}
 use Rattle.text.proofs.jsx_text.normalize_lit_str.Goals as goal
 
 pub loop-i-init : goal.loop-i-init

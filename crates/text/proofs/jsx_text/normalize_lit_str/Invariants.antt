@@ -1,11 +1,6 @@
-use native.Mathlib.Omega.{arith}
 use Prim.Native.Nat.{◌≤◌, ◌-◌}
 use lib.ListN.{length}
-use Rattle.field.proofs.PutLaws.{wrote_length}
-use Rattle.text.specs.Text.{trimmed}
-use Rattle.text.proofs.LineLaws.{line_cut}
-use Rattle.text.proofs.TextLaws.{Spacing, spacing_start, spacing_room, spacing_step, spacing_end}
-use borrow.Author.Rules.{rules}
+use Rattle.text.proofs.TextLaws.{Spacing}
 use Rattle.text.proofs.jsx_text.normalize_lit_str.Given as goal
 
 abbrev pub invariant-loop-i : goal.invariant-loop-i

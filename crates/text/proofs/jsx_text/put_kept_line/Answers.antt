@@ -5,7 +5,6 @@ use lib.ListN.{length}
 use Rattle.field.specs.Bytes.{Bytes}
 use Rattle.field.proofs.PutLaws.{wrote_none, wrote_then, wrote_is}
 use Rattle.text.proofs.TextLaws.{kept_none, kept_later, kept_first}
-use borrow.Author.Rules.{rules}
 use Rattle.text.proofs.jsx_text.put_kept_line.Goals as goal
 
 pub returns-then-s-eq0 : goal.returns-then-s-eq0

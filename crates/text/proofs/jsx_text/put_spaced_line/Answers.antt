@@ -4,7 +4,6 @@ use mathlib.Core.Path.{◌≡◌}
 use mathlib.Core.List.{◌∷◌}
 use Rattle.field.proofs.PutLaws.{wrote_then, wrote_is}
 use Rattle.text.specs.Runs.{spaced_line}
-use borrow.Author.Rules.{rules}
 use Rattle.text.proofs.jsx_text.put_spaced_line.Goals as goal
 
 pub put_bytes-requires : goal.put_bytes-requires

@@ -3,7 +3,6 @@ use mathlib.Core.Path.{◌≡◌}
 use Rattle.field.proofs.PutLaws.{wrote_is}
 use Rattle.text.specs.Escape.{escape_html}
 use Rattle.text.specs.Text.{escape_if}
-use borrow.Author.Rules.{rules}
 use Rattle.text.proofs.jsx_text.put_text.Goals as goal
 
 pub put_escaped-requires : goal.put_escaped-requires

@@ -1,9 +1,8 @@
 -- `text::jsx_text::trim_line` meets its contract: each of its four ways is one of the definition's. Assumes nothing.
 use mathlib.Core.Path.{ap, ◌∙◌}
 use Rattle.field.specs.Bytes.{Bytes}
-use Rattle.text.specs.Trim.{trim_start, trim_end}
+use Rattle.text.specs.Trim.{trim_end}
 use Rattle.text.specs.Text.{trimmed}
-use borrow.Author.Rules.{rules}
 use Rattle.text.proofs.jsx_text.trim_line.Goals as goal
 
 pub returns-then-back : goal.returns-then-back

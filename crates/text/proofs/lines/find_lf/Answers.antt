@@ -1,12 +1,10 @@
 -- `text::lines::find_lf` meets its contract. The invariant of both loops: the run that is looked for ends where the run from i on ends.
 -- Assumes nothing.
 use native.Mathlib.Omega.{arith}
-use mathlib.Core.Path.{◌≡◌, refl, sym, ap, ◌∙◌}
+use mathlib.Core.Path.{refl, sym, ap, ◌∙◌}
 use mathlib.Core.Bool.{not}
-use Prim.Native.Nat.{◌+◌, ◌≤◌, ◌-◌}
-use lib.ListN.{length, drop}
-use borrow.Author.Tests.{eq-eqb, ne_eqb, not-false}
-use Rattle.text.specs.Runs.{not_lf, run}
+use borrow.Author.Tests.{eq-eqb, ne_eqb}
+use Rattle.text.specs.Runs.{not_lf}
 use Rattle.text.proofs.RunLaws.{scan_step, scan_block, scan_last, scan_stop, scan_end}
 use Rattle.text.proofs.lines.find_lf.Goals as goal
 

@@ -1,11 +1,7 @@
-use native.Mathlib.Omega.{arith}
-use mathlib.Core.Path.{◌≡◌, refl, sym, ap, ◌∙◌}
-use mathlib.Core.Bool.{not}
+use mathlib.Core.Path.{◌≡◌}
 use Prim.Native.Nat.{◌+◌, ◌≤◌, ◌-◌}
 use lib.ListN.{length, drop}
-use borrow.Author.Tests.{eq-eqb, ne_eqb, not-false}
 use Rattle.text.specs.Runs.{not_lf, run}
-use Rattle.text.proofs.RunLaws.{scan_step, scan_block, scan_last, scan_stop, scan_end}
 use Rattle.text.proofs.lines.find_lf.Given as goal
 
 abbrev pub invariant-loop-i : goal.invariant-loop-i

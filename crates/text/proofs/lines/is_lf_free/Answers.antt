@@ -1,8 +1,6 @@
 -- `text::lines::is_lf_free` meets its contract. The loop's invariant: the flag says whether the bytes passed are no LF. Assumes nothing.
 use native.Mathlib.Omega.{arith}
 use mathlib.Core.Path.{◌≡◌, refl}
-use Prim.Native.Nat.{◌≤◌, ◌-◌}
-use lib.ListN.{take, drop}
 use Rattle.text.specs.Runs.{not_lf, all}
 use Rattle.text.proofs.RunLaws.{all_more}
 use Rattle.text.proofs.lines.is_lf_free.Goals as goal

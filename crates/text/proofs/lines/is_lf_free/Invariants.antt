@@ -1,9 +1,7 @@
-use native.Mathlib.Omega.{arith}
-use mathlib.Core.Path.{◌≡◌, refl}
+use mathlib.Core.Path.{◌≡◌}
 use Prim.Native.Nat.{◌≤◌, ◌-◌}
 use lib.ListN.{take, drop}
 use Rattle.text.specs.Runs.{not_lf, all}
-use Rattle.text.proofs.RunLaws.{all_more}
 use Rattle.text.proofs.lines.is_lf_free.Given as goal
 
 abbrev pub invariant-loop-k : goal.invariant-loop-k

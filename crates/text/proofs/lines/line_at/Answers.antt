@@ -1,7 +1,6 @@
 -- `text::lines::line_at` meets its contract: a line ends at the first LF, or at a CR in front of it, or with the text. Assumes nothing.
 use native.Mathlib.Omega.{arith}
 use Rattle.text.proofs.LineLaws.{line_none, line_empty, lf_behind, line_last, line_cr, line_no_cr}
-use borrow.Author.Rules.{rules}
 use Rattle.text.proofs.lines.line_at.Goals as goal
 
 pub returns-then-n-at : goal.returns-then-n-at

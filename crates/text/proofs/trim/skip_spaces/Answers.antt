@@ -1,10 +1,8 @@
 -- `text::trim::skip_spaces` meets its contract. The loop's invariant: the run that is looked for ends where the run from i on ends. Assumes nothing.
 use native.Mathlib.Omega.{arith}
-use mathlib.Core.Path.{◌≡◌, refl}
-use Prim.Native.Nat.{◌+◌, ◌≤◌, ◌-◌}
-use lib.ListN.{length, drop}
+use mathlib.Core.Path.{refl}
 use borrow.Author.Tests.{eq-eqb, ne_eqb}
-use Rattle.text.specs.Runs.{is_space, run}
+use Rattle.text.specs.Runs.{is_space}
 use Rattle.text.proofs.RunLaws.{scan_step, scan_stop, scan_end}
 use Rattle.text.proofs.trim.skip_spaces.Goals as goal
 

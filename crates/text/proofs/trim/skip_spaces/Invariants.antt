@@ -1,10 +1,7 @@
-use native.Mathlib.Omega.{arith}
-use mathlib.Core.Path.{◌≡◌, refl}
+use mathlib.Core.Path.{◌≡◌}
 use Prim.Native.Nat.{◌+◌, ◌≤◌, ◌-◌}
 use lib.ListN.{length, drop}
-use borrow.Author.Tests.{eq-eqb, ne_eqb}
 use Rattle.text.specs.Runs.{is_space, run}
-use Rattle.text.proofs.RunLaws.{scan_step, scan_stop, scan_end}
 use Rattle.text.proofs.trim.skip_spaces.Given as goal
 
 abbrev pub invariant-loop-i : goal.invariant-loop-i

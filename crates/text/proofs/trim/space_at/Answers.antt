@@ -8,7 +8,6 @@ use lib.ListN.{get_or, drop_of_length-le}
 use Rattle.field.specs.Bytes.{Bytes, pick}
 use Rattle.text.specs.Trim.{two_byte_space, three_byte_space, space_by, front_space}
 use Rattle.text.proofs.TrimLaws.{space_one, space_low, space_single, space_two, space_pair, space_three, low_two, low_three, drop_one, drop_two, drop_three, found}
-use borrow.Author.Rules.{rules}
 use Rattle.text.proofs.trim.space_at.Goals as goal
 
 pub returns-then-n-at : goal.returns-then-n-at

@@ -9,7 +9,6 @@ use lib.ListN.{get_or, take}
 use Rattle.field.specs.Bytes.{Bytes, pick}
 use Rattle.text.specs.Trim.{two_byte_space, three_byte_space, space_by, back_space}
 use Rattle.text.proofs.TrimLaws.{space_one, space_low, space_single, space_two, space_pair, space_three, last_two, last_three, back_one, back_two, back_three, found}
-use borrow.Author.Rules.{rules}
 use Rattle.text.proofs.trim.space_before.Goals as goal
 
 abbrev two : ℕ → ℕ → Bool

@@ -1,10 +1,8 @@
 -- `text::trim::trim_end` meets its contract. The loop's invariant: trimming what is left, taken backwards, gives what trimming the whole gives.
 -- Assumes nothing.
 use native.Mathlib.Omega.{arith}
-use mathlib.Core.Path.{◌≡◌, sym, ap}
-use Prim.Native.Nat.{◌≤◌, ◌-◌}
+use mathlib.Core.Path.{sym, ap}
 use mathlib.Core.List.{reverse}
-use lib.ListN.{length, take}
 use lib.Seq.{take-length, length-take-le}
 use Rattle.field.specs.Bytes.{Bytes}
 use Rattle.text.specs.Trim.{back_space, trim_by}

@@ -1,12 +1,8 @@
-use native.Mathlib.Omega.{arith}
-use mathlib.Core.Path.{◌≡◌, sym, ap}
-use Prim.Native.Nat.{◌≤◌, ◌-◌}
+use mathlib.Core.Path.{◌≡◌}
+use Prim.Native.Nat.{◌≤◌}
 use mathlib.Core.List.{reverse}
 use lib.ListN.{length, take}
-use lib.Seq.{take-length, length-take-le}
-use Rattle.field.specs.Bytes.{Bytes}
 use Rattle.text.specs.Trim.{back_space, trim_by}
-use Rattle.text.proofs.TrimLaws.{before_le, trim_back_here, trim_back_on}
 use Rattle.text.proofs.trim.trim_end.Given as goal
 
 abbrev pub invariant-loop-e : goal.invariant-loop-e

@@ -1,14 +1,10 @@
 -- `text::trim::trim_start` meets its contract. The loop's invariant: trimming what is left gives what trimming the whole gives.
 -- Assumes nothing.
 use native.Mathlib.Omega.{arith}
-use mathlib.Core.Path.{◌≡◌, refl}
-use Prim.Native.Nat.{◌≤◌, ◌-◌}
-use lib.ListN.{length, drop}
+use mathlib.Core.Path.{refl}
 use Rattle.text.specs.Runs.{is_space}
-use Rattle.text.specs.Trim.{trim_start}
 use Rattle.text.proofs.RunLaws.{scan_le}
 use Rattle.text.proofs.TrimLaws.{trim_here, trim_on, behind_le}
-use borrow.Author.Rules.{rules}
 use Rattle.text.proofs.trim.trim_start.Goals as goal
 
 pub loop-i-init : goal.loop-i-init

@@ -1,12 +1,7 @@
-use native.Mathlib.Omega.{arith}
-use mathlib.Core.Path.{◌≡◌, refl}
+use mathlib.Core.Path.{◌≡◌}
 use Prim.Native.Nat.{◌≤◌, ◌-◌}
 use lib.ListN.{length, drop}
-use Rattle.text.specs.Runs.{is_space}
 use Rattle.text.specs.Trim.{trim_start}
-use Rattle.text.proofs.RunLaws.{scan_le}
-use Rattle.text.proofs.TrimLaws.{trim_here, trim_on, behind_le}
-use borrow.Author.Rules.{rules}
 use Rattle.text.proofs.trim.trim_start.Given as goal
 
 abbrev pub invariant-loop-i : goal.invariant-loop-i

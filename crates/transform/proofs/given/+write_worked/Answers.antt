@@ -1,9 +1,6 @@
 -- `write_worked` meets its contract, by induction on whether there are sums: what is written of the buffer is written of the worked page.
 -- Assumes nothing.
-use Rattle.field.specs.Bytes.{pick}
 use Rattle.transform.proofs.GivenLaws.{held_fits, held_part, ready_worked, written_worked, written_plain, sums_fall, no_sums}
-use borrow.Author.Rules.{rules}
-use Prim.Native.Nat.{ℕ, ◌<◌}
 use Rattle.transform.proofs.given.+write_worked.Goals as goal
 
 pub work_page-n-requires : goal.work_page-n-requires

@@ -2,7 +2,6 @@
 use mathlib.Core.Bool.{true, false}
 use mathlib.Core.Path.{refl}
 use Rattle.transform.proofs.GivenLaws.{ready_page, written_plain, written_given}
-use borrow.Author.Rules.{rules}
 use Rattle.transform.proofs.given.write_given.Goals as goal
 
 pub write_worked-requires : goal.write_worked-requires

@@ -1,13 +1,7 @@
 -- `has_html_piece` meets its contract: one stands among the pieces where it stands among those left. Assumes nothing.
-use mathlib.Core.Path.{◌≡◌, refl, ◌∙◌}
+use mathlib.Core.Path.{◌∙◌}
 use native.Mathlib.Omega.{arith}
-use mathlib.Core.List.{[]}
-use lib.ListN.{length}
-use Rattle.field.specs.Row.{read}
 use Rattle.field.proofs.FrontLaws.{behind_less}
-use Rattle.page.specs.Tree.{pieces_in}
-use Rattle.decisions.specs.At.{opts}
-use Rattle.transform.specs.Run.{piece_html}
 use Rattle.transform.proofs.ExportLaws.{piece_none, piece_here, piece_on, piece_past}
 use Rattle.transform.proofs.module.has_html_piece.Goals as goal
 

@@ -1,10 +1,6 @@
 -- `has_statement` meets its contract: one stands among the items where it stands among those left. Assumes nothing.
-use mathlib.Core.Path.{◌≡◌, refl, ◌∙◌}
-use lib.ListN.{length}
-use Rattle.field.specs.Row.{read}
+use mathlib.Core.Path.{◌∙◌}
 use Rattle.field.proofs.FrontLaws.{behind_less}
-use Rattle.page.specs.Tree.{module_items_in}
-use Rattle.transform.specs.Run.{has_statement}
 use Rattle.transform.proofs.ExportLaws.{statement_none, statement_10, statement_12, statement_past}
 use Rattle.transform.proofs.module.has_statement.Goals as goal
 

@@ -1,10 +1,8 @@
-use mathlib.Core.Path.{◌≡◌, refl, ◌∙◌}
+use mathlib.Core.Path.{◌≡◌}
 use lib.ListN.{length}
 use Rattle.field.specs.Row.{read}
-use Rattle.field.proofs.FrontLaws.{behind_less}
 use Rattle.page.specs.Tree.{module_items_in}
 use Rattle.transform.specs.Run.{has_statement}
-use Rattle.transform.proofs.ExportLaws.{statement_none, statement_10, statement_12, statement_past}
 use Rattle.transform.proofs.module.has_statement.Given as goal
 
 abbrev pub invariant-loop-r : goal.invariant-loop-r

@@ -2,7 +2,6 @@
 use native.Mathlib.Omega.{arith}
 use lib.Dec.{ltb}
 use Rattle.transform.proofs.ItemLaws.{bit_low}
-use borrow.Author.Rules.{rules}
 use Rattle.transform.proofs.module.helper_sum.Goals as goal
 
 pub overflow_add-result : goal.overflow_add-result

@@ -2,7 +2,6 @@
 use mathlib.Core.Path.{sym, ap, ◌∙◌}
 use mathlib.Core.Bool.{Bool}
 use Rattle.field.specs.Bytes.{pick}
-use borrow.Author.Rules.{rules}
 use Rattle.transform.proofs.module.place_at.Goals as goal
 
 pub returns-then-has_statement : goal.returns-then-has_statement

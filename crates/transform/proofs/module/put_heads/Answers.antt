@@ -1,6 +1,5 @@
 -- `put_heads` meets its contract: by what is due. Assumes nothing.
 use Rattle.transform.proofs.HeadLaws.{heads_both, heads_import, heads_none}
-use borrow.Author.Rules.{rules}
 use Rattle.transform.proofs.module.put_heads.Goals as goal
 
 pub returns-then-w-gt1 : goal.returns-then-w-gt1

@@ -1,6 +1,5 @@
 -- `put_import` meets its contract: each head is put before what was written behind it. Assumes nothing.
 use Rattle.transform.proofs.ItemLaws.{import_written}
-use borrow.Author.Rules.{rules}
 use Rattle.transform.proofs.module.put_import.Goals as goal
 
 pub returns : goal.returns

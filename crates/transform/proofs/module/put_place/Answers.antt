@@ -1,6 +1,5 @@
 -- `put_place` meets its contract: by whether it is due. Assumes nothing.
 use Rattle.transform.proofs.ItemLaws.{place_low, place_done, place_none}
-use borrow.Author.Rules.{rules}
 use Rattle.transform.proofs.module.put_place.Goals as goal
 
 pub leaf-requires : goal.leaf-requires

@@ -1,13 +1,8 @@
 -- `statements_in` meets its contract: from the first 10 or 12 on it is the same in what is left. Assumes nothing.
-use Prim.Native.Nat.{◌≤◌}
-use mathlib.Core.Path.{◌≡◌, refl, ◌∙◌}
+use mathlib.Core.Path.{refl, ◌∙◌}
 use native.Mathlib.Omega.{arith}
 use native.Mathlib.Nat.{le_refl}
-use lib.ListN.{length}
-use Rattle.field.specs.Row.{read}
 use Rattle.field.proofs.FrontLaws.{behind_less}
-use Rattle.page.specs.Tree.{module_items_in}
-use Rattle.transform.specs.Run.{items_from}
 use Rattle.transform.proofs.ExportLaws.{from_none, from_10, from_12, from_past}
 use Rattle.transform.proofs.module.statements_in.Goals as goal
 

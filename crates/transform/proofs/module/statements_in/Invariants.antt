@@ -1,13 +1,9 @@
 use Prim.Native.Nat.{◌≤◌}
-use mathlib.Core.Path.{◌≡◌, refl, ◌∙◌}
-use native.Mathlib.Omega.{arith}
-use native.Mathlib.Nat.{le_refl}
+use mathlib.Core.Path.{◌≡◌}
 use lib.ListN.{length}
 use Rattle.field.specs.Row.{read}
-use Rattle.field.proofs.FrontLaws.{behind_less}
 use Rattle.page.specs.Tree.{module_items_in}
 use Rattle.transform.specs.Run.{items_from}
-use Rattle.transform.proofs.ExportLaws.{from_none, from_10, from_12, from_past}
 use Rattle.transform.proofs.module.statements_in.Given as goal
 
 abbrev pub invariant-loop-r : goal.invariant-loop-r

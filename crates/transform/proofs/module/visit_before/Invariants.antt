@@ -1,13 +1,8 @@
 use Prim.Native.Nat.{◌≤◌}
-use mathlib.Core.Path.{◌≡◌, refl, ◌∙◌}
-use native.Mathlib.Omega.{arith}
-use native.Mathlib.Nat.{le_refl}
-use borrow.Author.Rules.{rules}
+use mathlib.Core.Path.{◌≡◌}
 use lib.ListN.{length}
-use Rattle.field.proofs.FrontLaws.{body_less, behind_less}
 use Rattle.walk.specs.See.{at, see}
-use Rattle.visits.proofs.FieldLaws.{kept_since, room_part}
-use Rattle.transform.proofs.ItemLaws.{before_at, before_10, before_11_room, before_11_on, before_12, before_13_room, before_13_on, before_end}
+use Rattle.transform.proofs.ItemLaws.{before_at}
 use Rattle.transform.proofs.module.visit_before.Given as goal
 
 abbrev pub invariant-loop-cur : goal.invariant-loop-cur

@@ -3,7 +3,6 @@ use mathlib.Core.Path.{refl}
 use native.Mathlib.Nat.{le_refl}
 use Rattle.visits.proofs.FieldLaws.{room_part}
 use Rattle.transform.proofs.ItemLaws.{item_begin, item_inner, item_close, item_done}
-use borrow.Author.Rules.{rules}
 use Rattle.transform.proofs.module.visit_item.Goals as goal
 
 pub begin-requires : goal.begin-requires

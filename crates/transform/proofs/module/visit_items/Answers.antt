@@ -3,7 +3,6 @@ use mathlib.Core.Path.{refl, ◌∙◌}
 use native.Mathlib.Nat.{le_refl}
 use Rattle.visits.proofs.FieldLaws.{room_is}
 use Rattle.transform.proofs.ItemLaws.{items_place, items_done}
-use borrow.Author.Rules.{rules}
 use Rattle.transform.proofs.module.visit_items.Goals as goal
 
 pub put_place-a-requires : goal.put_place-a-requires

@@ -1,14 +1,10 @@
 -- `visit_module` meets its contract: what is left of the items, with the place where it is still due, leads to where all of them do. Assumes nothing.
-use Prim.Native.Nat.{◌≤◌}
-use mathlib.Core.Path.{◌≡◌, refl, ◌∙◌}
+use mathlib.Core.Path.{refl, ◌∙◌}
 use native.Mathlib.Omega.{arith}
 use native.Mathlib.Nat.{le_refl}
-use borrow.Author.Rules.{rules}
-use lib.ListN.{length}
 use Rattle.field.proofs.FrontLaws.{body_less, behind_less}
-use Rattle.walk.specs.See.{at, see}
 use Rattle.visits.proofs.FieldLaws.{kept_since, room_part}
-use Rattle.transform.proofs.ItemLaws.{module_at, turn_10_place, turn_10_room, turn_10_on, turn_11_room, turn_11_on, turn_12_place, turn_12_room, turn_12_on, turn_13_room, turn_13_on, turn_end}
+use Rattle.transform.proofs.ItemLaws.{turn_10_place, turn_10_room, turn_10_on, turn_11_room, turn_11_on, turn_12_place, turn_12_room, turn_12_on, turn_13_room, turn_13_on, turn_end}
 use Rattle.transform.proofs.module.visit_module.Goals as goal
 
 pub loop-page-init : goal.loop-page-init

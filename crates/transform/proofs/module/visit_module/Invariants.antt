@@ -1,13 +1,8 @@
 use Prim.Native.Nat.{◌≤◌}
-use mathlib.Core.Path.{◌≡◌, refl, ◌∙◌}
-use native.Mathlib.Omega.{arith}
-use native.Mathlib.Nat.{le_refl}
-use borrow.Author.Rules.{rules}
+use mathlib.Core.Path.{◌≡◌}
 use lib.ListN.{length}
-use Rattle.field.proofs.FrontLaws.{body_less, behind_less}
 use Rattle.walk.specs.See.{at, see}
-use Rattle.visits.proofs.FieldLaws.{kept_since, room_part}
-use Rattle.transform.proofs.ItemLaws.{module_at, turn_10_place, turn_10_room, turn_10_on, turn_11_room, turn_11_on, turn_12_place, turn_12_room, turn_12_on, turn_13_room, turn_13_on, turn_end}
+use Rattle.transform.proofs.ItemLaws.{module_at}
 use Rattle.transform.proofs.module.visit_module.Given as goal
 
 abbrev pub invariant-loop-page : goal.invariant-loop-page

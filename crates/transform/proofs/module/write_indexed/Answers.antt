@@ -1,6 +1,5 @@
 -- `write_indexed` meets its contract: an index has the names of its series. Assumes nothing.
 use Rattle.transform.proofs.ListLaws.{by_index}
-use borrow.Author.Rules.{rules}
 use Rattle.transform.proofs.module.write_indexed.Goals as goal
 
 pub write_listed-requires : goal.write_listed-requires

@@ -3,7 +3,6 @@
 use mathlib.Core.Path.{◌∙◌}
 use native.Mathlib.Omega.{arith}
 use Rattle.transform.proofs.PageLaws.{page_body, source_short, items_room, before_room, from_room, heads_room, import_short, html_takes, page_shown, page_moved}
-use borrow.Author.Rules.{rules}
 use Rattle.transform.proofs.module.write_listed.Goals as goal
 
 pub import_len-requires : goal.import_len-requires

@@ -1,10 +1,8 @@
 -- `write_page` meets its contract: what 02 and 03 list stands in the fields found. Assumes nothing.
 use mathlib.Core.Path.{refl}
 use native.Mathlib.Omega.{arith}
-use borrow.Author.Tests.{leb-true}
 use Rattle.field.specs.Row.{inside}
 use Rattle.transform.proofs.ListLaws.{by_series}
-use borrow.Author.Rules.{rules}
 use Rattle.transform.proofs.module.write_page.Goals as goal
 
 pub write_listed-requires : goal.write_listed-requires

@@ -1,13 +1,9 @@
 -- `names_in` meets its contract: what is listed is listed in what is left. Assumes nothing.
-use Prim.Native.Nat.{◌≤◌}
-use mathlib.Core.Path.{◌≡◌, refl, ◌∙◌}
+use mathlib.Core.Path.{refl, ◌∙◌}
 use native.Mathlib.Omega.{arith}
 use native.Mathlib.Nat.{le_refl}
 use borrow.Author.Rules.{rules}
-use lib.ListN.{length}
-use Rattle.field.specs.Row.{read}
 use Rattle.field.proofs.FrontLaws.{body_less, behind_less}
-use Rattle.page.specs.Tree.{listed_in}
 use Rattle.transform.proofs.ExportLaws.{listed_none, listed_here, listed_past}
 use Rattle.transform.proofs.options.names_in.Goals as goal
 

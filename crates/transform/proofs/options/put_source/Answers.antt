@@ -1,13 +1,10 @@
 -- `put_source` meets its contract: nothing is written before the source is found. Assumes nothing.
 use Rattle.transform.proofs.ItemLaws.{source_written}
-use mathlib.Core.Path.{◌≡◌, refl, ap, ◌∙◌}
+use mathlib.Core.Path.{refl, ap, ◌∙◌}
 use native.Mathlib.Omega.{arith}
-use borrow.Author.Rules.{rules}
 use lib.ListN.{length}
-use Rattle.field.specs.Row.{read}
 use Rattle.field.proofs.FrontLaws.{behind_less}
 use Rattle.field.proofs.PutLaws.{wrote_length}
-use Rattle.page.specs.Tree.{source_in}
 use Rattle.transform.proofs.ExportLaws.{source_none, source_here, source_past}
 use Rattle.transform.proofs.options.put_source.Goals as goal
 

@@ -1,9 +1,7 @@
 -- `source_len` meets its contract: the source is that of what is left. Assumes nothing.
-use mathlib.Core.Path.{◌≡◌, refl, ap, ◌∙◌}
+use mathlib.Core.Path.{ap, ◌∙◌}
 use lib.ListN.{length}
-use Rattle.field.specs.Row.{read}
 use Rattle.field.proofs.FrontLaws.{behind_less}
-use Rattle.page.specs.Tree.{source_in}
 use Rattle.transform.proofs.ExportLaws.{source_none, source_here, source_past}
 use Rattle.transform.proofs.options.source_len.Goals as goal
 

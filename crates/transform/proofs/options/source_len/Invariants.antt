@@ -1,9 +1,7 @@
-use mathlib.Core.Path.{◌≡◌, refl, ap, ◌∙◌}
+use mathlib.Core.Path.{◌≡◌}
 use lib.ListN.{length}
 use Rattle.field.specs.Row.{read}
-use Rattle.field.proofs.FrontLaws.{behind_less}
 use Rattle.page.specs.Tree.{source_in}
-use Rattle.transform.proofs.ExportLaws.{source_none, source_here, source_past}
 use Rattle.transform.proofs.options.source_len.Given as goal
 
 abbrev pub invariant-loop-r : goal.invariant-loop-r

@@ -1,9 +1,6 @@
 -- `works_sums` meets its contract: a 05 stands where it stands in what is left. Assumes nothing.
-use mathlib.Core.Path.{◌≡◌, refl, ◌∙◌}
-use lib.ListN.{length}
-use Rattle.field.specs.Row.{read}
+use mathlib.Core.Path.{◌∙◌}
 use Rattle.field.proofs.FrontLaws.{behind_less}
-use Rattle.page.specs.Tree.{works_sums}
 use Rattle.transform.proofs.ExportLaws.{sums_none, sums_here, sums_past}
 use Rattle.transform.proofs.options.works_sums.Goals as goal
 

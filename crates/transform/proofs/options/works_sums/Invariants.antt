@@ -1,9 +1,7 @@
-use mathlib.Core.Path.{◌≡◌, refl, ◌∙◌}
+use mathlib.Core.Path.{◌≡◌}
 use lib.ListN.{length}
 use Rattle.field.specs.Row.{read}
-use Rattle.field.proofs.FrontLaws.{behind_less}
 use Rattle.page.specs.Tree.{works_sums}
-use Rattle.transform.proofs.ExportLaws.{sums_none, sums_here, sums_past}
 use Rattle.transform.proofs.options.works_sums.Given as goal
 
 abbrev pub invariant-loop-r : goal.invariant-loop-r

@@ -1,21 +1,18 @@
 -- The measures of the cycle: the bytes left, eight a byte, and within one slice a rank. Assumes nothing.
-use Prim.Native.Nat.{ℕ, ◌+◌, ◌*◌, ◌<◌, ◌≤◌}
+use Prim.Native.Nat.{ℕ, ◌+◌, ◌≤◌}
 use lib.ListN.{length}
 use mathlib.Core.Path.{refl, ◌∙◌, sym, ◌≡◌, ap}
 use native.Mathlib.Omega.{arith}
 use Rattle.field.proofs.FrontLaws.{body_less, behind_less}
 use Rattle.visits.proofs.FieldLaws.{room_part, room_is, kept_since, act_kept}
 use Rattle.visits.proofs.ExprLaws.{expr_literal, see_element, see_fragment, array_begin, array_inner, array_close, array_done, source_begin, source_inner, source_close, source_done, literal_room, literal_done, held_nothing, held_expr, spread_begin, spread_inner, spread_close, spread_on, hole_room, hole_on, item_room, item_on, items_end, piece_room, piece_on, piece_element_room, piece_element_on, piece_fragment_room, piece_fragment_on, pieces_past, pieces_end}
-use borrow.Author.Rules.{rules}
 use Rattle.spec.specs.Pass.{none, raw, Mid}
 use Rattle.found.specs.Finds.{part}
-use Rattle.walk.specs.See.{at, see, act, World, Low}
+use Rattle.walk.specs.See.{at, act, World, Low}
 use Rattle.walk.proofs.SeeLaws.{low_is, see_grows, see_none, lift_numbered, lift_wrap, lift_begun_if, lift_wrap_if}
-use Rattle.visits.proofs.VisitLaws.{found_raw, left_room, left_done, part_short, rest_untagged, found_nothing, found_tag, expr_no_tag, found_given, null_room, null_done, fragment_null, fragment_several, fragment_element, fragment_fragment, fragment_spread, fragment_only, given_recorded, given_paged, given_done, element_recorded, element_paged, element_done, template_recorded, template_start, template_parts, template_end, template_visited}
-use Rattle.visits.specs.Visiting.{fragment_mid, items_at, pieces_at}
+use Rattle.visits.proofs.VisitLaws.{found_raw, left_room, left_done, rest_untagged, found_nothing, found_tag, expr_no_tag, found_given, null_room, null_done, fragment_null, fragment_several, fragment_element, fragment_fragment, fragment_spread, fragment_only, given_recorded, given_paged, given_done, element_recorded, element_paged, element_done, template_recorded, template_start, template_parts, template_end, template_visited}
+use Rattle.visits.specs.Visiting.{fragment_mid}
 use native.Mathlib.Nat.{le_refl}
-use Rattle.spec.specs.Output.{dynamic_exprs}
-use Rattle.strings.proofs.TreeLaws.{attrs_at, parts_at}
 use Rattle.visits.proofs.PartLaws.{templates_kept, page_kept, front_room, held_room, back_page, back_room, attr_on, attrs_past, attrs_end, element_call, element_bare, inner_shorter, attrs_room, inner_room, inner_done, jsx_template, jsx_call, template_room, template_inside, template_page, template_low, template_done, parts_direct, parts_room, container_room, container_page, container_low, container_on, element_room as to_parts_element_room, element_on as to_parts_element_on, fragment_room as to_parts_fragment_room, fragment_on as to_parts_fragment_on, parts_past, parts_end}
 use mathlib.Core.Bool.{Bool, true, false, not}
 use Rattle.field.specs.Bytes.{Bytes}
@@ -23,17 +20,13 @@ use Rattle.field.specs.Row.{read}
 use Rattle.page.specs.Page as P
 use Rattle.page.specs.Tree.{value_in}
 use Rattle.spec.specs.Transform.{value}
-use Rattle.decisions.specs.At.{opts, element_at, children_at}
+use Rattle.decisions.specs.At.{opts, element_at}
 use Rattle.strings.proofs.FrontSizes.{behind_le}
 use Rattle.walk.specs.declared.state.Walk.{Walk}
 use Rattle.walk.specs.Plan.{key_held}
 use Rattle.walk.proofs.ActLaws.{act_grows, is_none}
-use Rattle.visits.proofs.CallLaws.{stands_by, lacks_by, found_stands, Call, call_of, call_is, name_plain, key_left, props_left, child_left, found_left, children_left, attributes_left, named_left, name_left, call_left, grew, front_grew, front_past, child_grew, closed_grew, begin_room, name_room, props_begin_room, props_room, front_room as to_call_front_room, found_room, child_room, closed_room, begun_on, name_on, props_begun_on, front_on, child_on, closed_on, props_on, found_on, key_room, key_on, held_room as to_call_held_room, no_key, bare_lacks, bare_room, bare_on, call_low, call_done, props_in, seen_templates, seen_page, prop_front_room, prop_held_room, prop_back_page, prop_back_room, prop_on, spread_begin as to_props_spread_begin, spread_inner as to_props_spread_inner, spread_close as to_props_spread_close, spread_on as to_props_spread_on, props_end}
-use mathlib.Core.List.{[]}
-use Rattle.spec.specs.Merge.{merge}
-use Rattle.spec.specs.Children.{entries, entries_pass, children_to_string}
-use Rattle.visits.proofs.EntryLaws.{Entering, entering_start, text_room, text_on, joined_room, joined_on, expr_run, expr_room, expr_on, element_run, element_room, element_on, fragment_run, fragment_room, fragment_on, other_on, last_run, entering_end}
-use mathlib.Core.Logic.{⊎_elim}
+use Rattle.visits.proofs.CallLaws.{stands_by, lacks_by, found_stands, Call, call_of, call_is, name_plain, key_left, props_left, child_left, found_left, children_left, attributes_left, named_left, name_left, call_left, grew, front_grew, front_past, child_grew, closed_grew, begin_room, name_room, props_begin_room, props_room, front_room as to_call_front_room, found_room, child_room, closed_room, begun_on, name_on, props_begun_on, front_on, child_on, closed_on, props_on, found_on, key_room, key_on, held_room as to_call_held_room, no_key, bare_lacks, bare_room, bare_on, call_low, call_done, seen_templates, seen_page, prop_front_room, prop_held_room, prop_back_page, prop_back_room, prop_on, spread_begin as to_props_spread_begin, spread_inner as to_props_spread_inner, spread_close as to_props_spread_close, spread_on as to_props_spread_on, props_end}
+use Rattle.visits.proofs.EntryLaws.{entering_start, text_room, text_on, joined_room, joined_on, expr_run, expr_room, expr_on, element_run, element_room, element_on, fragment_run, fragment_room, fragment_on, other_on, last_run, entering_end}
 use Rattle.visits.proofs.FoundLaws.{alone, unspliced, found_short, element_short, items_short, nothing_done, item_done, text_room as to_found_text_room, text_done, hole_room as to_found_hole_room, hole_done, element_room as to_found_element_room, element_done as to_found_element_done, run_room, run_done, expr_room as to_found_expr_room, expr_done, items_room, items_done, merged_begin, merged_room, merged_end, merged_done, many_begin, many_room, many_end, many_done, empty_begin, empty_end, empty_done}
 use Rattle.records.proofs.ReadLaws.{behind_shorter}
 use borrow.Enum.Refused.{opened}
@@ -105,29 +98,29 @@ on_found-returns-then-is_tag t c = left_done (raw (found_raw c.args.skip.now c.a
 
 pub on_found-on_given-requires : goal.on_found-on_given-requires
 on_found-on_given-requires t c = let u = (expr_no_tag c.args.skip.now c.args.props.now c.args.s.now c.found_of-f.result (c.found_of-f.ensures.1 c.args.props.now) (at c.args.templates.now c.args.page.now c.args.st) c.in-Expr.is c.place-c.ensures c.is_tag.ensures c.if-is_tag.false) in (
-      omega (arith, c.decreases),
-      (
-        (record { within = c.found_of-f.ensures.0; finds = c.found_of-f.ensures.1 c.args.props.now }, u),
-        record {
-          desk = c.requires.desk;
-          short = c.requires.short;
-          low = low_is (sym (found_given c.args.skip.now c.args.props.now c.args.s.now c.found_of-f.result (c.found_of-f.ensures.1 c.args.props.now) (at c.args.templates.now c.args.page.now c.args.st) u)) c.requires.low;
-        },
-      ),
-    )
+  omega (arith, c.decreases),
+  (
+    (record { within = c.found_of-f.ensures.0; finds = c.found_of-f.ensures.1 c.args.props.now }, u),
+    record {
+      desk = c.requires.desk;
+      short = c.requires.short;
+      low = low_is (sym (found_given c.args.skip.now c.args.props.now c.args.s.now c.found_of-f.result (c.found_of-f.ensures.1 c.args.props.now) (at c.args.templates.now c.args.page.now c.args.st) u)) c.requires.low;
+    },
+  ),
+)
 
 pub on_found-on_given-requires-in_default : goal.on_found-on_given-requires-in_default
 on_found-on_given-requires-in_default t c = let u = (rest_untagged c.found_of-f.result.kind (part c.args.s.now c.found_of-f.result) (opened c.in_default.in_default-own.keys3)) in (
-      omega (arith, c.decreases),
-      (
-        (record { within = c.found_of-f.ensures.0; finds = c.found_of-f.ensures.1 c.args.props.now }, u),
-        record {
-          desk = c.requires.desk;
-          short = c.requires.short;
-          low = low_is (sym (found_given c.args.skip.now c.args.props.now c.args.s.now c.found_of-f.result (c.found_of-f.ensures.1 c.args.props.now) (at c.args.templates.now c.args.page.now c.args.st) u)) c.requires.low;
-        },
-      ),
-    )
+  omega (arith, c.decreases),
+  (
+    (record { within = c.found_of-f.ensures.0; finds = c.found_of-f.ensures.1 c.args.props.now }, u),
+    record {
+      desk = c.requires.desk;
+      short = c.requires.short;
+      low = low_is (sym (found_given c.args.skip.now c.args.props.now c.args.s.now c.found_of-f.result (c.found_of-f.ensures.1 c.args.props.now) (at c.args.templates.now c.args.page.now c.args.st) u)) c.requires.low;
+    },
+  ),
+)
 
 pub on_found-returns-in-Nothing : goal.on_found-returns-in-Nothing
 on_found-returns-in-Nothing t c = left_done (raw (found_raw c.args.skip.now c.args.props.now c.args.s.now) none) c.args.templates.now c.args.page.now c.args.st (found_nothing c.args.skip.now c.args.props.now c.args.s.now c.found_of-f.result (c.found_of-f.ensures.1 c.args.props.now) (at c.args.templates.now c.args.page.now c.args.st) c.in-Nothing.is) _ _ c.leave.ensures
@@ -143,23 +136,23 @@ on_fragment-leaf-requires t c = null_room (fragment_mid c.args.skip.now c.args.p
 
 pub on_fragment-on_jsx-requires : goal.on_fragment-on_jsx-requires
 on_fragment-on_jsx-requires t c = let l = body_less _ _ c.tag_at.ensures.0 (λ z. omega (arith, c.in-48.is, z)) c.body-b.ensures in (
-      omega (arith, c.decreases, l, c.children_at-a.ensures.1),
-      record {
-        desk = c.requires.desk;
-        short = omega (arith, c.requires.short, l, c.children_at-a.ensures.1);
-        low = low_is (sym (fragment_element c.args.skip.now c.args.props.now c.args.s.now (at c.args.templates.now c.args.page.now c.args.st) c.child_count.ensures c.in-1.is c.children_at-a.ensures.0 c.tag_at.ensures.0 c.body-b.ensures c.in-48.is)) c.requires.low;
-      },
-    )
+  omega (arith, c.decreases, l, c.children_at-a.ensures.1),
+  record {
+    desk = c.requires.desk;
+    short = omega (arith, c.requires.short, l, c.children_at-a.ensures.1);
+    low = low_is (sym (fragment_element c.args.skip.now c.args.props.now c.args.s.now (at c.args.templates.now c.args.page.now c.args.st) c.child_count.ensures c.in-1.is c.children_at-a.ensures.0 c.tag_at.ensures.0 c.body-b.ensures c.in-48.is)) c.requires.low;
+  },
+)
 
 pub on_fragment-on_found-requires : goal.on_fragment-on_found-requires
 on_fragment-on_found-requires t c = let l = body_less _ _ c.tag_at.ensures.0 (λ z. omega (arith, c.in-49.is, z)) c.body-b.ensures in (
-      omega (arith, c.decreases, l, c.children_at-a.ensures.1),
-      record {
-        desk = c.requires.desk;
-        short = omega (arith, c.requires.short, l, c.children_at-a.ensures.1);
-        low = low_is (sym (fragment_fragment c.args.skip.now c.args.props.now c.args.s.now (at c.args.templates.now c.args.page.now c.args.st) c.child_count.ensures c.in-1.is c.children_at-a.ensures.0 c.tag_at.ensures.0 c.body-b.ensures c.in-49.is)) c.requires.low;
-      },
-    )
+  omega (arith, c.decreases, l, c.children_at-a.ensures.1),
+  record {
+    desk = c.requires.desk;
+    short = omega (arith, c.requires.short, l, c.children_at-a.ensures.1);
+    low = low_is (sym (fragment_fragment c.args.skip.now c.args.props.now c.args.s.now (at c.args.templates.now c.args.page.now c.args.st) c.child_count.ensures c.in-1.is c.children_at-a.ensures.0 c.tag_at.ensures.0 c.body-b.ensures c.in-49.is)) c.requires.low;
+  },
+)
 
 pub on_fragment-leave-requires : goal.on_fragment-leave-requires
 on_fragment-leave-requires t c = left_room (fragment_mid c.args.skip.now c.args.props.now c.args.s.now) c.args.templates.now c.args.page.now c.args.st (fragment_spread c.args.skip.now c.args.props.now c.args.s.now (at c.args.templates.now c.args.page.now c.args.st) c.child_count.ensures c.in-1.is c.children_at-a.ensures.0 c.tag_at.ensures.0 c.body-b.ensures c.in-97.is) c.requires.low
@@ -193,16 +186,16 @@ on_given-record_found-k-requires t c = (c.requires.1.desk, (c.requires.1.short, 
 
 pub on_given-to_found-w-requires : goal.on_given-to_found-w-requires
 on_given-to_found-w-requires t c = (
-      omega (arith, c.decreases),
-      (
-        c.requires.0.0,
-        record {
-          desk = omega (arith, c.requires.1.desk, c.record_found-k.auto.scratch);
-          short = c.requires.1.short;
-          low = given_paged c.args.skip.now c.args.props.now c.args.s.now c.args.f c.requires.0.0 c.requires.0.1 c.args.templates.now c.args.page.now c.args.st c.records_of.ensures c.record_found-k.ensures c.recorded.ensures c.requires.1.low;
-        },
-      ),
-    )
+  omega (arith, c.decreases),
+  (
+    c.requires.0.0,
+    record {
+      desk = omega (arith, c.requires.1.desk, c.record_found-k.auto.scratch);
+      short = c.requires.1.short;
+      low = given_paged c.args.skip.now c.args.props.now c.args.s.now c.args.f c.requires.0.0 c.requires.0.1 c.args.templates.now c.args.page.now c.args.st c.records_of.ensures c.record_found-k.ensures c.recorded.ensures c.requires.1.low;
+    },
+  ),
+)
 
 pub on_given-shape_of-scratch : goal.on_given-shape_of-scratch
 on_given-shape_of-scratch t c = c.to_found-w.auto.scratch ∙ c.record_found-k.auto.scratch
@@ -279,13 +272,13 @@ on_jsx-record_serialize-k-requires t c = (c.requires.desk, (c.requires.short, el
 
 pub on_jsx-to_jsx-w-requires : goal.on_jsx-to_jsx-w-requires
 on_jsx-to_jsx-w-requires t c = (
-      omega (arith, c.decreases),
-      record {
-        desk = omega (arith, c.requires.desk, c.record_serialize-k.auto.scratch);
-        short = c.requires.short;
-        low = element_paged c.args.skip.now c.args.props.now c.args.b.now c.args.templates.now c.args.page.now c.args.st c.records_of.ensures c.record_serialize-k.ensures c.recorded.ensures c.requires.low;
-      },
-    )
+  omega (arith, c.decreases),
+  record {
+    desk = omega (arith, c.requires.desk, c.record_serialize-k.auto.scratch);
+    short = c.requires.short;
+    low = element_paged c.args.skip.now c.args.props.now c.args.b.now c.args.templates.now c.args.page.now c.args.st c.records_of.ensures c.record_serialize-k.ensures c.recorded.ensures c.requires.low;
+  },
+)
 
 pub on_jsx-shape_of-scratch : goal.on_jsx-shape_of-scratch
 on_jsx-shape_of-scratch t c = c.to_jsx-w.auto.scratch ∙ c.record_serialize-k.auto.scratch
@@ -358,13 +351,13 @@ on_template-begin_template-a-requires t c = template_start c.args.skip.now c.arg
 
 pub on_template-to_parts-c-requires : goal.on_template-to_parts-c-requires
 on_template-to_parts-c-requires t c = (
-      omega (arith, c.decreases),
-      record {
-        desk = omega (arith, c.requires.desk, c.record_fragment-k.auto.scratch);
-        short = c.requires.short;
-        low = template_parts c.args.skip.now c.args.props.now c.args.s.now c.args.templates.now c.args.page.now c.args.st c.records_of.ensures c.record_fragment-k.ensures c.recorded.ensures c.begin_template-a.ensures c.requires.low;
-      },
-    )
+  omega (arith, c.decreases),
+  record {
+    desk = omega (arith, c.requires.desk, c.record_fragment-k.auto.scratch);
+    short = c.requires.short;
+    low = template_parts c.args.skip.now c.args.props.now c.args.s.now c.args.templates.now c.args.page.now c.args.st c.records_of.ensures c.record_fragment-k.ensures c.recorded.ensures c.begin_template-a.ensures c.requires.low;
+  },
+)
 
 pub on_template-close-d-requires : goal.on_template-close-d-requires
 on_template-close-d-requires t c = template_end c.args.skip.now c.args.props.now c.args.s.now c.args.templates.now c.args.page.now c.args.st c.records_of.ensures c.record_fragment-k.ensures c.recorded.ensures c.begin_template-a.ensures c.to_parts-c.ensures c.requires.low
@@ -743,42 +736,42 @@ to_props-property_front-x-requires t c = prop_front_room _ _ _ _ _ c.tag_at.ensu
 
 pub to_props-on_held-y-requires : goal.to_props-on_held-y-requires
 to_props-on_held-y-requires t c = let n = body_less _ _ c.tag_at.ensures.0 (λ z. omega (arith, c.in-80.is)) c.body-a.ensures in (
-      omega (arith, c.held_at.ensures.1, n, c.loop-a.invariant.1, c.decreases),
-      record {
-        desk = omega (arith, c.loop-a.invariant.0, c.requires.desk);
-        short = omega (arith, c.held_at.ensures.1, n, c.loop-a.invariant.1, c.requires.short);
-        low = prop_held_room _ _ _ _ _ c.tag_at.ensures.0 _ c.loop-a.invariant.2 c.in-80.is c.body-a.ensures c.property_gap-gap.ensures c.property_front-x.ensures (c.held_at.ensures.0 _ _) c.requires.low;
-      },
-    )
+  omega (arith, c.held_at.ensures.1, n, c.loop-a.invariant.1, c.decreases),
+  record {
+    desk = omega (arith, c.loop-a.invariant.0, c.requires.desk);
+    short = omega (arith, c.held_at.ensures.1, n, c.loop-a.invariant.1, c.requires.short);
+    low = prop_held_room _ _ _ _ _ c.tag_at.ensures.0 _ c.loop-a.invariant.2 c.in-80.is c.body-a.ensures c.property_gap-gap.ensures c.property_front-x.ensures (c.held_at.ensures.0 _ _) c.requires.low;
+  },
+)
 
 pub to_props-gap_back-cur-requires : goal.to_props-gap_back-cur-requires
 to_props-gap_back-cur-requires t c = (
-      prop_back_page _ _ _ _ _ c.tag_at.ensures.0 _ c.loop-a.invariant.2 c.in-80.is c.body-a.ensures c.property_gap-gap.ensures c.property_front-x.ensures (c.held_at.ensures.0 _ _) c.on_held-y.ensures,
-      prop_back_room _ _ _ _ _ c.tag_at.ensures.0 _ c.loop-a.invariant.2 c.in-80.is c.body-a.ensures c.property_gap-gap.ensures c.property_front-x.ensures (c.held_at.ensures.0 _ _) c.on_held-y.ensures c.requires.low,
-    )
+  prop_back_page _ _ _ _ _ c.tag_at.ensures.0 _ c.loop-a.invariant.2 c.in-80.is c.body-a.ensures c.property_gap-gap.ensures c.property_front-x.ensures (c.held_at.ensures.0 _ _) c.on_held-y.ensures,
+  prop_back_room _ _ _ _ _ c.tag_at.ensures.0 _ c.loop-a.invariant.2 c.in-80.is c.body-a.ensures c.property_gap-gap.ensures c.property_front-x.ensures (c.held_at.ensures.0 _ _) c.on_held-y.ensures c.requires.low,
+)
 
 pub to_props-loop-a-smaller-in-80 : goal.to_props-loop-a-smaller-in-80
 to_props-loop-a-smaller-in-80 t c = behind_less _ _ c.tag_at.ensures.0 (λ z. omega (arith, c.in-80.is)) c.behind-r.ensures
 
 pub to_props-loop-a-preserved-in-80 : goal.to_props-loop-a-preserved-in-80
 to_props-loop-a-preserved-in-80 t c = (
-      c.on_held-y.auto.scratch ∙ c.loop-a.invariant.0,
-      omega (arith, (behind_less _ _ c.tag_at.ensures.0 (λ z. omega (arith, c.in-80.is)) c.behind-r.ensures), c.loop-a.invariant.1),
-      prop_on _ _ _ _ _ c.tag_at.ensures.0 _ c.loop-a.invariant.2 c.in-80.is c.body-a.ensures c.property_gap-gap.ensures c.property_front-x.ensures (c.held_at.ensures.0 _ _) c.on_held-y.ensures c.behind-r.ensures c.gap_back-cur.ensures,
-    )
+  c.on_held-y.auto.scratch ∙ c.loop-a.invariant.0,
+  omega (arith, (behind_less _ _ c.tag_at.ensures.0 (λ z. omega (arith, c.in-80.is)) c.behind-r.ensures), c.loop-a.invariant.1),
+  prop_on _ _ _ _ _ c.tag_at.ensures.0 _ c.loop-a.invariant.2 c.in-80.is c.body-a.ensures c.property_gap-gap.ensures c.property_front-x.ensures (c.held_at.ensures.0 _ _) c.on_held-y.ensures c.behind-r.ensures c.gap_back-cur.ensures,
+)
 
 pub to_props-begin-requires : goal.to_props-begin-requires
 to_props-begin-requires t c = to_props_spread_begin _ _ _ _ _ c.tag_at.ensures.0 _ c.loop-a.invariant.2 c.in-83.is c.body.ensures c.requires.low
 
 pub to_props-on_expr-x-requires : goal.to_props-on_expr-x-requires
 to_props-on_expr-x-requires t c = let n = body_less _ _ c.tag_at.ensures.0 (λ z. omega (arith, c.in-83.is)) c.body.ensures in (
-      omega (arith, n, c.loop-a.invariant.1, c.decreases),
-      record {
-        desk = omega (arith, c.loop-a.invariant.0, c.requires.desk);
-        short = omega (arith, n, c.loop-a.invariant.1, c.requires.short);
-        low = to_props_spread_inner _ _ _ _ _ c.tag_at.ensures.0 _ c.loop-a.invariant.2 c.in-83.is c.body.ensures c.begin.ensures c.requires.low;
-      },
-    )
+  omega (arith, n, c.loop-a.invariant.1, c.decreases),
+  record {
+    desk = omega (arith, c.loop-a.invariant.0, c.requires.desk);
+    short = omega (arith, n, c.loop-a.invariant.1, c.requires.short);
+    low = to_props_spread_inner _ _ _ _ _ c.tag_at.ensures.0 _ c.loop-a.invariant.2 c.in-83.is c.body.ensures c.begin.ensures c.requires.low;
+  },
+)
 
 pub to_props-close-cur-requires : goal.to_props-close-cur-requires
 to_props-close-cur-requires t c = to_props_spread_close _ _ _ _ _ c.tag_at.ensures.0 _ c.loop-a.invariant.2 c.in-83.is c.body.ensures c.begin.ensures c.on_expr-x.ensures c.requires.low
@@ -788,10 +781,10 @@ to_props-loop-a-smaller t c = behind_less _ _ c.tag_at.ensures.0 (λ z. omega (a
 
 pub to_props-loop-a-preserved : goal.to_props-loop-a-preserved
 to_props-loop-a-preserved t c = (
-      c.on_expr-x.auto.scratch ∙ c.loop-a.invariant.0,
-      omega (arith, (behind_less _ _ c.tag_at.ensures.0 (λ z. omega (arith, c.in-83.is)) c.behind-r-in-83.ensures), c.loop-a.invariant.1),
-      to_props_spread_on _ _ _ _ _ c.tag_at.ensures.0 _ c.loop-a.invariant.2 c.in-83.is c.body.ensures c.begin.ensures c.on_expr-x.ensures c.behind-r-in-83.ensures c.close-cur.ensures,
-    )
+  c.on_expr-x.auto.scratch ∙ c.loop-a.invariant.0,
+  omega (arith, (behind_less _ _ c.tag_at.ensures.0 (λ z. omega (arith, c.in-83.is)) c.behind-r-in-83.ensures), c.loop-a.invariant.1),
+  to_props_spread_on _ _ _ _ _ c.tag_at.ensures.0 _ c.loop-a.invariant.2 c.in-83.is c.body.ensures c.begin.ensures c.on_expr-x.ensures c.behind-r-in-83.ensures c.close-cur.ensures,
+)
 
 pub to_props-shape_of-scratch-in_default : goal.to_props-shape_of-scratch-in_default
 to_props-shape_of-scratch-in_default t c = c.loop-a.invariant.0
@@ -851,11 +844,10 @@ to_call-close-requires t c =
     let name_ends : (s : Bool) → is_none given ≡ not s → named_left (call_by s) call_place (at c.args.templates.now c.name_expr-n.new.page c.name_expr-n.result) ≡ whole = λ s h. name_on (call_by s) _ _ _ _ _ _ _ (name_plain _) c.name_expr-n.ensures (name_begins s h) in
     let name_bare : length c.behind-rest.result.now ≡ 0 → named_left (call_by false) call_place (at c.args.templates.now c.name_expr-n.new.page c.name_expr-n.result) ≡ whole = λ h. let a = c.args in name_ends false (bare_lacks a.skip.now a.props.now a.b.now c.behind-rest.result.now (not c.is_component-norm.result) h a.st.first) in
     let null_ends : key_left call_place none (at c.args.templates.now c.leaf-z.new.page c.leaf-z.result) ≡ whole = let a = c.args in let h = c.if-rest-eq0.true in bare_on a.skip.now a.props.now a.b.now c.behind-rest.result.now (not c.is_component-norm.result) h _ _ _ _ _ (name_bare h) _ _ c.leaf-z.ensures in
-    let named_past : call_place + 3 ≤ props_place = omega (arith, ap (λ (x : Walk). x.page) c.begin.ensures, grew (see_grows _ _) c.name_expr-n.ensures) in
-    (
+    let named_past : call_place + 3 ≤ props_place = omega (arith, ap (λ (x : Walk). x.page) c.begin.ensures, grew (see_grows _ _) c.name_expr-n.ensures) in (
       omega (arith, named_past, grew (see_grows _ _) c.leaf-z.ensures),
       call_low _ _ _ refl _ _ null_ends _ _ _ (sym (see_none _)) low,
-      )
+    )
 
 pub to_call-returns-then-rest-eq0 : goal.to_call-returns-then-rest-eq0
 to_call-returns-then-rest-eq0 t c =
@@ -898,11 +890,11 @@ to_call-to_props-x-requires t c =
     let n = rest_short in (
       omega (arith, n, c.decreases),
       record {
-      desk = c.requires.desk;
-      short = omega (arith, n, c.requires.short);
-      low = props_room _ _ _ _ _ low _ _ (props_begin (stands_by given) (lacks_by given));
+        desk = c.requires.desk;
+        short = omega (arith, n, c.requires.short);
+        low = props_room _ _ _ _ _ low _ _ (props_begin (stands_by given) (lacks_by given));
       },
-      )
+    )
 
 pub to_call-found_of-f-requires : goal.to_call-found_of-f-requires
 to_call-found_of-f-requires t c =
@@ -949,17 +941,17 @@ to_call-to_found-z-requires t c =
     let children_stand : is_none given ≡ not c.is_found-stands.result = let a = c.args in found_stands a.skip.now a.props.now _ _ c.found_of-f.result.kind _ (c.found_of-f.ensures.1 a.props.now) ∙ ap not (sym c.is_found-stands.ensures) in
     let children_begin : found_left call call_place props_place children_place (at filled_templates c.children_front-y.new.page c.children_front-y.result) ≡ whole = front_on call _ _ _ _ _ _ _ _ c.children_front-y.ensures (props_end c.is_found-stands.result children_stand) in
     let n = rest_short in
-      let f = c.found_of-f.ensures in (
+    let f = c.found_of-f.ensures in (
       omega (arith, n, c.decreases),
       (
-      record { within = f.0; finds = f.1 c.args.props.now },
-      record {
-      desk = omega (arith, c.to_props-x.auto.scratch, c.requires.desk);
-      short = omega (arith, n, c.requires.short);
-      low = found_room _ _ _ _ _ low _ _ _ children_begin;
-      },
+        record { within = f.0; finds = f.1 c.args.props.now },
+        record {
+          desk = omega (arith, c.to_props-x.auto.scratch, c.requires.desk);
+          short = omega (arith, n, c.requires.short);
+          low = found_room _ _ _ _ _ low _ _ _ children_begin;
+        },
       ),
-      )
+    )
 
 pub to_call-close_if-c-requires : goal.to_call-close_if-c-requires
 to_call-close_if-c-requires t c =
@@ -1046,7 +1038,7 @@ to_call-close-requires-then-a-eq0 t c =
     let a = c.args in (
       closed_past,
       call_low _ _ _ (no_key a.skip.now a.props.now _ c.if-a-eq0.true (c.key_at-a.ensures.0 a.skip.now a.props.now)) _ _ props_close _ _ _ (sym (see_none _)) low,
-      )
+    )
 
 pub to_call-returns-then-a-eq0 : goal.to_call-returns-then-a-eq0
 to_call-returns-then-a-eq0 t c =
@@ -1127,14 +1119,14 @@ to_call-on_held-l-requires t c =
     let key_value : P.Value = value_in (read c.key_at-a.result.now) in
     let key_begins : key_left call_place (key_held (value (opts c.args.skip.now c.args.props.now) key_value)) (at found_templates c.key_front-k.new.page c.key_front-k.result) ≡ whole = let a = c.args in key_on a.skip.now a.props.now _ _ key_value (c.key_at-a.ensures.0 a.skip.now a.props.now) _ _ _ _ props_close _ _ c.key_front-k.ensures in
     let a = c.args in let n = rest_short in
-      let h = c.key_held.ensures in let d = c.key_at-a.ensures.1 in (
+    let h = c.key_held.ensures in let d = c.key_at-a.ensures.1 in (
       omega (arith, h.1, d, n, c.decreases),
       record {
-      desk = omega (arith, c.to_found-z.auto.scratch, c.to_props-x.auto.scratch, c.requires.desk);
-      short = omega (arith, h.1, d, n, c.requires.short);
-      low = to_call_held_room _ _ _ (h.0 a.skip.now a.props.now) _ _ key_begins low;
+        desk = omega (arith, c.to_found-z.auto.scratch, c.to_props-x.auto.scratch, c.requires.desk);
+        short = omega (arith, h.1, d, n, c.requires.short);
+        low = to_call_held_room _ _ _ (h.0 a.skip.now a.props.now) _ _ key_begins low;
       },
-      )
+    )
 
 pub to_call-close-requires-2 : goal.to_call-close-requires-2
 to_call-close-requires-2 t c =
@@ -1171,7 +1163,7 @@ to_call-close-requires-2 t c =
     let a = c.args in (
       visited_past,
       call_low _ _ _ (c.key_held.ensures.0 a.skip.now a.props.now) _ _ key_begins _ _ _ c.on_held-l.ensures low,
-      )
+    )
 
 pub to_call-returns : goal.to_call-returns
 to_call-returns t c =

@@ -1,4 +1,3 @@
-use borrow.Author.Rules.{rules}
 use mathlib.Core.Path.{sym, ap}
 use Rattle.visits.specs.Visiting.{is_found}
 use Rattle.visits.proofs.StateLaws.{some_found}

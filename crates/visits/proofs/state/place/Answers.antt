@@ -2,7 +2,6 @@ use mathlib.Core.Path.{◌≡◌, ap}
 use Prim.Native.Nat.{ℕ, ◌+◌, ◌-◌}
 use native.Mathlib.Omega.{arith}
 use lib.ListN.{take, drop}
-use borrow.Author.Rules.{rules}
 use Rattle.visits.proofs.state.place.Goals as goal
 
 pub slice_bounds-result-count : goal.slice_bounds-result-count

@@ -1,5 +1,4 @@
 -- By whether 03 lists the name.
-use borrow.Author.Rules.{rules}
 use mathlib.Core.Path.{◌∙◌}
 use Rattle.walk.proofs.ReadLaws.{gap_listed, gap_plain}
 use Rattle.walk.proofs.attribute.attribute_gap.Goals as goal

@@ -1,4 +1,3 @@
-use borrow.Author.Rules.{rules}
 use Rattle.field.specs.Row.{read}
 use Rattle.names.specs.Names.{get_attr_name}
 use Rattle.page.specs.Tree.{attr_name_in}

@@ -1,4 +1,3 @@
-use borrow.Author.Rules.{rules}
 use mathlib.Core.List.{[]}
 use Rattle.field.specs.Row.{read}
 use Rattle.names.specs.Names.{get_attr_name}

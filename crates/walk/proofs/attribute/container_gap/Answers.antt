@@ -1,5 +1,4 @@
 -- An arm for each shape.
-use borrow.Author.Rules.{rules}
 use mathlib.Core.Path.{sym, ◌∙◌}
 use Rattle.walk.proofs.ReadLaws.{gap_shape, boolean_nothing, boolean_attr}
 use Rattle.walk.proofs.attribute.container_gap.Goals as goal

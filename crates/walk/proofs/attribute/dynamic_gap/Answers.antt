@@ -1,5 +1,4 @@
 -- A choice for a boolean attribute, a call for any other.
-use borrow.Author.Rules.{rules}
 use Rattle.walk.proofs.ReadLaws.{dynamic_choice, dynamic_other}
 use Rattle.walk.proofs.attribute.dynamic_gap.Goals as goal
 

@@ -1,5 +1,4 @@
 -- By the shape: no bytes where no gap is left.
-use borrow.Author.Rules.{rules}
 use mathlib.Core.Path.{sym, ◌∙◌}
 use native.Mathlib.Omega.{arith}
 use Rattle.decisions.specs.At.{opts}

@@ -1,5 +1,4 @@
 -- Only a call and a choice hold an expression.
-use borrow.Author.Rules.{rules}
 use mathlib.Core.Path.{refl}
 use native.Mathlib.Omega.{arith}
 use Rattle.decisions.specs.At.{opts}

@@ -1,5 +1,4 @@
 -- By the shape.
-use borrow.Author.Rules.{rules}
 use mathlib.Core.Path.{sym, ◌∙◌}
 use Rattle.walk.proofs.ReadLaws.{wraps_shape}
 use Rattle.walk.proofs.attribute.is_wrapped.Goals as goal

@@ -1,14 +1,8 @@
 -- The invariant: the attributes that are left, with the key that was found so far, give the key of all; both lie within.
-use borrow.Author.Rules.{rules}
-use mathlib.Core.Path.{◌≡◌, sym, ap, ◌∙◌}
-use Prim.Native.Nat.{◌≤◌}
+use mathlib.Core.Path.{sym, ap, ◌∙◌}
 use native.Mathlib.Omega.{arith}
-use mathlib.Core.List.{[]}
-use lib.ListN.{length}
-use Rattle.field.specs.Bytes.{Bytes}
 use Rattle.field.proofs.FrontLaws.{body_less, behind_less}
-use Rattle.spec.specs.Pass.{none}
-use Rattle.walk.proofs.ReadLaws.{key_in, key_by, key_start, key_set, key_kept, key_past, key_ended}
+use Rattle.walk.proofs.ReadLaws.{key_in, key_start, key_set, key_kept, key_past, key_ended}
 use Rattle.walk.proofs.attribute.key_at.Goals as goal
 
 pub loop-a-init : goal.loop-a-init

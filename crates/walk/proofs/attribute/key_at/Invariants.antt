@@ -1,13 +1,9 @@
-use borrow.Author.Rules.{rules}
-use mathlib.Core.Path.{◌≡◌, sym, ap, ◌∙◌}
+use mathlib.Core.Path.{◌≡◌}
 use Prim.Native.Nat.{◌≤◌}
-use native.Mathlib.Omega.{arith}
-use mathlib.Core.List.{[]}
 use lib.ListN.{length}
 use Rattle.field.specs.Bytes.{Bytes}
-use Rattle.field.proofs.FrontLaws.{body_less, behind_less}
 use Rattle.spec.specs.Pass.{none}
-use Rattle.walk.proofs.ReadLaws.{key_in, key_by, key_start, key_set, key_kept, key_past, key_ended}
+use Rattle.walk.proofs.ReadLaws.{key_in, key_by}
 use Rattle.walk.proofs.attribute.key_at.Given as goal
 
 abbrev pub invariant-loop-a : goal.invariant-loop-a

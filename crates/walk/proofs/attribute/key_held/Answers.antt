@@ -1,5 +1,4 @@
 -- Only braces hold an expression that becomes the key.
-use borrow.Author.Rules.{rules}
 use mathlib.Core.Path.{ap, ◌∙◌}
 use native.Mathlib.Omega.{arith}
 use Rattle.field.specs.Front.{body_of}

@@ -1,5 +1,4 @@
 -- An arm for each kind of value; a container is empty where no field stands in it.
-use borrow.Author.Rules.{rules}
 use mathlib.Core.Path.{ap, ◌∙◌}
 use Rattle.field.specs.Front.{body_of}
 use Rattle.walk.proofs.ReadLaws.{listed_absent, listed_string, listed_empty, listed_full, listed_tag}

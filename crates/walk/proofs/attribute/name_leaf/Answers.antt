@@ -1,4 +1,3 @@
-use borrow.Author.Rules.{rules}
 use native.Mathlib.Omega.{arith}
 use Rattle.field.specs.Row.{read}
 use Rattle.names.specs.Names.{get_attr_name}

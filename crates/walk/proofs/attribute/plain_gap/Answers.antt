@@ -1,5 +1,4 @@
 -- An arm for each kind of value, and a test of the name where it matters.
-use borrow.Author.Rules.{rules}
 use mathlib.Core.Path.{ap, ◌∙◌}
 use Rattle.field.specs.Front.{body_of}
 use Rattle.walk.proofs.ReadLaws.{plain_boolean, plain_true, plain_key, plain_ref, plain_string, plain_container, plain_tag}

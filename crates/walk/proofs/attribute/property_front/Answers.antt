@@ -1,5 +1,4 @@
 -- An arm for each gap.
-use borrow.Author.Rules.{rules}
 use mathlib.Core.Path.{refl, ap}
 use mathlib.Core.List.{[]}
 use native.Mathlib.Omega.{arith}

@@ -1,5 +1,4 @@
 -- A missing value, then a key, then by the kind of value; a container is empty where no field stands in it.
-use borrow.Author.Rules.{rules}
 use mathlib.Core.Path.{ap, ◌∙◌}
 use Rattle.field.specs.Front.{body_of}
 use Rattle.walk.proofs.ReadLaws.{prop_absent, prop_key, prop_string, prop_empty, prop_attr, prop_tag}

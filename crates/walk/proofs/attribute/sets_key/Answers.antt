@@ -1,5 +1,4 @@
 -- A missing value sets no key, any other does where the name reads so.
-use borrow.Author.Rules.{rules}
 use Rattle.walk.proofs.ReadLaws.{sets_absent, sets_field}
 use Rattle.walk.proofs.attribute.sets_key.Goals as goal
 

@@ -1,5 +1,4 @@
 -- Only a string has a text.
-use borrow.Author.Rules.{rules}
 use mathlib.Core.Path.{ap, ◌∙◌}
 use Rattle.field.specs.Front.{body_of}
 use Rattle.decisions.specs.At.{opts}

@@ -1,5 +1,4 @@
 -- What stands in braces, or a tag: the bytes of a tag are read as the expression that it is.
-use borrow.Author.Rules.{rules}
 use mathlib.Core.Path.{ap, ◌∙◌}
 use native.Mathlib.Omega.{arith}
 use Rattle.field.specs.Front.{body_of}

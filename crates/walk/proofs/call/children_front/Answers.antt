@@ -1,4 +1,3 @@
-use borrow.Author.Rules.{rules}
 use Rattle.field.specs.Bytes.{ascii}
 use Rattle.spec.specs.Output as O
 use Rattle.walk.proofs.LeafLaws.{begun_room, begun_low, begun_is}

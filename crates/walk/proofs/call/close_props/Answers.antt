@@ -1,4 +1,3 @@
-use borrow.Author.Rules.{rules}
 use Rattle.walk.proofs.ArmLaws.{props_null_low, props_null_is, props_low, props_is}
 use Rattle.walk.proofs.call.close_props.Goals as goal
 

@@ -1,5 +1,4 @@
 -- By whether the element is void.
-use borrow.Author.Rules.{rules}
 use mathlib.Core.Path.{sym, ap, ◌∙◌}
 use Rattle.names.specs.Names.{is_void_element}
 use Rattle.walk.proofs.ReadLaws.{pick_true, pick_false}

@@ -1,11 +1,6 @@
 -- The names that are left, seen now, leave what all of them leave.
-use borrow.Author.Rules.{rules}
-use mathlib.Core.Path.{◌≡◌, refl}
-use mathlib.Core.List.{[]}
 use native.Mathlib.Omega.{arith}
-use lib.ListN.{length}
 use Rattle.field.proofs.FrontLaws.{behind_less}
-use Rattle.walk.specs.See.{at, see}
 use Rattle.walk.proofs.ArmLaws.{names_at, names_end, names_past, names_low, names_on, names_kept}
 use Rattle.walk.proofs.call.member_names.Goals as goal
 

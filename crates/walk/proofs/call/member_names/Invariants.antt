@@ -1,11 +1,8 @@
-use borrow.Author.Rules.{rules}
-use mathlib.Core.Path.{◌≡◌, refl}
+use mathlib.Core.Path.{◌≡◌}
 use mathlib.Core.List.{[]}
-use native.Mathlib.Omega.{arith}
 use lib.ListN.{length}
-use Rattle.field.proofs.FrontLaws.{behind_less}
 use Rattle.walk.specs.See.{at, see}
-use Rattle.walk.proofs.ArmLaws.{names_at, names_end, names_past, names_low, names_on, names_kept}
+use Rattle.walk.proofs.ArmLaws.{names_at}
 use Rattle.walk.proofs.call.member_names.Given as goal
 
 abbrev pub invariant-loop-page : goal.invariant-loop-page

@@ -1,5 +1,4 @@
 -- What an arm writes is the name that its tag says.
-use borrow.Author.Rules.{rules}
 use mathlib.Core.Path.{refl}
 use mathlib.Core.List.{[]}
 use Rattle.walk.specs.See.{at}

@@ -1,4 +1,3 @@
-use borrow.Author.Rules.{rules}
 use Rattle.text.specs.Text.{normalize_lit_str}
 use native.Mathlib.Omega.{arith}
 use Rattle.walk.proofs.LeafLaws.{leaf_room, leaf_close, leaf_is}

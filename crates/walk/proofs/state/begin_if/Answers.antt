@@ -1,4 +1,3 @@
-use borrow.Author.Rules.{rules}
 use Rattle.walk.proofs.LeafLaws.{begun_taken, begun_left}
 use Rattle.walk.proofs.state.begin_if.Goals as goal
 

@@ -1,4 +1,3 @@
-use borrow.Author.Rules.{rules}
 use Rattle.walk.proofs.LeafLaws.{numbered_is}
 use Rattle.walk.proofs.state.begin_template.Goals as goal
 

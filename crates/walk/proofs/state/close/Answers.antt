@@ -1,4 +1,3 @@
-use borrow.Author.Rules.{rules}
 use Rattle.walk.proofs.LeafLaws.{close_is}
 use Rattle.walk.proofs.state.close.Goals as goal
 

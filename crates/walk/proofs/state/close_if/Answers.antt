@@ -1,4 +1,3 @@
-use borrow.Author.Rules.{rules}
 use Rattle.walk.proofs.LeafLaws.{close_taken, close_left}
 use Rattle.walk.proofs.state.close_if.Goals as goal
 

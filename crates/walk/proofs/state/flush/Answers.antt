@@ -1,4 +1,3 @@
-use borrow.Author.Rules.{rules}
 use native.Mathlib.Omega.{arith}
 use Rattle.walk.proofs.LeafLaws.{run_none, run_room, run_close, run_is}
 use Rattle.walk.proofs.state.flush.Goals as goal

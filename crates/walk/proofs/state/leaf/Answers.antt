@@ -1,4 +1,3 @@
-use borrow.Author.Rules.{rules}
 use native.Mathlib.Omega.{arith}
 use Rattle.walk.proofs.LeafLaws.{leaf_room, leaf_close, leaf_is}
 use Rattle.walk.proofs.state.leaf.Goals as goal

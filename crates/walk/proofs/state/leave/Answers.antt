@@ -1,4 +1,3 @@
-use borrow.Author.Rules.{rules}
 use Rattle.walk.proofs.LeafLaws.{left_low, left_done}
 use Rattle.walk.proofs.state.leave.Goals as goal
 

@@ -1,5 +1,4 @@
 -- What an arm writes is the expression that its tag says.
-use borrow.Author.Rules.{rules}
 use mathlib.Core.List.{[]}
 use mathlib.Core.Logic.{⊎_elim}
 use native.Mathlib.Omega.{arith}

@@ -1,6 +1,5 @@
 -- `walk::state::number_leaf` meets its contract. Assumes nothing.
 use native.Mathlib.Omega.{arith}
-use borrow.Author.Rules.{rules}
 use Rattle.page.specs.Number.{number_bytes}
 use Rattle.page.proofs.NumberLaws.{number_size}
 use Rattle.decisions.specs.At.{number_at}

@@ -1,4 +1,3 @@
-use borrow.Author.Rules.{rules}
 use mathlib.Core.Bool.{true, false}
 use Rattle.text.specs.Text.{jsx_text_to_str}
 use native.Mathlib.Omega.{arith}
