@@ -21,6 +21,7 @@ pub fn graver(a: u8, b: u8) -> u8
 }
 
 // Behind a body of so many bytes.
+#[tactic(auto, using(crate::proofs::DueLaws::body_long, crate::proofs::DueLaws::body_short))]
 pub fn with_body(due: u8, len: usize) -> u8
     ensures { result ≡ graver due (long_due (ltb 65535 len)) }
 {
