@@ -194,7 +194,7 @@ marks =
 
 PROOF = """-- The table of marks, by computation. Main statement: `k_table`. Written by tools/marks.py. Assumes nothing.
 use Prim.Native.Nat.{ℕ}
-use mathlib.Core.Path.{◌≡◌, refl}
+use mathlib.Core.Path.{refl}
 use Rattle.field.specs.Bytes.{Bytes}
 use Rattle.spec.specs.Answer.{Outcome}
 use Rattle.spec.specs.Marks as K

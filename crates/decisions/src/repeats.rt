@@ -389,8 +389,9 @@ fn count(s: &[u8]) -> usize {
     }
 }
 
-// The same with tables of its own, as large as so many attributes need: a table is cleared before it is used. A function that calls itself
-// is not merged into its caller: so the tables stand in no frame of the walks, which nest.
+// The same with tables of its own, as large as so many attributes need: a table is cleared before it is used. It is not merged into its
+// caller: so the tables stand in no frame of the walks, which nest.
+#[inline(never)]
 fn by_tables(s: &[u8], k: usize, first: bool) -> bool
     ensures { result ≡ repeats (html_names (attributes_in (read s.now))) }
 {

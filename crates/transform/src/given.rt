@@ -21,8 +21,9 @@ fn page_room() -> [u8; 51493]
     [0; 51493]
 }
 
-// The page, with its sums worked out where sums is set: it is worked out and written as a page without sums. A function that calls itself
-// is not merged into its caller, nor one with a long frame into it.
+// The page, with its sums worked out where sums is set: it is worked out and written as a page without sums. It has a long frame, and is
+// not merged into its caller.
+#[inline(never)]
 fn write_worked<'a>(
     input: &'a [u8],
     options: &'a [u8],
