@@ -55,7 +55,7 @@ def spelled(name):
 
 
 def without_comments(text):
-    return re.sub(r'--[^\n]*|"[^"\n]*"', "", text)
+    return re.sub(r'--[^\n]*|"(?:\\.|[^"\\\n])*"', "", text)
 
 
 def clause_spans(text):
@@ -79,7 +79,7 @@ def turned(text, names):
             code, mark, comment = line, "", ""
         one = lambda m: spelled(m[0]) if m[0] in names else m[0]
         # a text in quotes is no name
-        code = "".join(part if k % 2 else WORD.sub(one, part) for k, part in enumerate(re.split(r'("[^"]*")', code)))
+        code = "".join(part if k % 2 else WORD.sub(one, part) for k, part in enumerate(re.split(r'("(?:\\.|[^"\\])*")', code)))
         out.append(code + mark + re.sub(r"`[^`]*`", lambda m: WORD.sub(one, m[0]), comment))
     return "\n".join(out)
 
@@ -95,7 +95,7 @@ def main():
         kit = imported_from_kit(t)
         parts = [t[a:b] for a, b in clause_spans(t)] if f.endswith(".rt") else [without_comments(t)]
         for p in parts:
-            own |= {w for w in WORD.findall(re.sub(r'"[^"\n]*"', "", p)) if DASHED.match(w) and w not in kit}
+            own |= {w for w in WORD.findall(re.sub(r'"(?:\\.|[^"\\\n])*"', "", p)) if DASHED.match(w) and w not in kit}
     for f, t in texts.items():
         if is_function_proof(f):
             kit = imported_from_kit(t)
