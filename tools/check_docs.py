@@ -12,7 +12,8 @@ What is looked for, in README.md, CONTRIBUTING.md, docs/PROMISES.md and docs/DEC
    that crate, and in that file where one is given. Of `a` of `b`, or `a`: `b`, this is so of the first; the others may be of a crate below.
 3. Files. A path that begins with a folder of the repository exists; a bare .antt, .rt, .rs, .py, .md or .sh name is some file's.
 4. Functions. In a crate's section of "The contracts" a row's functions are that crate's, none has two rows, every `pub fn` of a library has
-   one. The names in "Definition" are of the crate or of one below; where there are any, one is in the contract of a function of the row.
+   one, a method as TYPE::NAME. The names in "Definition" are of the crate or of one below; where there are any, one is in the contract of a
+   function of the row.
    "The last N are used within the crate only" is so of the last N functions of the table, and not of the one before them.
 5. Edits. Each `old:` stands once in its file; each edit is named in its crate's section; where a table says what refuses it, the definition
    beside it is the one that it changes.
@@ -275,9 +276,10 @@ PLANTED = [
     ("docs/PROMISES.md", "| `read_header` | `header_of` |", "| `read_header` | `body_of` |", "no contract of `read_header` names body_of"),
     ("docs/PROMISES.md", "| `read_header` | `header_of` |", "| `read_header` | `outcome` |", "`outcome` is not of field, nor of a crate below it"),
     ("crates/field/src/reader.rt", "pub fn tag_at(", "pub fn first_tag(", "`first_tag` has no row"),
+    ("crates/text/src/lines.rt", "pub fn next_line(", "pub fn line_behind(", "`Lines::line_behind` has no row"),
     ("docs/PROMISES.md", "| `absent_tag` |", "| - |", "not named in docs/PROMISES.md, section field"),
     ("docs/PROMISES.md", "| `absent_tag` |", "| `body_behind` |", "not as tools/promises.py makes it"),
-    ("crates/field/src/reader.rt", "Header::Absent => 256,", "Header::Absent => 0 + 256,", "its old: stands 0 times"),
+    ("crates/field/src/reader.rt", "None => 256,", "None => 0 + 256,", "its old: stands 0 times"),
     ("docs/PROMISES.md", "as_string` | `expr_row` |", "as_string` | `number_in` |", "`literal_written_as_string` changes `expr_row`"),
     ("README.md", "| `utf8` |", "| `text` |", "crates.txt has utf8 here, not text"),
     ("docs/PROMISES.md", r"The last \w+ are used", "The last one are used", "are used within the crate only, not one"),

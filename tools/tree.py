@@ -1,7 +1,9 @@
 """What stands in the tree, for the tools that hold documents to it: crates, functions with their contracts, declared names, edits.
 
 The sources are read line by line, as `rt fmt` lays them out: an item of a .rt file begins in the first column and ends with a brace or a
-semicolon there; a declaration of a .antt file is a line `NAMES : TYPE`, behind any of the words pub, abbrev and unfoldable.
+semicolon there, a method four columns further on; a declaration of a .antt file is a line `NAMES : TYPE`, behind any of the words pub,
+abbrev and unfoldable. A method is called TYPE::NAME, or TRAIT::NAME where a trait says what it does; what a type has of a trait is no
+function of its own, but code that others reach.
 """
 import os
 import re
@@ -9,6 +11,10 @@ from collections import defaultdict
 from dataclasses import dataclass, field
 
 ITEM = re.compile(r'^(pub )?(?:extern "C" )?(fn|const|enum|struct|mod|type) (\w+)')
+BLOCK = re.compile(r"^(?:pub )?(?:trait|impl(?:<[^>]*>)?) (?:([\w:]+)(?:<[^>]*>)? for )?(\w+)")
+METHOD = re.compile(r"^    (pub )?(?:pub\(crate\) )?fn (\w+)")
+# where the code of a function begins, behind its signature
+CODE = re.compile(r"^ *\{$", re.M)
 DECLARED = re.compile(r"^\s*(?:(?:pub|abbrev|unfoldable)\s+)*((?:[^\s:(){}=λ]+\s+)+):(?:\s|$)")
 TYPE = re.compile(r"^\s*(?:(?:pub|abbrev|unfoldable)\s+)*(?:record|data)\s+([^\s{]+)")
 RUST = re.compile(r"\b(?:fn|const|static|enum|struct|mod|trait|type)\s+(\w+)")
@@ -32,13 +38,18 @@ class Item:
     last: int = 0
     text: str = ""
 
+    def bare(self):
+        """As calls have it."""
+        return self.name.split("::")[-1]
+
     def contract(self):
         """The words of a function's ensures; none where it has no such clause. Its parameters and `result` are left out; of what is read
         of them, as `result.text`, the field is there, as `.text`."""
-        head = re.split(r"^\{$", self.text, maxsplit=1, flags=re.M)
-        if len(head) < 2 or "ensures" not in head[0]:
+        head = CODE.split(self.text, maxsplit=1)[0]
+        if head == self.text and not head.endswith(";") or "ensures" not in head:
             return []
-        signature, clause = head[0].split("ensures", 1)
+        # a clause may have a name
+        signature, clause = re.sub(r"\bensures \w+ \{", "ensures {", head).split("ensures", 1)
         given = {"result", *re.findall(r"(\w+):", signature)}
         words = []
         for word in WORD.findall(clause):
@@ -115,6 +126,9 @@ class Tree:
         at = 0
         while at < len(lines):
             found = ITEM.match(lines[at])
+            if BLOCK.match(lines[at]):
+                at = self._methods(crate, path, lines, at)
+                continue
             if not found:
                 at += 1
                 continue
@@ -135,6 +149,25 @@ class Tree:
             if item.kind != "mod":
                 self.items[crate].append(item)
             at = end + 1
+
+    def _methods(self, crate, path, lines, at):
+        """Those of a block that begins at a line; answers the line behind the block."""
+        of_trait, name = BLOCK.match(lines[at]).groups()
+        self.declared[name].add(path)
+        while lines[at] != "}":
+            found = METHOD.match(lines[at])
+            if found:
+                first, has_code = at, lines[at].endswith("{")
+                while lines[at] != "    }" and (has_code or not lines[at].endswith(";")):
+                    at += 1
+                    has_code = has_code or lines[at].endswith("{")
+                kind = "method" if of_trait else "fn"
+                item = Item(crate, path, kind, "%s::%s" % (name, found[2]), bool(found[1]), first + 1, at + 1)
+                item.text = "\n".join(lines[first : at + 1])
+                self.declared[found[2]].add(path)
+                self.items[crate].append(item)
+            at += 1
+        return at + 1
 
     def _antt(self, path):
         for line in self.read(path).splitlines():
@@ -186,10 +219,10 @@ class Tree:
                 modules.add(name)
         found = []
         for word in function.contract():
-            module, _, name = word.rpartition(".")
+            module, dot, name = word.rpartition(".")
             if word in taken:
                 found.append(word)
-            elif name and (module in modules or (not module and self.specified(name))):
+            elif dot and name and (module in modules or (not module and self.specified(name))):
                 found.append(name)
         return list(dict.fromkeys(found))
 
@@ -198,8 +231,11 @@ class Tree:
         return any("/specs/" in path for path in self.declared.get(name, ()))
 
     def used_outside(self, function):
-        """Whether another crate's code names the function, by its path or in the braces behind one."""
+        """Whether another crate's code names the function, by its path or in the braces behind one; of a method, whether it calls one of
+        that name."""
         path = re.compile(r"\b%s::(?:\w+::)*(?:\{[^;]*\b)?%s\b" % (function.crate, function.name))
+        if function.name != function.bare():
+            path = re.compile(r"(?:\.|::)%s\(" % function.bare()) if function.public else re.compile(r"$.")
         return any(path.search(self._source(crate)) for crate in self.depends if crate != function.crate)
 
     def _source(self, crate):
@@ -226,11 +262,15 @@ class Tree:
         return names
 
     def uses(self, item):
-        """The other items that an item's code names: functions of its crate by a call, its public items, and all of its own file."""
-        code = re.split(r"^\{$", item.text, maxsplit=1, flags=re.M)[-1]
-        calls, words = set(re.findall(r"(\w+)\(", code)), set(re.findall(r"\w+", code))
-        seen = [i for i in self.items[item.crate] if i.path == item.path or i.public or i.kind == "fn"]
-        return [i for i in seen if i.name != item.name and i.name in (calls if i.kind == "fn" else words)]
+        """The other items that an item's code names: functions and methods of its crate by a call, its public items, and all of its own
+        file."""
+        code = re.split(r"\{$" if item.kind == "method" else r"^ *\{$", item.text, maxsplit=1, flags=re.M)[-1]
+        calls, words = set(re.findall(r"(\w+)(?:::<[^()]*>)?\(", code)), set(re.findall(r"\w+", code))
+        seen = [i for i in self.items[item.crate] if i.path == item.path or i.public or i.kind in ("fn", "method")]
+        named = [i for i in seen if i is not item and i.bare() in (calls if i.kind in ("fn", "method") else words)]
+        # of methods that are called alike those of the item's own file are meant
+        own = {i.bare() for i in named if i.path == item.path and i.name != i.bare()}
+        return [i for i in named if i.path == item.path or i.name == i.bare() or i.bare() not in own]
 
 
 def declared_in(line):

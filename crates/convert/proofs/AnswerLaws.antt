@@ -11,15 +11,16 @@ use Rattle.field.specs.Bytes.{Bytes, pick}
 use Rattle.field.specs.Row.{Row, bytes, long_body}
 use Rattle.field.specs.Put.{put}
 use Rattle.field.proofs.PutLaws.{length_put}
-use Rattle.page.specs.Refusal.{refusal_number}
+use Rattle.page.specs.Refusal.{Verdict, Fine, Refused, refusal_number}
 use Rattle.page.specs.declared.Refusal.{Refusal}
 use Rattle.page.specs.declared.Refusal.TheVariants as R
-use Rattle.page.specs.declared.Verdict.{Verdict}
-use Rattle.page.specs.declared.Verdict.TheVariants.{Fine, Refused}
 use Rattle.outs.specs.Renumber.{renumbered, Renumbers}
 use Rattle.outs.specs.declared.Kind.{Kind}
 use Rattle.convert.specs.Convert.{Outcome, refused, converted, past, verdict_number, number_unless, written, number, bytes_of_templates, bytes_of_page, templates_left, page_left}
-use Rattle.convert.specs.Flat.{due, zeros, all_bodies_clear, Rewrites, Converts, Finishes}
+use Rattle.convert.specs.Flat.{due, zeros, unconverted_number, all_bodies_clear, Rewrites, Converts, Finishes}
+use native.Mathlib.Omega.{arith}
+use Rattle.convert.specs.declared.Unconverted.{Unconverted}
+use Rattle.convert.specs.declared.Unconverted.TheVariants as U
 use Rattle.convert.specs.declared.Converted.{Converted}
 use Rattle.convert.proofs.RecordLaws.{Sound, rewritten, bytes_are, long_is}
 
@@ -142,6 +143,10 @@ number_some R.MixedCaseVoid = refl
 number_some R.OutputTooLong = refl
 number_some R.TemplatesTooSmall = refl
 number_some R.PageTooSmall = refl
+
+pub reason_some : (e : Unconverted) → unconverted_number e ≡ 0 → ⊥
+reason_some (U.Refused r) z = absurd (let k : false ≡ true = sym (number_some r) ∙ eq-eqb (refusal_number r) 0 z in let j : ◌≡◌ {A = ℕ} 0 1 = cc in omega arith)
+reason_some U.Unsayable z = omega arith
 
 past_some : (n : ℕ) (f : Unit {0} → Outcome) → eqb n 0 ≡ false → past n f ≡ refused n
 unfolding past

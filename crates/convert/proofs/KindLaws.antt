@@ -97,6 +97,18 @@ run_passed q s i e h n l {m} em =
     ∙ ap₂ (λ (x y : ℕ). all_passed (passed q (get_or s x 0)) (drop y s)) b a
     ∙ ap (λ (x : Markup). all_passed x (drop e s)) (sym em)
 
+pub not_entered : (q : Markup) → (q ≡ M.Entered → ⊥) → is_entered q ≡ false
+unfolding is_entered
+not_entered M.Outside z = refl
+not_entered M.Entered z = absurd (z refl)
+not_entered M.Opening z = refl
+not_entered M.Spaced z = refl
+not_entered M.Closing z = refl
+not_entered M.Crossed z = refl
+
+pub run_ends : {s : Bytes} {at i n : ℕ} → NoSign s at i → i ≡ n → NoSign s at n
+run_ends {s} {at} r e = subst (NoSign s at) e r
+
 pub run_begins : (s : Bytes) (at : ℕ) → at ≤ length s → NoSign s at at
 run_begins s at h = record { after = omega arith; within = h; none = λ j g l. absurd (omega arith) }
 

@@ -12,11 +12,9 @@ use Rattle.field.specs.Number.{big_endian, number_of}
 use Rattle.field.specs.Row.{Row, end, loose, field, bytes, Inside, only_bytes, fields_after}
 use Rattle.field.proofs.NumberLaws.{length_big_endian}
 use Rattle.field.proofs.Reading.{FrontFits, ShapedBy, shaped, written, length_bytes}
-use Rattle.page.specs.Refusal.{after, unless}
+use Rattle.page.specs.Refusal.{Verdict, Fine, after, unless}
 use Rattle.page.specs.Tree.{choose}
 use Rattle.page.specs.declared.Refusal.TheVariants as R
-use Rattle.page.specs.declared.Verdict.{Verdict}
-use Rattle.page.specs.declared.Verdict.TheVariants.{Fine}
 use Rattle.outs.specs.Held.{nests, held, read_out}
 use Rattle.outs.specs.PageOut.{allowed, left, within, front_right, check_leaf, good, check_page_out}
 use Rattle.outs.specs.Renumber.{renumbered_front, renumbered}

@@ -20,11 +20,9 @@ use Rattle.field.proofs.FrontLaws.{body_written, behind_written}
 use Rattle.field.proofs.Reading.{FrontFits, ShapedBy}
 use Rattle.field.proofs.RowLaws.{Shaped, read_back, length_bytes}
 use Rattle.page.specs.Check.{check_text}
-use Rattle.page.specs.Refusal.{after, unless}
+use Rattle.page.specs.Refusal.{Verdict, Fine, Refused, after, unless}
 use Rattle.page.specs.declared.Refusal.{Refusal}
 use Rattle.page.specs.declared.Refusal.TheVariants as R
-use Rattle.page.specs.declared.Verdict.{Verdict}
-use Rattle.page.specs.declared.Verdict.TheVariants.{Fine, Refused}
 use Rattle.outs.specs.Templates.{record_tag, count_of, all_kinds, front_of_record, check_strings, check_any_strings, check_some_strings, check_strings_of, check_records}
 use Rattle.outs.specs.declared.Kind.{Kind}
 use Rattle.outs.specs.declared.Kind.TheVariants.{Old, New}

@@ -16,9 +16,7 @@ use Rattle.field.specs.Row.{Row, end, loose, field, bytes, long_body, Inside, on
 use Rattle.field.proofs.NumberLaws.{length_big_endian, big_endian_append, big_endian_back, two_read, four_read, all_take, all_drop}
 use Rattle.field.proofs.Reading.{FrontFits, ShapedBy, SaneBy, front_full, front_counted, back, shaped, sane, written}
 use Rattle.field.proofs.RowLaws.{Shaped, Sane, read_back, read_shaped, read_sane, bytes_read}
-use Rattle.page.specs.Refusal.{refusal_number}
-use Rattle.page.specs.declared.Verdict.{Verdict}
-use Rattle.page.specs.declared.Verdict.TheVariants.{Fine, Refused}
+use Rattle.page.specs.Refusal.{Verdict, Fine, Refused, refusal_number}
 use Rattle.outs.specs.Held.{nests, held, read_out}
 use Rattle.outs.specs.PageOut.{left, within, front_right, good, check_page_out}
 use Rattle.outs.specs.Renumber.{renumbered_front, renumbered, has_wide}

@@ -17,7 +17,7 @@ use Rattle.field.proofs.NumberLaws.{length_big_endian, big_endian_append, all_dr
 use Rattle.field.proofs.PutLaws.{put_nil, wrote_length, wrote_then, wrote_is, wrote_field, length_head, length_field_bytes}
 use Rattle.field.proofs.FrontLaws.{read_at, parts_at}
 use Rattle.field.proofs.RowLaws.{Shaped, read_shaped, bytes_read, not_long}
-use Rattle.page.specs.declared.Verdict.TheVariants.{Fine}
+use Rattle.page.specs.Refusal.{Fine}
 use Rattle.outs.specs.Templates.{check_records, check_templates}
 use Rattle.outs.specs.declared.Kind.{Kind}
 use Rattle.outs.specs.declared.Kind.TheVariants.{Old, New}

@@ -6,9 +6,7 @@ use Rattle.field.specs.Bytes.{Bytes, pick, same}
 use Rattle.field.specs.Number.{number_of}
 use Rattle.field.specs.Row.{Row, end, loose, field, bytes, long_body, read}
 use Rattle.field.specs.Put.{put}
-use Rattle.page.specs.Refusal.{refusal_number}
-use Rattle.page.specs.declared.Verdict.{Verdict}
-use Rattle.page.specs.declared.Verdict.TheVariants.{Fine, Refused}
+use Rattle.page.specs.Refusal.{Verdict, Fine, Refused, refusal_number}
 use Rattle.spec.specs.Output.{kind_bytes, layout_80, layout_84, record_row}
 use Rattle.spec.specs.Demand.{strings_in, kinds_behind}
 use Rattle.outs.specs.Held.{read_out}

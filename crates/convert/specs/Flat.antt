@@ -1,6 +1,6 @@
 -- Templates as the code goes over them, record by record: what is written of each, whether it may be, and the strings by their bytes.
 -- Nothing here needs belief. Assumes nothing: these are definitions.
-use Rattle.std.specs.Prelude.{ℕ, zero, suc, ◌-◌, ◌≤◌, ◌<◌, ◌≡◌, Bool, true, false, ◌&&◌, ◌||◌, [], ◌∷◌, ◌++◌, eqb, leb, ltb, length, take, drop, replicate, get_or}
+use Rattle.std.specs.Prelude.{ℕ, zero, suc, ◌-◌, ◌≤◌, ◌<◌, ◌≡◌, Bool, true, false, ◌&&◌, ◌||◌, [], ◌∷◌, ◌++◌, eqb, leb, ltb, length, take, drop, replicate, get_or, Result, Ok, Err}
 use Rattle.field.specs.Bytes.{Bytes, pick, same}
 use Rattle.field.specs.Number.{number_of, big_endian}
 use Rattle.field.specs.Row.{Row, end, loose, field, field_bytes, bytes, counted_front, read}
@@ -10,6 +10,9 @@ use Rattle.outs.specs.declared.Kind.{Kind}
 use Rattle.outs.specs.declared.Kind.TheVariants.{Old, New}
 use Rattle.convert.specs.Kinds.{all_passed}
 use Rattle.convert.specs.Convert.{Outcome, number, bytes_of_templates, bytes_of_page, templates_left, page_left}
+use Rattle.page.specs.Refusal.{refusal_number}
+use Rattle.convert.specs.declared.Unconverted.{Unconverted}
+use Rattle.convert.specs.declared.Unconverted.TheVariants.{Refused, Unsayable}
 use Rattle.convert.specs.declared.Converted.{Converted}
 use Rattle.convert.specs.declared.kinds.Markup.{Markup}
 use Rattle.convert.specs.declared.kinds.Markup.TheVariants as M
@@ -127,6 +130,15 @@ pub record Rewrites (k : Kind) (x : Row) (o o' : Bytes) (n : ℕ) (long clear : 
 -- 17, 11, 12 and 13, or 0
 unfoldable pub due : (clear long templates_fit page_fits : Bool) → ℕ
 due clear long t p = pick clear (pick long 11 (pick t (pick p 0 13) 12)) 17
+
+-- the number of a reason: of a refusal its own, and 17 where the other form cannot say it
+abbrev pub unconverted_number : Unconverted → ℕ
+unconverted_number (Refused r) = refusal_number r
+unconverted_number Unsayable = 17
+
+abbrev pub number_due : Result (Unit {0}) Unconverted → ℕ
+number_due (Ok u) = 0
+number_due (Err e) = unconverted_number e
 
 abbrev pub zeros : Bytes → Bytes
 zeros b = replicate (length b) 0

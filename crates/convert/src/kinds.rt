@@ -4,7 +4,7 @@ ghost use Rattle.field.specs.Bytes.{same};
 ghost use Rattle.field.specs.Row.{read};
 ghost use Rattle.field.specs.Put.{Wrote};
 ghost use Rattle.convert.specs.Kinds.{passed, all_passed};
-ghost use Rattle.convert.specs.Flat.{is_entered, NoSign, kind_number, kind_marks, all_clear, fields_in};
+ghost use Rattle.convert.specs.Flat.{NoSign, kind_number, kind_marks, all_clear, fields_in};
 ghost use Rattle.convert.specs.declared.kinds.Markup.TheVariants as M;
 
 use field::reader::{behind, body, tag_at};
@@ -59,33 +59,18 @@ fn pass(m: Markup, c: u8) -> Markup
     }
 }
 
-fn is_entered(m: Markup) -> bool
-    ensures { result ≡ is_entered m }
-{
-    match m {
-        Markup::Outside => false,
-        Markup::Entered => true,
-        Markup::Opening => false,
-        Markup::Spaced => false,
-        Markup::Closing => false,
-        Markup::Crossed => false,
-    }
-}
-
 // Where the next `<` or `>` is, from a place on, or else the end.
 fn sign_at(s: &[u8], at: usize) -> usize
     requires { at ≤ length s.now }
     ensures { NoSign s.now at result }
 {
-    let mut i = at;
-    while i < s.len() {
+    for i in at..s.len() {
         let c = s[i];
         if (c == b'<') | (c == b'>') {
             return i;
         }
-        i += 1;
     }
-    i
+    s.len()
 }
 
 // Of a run without signs the last byte alone counts, unless it stands right behind a `<`. So a run is passed at once.
@@ -95,33 +80,34 @@ pub fn pass_all(m: Markup, s: &[u8]) -> Markup
     let mut q = m;
     let mut i: usize = 0;
     while i < s.len() {
-        if is_entered(q) {
-            q = pass(q, s[i]);
-            i += 1;
-        } else {
-            let e = sign_at(s, i);
-            if i < e {
-                q = pass(q, s[e - 1]);
-                i = e;
-            } else {
+        match q {
+            Markup::Entered => {
                 q = pass(q, s[i]);
                 i += 1;
+            }
+            _ => {
+                let e = sign_at(s, i);
+                if i < e {
+                    q = pass(q, s[e - 1]);
+                    i = e;
+                } else {
+                    q = pass(q, s[i]);
+                    i += 1;
+                }
             }
         }
     }
     q
 }
 
+#[tactic(auto, unfolding(crate::specs::Flat::kind_number))]
 pub fn kind_of(m: Markup) -> u8
     ensures { result ≡ kind_number m }
 {
     match m {
         Markup::Outside => 2,
-        Markup::Entered => 0,
-        Markup::Opening => 0,
         Markup::Spaced => 1,
-        Markup::Closing => 0,
-        Markup::Crossed => 0,
+        Markup::Entered | Markup::Opening | Markup::Closing | Markup::Crossed => 0,
     }
 }
 
@@ -131,14 +117,11 @@ pub fn count_fields(s: &[u8]) -> usize
 {
     let mut t = s;
     let mut n: usize = 0;
-    loop {
-        if tag_at(t) == 256 {
-            return n;
-        }
+    while tag_at(t) != 256 {
         n += 1;
-        let r = behind(t);
-        t = r;
+        t = behind(t);
     }
+    n
 }
 
 // The place behind the kinds, and whether every gap is of one.
@@ -155,17 +138,14 @@ pub fn put_kinds(out: &mut [u8], at: usize, s: &[u8], gaps: usize) -> Marked
 {
     let mut t = s;
     let mut m = Markup::Outside;
-    let mut i: usize = 0;
     let mut a = at;
     let mut clear = true;
-    while i < gaps {
+    for _ in 0..gaps {
         m = pass_all(m, body(t));
         let k = kind_of(m);
         a = put_byte(out, a, k);
-        clear = clear & (1 <= k);
-        let r = behind(t);
-        t = r;
-        i += 1;
+        clear &= 1 <= k;
+        t = behind(t);
     }
     Marked { place: a, clear }
 }
@@ -176,15 +156,12 @@ pub fn are_kinds(kinds: &[u8], s: &[u8]) -> bool
 {
     let mut t = s;
     let mut m = Markup::Outside;
-    let mut i: usize = 0;
-    while i < kinds.len() {
+    for k in kinds {
         m = pass_all(m, body(t));
-        if kinds[i] != kind_of(m) {
+        if *k != kind_of(m) {
             return false;
         }
-        let r = behind(t);
-        t = r;
-        i += 1;
+        t = behind(t);
     }
     true
 }

@@ -4,23 +4,23 @@
 
 ghost use Rattle.std.specs.Prelude.{◌≡◌, leb, length, true, not};
 ghost use Rattle.field.specs.Row.{read};
-ghost use Rattle.page.specs.declared.Verdict.TheVariants.{Fine};
+ghost use Rattle.page.specs.Refusal.{Fine};
 ghost use Rattle.outs.specs.Held.{read_out};
 ghost use Rattle.outs.specs.PageOut.{check_page_out};
 ghost use Rattle.outs.specs.Templates.{check_templates};
 ghost use Rattle.outs.specs.Renumber.{renumbered, has_wide};
 ghost use Rattle.outs.specs.declared.Kind.TheVariants as K;
 ghost use Rattle.convert.specs.Convert.{refused, raised, lowered, written, upgraded, downgraded};
-ghost use Rattle.convert.specs.Flat.{due, zeros, Finishes, Converts};
+ghost use Rattle.convert.specs.Flat.{due, zeros, unconverted_number, number_due, Finishes, Converts};
 
 mod kinds;
 mod templates;
 
 pub use kinds::Markup;
+use outs::Kind;
 use outs::page_out::check_page_out;
 use outs::templates::check_templates;
-use outs::{Kind, number_of};
-use page::Verdict;
+use page::Refusal;
 use renumber::renumber;
 use templates::rewrite_templates;
 
@@ -35,63 +35,83 @@ pub struct Converted {
 fn clear(b: &mut [u8])
     ensures { b.new ≡ zeros b.old }
 {
-    let mut i: usize = 0;
-    while i < b.len() {
-        b[i] = 0;
-        i += 1;
+    b.fill(0);
+}
+
+// Why nothing is converted: what is refused of the inputs or of what is written, or that the other form cannot say it.
+#[derive(Clone, Copy)]
+pub enum Unconverted {
+    Refused(Refusal),
+    Unsayable,
+}
+
+impl From<Unconverted> for u32 {
+    ghost from_gives = { λ e n. n ≡ unconverted_number e };
+
+    fn from(e: Unconverted) -> u32 {
+        match e {
+            Unconverted::Refused(r) => u32::from(r),
+            Unconverted::Unsayable => 17,
+        }
     }
 }
 
 // A refusal: its number, and zeros.
-fn refuse(n: u32, templates: &mut [u8], page: &mut [u8]) -> Converted
-    ensures { Converts (refused n) templates.old page.old result templates.new page.new }
+fn refuse(e: Unconverted, templates: &mut [u8], page: &mut [u8]) -> Converted
+    ensures { Converts (refused (unconverted_number e)) templates.old page.old result templates.new page.new }
 {
     clear(templates);
     clear(page);
     Converted {
-        number: n,
+        number: u32::from(e),
         templates_bytes: 0,
         page_bytes: 0,
     }
 }
 
 // 17, then 11, 12 and 13.
-fn number_due(
+fn check_due(
     clear: bool,
     long: bool,
     t: usize,
     templates_room: usize,
     p: usize,
     page_room: usize,
-) -> u32
-    ensures { result ≡ due clear long (leb t templates_room) (leb p page_room) }
+) -> Result<(), Unconverted>
+    ensures { number_due result ≡ due clear long (leb t templates_room) (leb p page_room) }
 {
     if !clear {
-        return 17;
+        return Err(Unconverted::Unsayable);
     }
     if long {
-        return 11;
+        return Err(Unconverted::Refused(Refusal::OutputTooLong));
     }
     if templates_room < t {
-        return 12;
+        return Err(Unconverted::Refused(Refusal::TemplatesTooSmall));
     }
     if page_room < p {
-        return 13;
+        return Err(Unconverted::Refused(Refusal::PageTooSmall));
     }
-    0
+    Ok(())
 }
 
 // What was written stays, or is cleared.
-fn finish(n: u32, t: usize, p: usize, templates: &mut [u8], page: &mut [u8]) -> Converted
-    ensures { Finishes n t p templates.old page.old result templates.new page.new }
+fn finish(
+    checked: Result<(), Unconverted>,
+    t: usize,
+    p: usize,
+    templates: &mut [u8],
+    page: &mut [u8],
+) -> Converted
+    ensures { Finishes (number_due checked) t p templates.old page.old result templates.new page.new }
 {
-    if n != 0 {
-        return refuse(n, templates, page);
-    }
-    Converted {
-        number: 0,
-        templates_bytes: t,
-        page_bytes: p,
+    match checked {
+        Ok(()) => Converted {
+            number: 0,
+            templates_bytes: t,
+            page_bytes: p,
+        },
+        Err(e) => refuse(e, templates, page),
     }
 }
 
@@ -107,7 +127,7 @@ fn upgrade_checked<'a>(
 {
     let x = rewrite_templates(templates, Kind::Old, templates_out);
     let y = renumber(page, 2, 4, page_out);
-    let n = number_due(
+    let checked = check_due(
         x.clear,
         x.long | y.long,
         x.place,
@@ -115,7 +135,7 @@ fn upgrade_checked<'a>(
         y.bytes,
         page_out.len(),
     );
-    finish(n, x.place, y.bytes, templates_out, page_out)
+    finish(checked, x.place, y.bytes, templates_out, page_out)
 }
 
 fn downgrade_checked<'a>(
@@ -129,7 +149,7 @@ fn downgrade_checked<'a>(
 {
     let x = rewrite_templates(templates, Kind::New, templates_out);
     let y = renumber(page, 4, 2, page_out);
-    let n = number_due(
+    let checked = check_due(
         x.clear & !y.wide,
         x.long | y.long,
         x.place,
@@ -137,7 +157,7 @@ fn downgrade_checked<'a>(
         y.bytes,
         page_out.len(),
     );
-    finish(n, x.place, y.bytes, templates_out, page_out)
+    finish(checked, x.place, y.bytes, templates_out, page_out)
 }
 
 // Up: 84s from 80s, numbers of four bytes from two.
@@ -150,10 +170,10 @@ pub fn upgrade<'a>(
     ensures { Converts (upgraded templates.now page.now (length templates_out.old) (length page_out.old)) templates_out.old page_out.old result templates_out.new page_out.new }
 {
     match check_templates(templates, Kind::Old) {
-        Verdict::Refused(r) => refuse(number_of(r), templates_out, page_out),
-        Verdict::Fine => match check_page_out(page, 2) {
-            Verdict::Refused(r) => refuse(number_of(r), templates_out, page_out),
-            Verdict::Fine => upgrade_checked(templates, page, templates_out, page_out),
+        Err(r) => refuse(Unconverted::Refused(r), templates_out, page_out),
+        Ok(()) => match check_page_out(page, 2) {
+            Err(r) => refuse(Unconverted::Refused(r), templates_out, page_out),
+            Ok(()) => upgrade_checked(templates, page, templates_out, page_out),
         },
     }
 }
@@ -168,10 +188,10 @@ pub fn downgrade<'a>(
     ensures { Converts (downgraded templates.now page.now (length templates_out.old) (length page_out.old)) templates_out.old page_out.old result templates_out.new page_out.new }
 {
     match check_templates(templates, Kind::New) {
-        Verdict::Refused(r) => refuse(number_of(r), templates_out, page_out),
-        Verdict::Fine => match check_page_out(page, 4) {
-            Verdict::Refused(r) => refuse(number_of(r), templates_out, page_out),
-            Verdict::Fine => downgrade_checked(templates, page, templates_out, page_out),
+        Err(r) => refuse(Unconverted::Refused(r), templates_out, page_out),
+        Ok(()) => match check_page_out(page, 4) {
+            Err(r) => refuse(Unconverted::Refused(r), templates_out, page_out),
+            Ok(()) => downgrade_checked(templates, page, templates_out, page_out),
         },
     }
 }

@@ -1,7 +1,7 @@
 // Templates from 80s into 84s and back, record by record. The strings are copied as they stand; only what is before them is made anew.
 ghost use Rattle.std.specs.Prelude.{◌≡◌, ◌+◌, ◌<◌, ◌^◌, length};
 ghost use Rattle.field.specs.Row.{read, field_bytes};
-ghost use Rattle.page.specs.declared.Verdict.TheVariants.{Fine};
+ghost use Rattle.page.specs.Refusal.{Fine};
 ghost use Rattle.outs.specs.Templates.{check_templates};
 ghost use Rattle.outs.specs.declared.Kind.TheVariants as K;
 ghost use Rattle.convert.specs.Flat.{gaps_in, BodyFits, rewritten_tag, rewritten_body, RewritesBody, Rewrites};
@@ -25,11 +25,7 @@ pub struct Rewritten {
 fn count_gaps(s: &[u8]) -> usize
     ensures { result ≡ gaps_in s.now }
 {
-    let n = count_fields(s);
-    if n == 0 {
-        return 0;
-    }
-    n - 1
+    count_fields(s).saturating_sub(1)
 }
 
 // An 84 from the body of an 80.
@@ -92,19 +88,16 @@ pub fn rewrite_templates(s: &[u8], from: Kind, out: &mut [u8]) -> Rewritten
     let mut n: usize = 0;
     let mut long = false;
     let mut clear = true;
-    loop {
-        if tag_at(t) == 256 {
-            return Rewritten {
-                place: n,
-                long,
-                clear,
-            };
-        }
+    while tag_at(t) != 256 {
         let w = rewrite_record(from, out, n, body(t));
         n = w.place;
-        long = long | w.long;
-        clear = clear & w.clear;
-        let r = behind(t);
-        t = r;
+        long |= w.long;
+        clear &= w.clear;
+        t = behind(t);
+    }
+    Rewritten {
+        place: n,
+        long,
+        clear,
     }
 }

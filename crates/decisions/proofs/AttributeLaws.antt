@@ -1,6 +1,7 @@
 -- What the code of src/attribute.rt learns at each return and at each turn of a loop. Main statements: `first_40`, `second_40`,
 -- `listed_here`, `listed_on`, `named_40`, `named_42`, `named_other`, `never_named`, `never_boolean`, `value_is_51` and the like.
 -- Assumes nothing.
+use Rattle.std.specs.Prelude.{Some, None}
 use mathlib.Core.Path.{◌≡◌, refl, sym, ap, ◌∙◌}
 use mathlib.Core.Bool.{Bool, true, false, ◌||◌}
 use Prim.Native.Nat.{ℕ}
@@ -107,18 +108,18 @@ module _ (s : Bytes) (t : ℕ) (e : t ≡ tag_of_front s) (n : t ≡ 0x40 → �
 
 -- ---- values
 
-pub held_contained : (c : Contained) → value_of (contained_value c) ≡ Held.Field 0x52
+pub held_contained : (c : Contained) → value_of (contained_value c) ≡ Some Held.Container
 unfolding value_of contained_value
 held_contained nothing_contained = refl
 held_contained (contained e) = refl
 
-pub held_element : (r : Row) → value_of (P.tag_value (element_in r)) ≡ Held.Field 0x30
+pub held_element : (r : Row) → value_of (P.tag_value (element_in r)) ≡ Some Held.Element
 unfolding value_of element_in
 held_element end = refl
 held_element (loose b) = refl
 held_element (field t f i r) = refl
 
-pub held_fragment : (r : Row) → value_of (P.tag_value (fragment_in r)) ≡ Held.Field 0x31
+pub held_fragment : (r : Row) → value_of (P.tag_value (fragment_in r)) ≡ Some Held.Fragment
 unfolding value_of
 held_fragment r = ap (λ (x : P.Tag). value_of (P.tag_value x)) (fragment_is r)
 
@@ -126,19 +127,19 @@ module _ (a : Bytes) {s : Bytes} (q : s ≡ behind_of a) (t : ℕ) (e : t ≡ ta
   value_here : value_in (read a) ≡ value_behind (read s)
   value_here = value_in_at a ∙ ap (λ (x : Bytes). value_behind (read x)) (sym q)
 
-  pub value_is_51 : t ≡ 0x51 → Held.Field 0x51 ≡ value_of (value_in (read a))
+  pub value_is_51 : t ≡ 0x51 → Some Held.String ≡ value_of (value_in (read a))
   unfolding value_of
   value_is_51 k = sym (ap value_of (value_here ∙ value_51 s t e k))
 
-  pub value_is_52 : t ≡ 0x52 → Held.Field 0x52 ≡ value_of (value_in (read a))
+  pub value_is_52 : t ≡ 0x52 → Some Held.Container ≡ value_of (value_in (read a))
   value_is_52 k = sym (ap value_of (value_here ∙ value_52 s t e k) ∙ held_contained _)
 
-  pub value_is_30 : t ≡ 0x30 → Held.Field 0x30 ≡ value_of (value_in (read a))
+  pub value_is_30 : t ≡ 0x30 → Some Held.Element ≡ value_of (value_in (read a))
   value_is_30 k = sym (ap value_of (value_here ∙ value_30 s t e k) ∙ held_element _)
 
-  pub value_is_31 : t ≡ 0x31 → Held.Field 0x31 ≡ value_of (value_in (read a))
+  pub value_is_31 : t ≡ 0x31 → Some Held.Fragment ≡ value_of (value_in (read a))
   value_is_31 k = sym (ap value_of (value_here ∙ value_31 s t e k) ∙ held_fragment _)
 
-  pub value_is_absent : (t ≡ 0x51 → ⊥) → (t ≡ 0x52 → ⊥) → (t ≡ 0x30 → ⊥) → (t ≡ 0x31 → ⊥) → Held.Absent ≡ value_of (value_in (read a))
+  pub value_is_absent : (t ≡ 0x51 → ⊥) → (t ≡ 0x52 → ⊥) → (t ≡ 0x30 → ⊥) → (t ≡ 0x31 → ⊥) → None ≡ value_of (value_in (read a))
   unfolding value_of
   value_is_absent b c d f = sym (ap value_of (value_here ∙ value_other s t e b c d f))

@@ -2,19 +2,20 @@
 -- `text_blank`, `text_other`, `no_text`, `tag_counted`, `tag_passed`, `tag_other`, `no_tag`, `becomes_none`, `becomes_one`, `becomes_two`.
 -- Assumes nothing.
 use mathlib.Core.Path.{◌≡◌, refl, sym, ap, ◌∙◌, subst}
-use mathlib.Core.Bool.{Bool, true, false, ◌||◌, not}
-use Prim.Native.Nat.{ℕ, ◌+◌, ◌≤◌}
+use mathlib.Core.Bool.{Bool, true, false, ◌||◌, not, true≢false}
+use Prim.Native.Nat.{ℕ, ◌+◌, ◌-◌, ◌≤◌}
 use native.Mathlib.Omega.{arith}
 use native.Mathlib.Nat.{zero-add}
 use mathlib.Core.List.{[], ◌∷◌}
-use lib.Dec.{T, leb, ltb, ltb→lt}
-use lib.ListN.{length}
+use lib.Dec.{T, leb}
+use lib.ListN.{length, drop}
+use lib.Seq.{drop-drop, drop-append_seam}
 use borrow.Author.Tests.{le-leb, ne_eqb}
 use Rattle.field.specs.Bytes.{Bytes, pick, null?}
 use Rattle.field.specs.Row.{read, Ended}
 use Rattle.field.specs.Front.{tag_of_front, body_of, behind_of}
-use Rattle.field.proofs.RowLaws.{read_nil}
-use Rattle.field.proofs.FrontLaws.{sizes}
+use Rattle.field.proofs.RowLaws.{read_nil, next_parts}
+use Rattle.field.proofs.FrontLaws.{sizes, next_at}
 use Rattle.text.specs.Text.{jsx_text_to_str}
 use Rattle.page.specs.Check.{is_child}
 use Rattle.page.specs.Page as P
@@ -22,6 +23,7 @@ use Rattle.page.specs.Tree.{Contained, nothing_contained, contained, contained_c
 use Rattle.spec.specs.Merge as M
 use Rattle.spec.specs.Merge.{text_count, serializable_count, becomes_template}
 use Rattle.spec.specs.Transform.{child, children}
+use Rattle.decisions.specs.declared.children.Count.TheVariants.{Zero, One, More}
 use Rattle.decisions.specs.At.{opts, serializable, is_none, few, some_text, becomes, FirstChild}
 use Rattle.decisions.proofs.Series.{tested, children_none, children_60, children_52, children_30, children_31, children_61, children_other}
 use Rattle.decisions.proofs.Laws.{child_element, child_fragment, element_serializable}
@@ -29,14 +31,21 @@ use Rattle.decisions.proofs.Laws.{child_element, child_fragment, element_seriali
 -- ---- the first child: t is what is left of the series s
 
 module _ (s t : Bytes) (inv : children_in (read t) ≡ children_in (read s)) where
-  -- at a child's tag, a numeral g
-  pub first_child : (n : ℕ) → n ≡ tag_of_front t → (g : ℕ) → n ≡ g → T (ltb g 256) → T (is_child g) → FirstChild s t
-  first_child n e g k l i =
-      record {
-        same_children = inv;
-        none_left = λ z. absurd (omega (arith, sizes t n e (λ y. omega (arith, ltb→lt g 256 l))));
-        child_first = λ z. subst (λ (x : ℕ). T (is_child x)) (sym k ∙ e) i;
-      }
+  module _ (n : ℕ) (e : n ≡ tag_of_front t) where
+    pub first_child : is_child n ≡ true → (n ≡ 256 → ⊥) → FirstChild s t
+    first_child i h =
+        record {
+          same_children = inv;
+          none_left = λ z. absurd (omega (arith, sizes t n e h, z));
+          child_first = λ z. subst T (sym (sym (ap is_child e) ∙ i)) tt;
+        }
+
+    -- a field that is no child
+    pub passed_by : is_child n ≡ false → (n ≡ 256 → ⊥) → {r : Bytes} → r ≡ behind_of t → children_in (read r) ≡ children_in (read s)
+    passed_by i h q =
+        let other : (g : ℕ) → is_child g ≡ true → n ≡ g → ⊥ = λ g y k. true≢false (sym y ∙ (ap is_child (sym k) ∙ i)) in
+        ap (λ (x : Bytes). children_in (read x)) q
+        ∙ sym (children_other t n e h (other 0x60 refl) (other 0x52 refl) (other 0x30 refl) (other 0x31 refl) (other 0x61 refl)) ∙ inv
 
   pub no_child : Ended (read t) → FirstChild s []
   no_child i =
@@ -45,6 +54,28 @@ module _ (s t : Bytes) (inv : children_in (read t) ≡ children_in (read s)) whe
         none_left = λ z. sym inv ∙ children_none (read t) i;
         child_first = λ z. absurd (z refl);
       }
+
+-- a child's tag is not the one that stands for none
+pub child_tag : {n : ℕ} → is_child n ≡ true → n ≡ 256 → ⊥
+child_tag i k = true≢false (sym i ∙ ap is_child k)
+
+-- ---- where it stands
+
+pub stands_all : (s : Bytes) → s ≡ drop (length s - length s) s
+stands_all s = ap (λ (n : ℕ). drop n s) (let q : 0 ≡ length s - length s = omega arith in q)
+
+-- what lies behind the field in front of t stands at the end of the whole, where t does
+behind_drop : (t : Bytes) (u : ℕ) → u ≡ tag_of_front t → (u ≡ 256 → ⊥) → drop (3 + length (body_of t)) t ≡ behind_of t
+behind_drop t u e h =
+    let p = next_parts t u (body_of t) (behind_of t) (next_at t u e h) in
+    ap (λ (k : ℕ). drop k t) (let f = u ∷ p.high ∷ p.low ∷ body_of t in let q : 3 + length (body_of t) ≡ length f = omega arith in q) ∙ ap (drop (length (u ∷ p.high ∷ p.low ∷ body_of t))) p.all_is ∙ drop-append_seam (u ∷ p.high ∷ p.low ∷ body_of t) (behind_of t)
+
+pub stands_behind : (s t : Bytes) → length t ≤ length s → t ≡ drop (length s - length t) s → (u : ℕ) → u ≡ tag_of_front t → (u ≡ 256 → ⊥) → {r : Bytes} → r ≡ behind_of t →
+    r ≡ drop (length s - length r) s
+stands_behind s t l p u e h {r} q =
+    let n = length s - length t in
+    let k = 3 + length (body_of t) in
+    q ∙ sym (behind_drop t u e h) ∙ ap (drop k) p ∙ drop-drop k n s ∙ ap (λ (j : ℕ). drop j s) (omega (arith, l, sizes t u e h, ap length q))
 
 -- ---- none, one, or more
 
@@ -61,7 +92,7 @@ module _ (s : Bytes) (Q : P.Children → Type 0) where
       tested t 0x61 (λ k. subst Q (sym (children_61 s t refl k)) (j _)) λ e.
       absurd (subst T (let z : is_child t ≡ false = rw (ne_eqb t 0x60 a, ne_eqb t 0x52 b, ne_eqb t 0x30 c, ne_eqb t 0x31 d, ne_eqb t 0x61 e) in z) i)
 
-few_contained : (c : Contained) (cs : P.Children) → few (contained_child c cs) ≡ pick (is_none cs) 1 2
+few_contained : (c : Contained) (cs : P.Children) → few (contained_child c cs) ≡ pick (is_none cs) One More
 unfolding few contained_child
 few_contained nothing_contained cs = refl
 few_contained (contained e) cs = refl
@@ -71,10 +102,10 @@ unfolding is_none contained_child
 some_contained nothing_contained cs = refl
 some_contained (contained e) cs = refl
 
-few_here : (s : Bytes) → T (is_child (tag_of_front s)) → few (children_in (read s)) ≡ pick (is_none (children_in (read (behind_of s)))) 1 2
+few_here : (s : Bytes) → T (is_child (tag_of_front s)) → few (children_in (read s)) ≡ pick (is_none (children_in (read (behind_of s)))) One More
 unfolding few
 few_here s i =
-    at_child s (λ (cs : P.Children). few cs ≡ pick (is_none (children_in (read (behind_of s)))) 1 2) (λ b. refl) (λ c. few_contained c _) (λ t. refl) (λ x. refl) i
+    at_child s (λ (cs : P.Children). few cs ≡ pick (is_none (children_in (read (behind_of s)))) One More) (λ b. refl) (λ c. few_contained c _) (λ t. refl) (λ x. refl) i
 
 some_here : (s : Bytes) → T (is_child (tag_of_front s)) → is_none (children_in (read s)) ≡ false
 unfolding is_none
@@ -82,20 +113,20 @@ some_here s i = at_child s (λ (cs : P.Children). is_none cs ≡ false) (λ b. r
 
 -- a is the series from its first child on, and b what lies behind that child, from its first child on
 module _ (s a : Bytes) (f : FirstChild s a) where
-  pub few_none : length a ≡ 0 → 0 ≡ few (children_in (read s))
+  pub few_none : length a ≡ 0 → Zero ≡ few (children_in (read s))
   unfolding few
   few_none h = sym (ap few (f.none_left h))
 
   module _ (n : length a ≡ 0 → ⊥) {r : Bytes} (q : r ≡ behind_of a) (b : Bytes) (g : FirstChild r b) where
-    few_by : few (children_in (read s)) ≡ pick (is_none (children_in (read r))) 1 2
-    few_by = ap few (sym f.same_children) ∙ (few_here a (f.child_first n) ∙ ap (λ (x : Bytes). pick (is_none (children_in (read x))) 1 2) (sym q))
+    few_by : few (children_in (read s)) ≡ pick (is_none (children_in (read r))) One More
+    few_by = ap few (sym f.same_children) ∙ (few_here a (f.child_first n) ∙ ap (λ (x : Bytes). pick (is_none (children_in (read x))) One More) (sym q))
 
-    pub few_one : length b ≡ 0 → 1 ≡ few (children_in (read s))
+    pub few_one : length b ≡ 0 → One ≡ few (children_in (read s))
     unfolding is_none
-    few_one h = sym (few_by ∙ ap (λ (cs : P.Children). pick (is_none cs) 1 2) (g.none_left h))
+    few_one h = sym (few_by ∙ ap (λ (cs : P.Children). pick (is_none cs) One More) (g.none_left h))
 
-    pub few_more : (length b ≡ 0 → ⊥) → 2 ≡ few (children_in (read s))
-    few_more h = sym (few_by ∙ ap (λ (x : Bool). pick x 1 2) (ap is_none (sym g.same_children) ∙ some_here b (g.child_first h)))
+    pub few_more : (length b ≡ 0 → ⊥) → More ≡ few (children_in (read s))
+    few_more h = sym (few_by ∙ ap (λ (x : Bool). pick x One More) (ap is_none (sym g.same_children) ∙ some_here b (g.child_first h)))
 
 -- ---- whether the text rule leaves something of a text
 

@@ -1,6 +1,7 @@
 -- Laws of names held as a series or as an index. Main statements: `listed_plain`, `listed_indexed`; below them `among_append`,
 -- `among_hashed`, `hash_low`, `among_gathered`; for the loops of the code `hash_on`, `small_on`, `chain_here`, `chain_on` and the like.
 -- Assumes nothing.
+use Rattle.names.specs.Table.{read_as}
 use mathlib.Core.Path.{◌≡◌, refl, sym, ap, ◌∙◌}
 use mathlib.Core.Bool.{Bool, true, false, ◌&&◌, ◌||◌, false≢true, and-false, or-false, or_assoc}
 use Prim.Native.Nat.{ℕ, zero, suc, ◌+◌, ◌-◌, ◌*◌, ◌%◌, ◌≤◌, ◌<◌}
@@ -16,7 +17,7 @@ use Rattle.field.specs.Row.{next_of, read}
 use Rattle.field.specs.Front.{body_of}
 use Rattle.field.proofs.FrontLaws.{read_empty}
 use Rattle.names.specs.Names.{small_letter, small_letters, normalize_dom_attr_name}
-use Rattle.names.proofs.CompareLaws.{same_eq, same_refl, capital_below, capital_above, capital_within}
+use Rattle.names.proofs.CompareLaws.{same_eq, same_refl}
 use Rattle.names.proofs.ListLaws.{refuted}
 use Rattle.names.proofs.NamespacedLaws.{namespaced_xlink, namespaced_other}
 use Rattle.page.specs.Tree.{texts_in}
@@ -97,6 +98,15 @@ module _ (x : ℕ) (s : Bytes) (i : ℕ) where
   unfolding hash_from small_letters
   small_end h = rw (drop_of_length-le s h)
 
+  -- either, as the code reads it
+  pub read_on : (small : Bool) {c : ℕ} → c ≡ pick small (small_letter (get_or s i 0)) (get_or s i 0) → i < length s → hash_from ((x * 31 + c) % 1024) (read_as small (drop (i + 1) s)) ≡ hash_from x (read_as small (drop i s))
+  read_on true e h = small_on e h
+  read_on false e h = ap (λ (c : ℕ). hash_from ((x * 31 + c) % 1024) (drop (i + 1) s)) e ∙ hash_on h
+
+  pub read_end : (small : Bool) → length s ≤ i → hash_from x (read_as small (drop i s)) ≡ x
+  read_end true h = small_end h
+  read_end false h = hash_end h
+
 -- ---- a chain, entry by entry: k - 1 is the entry, f entries may be left
 
 chain_front : (f k : ℕ) (b : Bytes) → 0 < f → (k ≡ 0 → ⊥) → chain f b k ≡ name_at b (k - 1) ∷ chain (f - 1) b (two_at b (2044 + 4 * k))
@@ -135,19 +145,7 @@ module _ (n b : Bytes) (f k : ℕ) where
     pub chain_on : v ≡ false → {p : ℕ} → p ≡ two_at b (2044 + 4 * k) → among n (chain (f - 1) b p) ≡ among n (chain f b k)
     chain_on h {p} u = sym (in_front ∙ rw (h, u))
 
--- ---- one letter, and two bytes
-
-pub small_below : (c : ℕ) → c < 65 → c ≡ small_letter c
-unfolding small_letter
-small_below c h = rw (capital_below c h)
-
-pub small_above : (c : ℕ) → 90 < c → c ≡ small_letter c
-unfolding small_letter
-small_above c h = rw (capital_above c h)
-
-pub small_within : (c : ℕ) → 65 ≤ c → c ≤ 90 → c + 32 ≡ small_letter c
-unfolding small_letter
-small_within c h k = rw (capital_within c h k)
+-- ---- two bytes
 
 module _ (b : Bytes) (i : ℕ) where
   pub two_within : i + 1 < length b → get_or b i 0 * 256 + get_or b (i + 1) 0 ≡ two_at b i

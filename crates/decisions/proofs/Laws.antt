@@ -2,6 +2,7 @@
 -- Main statements: `child_element`, `raw_element`, `child_fragment`, `raw_fragment`, `element_serializable`, `becomes_is`; for what
 -- `value_at` answers `string_held`, `container_held`, `element_held`, `fragment_held`, `absent_held`; for what `shape_at` answers
 -- `string_contained` and the like. The readings by the tag in front are in `Series`. Assumes nothing.
+use Rattle.std.specs.Prelude.{Option, Some, None}
 use mathlib.Core.Path.{◌≡◌, refl, sym, ap, ap₂, ◌∙◌, subst}
 use mathlib.Core.Bool.{Bool, false, ◌&&◌, ◌||◌, not, and_assoc}
 use Prim.Native.Nat.{ℕ, ◌+◌}
@@ -116,15 +117,15 @@ module _ (k p : Bytes) where
 -- ---- an attribute's value, by what the code's enum says of it
 
 -- the value that lies behind a name, with its bytes
-pub data ValueAt (s : Bytes) : P.Value → Value → Type 0 where
-  is_absent : ValueAt s P.absent Held.Absent
-  is_string : ValueAt s (P.string_value (body_of s)) (Held.Field 0x51)
-  is_container : ValueAt s (contained_value (contained_in (read (body_of s)))) (Held.Field 0x52)
-  is_element : ValueAt s (P.tag_value (element_in (read (body_of s)))) (Held.Field 0x30)
-  is_fragment : ValueAt s (P.tag_value (fragment_in (read (body_of s)))) (Held.Field 0x31)
+pub data ValueAt (s : Bytes) : P.Value → Option Value → Type 0 where
+  is_absent : ValueAt s P.absent None
+  is_string : ValueAt s (P.string_value (body_of s)) (Some Held.String)
+  is_container : ValueAt s (contained_value (contained_in (read (body_of s)))) (Some Held.Container)
+  is_element : ValueAt s (P.tag_value (element_in (read (body_of s)))) (Some Held.Element)
+  is_fragment : ValueAt s (P.tag_value (fragment_in (read (body_of s)))) (Some Held.Fragment)
 
 module _ (s : Bytes) where
-  valued : (v : P.Value) {w : Value} → value_of v ≡ w → ValueAt s v w → value_behind (read s) ≡ v → ValueAt s (value_behind (read s)) (value_of (value_behind (read s)))
+  valued : (v : P.Value) {w : Option Value} → value_of v ≡ w → ValueAt s v w → value_behind (read s) ≡ v → ValueAt s (value_behind (read s)) (value_of (value_behind (read s)))
   valued v {w} e x q = subst (λ (y : P.Value). ValueAt s y (value_of y)) (sym q) (subst (ValueAt s v) (sym e) x)
 
   pub value_view : ValueAt s (value_behind (read s)) (value_of (value_behind (read s)))
@@ -137,39 +138,39 @@ module _ (s : Bytes) where
       tested t 0x31 (λ k. valued _ (held_fragment _) is_fragment (value_31 s t refl k)) λ d.
       valued P.absent refl is_absent (value_other s t refl a b c d)
 
-string_view : {s : Bytes} {v : P.Value} → ValueAt s v (Held.Field 0x51) → v ≡ P.string_value (body_of s)
+string_view : {s : Bytes} {v : P.Value} → ValueAt s v (Some Held.String) → v ≡ P.string_value (body_of s)
 string_view is_string = refl
 
-container_view : {s : Bytes} {v : P.Value} → ValueAt s v (Held.Field 0x52) → v ≡ contained_value (contained_in (read (body_of s)))
+container_view : {s : Bytes} {v : P.Value} → ValueAt s v (Some Held.Container) → v ≡ contained_value (contained_in (read (body_of s)))
 container_view is_container = refl
 
-element_view : {s : Bytes} {v : P.Value} → ValueAt s v (Held.Field 0x30) → v ≡ P.tag_value (element_in (read (body_of s)))
+element_view : {s : Bytes} {v : P.Value} → ValueAt s v (Some Held.Element) → v ≡ P.tag_value (element_in (read (body_of s)))
 element_view is_element = refl
 
-fragment_view : {s : Bytes} {v : P.Value} → ValueAt s v (Held.Field 0x31) → v ≡ P.tag_value (fragment_in (read (body_of s)))
+fragment_view : {s : Bytes} {v : P.Value} → ValueAt s v (Some Held.Fragment) → v ≡ P.tag_value (fragment_in (read (body_of s)))
 fragment_view is_fragment = refl
 
-absent_view : {s : Bytes} {v : P.Value} → ValueAt s v Held.Absent → v ≡ P.absent
+absent_view : {s : Bytes} {v : P.Value} → ValueAt s v None → v ≡ P.absent
 absent_view is_absent = refl
 
 -- a is the body of a 50
 module _ (a : Bytes) where
-  viewed : {w : Value} → value_of (value_in (read a)) ≡ w → ValueAt (behind_of a) (value_in (read a)) w
+  viewed : {w : Option Value} → value_of (value_in (read a)) ≡ w → ValueAt (behind_of a) (value_in (read a)) w
   viewed {w} h = subst (ValueAt (behind_of a) (value_in (read a))) h (subst (λ (v : P.Value). ValueAt (behind_of a) v (value_of v)) (sym (value_in_at a)) (value_view (behind_of a)))
 
-  pub string_held : value_of (value_in (read a)) ≡ Held.Field 0x51 → value_in (read a) ≡ P.string_value (body_of (behind_of a))
+  pub string_held : value_of (value_in (read a)) ≡ Some Held.String → value_in (read a) ≡ P.string_value (body_of (behind_of a))
   string_held h = string_view (viewed h)
 
-  pub container_held : value_of (value_in (read a)) ≡ Held.Field 0x52 → value_in (read a) ≡ contained_value (contained_in (read (body_of (behind_of a))))
+  pub container_held : value_of (value_in (read a)) ≡ Some Held.Container → value_in (read a) ≡ contained_value (contained_in (read (body_of (behind_of a))))
   container_held h = container_view (viewed h)
 
-  pub element_held : value_of (value_in (read a)) ≡ Held.Field 0x30 → value_in (read a) ≡ P.tag_value (element_in (read (body_of (behind_of a))))
+  pub element_held : value_of (value_in (read a)) ≡ Some Held.Element → value_in (read a) ≡ P.tag_value (element_in (read (body_of (behind_of a))))
   element_held h = element_view (viewed h)
 
-  pub fragment_held : value_of (value_in (read a)) ≡ Held.Field 0x31 → value_in (read a) ≡ P.tag_value (fragment_in (read (body_of (behind_of a))))
+  pub fragment_held : value_of (value_in (read a)) ≡ Some Held.Fragment → value_in (read a) ≡ P.tag_value (fragment_in (read (body_of (behind_of a))))
   fragment_held h = fragment_view (viewed h)
 
-  pub absent_held : value_of (value_in (read a)) ≡ Held.Absent → value_in (read a) ≡ P.absent
+  pub absent_held : value_of (value_in (read a)) ≡ None → value_in (read a) ≡ P.absent
   absent_held h = absent_view (viewed h)
 
 -- ---- what a container holds, by its shape

@@ -1,56 +1,58 @@
--- Names as they are read for HTML, byte by byte. Main statements: `left_starts`, `left_goes_on`, `left_ends`. Assumes nothing.
+-- Names as they are read for HTML, letter by letter. Main statements: `left_starts`, `reads_sign`, `reads_letter`, `ident_whole`, `pair_other`,
+-- `attr_40`; what the loops over attributes keep. Assumes nothing.
+use Rattle.std.specs.Prelude.{Option, Some, None}
+use Rattle.std.specs.Option.{is_some}
+use Rattle.decisions.specs.declared.repeats.Spelled.{Spelled}
+use Rattle.std.specs.Char.{is_ascii_uppercase}
 use mathlib.Core.Path.{◌≡◌, refl, sym, ap, subst, ◌∙◌}
 use mathlib.Core.Bool.{Bool, true, false, ◌&&◌, ◌||◌, not, and-false, and-eq-true_iff, or-false, false≢true}
 use Prim.Native.Nat.{ℕ, suc, ◌+◌, ◌-◌, ◌*◌, ◌/◌, ◌%◌, ◌≤◌, ◌<◌, ◌^◌}
 use native.Mathlib.Nat.{mod-lt, mul-le-mul_right}
 use native.Mathlib.Numerals.{add-one}
 use native.Mathlib.Omega.{arith}
-use mathlib.Core.List.{List, [], ◌∷◌, ◌++◌, append-nil, cons≢nil}
+use mathlib.Core.List.{List, [], ◌∷◌, ◌++◌, append-nil, append_assoc, cons≢nil}
 use lib.Dec.{eqb, leb, ltb}
 use lib.ListN.{length, length-set, length-replicate, replicate, get_or, set, take, drop, drop_of_length-le, take-append-drop}
 use lib.Seq.{drop-cons, take-suc, take-nil, get_or-set_same, get_or-set_other}
-use borrow.Author.Tests.{eqb-true, eqb-false, leb-true, leb-false, ltb-true, ltb-false, eq-eqb, ne_eqb, lt-ltb, le-ltb, le-leb, lt-leb}
+use borrow.Author.Tests.{eqb-true, eqb-false, leb-true, ltb-true, ltb-false, eq-eqb, ne_eqb, lt-ltb, le-ltb}
 use Rattle.field.specs.Bytes.{Bytes, ascii, pick, same, among}
 use Rattle.field.specs.Row.{read}
 use Rattle.field.specs.Front.{tag_of_front, body_of, behind_of}
 use Rattle.field.proofs.FrontLaws.{behind_less}
-use Rattle.names.specs.Names.{AttrName, ident, namespaced, get_attr_name, normalize_dom_attr_name, renamed, hyphenated_names, kept_names, parted, capital, small_letter, small_letters}
-use Rattle.names.specs.Table.{spelled_letter, spelled, by_mark}
-use Rattle.names.proofs.MarkLaws.{spelled_none, mark_other}
+use Rattle.names.specs.Names.{ident, namespaced, get_attr_name, normalize_dom_attr_name, renamed, hyphenated_names, kept_names, parted, capital, small_letter, small_letters}
+use Rattle.names.specs.Table.{signed, spelled_letter, spelled}
+use Rattle.names.proofs.MarkLaws.{spelled_none}
 use Rattle.names.proofs.NormalizeLaws.{over_lists, normalize_ind}
 use Rattle.names.proofs.CompareLaws.{same_eq, capital_above, length_small, letter_at}
-use Rattle.decisions.specs.Repeats.{joined, signed_letter, left_in, left, code, tail, code_at, past, html_name, html_names, repeats, hash_on, name_hash, low_half, high_half, key_by, last_letter, letter_key, Keyed, untold, told, noted_at}
+use Rattle.decisions.specs.Repeats.{joined, sign_read, behind, left_in, Front, html_name, html_names, repeats, hash_on, name_hash, low_half, high_half, key_by, last_letter, letter_key, Keyed, untold, told, noted_at}
 use Rattle.names.proofs.NamespacedLaws.{namespaced_xlink, namespaced_other}
 use Rattle.page.specs.Tree.{texts_in, first_in, second_in, attributes_in, attr_name_in}
 use Rattle.decisions.proofs.IndexLaws.{among_append}
 use Rattle.decisions.proofs.Series.{attr_name_40, attr_name_42, attr_name_other, attributes_50, attributes_53, attributes_other}
-use Rattle.decisions.specs.declared.repeats.Place.{Place}
 
--- ---- is_signed
+-- ---- the sign before a letter
 
-pub unsigned_name : (s c : ℕ) (b : Bool) → s ≡ 0 → false ≡ signed_letter s c b
-unfolding signed_letter
-unsigned_name s c b e = rw (eq-eqb s 0 e)
+is_capital : (c : ℕ) → is_ascii_uppercase c ≡ capital c
+is_capital c = refl
 
-pub sign_read : (s c : ℕ) (b : Bool) → b ≡ true → false ≡ signed_letter s c b
-unfolding signed_letter
-sign_read s c b e = rw e (sym (and-false (not (eqb s 0))))
+pub sign_next : (s : Option ℕ) (c : ℕ) {b : Bool} → b ≡ false → is_ascii_uppercase c ≡ true → s ≡ sign_read s c b
+unfolding sign_read
+sign_next s c e h = sym (rw (e, sym (is_capital c) ∙ h))
 
-pub sign_by_letter : (s c : ℕ) (b : Bool) → (s ≡ 0 → ⊥) → b ≡ false → capital c ≡ signed_letter s c b
-unfolding signed_letter
-sign_by_letter s c b n e = rw (e, ne_eqb s 0 n)
+pub sign_none : (s : Option ℕ) (c : ℕ) (b : Bool) → is_ascii_uppercase c ≡ false → None ≡ sign_read s c b
+unfolding sign_read
+sign_none s c b h = sym (rw (sym (is_capital c) ∙ h) (rw (and-false (not b))))
 
--- ---- what is left
+pub sign_passed : (s : Option ℕ) (c : ℕ) {b : Bool} → b ≡ true → None ≡ sign_read s c b
+unfolding sign_read
+sign_passed s c e = sym (rw e)
 
-joined_letter : (s c : ℕ) (p : Bytes) (two : Bool) (q : Bytes) → joined s (c ∷ p) two q ≡ spelled_letter s c ++ joined s p two q
-unfolding joined spelled spelled_letter
-joined_letter s c p true q = on (capital c) (eqb s 0)
-  where
-    on : (a b : Bool) → (pick a (pick b ((c + 32) ∷ []) (s ∷ (c + 32) ∷ [])) (c ∷ []) ++ spelled s p) ++ (58 ∷ q) ≡ pick a (pick b ((c + 32) ∷ []) (s ∷ (c + 32) ∷ [])) (c ∷ []) ++ (spelled s p ++ (58 ∷ q))
-    on true true = refl
-    on true false = refl
-    on false b = refl
-joined_letter s c p false q = refl
+-- ---- what is left of a name
+
+joined_letter : (s : Option ℕ) (c : ℕ) (p : Bytes) (q : Option Bytes) → joined s (c ∷ p) q ≡ spelled_letter s c ++ joined s p q
+unfolding joined spelled
+joined_letter s c p None = refl
+joined_letter s c p (Some q) = append_assoc (spelled_letter s c) (spelled s p) (58 ∷ q)
 
 -- a capital's small letter is no capital
 small_capital : (c : ℕ) → capital c ≡ true → small_letter (c + 32) ≡ c + 32
@@ -58,237 +60,81 @@ unfolding small_letter
 small_capital c e = rw (capital_above (c + 32) (let h = (and-eq-true_iff (leb 65 c) (leb c 90)).0 e in let k : 65 ≤ c = leb-true 65 c h.0 in omega (arith, k)))
 
 -- from its start on it is the name in small letters
-pub left_starts : (s : ℕ) (p : Bytes) (two : Bool) (q : Bytes) → left_in s p two q false ≡ small_letters (joined s p two q)
-unfolding left_in joined spelled spelled_letter small_letters small_letter signed_letter
-left_starts s [] true q = refl
-left_starts s [] false q = refl
-left_starts s (c ∷ p) two q = rw (joined_letter s c p two q) (on (eqb s 0) (capital c) refl)
+pub left_starts : (s : Option ℕ) (p : Bytes) (q : Option Bytes) → left_in s p q false ≡ small_letters (joined s p q)
+unfolding left_in joined spelled spelled_letter small_letters small_letter sign_read
+left_starts s [] None = refl
+left_starts s [] (Some q) = refl
+left_starts s (c ∷ p) q = rw (joined_letter s c p q, left_starts s p q) (on s (capital c) refl)
   where
-    on : (z k : Bool) → capital c ≡ k → pick (not z && k) (small_letter s ∷ small_letter c ∷ small_letters (joined s p two q)) (small_letter c ∷ small_letters (joined s p two q)) ≡ small_letters (pick k (pick z ((c + 32) ∷ []) (s ∷ (c + 32) ∷ [])) (c ∷ []) ++ joined s p two q)
-    on true true e = rw (e, small_capital c e)
-    on false true e = rw (e, small_capital c e)
-    on true false e = refl
-    on false false e = refl
+    on : (t : Option ℕ) (k : Bool) → capital c ≡ k → behind (pick k t None) (pick k (c + 32) c ∷ small_letters (joined s p q)) ≡ small_letters (pick k (signed t (c + 32)) (c ∷ []) ++ joined s p q)
+    on None true e = rw (small_capital c e)
+    on (Some g) true e = rw (small_capital c e)
+    on None false e = rw e
+    on (Some g) false e = rw e
 
--- ---- one byte further
-
-abbrev place : ℕ → Bool → Place
-place i b = record { letter = i; behind_sign = b }
-
-module _ (s : ℕ) (p : Bytes) (two : Bool) (q : Bytes) where
-  -- from a letter on
-  left_within : (i : ℕ) → i ≤ length p → left s p two q (place i false) ≡ small_letters (joined s (drop i p) two q)
-  unfolding left
-  left_within i h = rw (le-leb i (length p) h) (left_starts s (drop i p) two q)
-
-  left_behind_sign : (i : ℕ) → i < length p → left s p two q (place i true) ≡ small_letter (get_or p i 0) ∷ small_letters (joined s (drop (suc i) p) two q)
-  unfolding left left_in
-  left_behind_sign i h = rw (le-leb i (length p) (omega (arith, h)), drop-cons p i 0 h, ← sign_read s (get_or p i 0) true refl)
-
-  left_letter : (i : ℕ) (b : Bool) → i < length p → left s p two q (place i b) ≡ pick (signed_letter s (get_or p i 0) b) (small_letter s ∷ small_letter (get_or p i 0) ∷ small_letters (joined s (drop (suc i) p) two q)) (small_letter (get_or p i 0) ∷ small_letters (joined s (drop (suc i) p) two q))
-  unfolding left left_in
-  left_letter i b h = rw (le-leb i (length p) (omega (arith, h)), drop-cons p i 0 h)
-
-  left_colon : (b : Bool) → left s p two q (place (length p) b) ≡ pick two (58 ∷ small_letters q) []
-  unfolding left left_in
-  left_colon b = rw (le-leb (length p) (length p) (omega arith), drop_of_length-le p {i = length p} (omega arith))
-
-  left_second : (i : ℕ) (b : Bool) → length p < i → left s p two q (place i b) ≡ pick two (small_letters (drop (i - (length p + 1)) q)) []
-  unfolding left
-  left_second i b h = rw (lt-leb i (length p) h)
-
-  -- what code_at answers, by place
-  code_letter : (i : ℕ) (b : Bool) → i < length p → code_at s p two q (place i b) ≡ code (left s p two q (place i b))
-  unfolding code_at code
-  code_letter i b h = rw (lt-ltb i (length p) h, left_letter i b h) (on (signed_letter s (get_or p i 0) b))
-    where
-      on : (a : Bool) → suc (pick a (small_letter s) (small_letter (get_or p i 0))) ≡ code (pick a (small_letter s ∷ small_letter (get_or p i 0) ∷ small_letters (joined s (drop (suc i) p) two q)) (small_letter (get_or p i 0) ∷ small_letters (joined s (drop (suc i) p) two q)))
-      on true = refl
-      on false = refl
-
-  code_colon : (b : Bool) → code_at s p two q (place (length p) b) ≡ code (left s p two q (place (length p) b))
-  unfolding code_at code
-  code_colon b = rw (le-ltb (length p) (length p) (omega arith), eq-eqb (length p) (length p) refl, left_colon b) (on two)
-    where
-      on : (a : Bool) → pick {A = ℕ} a 59 0 ≡ code (pick a (58 ∷ small_letters q) [])
-      on true = refl
-      on false = refl
-
-  code_second : (i : ℕ) (b : Bool) → length p < i → code_at s p two q (place i b) ≡ code (left s p two q (place i b))
-  unfolding code_at code small_letters
-  code_second i b h = rw (le-ltb i (length p) (omega (arith, h)), ne_eqb i (length p) (λ e. omega (arith, h, e)), left_second i b h) (on two (leb (i - length p) (length q)) refl)
-    where
-      minus_one : i - length p - 1 ≡ i - (length p + 1)
-      minus_one = omega (arith, h)
-
-      on : (a l : Bool) → leb (i - length p) (length q) ≡ l → pick a (pick {A = ℕ} l (suc (small_letter (get_or q (i - length p - 1) 0))) 0) 0 ≡ code (pick a (small_letters (drop (i - (length p + 1)) q)) [])
-      on true true e = let k : i - length p ≤ length q = leb-true (i - length p) (length q) e in rw (minus_one, drop-cons q (i - (length p + 1)) 0 (omega (arith, h, k)))
-      on true false e = let k : length q < i - length p = leb-false (i - length p) (length q) e in rw (drop_of_length-le q {i = i - (length p + 1)} (omega (arith, h, k)))
-      on false l e = refl
-
-  pub code_is : (i : ℕ) (b : Bool) → code_at s p two q (place i b) ≡ code (left s p two q (place i b))
-  code_is i b = on (ltb i (length p)) refl (eqb i (length p)) refl
-    where
-      on : (a : Bool) → ltb i (length p) ≡ a → (e : Bool) → eqb i (length p) ≡ e → code_at s p two q (place i b) ≡ code (left s p two q (place i b))
-      on true x e y = code_letter i b (ltb-true i (length p) x)
-      on false x true y = rw (eqb-true i (length p) y) (code_colon b)
-      on false x false y = code_second i b (omega (arith, ltb-false i (length p) x, eqb-false i (length p) y))
-
-  -- what next_place leads to, by place
-  rest_letter : (i : ℕ) (b : Bool) → i < length p → left s p two q (past s p (place i b)) ≡ tail (left s p two q (place i b))
-  unfolding past tail
-  rest_letter i b h = rw (lt-ltb i (length p) h, left_letter i b h) (on (signed_letter s (get_or p i 0) b))
-    where
-      on : (a : Bool) → left s p two q (pick a (place i true) (place (i + 1) false)) ≡ tail (pick a (small_letter s ∷ small_letter (get_or p i 0) ∷ small_letters (joined s (drop (suc i) p) two q)) (small_letter (get_or p i 0) ∷ small_letters (joined s (drop (suc i) p) two q)))
-      on true = left_behind_sign i h
-      on false = rw add-one (left_within (suc i) (omega (arith, h)))
-
-  rest_colon : (b : Bool) → left s p two q (past s p (place (length p) b)) ≡ tail (left s p two q (place (length p) b))
-  unfolding past tail
-  rest_colon b = rw (le-ltb (length p) (length p) (omega arith), left_second (length p + 1) false (omega arith), left_colon b, nothing) (on two)
-    where
-      nothing : length p + 1 - (length p + 1) ≡ 0
-      nothing = omega arith
-
-      on : (a : Bool) → pick a (small_letters (drop 0 q)) [] ≡ tail (pick a (58 ∷ small_letters q) [])
-      on true = refl
-      on false = refl
-
-  rest_second : (i : ℕ) (b : Bool) → length p < i → left s p two q (past s p (place i b)) ≡ tail (left s p two q (place i b))
-  unfolding past tail small_letters
-  rest_second i b h = rw (le-ltb i (length p) (omega (arith, h)), left_second (i + 1) false (omega (arith, h)), left_second i b h, minus_next) (on two (ltb (i - (length p + 1)) (length q)) refl)
-    where
-      minus_next : i + 1 - (length p + 1) ≡ suc (i - (length p + 1))
-      minus_next = omega (arith, h)
-
-      on : (a l : Bool) → ltb (i - (length p + 1)) (length q) ≡ l → pick a (small_letters (drop (suc (i - (length p + 1))) q)) [] ≡ tail (pick a (small_letters (drop (i - (length p + 1)) q)) [])
-      on true true e = rw (drop-cons q (i - (length p + 1)) 0 (ltb-true (i - (length p + 1)) (length q) e))
-      on true false e = let k : length q ≤ i - (length p + 1) = ltb-false (i - (length p + 1)) (length q) e in rw (drop_of_length-le q {i = i - (length p + 1)} k, drop_of_length-le q {i = suc (i - (length p + 1))} (omega (arith, k)))
-      on false l e = refl
-
-  pub rest_is : (i : ℕ) (b : Bool) → left s p two q (past s p (place i b)) ≡ tail (left s p two q (place i b))
-  rest_is i b = on (ltb i (length p)) refl (eqb i (length p)) refl
-    where
-      on : (a : Bool) → ltb i (length p) ≡ a → (e : Bool) → eqb i (length p) ≡ e → left s p two q (past s p (place i b)) ≡ tail (left s p two q (place i b))
-      on true x e y = rest_letter i b (ltb-true i (length p) x)
-      on false x true y = rw (eqb-true i (length p) y) (rest_colon b)
-      on false x false y = rest_second i b (omega (arith, ltb-false i (length p) x, eqb-false i (length p) y))
-
--- ---- code_at and next_place, a return at a time
-
-not_is : (b : Bool) {c : Bool} → not b ≡ c → b ≡ not c
-not_is true e = ap not e
-not_is false e = ap not e
-
-module _ (s : ℕ) (p : Bytes) (two : Bool) (q : Bytes) (x : Place) where
-  pub code_sign : {r v : ℕ} {a : Bool} → x.letter < length p → a ≡ signed_letter s (get_or p x.letter 0) x.behind_sign → a ≡ true → r ≡ small_letter s → v ≡ r → v + 1 ≡ code_at s p two q x
-  unfolding code_at
-  code_sign h e t r v = rw (v, r, lt-ltb x.letter (length p) h, ← e, t, add-one)
-
-  pub code_plain : {r v : ℕ} {a : Bool} → x.letter < length p → a ≡ signed_letter s (get_or p x.letter 0) x.behind_sign → a ≡ false → r ≡ small_letter (get_or p x.letter 0) → v ≡ r → v + 1 ≡ code_at s p two q x
-  unfolding code_at
-  code_plain h e t r v = rw (v, r, lt-ltb x.letter (length p) h, ← e, t, add-one)
-
-  pub code_alone : length p ≤ x.letter → not two ≡ true → ◌≡◌ {A = ℕ} 0 (code_at s p two q x)
-  unfolding code_at
-  code_alone h t = rw (le-ltb x.letter (length p) h, not_is two t)
-
-  pub code_at_colon : length p ≤ x.letter → not two ≡ false → x.letter - length p ≡ 0 → ◌≡◌ {A = ℕ} 59 (code_at s p two q x)
-  unfolding code_at
-  code_at_colon h t e = rw (le-ltb x.letter (length p) h, not_is two t, eq-eqb x.letter (length p) (omega (arith, h, e)))
-
-  pub code_behind_colon : {r v : ℕ} → length p ≤ x.letter → not two ≡ false → (x.letter - length p ≡ 0 → ⊥) → x.letter - length p ≤ length q → r ≡ small_letter (get_or q (x.letter - length p - 1) 0) → v ≡ r → v + 1 ≡ code_at s p two q x
-  unfolding code_at
-  code_behind_colon h t n k r v = rw (v, r, le-ltb x.letter (length p) h, not_is two t, ne_eqb x.letter (length p) (λ e. n (omega (arith, e))), le-leb (x.letter - length p) (length q) k, add-one)
-
-  pub code_out : length p ≤ x.letter → not two ≡ false → (x.letter - length p ≡ 0 → ⊥) → length q < x.letter - length p → ◌≡◌ {A = ℕ} 0 (code_at s p two q x)
-  unfolding code_at
-  code_out h t n k = rw (le-ltb x.letter (length p) h, not_is two t, ne_eqb x.letter (length p) (λ e. n (omega (arith, e))), lt-leb (x.letter - length p) (length q) k)
-
-module _ (s : ℕ) (p : Bytes) (x : Place) where
-  pub past_sign : {a : Bool} → x.letter < length p → a ≡ signed_letter s (get_or p x.letter 0) x.behind_sign → a ≡ true → place x.letter true ≡ past s p x
-  unfolding past
-  past_sign h e t = rw (lt-ltb x.letter (length p) h, ← e, t)
-
-  pub past_letter : {a : Bool} → x.letter < length p → a ≡ signed_letter s (get_or p x.letter 0) x.behind_sign → a ≡ false → place (x.letter + 1) false ≡ past s p x
-  unfolding past
-  past_letter h e t = rw (lt-ltb x.letter (length p) h, ← e, t)
-
-  pub past_other : length p ≤ x.letter → place (x.letter + 1) false ≡ past s p x
-  unfolding past
-  past_other h = rw (le-ltb x.letter (length p) h)
-
--- ---- two names, one byte further
-
-pub codes_differ : (a b : Bytes) → (code a ≡ code b → ⊥) → same a b ≡ false
-unfolding code same
-codes_differ [] [] h = absurd (h refl)
-codes_differ [] (d ∷ b) h = refl
-codes_differ (c ∷ a) [] h = refl
-codes_differ (c ∷ a) (d ∷ b) h = rw (ne_eqb c d (λ e. h (ap suc e)))
-
-pub codes_end : (a b : Bytes) → code a ≡ code b → code a ≡ 0 → same a b ≡ true
-unfolding code same
-codes_end [] [] h e = refl
-codes_end [] (d ∷ b) h e = absurd (omega (arith, h))
-codes_end (c ∷ a) b h e = absurd (omega (arith, e))
-
-pub codes_on : (a b : Bytes) → code a ≡ code b → (code a ≡ 0 → ⊥) → same (tail a) (tail b) ≡ same a b
-unfolding code same tail
-codes_on [] b h n = absurd (n refl)
-codes_on (c ∷ a) [] h n = absurd (omega (arith, h))
-codes_on (c ∷ a) (d ∷ b) h n = rw (eq-eqb c d (omega (arith, h)))
-
-pub tail_less : (a : Bytes) → (code a ≡ 0 → ⊥) → length (tail a) < length a
-unfolding code tail
-tail_less [] n = absurd (n refl)
-tail_less (c ∷ a) n = omega arith
-
--- ---- same_joined: two names at two places
-
-module _ (s : ℕ) (p : Bytes) (two : Bool) (q : Bytes) (s' : ℕ) (p' : Bytes) (two' : Bool) (q' : Bytes) where
-  pub joined_starts : same (left s p two q (place 0 false)) (left s' p' two' q' (place 0 false)) ≡ same (small_letters (joined s p two q)) (small_letters (joined s' p' two' q'))
-  joined_starts = rw (left_within s p two q 0 (omega arith), left_within s' p' two' q' 0 (omega arith))
-
-  module _ (x y : Place) {a b : ℕ} (e : a ≡ code_at s p two q x) (f : b ≡ code_at s' p' two' q' y) where
-    one : a ≡ code (left s p two q x)
-    one = e ∙ code_is s p two q x.letter x.behind_sign
-
-    other : b ≡ code (left s' p' two' q' y)
-    other = f ∙ code_is s' p' two' q' y.letter y.behind_sign
-
-    pub joined_off : (a ≡ b → ⊥) → same (left s p two q x) (left s' p' two' q' y) ≡ false
-    joined_off n = codes_differ _ _ (λ h. n (one ∙ h ∙ sym other))
-
-    pub joined_end : a ≡ b → a ≡ 0 → same (left s p two q x) (left s' p' two' q' y) ≡ true
-    joined_end h z = codes_end _ _ (sym one ∙ h ∙ other) (sym one ∙ z)
-
-    pub joined_on : a ≡ b → (a ≡ 0 → ⊥) → {x' y' : Place} → x' ≡ past s p x → y' ≡ past s' p' y → same (left s p two q x') (left s' p' two' q' y') ≡ same (left s p two q x) (left s' p' two' q' y)
-    joined_on h n u v = rw (u, v, rest_is s p two q x.letter x.behind_sign, rest_is s' p' two' q' y.letter y.behind_sign) (codes_on _ _ (sym one ∙ h ∙ other) (λ z. n (one ∙ z)))
-
--- it grows shorter, and a place stays within the name
-module _ (s : ℕ) (p : Bytes) (two : Bool) (q : Bytes) (x : Place) {a : ℕ} (e : a ≡ code_at s p two q x) (n : a ≡ 0 → ⊥) where
-  pub joined_less : {x' : Place} → x' ≡ past s p x → length (left s p two q x') < length (left s p two q x)
-  joined_less u = rw (u, rest_is s p two q x.letter x.behind_sign) (tail_less _ (λ z. n (e ∙ code_is s p two q x.letter x.behind_sign ∙ z)))
-
-  pub place_within : x.letter ≤ length p + length q
-  unfolding code_at
-  place_within = on (ltb x.letter (length p)) refl two refl (eqb x.letter (length p)) refl (leb (x.letter - length p) (length q)) refl
-    where
-      on : (b : Bool) → ltb x.letter (length p) ≡ b → (t : Bool) → two ≡ t → (d : Bool) → eqb x.letter (length p) ≡ d → (l : Bool) → leb (x.letter - length p) (length q) ≡ l → x.letter ≤ length p + length q
-      on true f t g d h l i = omega (arith, ltb-true x.letter (length p) f)
-      on false f false g d h l i = absurd (n (e ∙ rw (f, g)))
-      on false f true g true h l i = omega (arith, eqb-true x.letter (length p) h)
-      on false f true g false h true i = omega (arith, leb-true (x.letter - length p) (length q) i)
-      on false f true g false h false i = absurd (n (e ∙ rw (f, g, h, i)))
-
-pub past_bound : (s : ℕ) (p : Bytes) (x x' : Place) {m : ℕ} → x' ≡ past s p x → x.letter ≤ m → x'.letter ≤ m + 1
-unfolding past
-past_bound s p x x' {m} u h = rw u (on (ltb x.letter (length p) && signed_letter s (get_or p x.letter 0) x.behind_sign))
+pub left_plain : (p : Bytes) → left_in None p None false ≡ small_letters p
+unfolding left_in small_letters sign_read
+left_plain [] = refl
+left_plain (c ∷ p) = rw (left_plain p) (on (capital c))
   where
-    on : (a : Bool) → (pick a (place x.letter true) (place (x.letter + 1) false)).letter ≤ m + 1
-    on true = omega (arith, h)
-    on false = omega (arith, h)
+    on : (k : Bool) → behind (pick k None None) (small_letter c ∷ small_letters p) ≡ small_letter c ∷ small_letters p
+    on true = refl
+    on false = refl
+
+-- ---- one letter further
+
+module _ (s : Option ℕ) (q : Option Bytes) (b : Bool) where
+  pub reads_none : (p : Bytes) → length p ≡ 0 → q ≡ None → left_in s p q b ≡ []
+  unfolding left_in
+  reads_none [] h e = rw e
+  reads_none (c ∷ p) h e = absurd (omega (arith, h))
+
+  pub reads_colon : (p : Bytes) → length p ≡ 0 → {w : Bytes} → q ≡ Some w → {l : Bytes} → l ≡ small_letters w → left_in s p q b ≡ 58 ∷ l
+  unfolding left_in
+  reads_colon [] h e k = rw (e, k)
+  reads_colon (c ∷ p) h e k = absurd (omega (arith, h))
+
+  pub reads_sign : (p : Bytes) → (length p ≡ 0 → ⊥) → {g : ℕ} → sign_read s (get_or p 0 0) b ≡ Some g → left_in s p q b ≡ small_letter g ∷ left_in s p q true
+  unfolding left_in sign_read
+  reads_sign [] h e = absurd (h refl)
+  reads_sign (c ∷ p) h e = ap (λ (t : Option ℕ). behind t (small_letter c ∷ left_in s p q false)) e
+
+  pub reads_letter : (p : Bytes) → (length p ≡ 0 → ⊥) → sign_read s (get_or p 0 0) b ≡ None → left_in s p q b ≡ small_letter (get_or p 0 0) ∷ left_in s (drop 1 p) q false
+  unfolding left_in
+  reads_letter [] h e = absurd (h refl)
+  reads_letter (c ∷ p) h e = ap (λ (t : Option ℕ). behind t (small_letter c ∷ left_in s p q false)) e
+
+-- ---- two names, one letter further
+
+pub same_on : {x y : Bytes} {a b : ℕ} {l m : Bytes} → x ≡ a ∷ l → y ≡ b ∷ m → a ≡ b → same l m ≡ same x y
+unfolding same
+same_on {a = a} {b = b} e f h = rw (e, f, eq-eqb a b h)
+
+pub same_off : {x y : Bytes} {a b : ℕ} {l m : Bytes} → x ≡ a ∷ l → y ≡ b ∷ m → (a ≡ b → ⊥) → same x y ≡ false
+unfolding same
+same_off {a = a} {b = b} e f h = rw (e, f, ne_eqb a b h)
+
+pub same_longer : {x y : Bytes} {a : ℕ} {l : Bytes} → x ≡ a ∷ l → y ≡ [] → same x y ≡ false
+unfolding same
+same_longer e f = rw (e, f)
+
+pub same_end : {x : Bytes} (y : Bytes) (r : Option (ℕ × Spelled)) → x ≡ [] → Front y r → (b : Bool) → is_some r ≡ not b → b ≡ same x y
+unfolding same
+same_end y None e f true h = sym (rw (e, f))
+same_end y None e f false h = absurd (false≢true h)
+same_end y (Some r) e f true h = absurd (false≢true (sym h))
+same_end y (Some r) e f false h = sym (rw (e, f.0))
+
+pub hash_goes : {x : Bytes} {a : ℕ} {l : Bytes} (h : ℕ) → x ≡ a ∷ l → a < 256 → hash_on ((h * 37 + a + 1) % 4294967296) l ≡ hash_on h x
+unfolding hash_on
+hash_goes {a = a} {l} h e k = sym (rw e (ap (λ (n : ℕ). hash_on (n % 4294967296) l) (let z : h * 37 + suc a % 65536 ≡ h * 37 + a + 1 = omega (arith, k) in z)))
+
+pub hash_ends : {x : Bytes} (h : ℕ) → x ≡ [] → h ≡ hash_on h x
+unfolding hash_on
+hash_ends h e = rw e
+
+pub shorter : {x : Bytes} {a : ℕ} {l : Bytes} → x ≡ a ∷ l → length l < length x
+shorter e = rw e (omega arith)
 
 -- ---- which name is read
 
@@ -301,67 +147,19 @@ small_twice (c ∷ w) = rw (small_twice w) (ap (λ (d : ℕ). d ∷ small_letter
     on true e = rw e (small_capital c e)
     on false e = rw e (rw e)
 
-pub joined_none : (w q : Bytes) → small_letters (joined 0 w false q) ≡ small_letters w
-unfolding joined
-joined_none w q = rw (spelled_none w) (small_twice w)
-
--- an identifier, by what its mark says
-module _ (n : Bytes) (m : ℕ) (e : by_mark m n ≡ normalize_dom_attr_name n) where
-  pub ident_as : (w q : Bytes) → by_mark m n ≡ w → small_letters (joined 0 w false q) ≡ html_name (ident n)
+-- an identifier, by how it is spelled
+module _ (n : Bytes) where
+  pub ident_whole : {w : Bytes} → w ≡ normalize_dom_attr_name n → {l : Bytes} → l ≡ small_letters w → l ≡ html_name (ident n)
   unfolding html_name get_attr_name
-  ident_as w q h = joined_none w q ∙ ap small_letters (sym h ∙ e)
+  ident_whole h e = e ∙ ap small_letters h
 
-  pub ident_spelled : (q : Bytes) → by_mark m n ≡ spelled m n → small_letters (joined m n false q) ≡ html_name (ident n)
+  pub ident_signed : (s : ℕ) → spelled (Some s) n ≡ normalize_dom_attr_name n → left_in (Some s) n None false ≡ html_name (ident n)
   unfolding html_name get_attr_name joined
-  ident_spelled q h = ap small_letters (sym h ∙ e)
+  ident_signed s h = left_starts (Some s) n None ∙ ap small_letters h
 
-  -- a mark at a time: x is what is compared with it
-  module _ (x : Bytes) {r : Bool} where
-    pub ident_stays : m ≡ 61 → r ≡ same x (small_letters (joined 0 n false [])) → r ≡ same x (html_name (ident n))
-    unfolding by_mark
-    ident_stays k h = h ∙ ap (same x) (ident_as n [] (rw k))
-
-    pub ident_class : m ≡ 99 → r ≡ same x (small_letters (joined 0 (ascii "class") false [])) → r ≡ same x (html_name (ident n))
-    unfolding by_mark
-    ident_class k h = h ∙ ap (same x) (ident_as (ascii "class") [] (rw k))
-
-    pub ident_for : m ≡ 102 → r ≡ same x (small_letters (joined 0 (ascii "for") false [])) → r ≡ same x (html_name (ident n))
-    unfolding by_mark
-    ident_for k h = h ∙ ap (same x) (ident_as (ascii "for") [] (rw k))
-
-    pub ident_href : m ≡ 104 → r ≡ same x (small_letters (joined 0 (ascii "href") false [])) → r ≡ same x (html_name (ident n))
-    unfolding by_mark
-    ident_href k h = h ∙ ap (same x) (ident_as (ascii "href") [] (rw k))
-
-    pub ident_panose : m ≡ 112 → r ≡ same x (small_letters (joined 0 (ascii "panose-1") false [])) → r ≡ same x (html_name (ident n))
-    unfolding by_mark
-    ident_panose k h = h ∙ ap (same x) (ident_as (ascii "panose-1") [] (rw k))
-
-    pub ident_other : (m ≡ 61 → ⊥) → (m ≡ 99 → ⊥) → (m ≡ 102 → ⊥) → (m ≡ 104 → ⊥) → (m ≡ 112 → ⊥) → r ≡ same x (small_letters (joined m n false [])) → r ≡ same x (html_name (ident n))
-    ident_other a b c d e' h = h ∙ ap (same x) (ident_spelled [] (mark_other m n a b c d e'))
-
-    pub as_stays : m ≡ 61 → r ≡ same (small_letters (joined 0 n false [])) x → r ≡ same (html_name (ident n)) x
-    unfolding by_mark
-    as_stays k h = h ∙ ap (λ (y : Bytes). same y x) (ident_as n [] (rw k))
-
-    pub as_class : m ≡ 99 → r ≡ same (small_letters (joined 0 (ascii "class") false [])) x → r ≡ same (html_name (ident n)) x
-    unfolding by_mark
-    as_class k h = h ∙ ap (λ (y : Bytes). same y x) (ident_as (ascii "class") [] (rw k))
-
-    pub as_for : m ≡ 102 → r ≡ same (small_letters (joined 0 (ascii "for") false [])) x → r ≡ same (html_name (ident n)) x
-    unfolding by_mark
-    as_for k h = h ∙ ap (λ (y : Bytes). same y x) (ident_as (ascii "for") [] (rw k))
-
-    pub as_href : m ≡ 104 → r ≡ same (small_letters (joined 0 (ascii "href") false [])) x → r ≡ same (html_name (ident n)) x
-    unfolding by_mark
-    as_href k h = h ∙ ap (λ (y : Bytes). same y x) (ident_as (ascii "href") [] (rw k))
-
-    pub as_panose : m ≡ 112 → r ≡ same (small_letters (joined 0 (ascii "panose-1") false [])) x → r ≡ same (html_name (ident n)) x
-    unfolding by_mark
-    as_panose k h = h ∙ ap (λ (y : Bytes). same y x) (ident_as (ascii "panose-1") [] (rw k))
-
-    pub as_other : (m ≡ 61 → ⊥) → (m ≡ 99 → ⊥) → (m ≡ 102 → ⊥) → (m ≡ 104 → ⊥) → (m ≡ 112 → ⊥) → r ≡ same (small_letters (joined m n false [])) x → r ≡ same (html_name (ident n)) x
-    as_other a b c d e' h = h ∙ ap (λ (y : Bytes). same y x) (ident_spelled [] (mark_other m n a b c d e'))
+  pub ident_small : spelled None n ≡ normalize_dom_attr_name n → {l : Bytes} → l ≡ small_letters n → l ≡ html_name (ident n)
+  unfolding html_name get_attr_name
+  ident_small h e = e ∙ sym (small_twice n) ∙ ap small_letters (sym (spelled_none n) ∙ h)
 
 -- ns:name
 small_behind : (a b : Bytes) → small_letters (a ++ (58 ∷ b)) ≡ small_letters (a ++ (58 ∷ small_letters b))
@@ -369,39 +167,25 @@ unfolding small_letters
 small_behind [] b = rw (small_twice b)
 small_behind (c ∷ a) b = ap (λ (y : Bytes). small_letter c ∷ y) (small_behind a b)
 
-module _ (ns n : Bytes) (q : Bytes) where
-  pub pair_xlink : (same ns (ascii "xlink") && same n (ascii "href")) ≡ true → small_letters (joined 0 (ascii "href") false q) ≡ html_name (namespaced ns n)
+module _ (ns n : Bytes) {v : Bool} (e : v ≡ (same ns (ascii "xlink") && same n (ascii "href"))) where
+  pub pair_xlink : v ≡ true → {l : Bytes} → l ≡ small_letters (ascii "href") → l ≡ html_name (namespaced ns n)
   unfolding html_name get_attr_name
-  pair_xlink h = joined_none (ascii "href") q ∙ ap small_letters (sym (namespaced_xlink ns n h))
+  pair_xlink t h = h ∙ ap small_letters (sym (namespaced_xlink ns n (sym e ∙ t)))
 
-  pub pair_other : (same ns (ascii "xlink") && same n (ascii "href")) ≡ false → small_letters (joined 0 ns true n) ≡ html_name (namespaced ns n)
+  pub pair_other : v ≡ false → left_in None ns (Some n) false ≡ html_name (namespaced ns n)
   unfolding html_name get_attr_name joined
-  pair_other h = rw (spelled_none ns, namespaced_other ns n h) (small_behind (small_letters ns) n)
+  pair_other t = left_starts None ns (Some n) ∙ rw (spelled_none ns, namespaced_other ns n (sym e ∙ t)) (small_behind (small_letters ns) n)
 
--- the same, where a name is compared with x
-module _ (ns n x : Bytes) {v r : Bool} (e : v ≡ (same ns (ascii "xlink") && same n (ascii "href"))) where
-  pub pair_is_href : v ≡ true → r ≡ same x (small_letters (joined 0 (ascii "href") false [])) → r ≡ same x (html_name (namespaced ns n))
-  pair_is_href t h = h ∙ ap (same x) (pair_xlink ns n [] (sym e ∙ t))
+-- an attribute by its fields
+module _ (a : Bytes) (t : ℕ) (e : t ≡ tag_of_front a) {l : Bytes} where
+  pub attr_40 : t ≡ 0x40 → {b : Bytes} → b ≡ body_of a → l ≡ html_name (ident b) → l ≡ html_name (attr_name_in (read a))
+  attr_40 k q h = h ∙ ap html_name (ap ident q ∙ sym (attr_name_40 a t e k))
 
-  pub pair_is_joined : v ≡ false → r ≡ same x (small_letters (joined 0 ns true n)) → r ≡ same x (html_name (namespaced ns n))
-  pair_is_joined t h = h ∙ ap (same x) (pair_other ns n [] (sym e ∙ t))
+  pub attr_42 : t ≡ 0x42 → {b : Bytes} → b ≡ body_of a → {v w : Bytes} → v ≡ first_in (texts_in 0x40 (read b)) → w ≡ second_in (texts_in 0x40 (read b)) → l ≡ html_name (namespaced v w) → l ≡ html_name (attr_name_in (read a))
+  attr_42 k q x y h = h ∙ rw (x, y, q, attr_name_42 a t e k)
 
-  pub href_is_pair : v ≡ true → r ≡ same (small_letters (joined 0 (ascii "href") false [])) x → r ≡ same (html_name (namespaced ns n)) x
-  href_is_pair t h = h ∙ ap (λ (y : Bytes). same y x) (pair_xlink ns n [] (sym e ∙ t))
-
-  pub joined_is_pair : v ≡ false → r ≡ same (small_letters (joined 0 ns true n)) x → r ≡ same (html_name (namespaced ns n)) x
-  joined_is_pair t h = h ∙ ap (λ (y : Bytes). same y x) (pair_other ns n [] (sym e ∙ t))
-
--- an attribute by its fields, x is what is compared
-module _ (a : Bytes) (t : ℕ) (e : t ≡ tag_of_front a) (f : Bytes → Bool) where
-  pub html_40 : t ≡ 0x40 → {b : Bytes} → b ≡ body_of a → {r : Bool} → r ≡ f (html_name (ident b)) → r ≡ f (html_name (attr_name_in (read a)))
-  html_40 k q h = h ∙ ap (λ (n : AttrName). f (html_name n)) (ap ident q ∙ sym (attr_name_40 a t e k))
-
-  pub html_42 : t ≡ 0x42 → {b : Bytes} → b ≡ body_of a → {v w : Bytes} → v ≡ first_in (texts_in 0x40 (read b)) → w ≡ second_in (texts_in 0x40 (read b)) → {r : Bool} → r ≡ f (html_name (namespaced v w)) → r ≡ f (html_name (attr_name_in (read a)))
-  html_42 k q x y h = h ∙ rw (x, y, q, attr_name_42 a t e k)
-
-  pub html_other : (t ≡ 0x40 → ⊥) → (t ≡ 0x42 → ⊥) → {r : Bool} → r ≡ f (html_name (ident [])) → r ≡ f (html_name (attr_name_in (read a)))
-  html_other k l h = h ∙ rw (attr_name_other a t e k l)
+  pub attr_other : (t ≡ 0x40 → ⊥) → (t ≡ 0x42 → ⊥) → l ≡ html_name (ident []) → l ≡ html_name (attr_name_in (read a))
+  attr_other k l h = h ∙ rw (attr_name_other a t e k l)
 
 -- ---- attributes in a row
 
@@ -520,74 +304,6 @@ module _ (x : Bytes) (N : List Bytes) where
   pub earlier_end : (k i : ℕ) → k ≤ i → false ≡ among x (take (k - i) N)
   unfolding among
   earlier_end k i h = rw (let z : k - i ≡ 0 = omega (arith, h) in z)
-
--- ---- hashes
-
-pub hash_end : (h : ℕ) (a : Bytes) → code a ≡ 0 → h ≡ hash_on h a
-unfolding code hash_on
-hash_end h [] e = refl
-hash_end h (c ∷ a) e = absurd (omega (arith, e))
-
-pub hash_code : (h : ℕ) (a : Bytes) → (code a ≡ 0 → ⊥) → hash_on ((h * 37 + code a % 65536) % 4294967296) (tail a) ≡ hash_on h a
-unfolding code hash_on tail
-hash_code h [] n = absurd (n refl)
-hash_code h (c ∷ a) n = refl
-
-module _ (s : ℕ) (p : Bytes) (two : Bool) (q : Bytes) where
-  pub hash_starts : hash_on 0 (left s p two q (place 0 false)) ≡ hash_on 0 (small_letters (joined s p two q))
-  hash_starts = rw (left_within s p two q 0 (omega arith))
-
-  module _ (x : Place) {a : ℕ} (e : a ≡ code_at s p two q x) (h : ℕ) where
-    pub hash_ends : a ≡ 0 → h ≡ hash_on h (left s p two q x)
-    hash_ends z = hash_end h _ (sym (e ∙ code_is s p two q x.letter x.behind_sign) ∙ z)
-
-    pub hash_goes : (a ≡ 0 → ⊥) → {x' : Place} → x' ≡ past s p x → hash_on ((h * 37 + a % 65536) % 4294967296) (left s p two q x') ≡ hash_on h (left s p two q x)
-    hash_goes n u = rw (u, rest_is s p two q x.letter x.behind_sign, one) (hash_code h _ (λ z. n (one ∙ z)))
-      where
-        one : a ≡ code (left s p two q x)
-        one = e ∙ code_is s p two q x.letter x.behind_sign
-
--- a number of the name of an identifier, by what its mark says
-module _ (f : Bytes → ℕ) (n : Bytes) (m : ℕ) (e : by_mark m n ≡ normalize_dom_attr_name n) {r : ℕ} where
-  pub of_stays : m ≡ 61 → r ≡ f (small_letters (joined 0 n false [])) → r ≡ f (html_name (ident n))
-  unfolding by_mark
-  of_stays k h = h ∙ ap f (ident_as n m e n [] (rw k))
-
-  pub of_class : m ≡ 99 → r ≡ f (small_letters (joined 0 (ascii "class") false [])) → r ≡ f (html_name (ident n))
-  unfolding by_mark
-  of_class k h = h ∙ ap f (ident_as n m e (ascii "class") [] (rw k))
-
-  pub of_for : m ≡ 102 → r ≡ f (small_letters (joined 0 (ascii "for") false [])) → r ≡ f (html_name (ident n))
-  unfolding by_mark
-  of_for k h = h ∙ ap f (ident_as n m e (ascii "for") [] (rw k))
-
-  pub of_href : m ≡ 104 → r ≡ f (small_letters (joined 0 (ascii "href") false [])) → r ≡ f (html_name (ident n))
-  unfolding by_mark
-  of_href k h = h ∙ ap f (ident_as n m e (ascii "href") [] (rw k))
-
-  pub of_panose : m ≡ 112 → r ≡ f (small_letters (joined 0 (ascii "panose-1") false [])) → r ≡ f (html_name (ident n))
-  unfolding by_mark
-  of_panose k h = h ∙ ap f (ident_as n m e (ascii "panose-1") [] (rw k))
-
-  pub of_other : (m ≡ 61 → ⊥) → (m ≡ 99 → ⊥) → (m ≡ 102 → ⊥) → (m ≡ 104 → ⊥) → (m ≡ 112 → ⊥) → r ≡ f (small_letters (joined m n false [])) → r ≡ f (html_name (ident n))
-  of_other a b c d e' h = h ∙ ap f (ident_spelled n m e [] (mark_other m n a b c d e'))
-
-module _ (f : Bytes → ℕ) (ns n : Bytes) {v : Bool} {r : ℕ} (e : v ≡ (same ns (ascii "xlink") && same n (ascii "href"))) where
-  pub of_xlink : v ≡ true → r ≡ f (small_letters (joined 0 (ascii "href") false [])) → r ≡ f (html_name (namespaced ns n))
-  of_xlink t h = h ∙ ap f (pair_xlink ns n [] (sym e ∙ t))
-
-  pub of_pair : v ≡ false → r ≡ f (small_letters (joined 0 ns true n)) → r ≡ f (html_name (namespaced ns n))
-  of_pair t h = h ∙ ap f (pair_other ns n [] (sym e ∙ t))
-
-module _ (a : Bytes) (t : ℕ) (e : t ≡ tag_of_front a) (f : Bytes → ℕ) where
-  pub of_40 : t ≡ 0x40 → {b : Bytes} → b ≡ body_of a → {r : ℕ} → r ≡ f (html_name (ident b)) → r ≡ f (html_name (attr_name_in (read a)))
-  of_40 k q h = h ∙ ap (λ (n : AttrName). f (html_name n)) (ap ident q ∙ sym (attr_name_40 a t e k))
-
-  pub of_42 : t ≡ 0x42 → {b : Bytes} → b ≡ body_of a → {v w : Bytes} → v ≡ first_in (texts_in 0x40 (read b)) → w ≡ second_in (texts_in 0x40 (read b)) → {r : ℕ} → r ≡ f (html_name (namespaced v w)) → r ≡ f (html_name (attr_name_in (read a)))
-  of_42 k q x y h = h ∙ rw (x, y, q, attr_name_42 a t e k)
-
-  pub of_none : (t ≡ 0x40 → ⊥) → (t ≡ 0x42 → ⊥) → {r : ℕ} → r ≡ f (html_name (ident [])) → r ≡ f (html_name (attr_name_in (read a)))
-  of_none k l h = h ∙ rw (attr_name_other a t e k l)
 
 -- ---- names that are noted
 
@@ -746,7 +462,7 @@ key_of_more (c ∷ d ∷ cs) h k =
 
 module _ (a b : Bytes) (t : ℕ) (e : t ≡ tag_of_front a) (k : t ≡ 0x40) (q : b ≡ body_of a) where
   pub keyed : 97 ≤ last_letter b → (m : ℕ) → m ≡ letter_key b → Keyed (html_name (attr_name_in (read a))) m
-  keyed h m g = told {k = m} (subst (λ (x : ℕ). x < 64) (sym g) (key_low b)) (of_40 a t e letter_key k q (g ∙ sym (key_normal b h)))
+  keyed h m g = told {k = m} (subst (λ (x : ℕ). x < 64) (sym g) (key_low b)) (g ∙ sym (key_normal b h) ∙ ap letter_key (attr_40 a t e k q refl))
 
 pub noted_in : (seen : List ℕ) (k : ℕ) → k < 64 → set seen k 1 ≡ noted_at seen k
 unfolding noted_at

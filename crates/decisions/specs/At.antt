@@ -1,5 +1,5 @@
 -- Elements, attributes, expressions and children as they stand in bytes. Assumes nothing: these are definitions.
-use Rattle.std.specs.Prelude.{ℕ, Bool, true, false, ◌&&◌, ◌||◌, not, ◌≡◌, List, [], T, length}
+use Rattle.std.specs.Prelude.{Bool, true, false, ◌&&◌, ◌||◌, not, ◌≡◌, List, [], T, length, Option, Some, None}
 use Rattle.field.specs.Bytes.{Bytes, ascii, same, among, pick, null?}
 use Rattle.field.specs.Row.{Row, end, loose, field, read}
 use Rattle.field.specs.Front.{tag_of_front, body_of}
@@ -18,6 +18,8 @@ use Rattle.spec.specs.Transform.{element_of, attributes, children}
 use Rattle.decisions.specs.Index.{names_of}
 use Rattle.decisions.specs.declared.attribute.Value.{Value}
 use Rattle.decisions.specs.declared.attribute.Value.TheVariants as Held
+use Rattle.decisions.specs.declared.children.Count.{Count}
+use Rattle.decisions.specs.declared.children.Count.TheVariants.{Zero, One, More}
 use Rattle.decisions.specs.declared.expr.Shape.{Shape}
 use Rattle.decisions.specs.declared.expr.Shape.TheVariants as Form
 
@@ -70,13 +72,13 @@ serializable skip b = serializable_by (names_of skip) (element_name (read b)) (f
 
 -- ---- values and expressions as the code's enums have them
 
-unfoldable pub value_of : P.Value → Value
-value_of P.absent = Held.Absent
-value_of (P.string_value b) = Held.Field 0x51
-value_of P.empty_value = Held.Field 0x52
-value_of (P.container_value e) = Held.Field 0x52
-value_of (P.tag_value (P.element n as' cs)) = Held.Field 0x30
-value_of (P.tag_value (P.fragment cs)) = Held.Field 0x31
+unfoldable pub value_of : P.Value → Option Value
+value_of P.absent = None
+value_of (P.string_value b) = Some Held.String
+value_of P.empty_value = Some Held.Container
+value_of (P.container_value e) = Some Held.Container
+value_of (P.tag_value (P.element n as' cs)) = Some Held.Element
+value_of (P.tag_value (P.fragment cs)) = Some Held.Fragment
 
 unfoldable pub shape_by : P.Expr → Shape
 shape_by (P.string_literal b) = Form.String
@@ -113,13 +115,13 @@ is_none (P.tag_child t cs) = false
 is_none (P.spread_child e cs) = false
 
 -- none, one, or more
-unfoldable pub few : P.Children → ℕ
-few P.no_children = 0
-few (P.text_child b cs) = pick (is_none cs) 1 2
-few (P.empty_child cs) = pick (is_none cs) 1 2
-few (P.container_child e cs) = pick (is_none cs) 1 2
-few (P.tag_child t cs) = pick (is_none cs) 1 2
-few (P.spread_child e cs) = pick (is_none cs) 1 2
+unfoldable pub few : P.Children → Count
+few P.no_children = Zero
+few (P.text_child b cs) = pick (is_none cs) One More
+few (P.empty_child cs) = pick (is_none cs) One More
+few (P.container_child e cs) = pick (is_none cs) One More
+few (P.tag_child t cs) = pick (is_none cs) One More
+few (P.spread_child e cs) = pick (is_none cs) One More
 
 -- a text of which the text rule leaves something
 unfoldable pub some_text : P.Children → Bool

@@ -1,11 +1,11 @@
 -- 02, A4: the names that attributes have in HTML, and whether one stands twice; and how the code reads such a name. Main definitions:
 -- `html_names`, `repeats`. Assumes nothing: these are definitions.
-use Rattle.std.specs.Prelude.{ℕ, suc, ◌+◌, ◌-◌, ◌*◌, ◌/◌, ◌%◌, ◌<◌, Bool, true, false, ◌||◌, ◌&&◌, not, ◌≡◌, List, [], ◌∷◌, ◌++◌, eqb, leb, ltb, length, drop, get_or, set}
+use Rattle.std.specs.Prelude.{ℕ, suc, ◌+◌, ◌-◌, ◌*◌, ◌/◌, ◌%◌, ◌<◌, Bool, true, false, ◌||◌, ◌&&◌, not, ◌≡◌, List, [], ◌∷◌, ◌++◌, ltb, length, get_or, set, Option, Some, None, option_map}
 use Rattle.field.specs.Bytes.{Bytes, pick, among}
 use Rattle.names.specs.Names.{AttrName, get_attr_name, capital, small_letter, small_letters}
 use Rattle.names.specs.Table.{spelled}
 use Rattle.page.specs.Page as P
-use Rattle.decisions.specs.declared.repeats.Place.{Place}
+use Rattle.decisions.specs.declared.repeats.Spelled.{Spelled}
 
 -- normalised, in small letters
 unfoldable pub html_name : AttrName → Bytes
@@ -23,42 +23,32 @@ repeats (n ∷ ns) = among n ns || repeats ns
 
 -- ---- as the code reads it
 
--- a name with the byte s before each capital unless that is 0, and behind it, where there is a second, a colon and that
-unfoldable pub joined : (s : ℕ) (p : Bytes) (two : Bool) (q : Bytes) → Bytes
-joined s p true q = spelled s p ++ (58 ∷ q)
-joined s p false q = spelled s p
+-- a name with the sign before each capital, where there is a sign, and behind it, where there is a second part, a colon and that
+unfoldable pub joined : (sign : Option ℕ) (first : Bytes) (second : Option Bytes) → Bytes
+joined s p (Some q) = spelled s p ++ (58 ∷ q)
+joined s p None = spelled s p
 
--- the sign s is read next, before the letter c
-unfoldable pub signed_letter : (s c : ℕ) (behind_sign : Bool) → Bool
-signed_letter s c behind_sign = not (eqb s 0) && (not behind_sign && capital c)
+-- the sign that is read before the letter c, where it has not been read
+unfoldable pub sign_read : (sign : Option ℕ) (c : ℕ) (behind_sign : Bool) → Option ℕ
+sign_read s c behind_sign = pick (not behind_sign && capital c) s None
 
--- what is left to be read of it, in small letters, from a letter on
-unfoldable pub left_in : (s : ℕ) (p : Bytes) (two : Bool) (q : Bytes) (behind_sign : Bool) → Bytes
-left_in s [] two q b = pick two (58 ∷ small_letters q) []
-left_in s (c ∷ p) two q b = pick (signed_letter s c b) (small_letter s ∷ small_letter c ∷ small_letters (joined s p two q)) (small_letter c ∷ small_letters (joined s p two q))
+abbrev pub behind : Option ℕ → Bytes → Bytes
+behind None l = l
+behind (Some s) l = small_letter s ∷ l
 
--- and from a place on: in the first name or at the colon, or in the second name
-unfoldable pub left : (s : ℕ) (p : Bytes) (two : Bool) (q : Bytes) → Place → Bytes
-left s p two q x = pick (leb x.letter (length p)) (left_in s (drop x.letter p) two q x.behind_sign) (pick two (small_letters (drop (x.letter - (length p + 1)) q)) [])
+-- what is left to be read of it, in small letters
+unfoldable pub left_in : (sign : Option ℕ) (first : Bytes) (second : Option Bytes) (behind_sign : Bool) → Bytes
+left_in s [] None b = []
+left_in s [] (Some q) b = 58 ∷ small_letters q
+left_in s (c ∷ p) q b = behind (sign_read s c b) (small_letter c ∷ left_in s p q false)
 
--- the byte in front, by one more; 0 where there is none
-unfoldable pub code : Bytes → ℕ
-code [] = 0
-code (c ∷ cs) = suc c
+abbrev pub letters : Spelled → Bytes
+letters n = left_in n.sign n.first.now (option_map (λ q. q.now) n.second) n.behind_sign
 
-unfoldable pub tail : Bytes → Bytes
-tail [] = []
-tail (c ∷ cs) = cs
-
--- the code of what is left
-unfoldable pub code_at : (s : ℕ) (p : Bytes) (two : Bool) (q : Bytes) → Place → ℕ
-code_at s p two q x =
-    pick (ltb x.letter (length p)) (suc (pick (signed_letter s (get_or p x.letter 0) x.behind_sign) (small_letter s) (small_letter (get_or p x.letter 0))))
-    (pick two (pick (eqb x.letter (length p)) 59 (pick (leb (x.letter - length p) (length q)) (suc (small_letter (get_or q (x.letter - length p - 1) 0))) 0)) 0)
-
--- the place behind that byte
-unfoldable pub past : (s : ℕ) (p : Bytes) → Place → Place
-past s p x = pick (ltb x.letter (length p) && signed_letter s (get_or p x.letter 0) x.behind_sign) (record { letter = x.letter; behind_sign = true }) (record { letter = x.letter + 1; behind_sign = false })
+-- the first of letters, and what is left behind it
+abbrev pub Front : Bytes → Option (ℕ × Spelled) → Type 0
+Front l None = l ≡ []
+Front l (Some r) = (l ≡ r.0 ∷ letters r.1) × (r.0 < 256)
 
 -- ---- hashes, by the codes of a name's bytes
 

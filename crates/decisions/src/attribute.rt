@@ -11,11 +11,13 @@ use crate::index::{lists, lists_namespaced};
 use field::reader::{behind, body, tag_at};
 use names::{normalizes_to_boolean, normalizes_to_key, normalizes_to_ref, same_bytes};
 
-// What follows the name: nothing, or a field by its tag (51, 52, 30 or 31), which stands behind the name.
+// What a value is, by the field that stands behind the name: 51, 52, 30 or 31.
 #[derive(Clone, Copy)]
 pub enum Value {
-    Absent,
-    Field(usize),
+    String,
+    Container,
+    Element,
+    Fragment,
 }
 
 // The body of the first 40 of a series, empty where there is none.
@@ -32,8 +34,7 @@ pub fn first_name(s: &[u8]) -> &[u8]
                 return &s[..0];
             }
             _ => {
-                let r = behind(t);
-                t = r;
+                t = behind(t);
             }
         }
     }
@@ -53,8 +54,7 @@ pub fn second_name(s: &[u8]) -> &[u8]
                 return &s[..0];
             }
             _ => {
-                let r = behind(t);
-                t = r;
+                t = behind(t);
             }
         }
     }
@@ -118,15 +118,16 @@ pub fn is_inner_html(a: &[u8]) -> bool
     false
 }
 
-pub fn value_at(a: &[u8]) -> Value
+// None where nothing follows the name.
+pub fn value_at(a: &[u8]) -> Option<Value>
     ensures { result ≡ value_of (value_in (read a.now)) }
 {
     let v = behind(a);
     match tag_at(v) {
-        0x51 => Value::Field(0x51),
-        0x52 => Value::Field(0x52),
-        0x30 => Value::Field(0x30),
-        0x31 => Value::Field(0x31),
-        _ => Value::Absent,
+        0x51 => Some(Value::String),
+        0x52 => Some(Value::Container),
+        0x30 => Some(Value::Element),
+        0x31 => Some(Value::Fragment),
+        _ => None,
     }
 }

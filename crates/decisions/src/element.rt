@@ -12,11 +12,7 @@ use field::reader::{behind, body, tag_at};
 pub fn is_upper(name: &[u8]) -> bool
     ensures { result ≡ first_upper name.now }
 {
-    if 0 < name.len() {
-        let c = name[0];
-        return 65 <= c && c <= 90;
-    }
-    false
+    name.first().is_some_and(|c| c.is_ascii_uppercase())
 }
 
 // The bytes of an identifier in front; empty for any other name.
@@ -40,8 +36,7 @@ fn keeps_from_serializing(s: &[u8]) -> bool
                 if is_inner_html(body(t)) {
                     return true;
                 }
-                let r = behind(t);
-                t = r;
+                t = behind(t);
             }
             0x53 => {
                 return true;

@@ -25,10 +25,10 @@ pub enum Shape {
 pub fn boolean_in(s: &[u8]) -> bool
     ensures { result ≡ boolean_in s.now }
 {
-    if 0 < s.len() {
-        return s[0] == 1;
+    match s {
+        [b, ..] => *b == 1,
+        [] => false,
     }
-    false
 }
 
 pub fn shape_at(c: &[u8]) -> Shape
@@ -40,10 +40,8 @@ pub fn shape_at(c: &[u8]) -> Shape
         0x72 => Shape::Boolean(boolean_in(body(c))),
         0x74 => Shape::Literal,
         0x75 | 0x7b => Shape::Minus,
-        0x76 => Shape::Other,
-        0x79 => Shape::Other,
-        0x30 => Shape::Other,
-        0x31 => Shape::Other,
+        0x76 | 0x79 => Shape::Other,
+        0x30 | 0x31 => Shape::Other,
         256 => Shape::Empty,
         _ => Shape::Null,
     }

@@ -1,101 +1,101 @@
 // The names of 02 and 03: in their series one after the other, in an index by their hashes (specs/Index.antt).
 ghost use Rattle.std.specs.Prelude.{◌≡◌, ◌∷◌, ◌++◌, ℕ, ◌+◌, ◌*◌, ◌<◌, ◌≤◌, length, get_or};
-ghost use Rattle.field.specs.Bytes.{Bytes, among};
+ghost use Rattle.field.specs.Bytes.{Bytes, among, pick, same};
 ghost use Rattle.field.specs.Row.{read};
-ghost use Rattle.names.specs.Names.{normalize_dom_attr_name, small_letter, small_letters};
+ghost use Rattle.names.specs.Names.{normalize_dom_attr_name, small_letter};
+ghost use Rattle.names.specs.Table.{read_as};
 ghost use Rattle.page.specs.Tree.{texts_in};
 ghost use Rattle.decisions.specs.Index.{hash_from, hash, two_at, name_at, chain, names_of, linked};
 
 use field::reader::{behind, body, tag_at};
 use field::writer::{put_bytes, put_two};
-use names::{namespaced_is, same_bytes};
+use names::{namespaced_is, same_bytes, small_letter};
+
+// A name that is looked for, by the bytes that it stands for.
+trait Asked {
+    ghost bytes: { Self → Bytes };
+
+    fn is(&self, name: &[u8]) -> bool
+        ensures { result ≡ same (bytes self.now) name.now };
+
+    fn hash(&self) -> usize
+        ensures { (result ≡ hash (bytes self.now)) × (result < 1024) };
+}
+
+// As it is written.
+#[derive(Clone, Copy)]
+struct Written<'a> {
+    name: &'a [u8],
+}
+
+impl<'a> Asked for Written<'a> {
+    ghost bytes = { λ w. w.name.now };
+
+    fn is(&self, name: &[u8]) -> bool {
+        same_bytes(self.name, name)
+    }
+
+    fn hash(&self) -> usize {
+        hash_on(0, self.name, false)
+    }
+}
+
+// ns:name, normalised.
+#[derive(Clone, Copy)]
+struct Namespaced<'a> {
+    ns: &'a [u8],
+    name: &'a [u8],
+}
+
+impl<'a> Asked for Namespaced<'a> {
+    ghost bytes = { λ n. normalize_dom_attr_name (n.ns.now ++ (58 ∷ n.name.now)) };
+
+    fn is(&self, name: &[u8]) -> bool {
+        namespaced_is(self.ns, self.name, name)
+    }
+
+    fn hash(&self) -> usize {
+        hash_namespaced(self.ns, self.name)
+    }
+}
 
 // Whether a series of 20s has the name.
-fn in_series(list: &[u8], name: &[u8]) -> bool
-    ensures { result ≡ among name.now (texts_in 0x20 (read list.now)) }
+fn in_series<N: Asked>(list: &[u8], asked: &N) -> bool
+    ensures { result ≡ among (N.bytes asked.now) (texts_in 0x20 (read list.now)) }
 {
     let mut t = list;
     loop {
         match tag_at(t) {
             0x20 => {
-                if same_bytes(name, body(t)) {
+                if asked.is(body(t)) {
                     return true;
                 }
-                let r = behind(t);
-                t = r;
+                t = behind(t);
             }
             256 => {
                 return false;
             }
             _ => {
-                let r = behind(t);
-                t = r;
+                t = behind(t);
             }
         }
     }
 }
 
-// Whether it has ns:name, normalised.
-fn series_has_namespaced<'a>(list: &'a [u8], ns: &'a [u8], name: &'a [u8]) -> bool
-    ensures { result ≡ among (normalize_dom_attr_name (ns.now ++ (58 ∷ name.now))) (texts_in 0x20 (read list.now)) }
+fn letter(c: u8, small: bool) -> u8
+    ensures { result ≡ pick small (small_letter c) c }
 {
-    let mut t = list;
-    loop {
-        match tag_at(t) {
-            0x20 => {
-                if namespaced_is(ns, name, body(t)) {
-                    return true;
-                }
-                let r = behind(t);
-                t = r;
-            }
-            256 => {
-                return false;
-            }
-            _ => {
-                let r = behind(t);
-                t = r;
-            }
-        }
-    }
+    if small { small_letter(c) } else { c }
 }
 
-// The hash of s behind what gave h.
-fn hash_on(h: usize, s: &[u8]) -> usize
+// The hash of s, or of its small letters, behind what gave h.
+fn hash_on(h: usize, s: &[u8], small: bool) -> usize
     requires { h < 1024 }
-    ensures { (result ≡ hash_from h s.now) × (result < 1024) }
+    ensures { (result ≡ hash_from h (read_as small s.now)) × (result < 1024) }
 {
     let mut x = h;
-    let mut i: usize = 0;
-    while i < s.len() {
-        x = (x * 31 + s[i] as usize) % 1024;
-        i += 1;
-    }
-    x
-}
-
-fn small(c: u8) -> u8
-    ensures { result ≡ small_letter c }
-{
-    if c < b'A' {
-        return c;
-    }
-    if c > b'Z' {
-        return c;
-    }
-    c + 32
-}
-
-// The same of its small letters.
-fn hash_small(h: usize, s: &[u8]) -> usize
-    requires { h < 1024 }
-    ensures { (result ≡ hash_from h (small_letters s.now)) × (result < 1024) }
-{
-    let mut x = h;
-    let mut i: usize = 0;
-    while i < s.len() {
-        x = (x * 31 + small(s[i]) as usize) % 1024;
-        i += 1;
+    for c in s {
+        x = (x * 31 + usize::from(letter(*c, small))) % 1024;
     }
     x
 }
@@ -105,11 +105,11 @@ fn hash_namespaced<'a>(ns: &'a [u8], name: &'a [u8]) -> usize
     ensures { (result ≡ hash (normalize_dom_attr_name (ns.now ++ (58 ∷ name.now)))) × (result < 1024) }
 {
     if namespaced_is(ns, name, b"href") {
-        return hash_on(0, b"href");
+        return hash_on(0, b"href", false);
     }
-    let a = hash_small(0, ns);
-    let b = hash_on(a, b":");
-    hash_small(b, name)
+    let a = hash_on(0, ns, true);
+    let b = hash_on(a, b":", false);
+    hash_on(b, name, true)
 }
 
 fn two_at(b: &[u8], i: usize) -> usize
@@ -117,7 +117,7 @@ fn two_at(b: &[u8], i: usize) -> usize
     ensures { (result ≡ two_at b.now i) × (result < 65536) }
 {
     if i + 1 < b.len() {
-        return (b[i] as usize) * 256 + b[i + 1] as usize;
+        return usize::from(u16::from_be_bytes([b[i], b[i + 1]]));
     }
     0
 }
@@ -135,54 +135,32 @@ fn name_at(b: &[u8], k: usize) -> &[u8]
 }
 
 // Whether an entry or one before it has the name.
-fn in_chain(b: &[u8], name: &[u8], last: usize) -> bool
+fn in_chain<N: Asked>(b: &[u8], asked: &N, last: usize) -> bool
     requires { last < 65536 }
-    ensures { result ≡ among name.now (chain 1366 b.now last) }
+    ensures { result ≡ among (N.bytes asked.now) (chain 1366 b.now last) }
 {
     let mut k = last;
-    let mut left: usize = 1366;
-    while 0 < left {
+    for passed in 0..1366usize {
         if k == 0 {
             return false;
         }
-        if same_bytes(name, name_at(b, k - 1)) {
+        if asked.is(name_at(b, k - 1)) {
             return true;
         }
         k = two_at(b, 2044 + 4 * k);
-        left -= 1;
-    }
-    false
-}
-
-// The same of ns:name, normalised.
-fn chain_has_namespaced<'a>(b: &'a [u8], ns: &'a [u8], name: &'a [u8], last: usize) -> bool
-    requires { last < 65536 }
-    ensures { result ≡ among (normalize_dom_attr_name (ns.now ++ (58 ∷ name.now))) (chain 1366 b.now last) }
-{
-    let mut k = last;
-    let mut left: usize = 1366;
-    while 0 < left {
-        if k == 0 {
-            return false;
-        }
-        if namespaced_is(ns, name, name_at(b, k - 1)) {
-            return true;
-        }
-        k = two_at(b, 2044 + 4 * k);
-        left -= 1;
     }
     false
 }
 
 // The names of a series that is not empty, or of an index.
-fn finds(list: &[u8], name: &[u8]) -> bool
-    ensures { result ≡ among name.now (names_of list.now) }
+fn finds<N: Asked>(list: &[u8], asked: &N) -> bool
+    ensures { result ≡ among (N.bytes asked.now) (names_of list.now) }
 {
     if list.len() <= 4096 {
-        return in_series(list, name);
+        return in_series(list, asked);
     }
-    let h = hash_on(0, name);
-    in_chain(list, name, two_at(list, 2 * h))
+    let h = asked.hash();
+    in_chain(list, asked, two_at(list, 2 * h))
 }
 
 // Most options list nothing: that is seen before a call is made.
@@ -192,18 +170,14 @@ pub fn lists(list: &[u8], name: &[u8]) -> bool
     if list.len() == 0 {
         return false;
     }
-    finds(list, name)
+    finds(list, &Written { name })
 }
 
 // Whether ns:name, normalised, is listed.
 pub fn lists_namespaced<'a>(list: &'a [u8], ns: &'a [u8], name: &'a [u8]) -> bool
     ensures { result ≡ among (normalize_dom_attr_name (ns.now ++ (58 ∷ name.now))) (names_of list.now) }
 {
-    if list.len() <= 4096 {
-        return series_has_namespaced(list, ns, name);
-    }
-    let h = hash_namespaced(ns, name);
-    chain_has_namespaced(list, ns, name, two_at(list, 2 * h))
+    finds(list, &Namespaced { ns, name })
 }
 
 // Entry k, of that hash, with the name at that place.
@@ -228,18 +202,16 @@ pub fn index_names(list: &[u8], out: &mut [u8])
     loop {
         match tag_at(t) {
             0x20 => {
-                let h = hash_on(0, body(t));
+                let h = hash_on(0, body(t), false);
                 link(out, h, k, list.len() - t.len());
                 k += 1;
-                let r = behind(t);
-                t = r;
+                t = behind(t);
             }
             256 => {
                 return;
             }
             _ => {
-                let r = behind(t);
-                t = r;
+                t = behind(t);
             }
         }
     }

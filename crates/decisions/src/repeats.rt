@@ -3,203 +3,146 @@
 ghost use Rattle.std.specs.Prelude.{◌≡◌, true, false, ◌&&◌, [], ◌+◌, ◌<◌, ◌^◌, length, get_or, set, take, replicate, eqb};
 ghost use Rattle.field.specs.Bytes.{same, among};
 ghost use Rattle.field.specs.Row.{read};
-ghost use Rattle.names.specs.Names.{ident, namespaced, small_letter, small_letters};
+ghost use Rattle.names.specs.Names.{ident, namespaced, small_letters};
 ghost use Rattle.page.specs.Tree.{attributes_in, attr_name_in};
-ghost use Rattle.decisions.specs.Repeats.{joined, signed_letter, code_at, past, html_name, html_names, repeats, name_hash, Keyed, key_by, noted_at};
+ghost use Rattle.decisions.specs.Repeats.{letters, sign_read, Front, html_name, html_names, repeats, name_hash, Keyed, key_by, noted_at};
 
 use crate::attribute::{first_name, second_name};
 use field::reader::{behind, body, tag_at};
-use names::{find_mark, is_xlink_href};
+use names::{Spelling, is_xlink_href, small_letter, spelling_of};
 
-// A place in a name: a letter, and whether the sign before it has been read.
+// A name as it is read for HTML, in small letters: each capital of the first part behind the sign, where there is one; then, where there
+// is a second part, a colon and that.
 #[derive(Clone, Copy)]
-pub struct Place {
-    pub letter: usize,
+pub struct Spelled<'a> {
+    pub sign: Option<u8>,
+    pub first: &'a [u8],
+    pub second: Option<&'a [u8]>,
+    // whether the sign before the first letter has been read
     pub behind_sign: bool,
 }
 
-fn small(c: u8) -> u8
-    ensures { result ≡ small_letter c }
-{
-    if c < b'A' {
-        return c;
-    }
-    if c > b'Z' {
-        return c;
-    }
-    c + 32
-}
-
-// Whether the sign s is read next, before the letter c.
-fn is_signed(s: u8, c: u8, behind_sign: bool) -> bool
-    ensures { result ≡ signed_letter s c behind_sign }
-{
-    if s == 0 {
-        return false;
-    }
-    if behind_sign {
-        return false;
-    }
-    (b'A' <= c) & (c <= b'Z')
-}
-
-// The byte that is read at x, by one more; 0 behind the last.
-fn code_at<'a>(s: u8, p: &'a [u8], two: bool, q: &'a [u8], x: Place) -> usize
-    ensures { result ≡ code_at s p.now two q.now x }
-{
-    let i = x.letter;
-    if i < p.len() {
-        let c = p[i];
-        if is_signed(s, c, x.behind_sign) {
-            return small(s) as usize + 1;
-        }
-        return small(c) as usize + 1;
-    }
-    if !two {
-        return 0;
-    }
-    let k = i - p.len();
-    if k == 0 {
-        return 59;
-    }
-    if k <= q.len() {
-        return small(q[k - 1]) as usize + 1;
-    }
-    0
-}
-
-// The place behind it.
-fn next_place(s: u8, p: &[u8], x: Place) -> Place
-    requires { x.letter + 1 < 2 ^ 64 }
-    ensures { result ≡ past s p.now x }
-{
-    let i = x.letter;
-    if p.len() <= i {
-        return Place {
-            letter: i + 1,
+impl<'a> Spelled<'a> {
+    fn plain(name: &'a [u8]) -> Spelled<'a>
+        ensures { letters result ≡ small_letters name.now }
+    {
+        Spelled {
+            sign: None,
+            first: name,
+            second: None,
             behind_sign: false,
-        };
-    }
-    let c = p[i];
-    if is_signed(s, c, x.behind_sign) {
-        return Place {
-            letter: i,
-            behind_sign: true,
-        };
-    }
-    Place {
-        letter: i + 1,
-        behind_sign: false,
-    }
-}
-
-// Two names as they are read: one part or two, with a sign before capitals or without.
-fn same_joined<'a>(
-    s: u8,
-    p: &'a [u8],
-    two: bool,
-    q: &'a [u8],
-    s2: u8,
-    p2: &'a [u8],
-    two2: bool,
-    q2: &'a [u8],
-) -> bool
-    ensures { result ≡ same (small_letters (joined s p.now two q.now)) (small_letters (joined s2 p2.now two2 q2.now)) }
-{
-    let mut x = Place {
-        letter: 0,
-        behind_sign: false,
-    };
-    let mut y = Place {
-        letter: 0,
-        behind_sign: false,
-    };
-    loop {
-        let a = code_at(s, p, two, q, x);
-        let b = code_at(s2, p2, two2, q2, y);
-        if a != b {
-            return false;
         }
-        if a == 0 {
-            return true;
+    }
+
+    // The sign that is read before the letter c.
+    fn sign_before(self, c: u8) -> Option<u8>
+        ensures { result ≡ sign_read self.entry.sign c self.entry.behind_sign }
+    {
+        if !self.behind_sign && c.is_ascii_uppercase() {
+            return self.sign;
         }
-        x = next_place(s, p, x);
-        y = next_place(s2, p2, y);
+        None
+    }
+
+    // The letter in front, and what is left behind it.
+    fn read(self) -> Option<(u8, Spelled<'a>)>
+        ensures { Front (letters self.entry) result }
+    {
+        let [c, rest @ ..] = self.first else {
+            let Some(second) = self.second else {
+                return None;
+            };
+            return Some((b':', Spelled::plain(second)));
+        };
+        if let Some(sign) = self.sign_before(*c) {
+            let left = Spelled {
+                behind_sign: true,
+                ..self
+            };
+            return Some((small_letter(sign), left));
+        }
+        let left = Spelled {
+            first: rest,
+            behind_sign: false,
+            ..self
+        };
+        Some((small_letter(*c), left))
+    }
+
+    fn is(self, other: Spelled<'a>) -> bool
+        ensures { result ≡ same (letters self.entry) (letters other.entry) }
+    {
+        let mut x = self;
+        let mut y = other;
+        while let Some((a, left)) = x.read() {
+            let Some((b, other_left)) = y.read() else {
+                return false;
+            };
+            if a != b {
+                return false;
+            }
+            x = left;
+            y = other_left;
+        }
+        y.read().is_none()
+    }
+
+    // Of two names that are one, one number below 2^32.
+    fn hash(self) -> usize
+        ensures { result ≡ name_hash (letters self.entry) }
+    {
+        let mut x = self;
+        let mut h: usize = 0;
+        while let Some((a, left)) = x.read() {
+            h = (h * 37 + usize::from(a) + 1) % 4294967296;
+            x = left;
+        }
+        h
     }
 }
 
-// Whether a name as it is read is the one that the identifier n has in HTML.
-fn ident_is<'a>(s: u8, p: &'a [u8], two: bool, q: &'a [u8], n: &'a [u8]) -> bool
-    ensures { result ≡ same (small_letters (joined s p.now two q.now)) (html_name (ident n.now)) }
+// The name that the identifier n has in HTML.
+fn of_ident(n: &[u8]) -> Spelled<'_>
+    ensures { letters result ≡ html_name (ident n.now) }
 {
-    match find_mark(n) {
-        b'=' => same_joined(s, p, two, q, 0, n, false, b""),
-        b'c' => same_joined(s, p, two, q, 0, b"class", false, b""),
-        b'f' => same_joined(s, p, two, q, 0, b"for", false, b""),
-        b'h' => same_joined(s, p, two, q, 0, b"href", false, b""),
-        b'p' => same_joined(s, p, two, q, 0, b"panose-1", false, b""),
-        m => same_joined(s, p, two, q, m, n, false, b""),
+    match spelling_of(n) {
+        Spelling::Whole(w) => Spelled::plain(w),
+        Spelling::Signed(sign) => Spelled {
+            sign: Some(sign),
+            first: n,
+            second: None,
+            behind_sign: false,
+        },
+        Spelling::Small => Spelled::plain(n),
     }
 }
 
-// The same of ns:name.
-fn pair_is<'a>(s: u8, p: &'a [u8], two: bool, q: &'a [u8], ns: &'a [u8], name: &'a [u8]) -> bool
-    ensures { result ≡ same (small_letters (joined s p.now two q.now)) (html_name (namespaced ns.now name.now)) }
+// That of ns:name.
+fn of_pair<'a>(ns: &'a [u8], name: &'a [u8]) -> Spelled<'a>
+    ensures { letters result ≡ html_name (namespaced ns.now name.now) }
 {
     if is_xlink_href(ns, name) {
-        return same_joined(s, p, two, q, 0, b"href", false, b"");
+        return Spelled::plain(b"href");
     }
-    same_joined(s, p, two, q, 0, ns, true, name)
+    Spelled {
+        sign: None,
+        first: ns,
+        second: Some(name),
+        behind_sign: false,
+    }
 }
 
-// Of the attribute with the fields a.
-fn attr_is<'a>(s: u8, p: &'a [u8], two: bool, q: &'a [u8], a: &'a [u8]) -> bool
-    ensures { result ≡ same (small_letters (joined s p.now two q.now)) (html_name (attr_name_in (read a.now))) }
+// That of the attribute with the fields a.
+fn of_attr(a: &[u8]) -> Spelled<'_>
+    ensures { letters result ≡ html_name (attr_name_in (read a.now)) }
 {
     match tag_at(a) {
-        0x40 => ident_is(s, p, two, q, body(a)),
+        0x40 => of_ident(body(a)),
         0x42 => {
             let b = body(a);
-            pair_is(s, p, two, q, first_name(b), second_name(b))
+            of_pair(first_name(b), second_name(b))
         }
-        _ => ident_is(s, p, two, q, &a[..0]),
-    }
-}
-
-// Whether the identifier n and the attribute with the fields a have one name in HTML.
-fn ident_same<'a>(n: &'a [u8], a: &'a [u8]) -> bool
-    ensures { result ≡ same (html_name (ident n.now)) (html_name (attr_name_in (read a.now))) }
-{
-    match find_mark(n) {
-        b'=' => attr_is(0, n, false, b"", a),
-        b'c' => attr_is(0, b"class", false, b"", a),
-        b'f' => attr_is(0, b"for", false, b"", a),
-        b'h' => attr_is(0, b"href", false, b"", a),
-        b'p' => attr_is(0, b"panose-1", false, b"", a),
-        m => attr_is(m, n, false, b"", a),
-    }
-}
-
-fn pair_same<'a>(ns: &'a [u8], name: &'a [u8], a: &'a [u8]) -> bool
-    ensures { result ≡ same (html_name (namespaced ns.now name.now)) (html_name (attr_name_in (read a.now))) }
-{
-    if is_xlink_href(ns, name) {
-        return attr_is(0, b"href", false, b"", a);
-    }
-    attr_is(0, ns, true, name, a)
-}
-
-// Whether two attributes have.
-fn same_html<'a>(a: &'a [u8], b: &'a [u8]) -> bool
-    ensures { result ≡ same (html_name (attr_name_in (read a.now))) (html_name (attr_name_in (read b.now))) }
-{
-    match tag_at(a) {
-        0x40 => ident_same(body(a), b),
-        0x42 => {
-            let c = body(a);
-            pair_same(first_name(c), second_name(c), b)
-        }
-        _ => ident_same(&a[..0], b),
+        _ => of_ident(&a[..0]),
     }
 }
 
@@ -207,21 +150,20 @@ fn same_html<'a>(a: &'a [u8], b: &'a [u8]) -> bool
 fn earlier_has<'a>(s: &'a [u8], k: usize, a: &'a [u8]) -> bool
     ensures { result ≡ among (html_name (attr_name_in (read a.now))) (take k (html_names (attributes_in (read s.now)))) }
 {
+    let name = of_attr(a);
     let mut t = s;
     let mut i: usize = 0;
     while i < k {
         match tag_at(t) {
             0x50 => {
-                if same_html(a, body(t)) {
+                if name.is(of_attr(body(t))) {
                     return true;
                 }
-                let r = behind(t);
-                t = r;
+                t = behind(t);
                 i += 1;
             }
             0x53 => {
-                let r = behind(t);
-                t = r;
+                t = behind(t);
             }
             _ => {
                 return false;
@@ -229,61 +171,6 @@ fn earlier_has<'a>(s: &'a [u8], k: usize, a: &'a [u8]) -> bool
         }
     }
     false
-}
-
-// The hash of a name as it is read: of two names that are one, one number below 2^32.
-fn hash_joined<'a>(s: u8, p: &'a [u8], two: bool, q: &'a [u8]) -> usize
-    ensures { result ≡ name_hash (small_letters (joined s p.now two q.now)) }
-{
-    let mut x = Place {
-        letter: 0,
-        behind_sign: false,
-    };
-    let mut h: usize = 0;
-    loop {
-        let a = code_at(s, p, two, q, x);
-        if a == 0 {
-            return h;
-        }
-        h = (h * 37 + a % 65536) % 4294967296;
-        x = next_place(s, p, x);
-    }
-}
-
-// Of the name that the identifier n has in HTML, of ns:name, and of an attribute's by its fields.
-fn ident_hash(n: &[u8]) -> usize
-    ensures { result ≡ name_hash (html_name (ident n.now)) }
-{
-    match find_mark(n) {
-        b'=' => hash_joined(0, n, false, b""),
-        b'c' => hash_joined(0, b"class", false, b""),
-        b'f' => hash_joined(0, b"for", false, b""),
-        b'h' => hash_joined(0, b"href", false, b""),
-        b'p' => hash_joined(0, b"panose-1", false, b""),
-        m => hash_joined(m, n, false, b""),
-    }
-}
-
-fn pair_hash<'a>(ns: &'a [u8], name: &'a [u8]) -> usize
-    ensures { result ≡ name_hash (html_name (namespaced ns.now name.now)) }
-{
-    if is_xlink_href(ns, name) {
-        return hash_joined(0, b"href", false, b"");
-    }
-    hash_joined(0, ns, true, name)
-}
-
-fn html_hash(a: &[u8]) -> usize
-    ensures { result ≡ name_hash (html_name (attr_name_in (read a.now))) }
-{
-    match tag_at(a) {
-        0x40 => ident_hash(body(a)),
-        0x42 => {
-            let b = body(a);
-            pair_hash(first_name(b), second_name(b))
-        }
-        _ => ident_hash(&a[..0]),
-    }
 }
 
 // A name is noted under both halves of its hash.
@@ -325,7 +212,7 @@ fn by_hashes<'a>(s: &'a [u8], low: &'a mut [u8], high: &'a mut [u8]) -> bool
         match tag_at(t) {
             0x50 => {
                 let a = body(t);
-                let h = html_hash(a);
+                let h = of_attr(a).hash();
                 let i = h % n;
                 let j = h / 65536 % n;
                 let may = is_noted(low, high, i, j);
@@ -334,37 +221,17 @@ fn by_hashes<'a>(s: &'a [u8], low: &'a mut [u8], high: &'a mut [u8]) -> bool
                 }
                 note(low, i);
                 note(high, j);
-                let r = behind(t);
-                t = r;
+                t = behind(t);
                 k += 1;
             }
             0x53 => {
-                let r = behind(t);
-                t = r;
+                t = behind(t);
             }
             _ => {
                 return false;
             }
         }
     }
-}
-
-fn small_table() -> [u8; 512]
-    ensures { result ≡ replicate 512 0 }
-{
-    [0; 512]
-}
-
-fn middle_table() -> [u8; 4096]
-    ensures { result ≡ replicate 4096 0 }
-{
-    [0; 4096]
-}
-
-fn large_table() -> [u8; 65536]
-    ensures { result ≡ replicate 65536 0 }
-{
-    [0; 65536]
 }
 
 // How many attributes stand in front of s. It only chooses the tables, so nothing is said of it.
@@ -374,19 +241,27 @@ fn count(s: &[u8]) -> usize {
     loop {
         match tag_at(t) {
             0x50 => {
-                let r = behind(t);
-                t = r;
+                t = behind(t);
                 k += 1;
             }
             0x53 => {
-                let r = behind(t);
-                t = r;
+                t = behind(t);
             }
             _ => {
                 return k;
             }
         }
     }
+}
+
+// With two tables of N bytes.
+fn by_tables_of<const N: usize>(s: &[u8]) -> bool
+    requires { (0 < N) × (N < 2 ^ 63) }
+    ensures { result ≡ repeats (html_names (attributes_in (read s.now))) }
+{
+    let mut low = [0; N];
+    let mut high = [0; N];
+    by_hashes(s, &mut low, &mut high)
 }
 
 // The same with tables of its own, as large as so many attributes need: a table is cleared before it is used. It is not merged into its
@@ -399,18 +274,12 @@ fn by_tables(s: &[u8], k: usize, first: bool) -> bool
         return by_tables(s, k, false);
     }
     if k <= 48 {
-        let mut low = small_table();
-        let mut high = small_table();
-        return by_hashes(s, &mut low, &mut high);
+        return by_tables_of::<512>(s);
     }
     if k <= 300 {
-        let mut low = middle_table();
-        let mut high = middle_table();
-        return by_hashes(s, &mut low, &mut high);
+        return by_tables_of::<4096>(s);
     }
-    let mut low = large_table();
-    let mut high = large_table();
-    by_hashes(s, &mut low, &mut high)
+    by_tables_of::<65536>(s)
 }
 
 // From the first letter c, the last but one p and the last d, a number below 64. In this form `className` and `class`, `htmlFor` and `for`,
@@ -479,25 +348,17 @@ fn by_keys<'a>(s: &'a [u8], seen: &'a mut [u8; 64]) -> bool
                     return true;
                 }
                 note_key(seen, key);
-                let r = behind(t);
-                t = r;
+                t = behind(t);
                 k += 1;
             }
             0x53 => {
-                let r = behind(t);
-                t = r;
+                t = behind(t);
             }
             _ => {
                 return false;
             }
         }
     }
-}
-
-fn keys() -> [u8; 64]
-    ensures { result ≡ replicate 64 0 }
-{
-    [0; 64]
 }
 
 // Whether two attributes in front of s have one name. Most elements have none or one. With a spread no element is serialized.
@@ -519,7 +380,7 @@ pub fn repeats(s: &[u8]) -> bool
     if b != 0x50 {
         return false;
     }
-    let mut seen = keys();
+    let mut seen = [0; 64];
     if by_keys(s, &mut seen) {
         return by_tables(s, count(s), true);
     }

@@ -9,9 +9,7 @@ use lib.ListN.{length, get_or}
 use borrow.Author.Tests.{ne_eqb, eq-eqb, leb-true}
 use Rattle.field.specs.Bytes.{Bytes, pick}
 use Rattle.field.specs.Row.{read}
-use Rattle.page.specs.Refusal.{refusal_number}
-use Rattle.page.specs.declared.Verdict.{Verdict}
-use Rattle.page.specs.declared.Verdict.TheVariants.{Fine, Refused}
+use Rattle.page.specs.Refusal.{Verdict, Fine, Refused, refusal_number}
 use Rattle.outs.specs.Templates.{check_templates}
 use Rattle.outs.specs.declared.Kind.TheVariants.{New}
 use Rattle.find.specs.Find.{Met, rising, asked_well, absent, walk, none_met, verdict_number, find_number, found}

@@ -1,23 +1,24 @@
--- The whole answer, by the checks. Main statements: `templates_refused`, `too_many`, `not_rising`, `walked`. Assumes nothing.
-use mathlib.Core.Path.{◌≡◌, sym, ap, ◌∙◌}
+-- The whole answer, by the checks. Main statements: `refused_is`, `walked_is`. Assumes nothing.
+use mathlib.Core.Path.{◌≡◌, sym, ap, ap₂, ◌∙◌}
 use mathlib.Core.Bool.{Bool, true, false, ◌&&◌}
 use Prim.Native.Nat.{ℕ, ◌^◌, ◌≤◌, ◌<◌}
 use native.Mathlib.Omega.{arith}
 use mathlib.Core.List.{List, []}
 use lib.Dec.{eqb}
 use lib.ListN.{length}
-use borrow.Author.Tests.{ne_eqb, le-leb, lt-leb}
+use borrow.Author.Tests.{ne_eqb, le-leb}
 use Rattle.field.specs.Bytes.{Bytes, pick}
 use Rattle.field.specs.Row.{read}
-use Rattle.page.specs.Refusal.{refusal_number}
+use Rattle.page.specs.Refusal.{Verdict, Fine, refusal_number}
 use Rattle.page.specs.declared.Refusal.{Refusal}
 use Rattle.page.specs.declared.Refusal.TheVariants as R
-use Rattle.page.specs.declared.Verdict.{Verdict}
-use Rattle.page.specs.declared.Verdict.TheVariants.{Fine, Refused}
 use Rattle.outs.specs.Templates.{check_templates}
 use Rattle.outs.specs.declared.Kind.TheVariants.{New}
 use Rattle.find.specs.Find.{Met, rising, asked_well, walk, none_met, verdict_number, find_number, found}
-use Rattle.find.specs.Answer.{Walked, Answered, Nothing}
+use Rattle.std.specs.Prelude.{Err}
+use Rattle.find.specs.Answer.{Walked, Answered, Nothing, Checked, unfound_number}
+use Rattle.find.specs.declared.answer.Unfound.{Unfound}
+use Rattle.find.specs.declared.answer.Unfound.TheVariants.{Templates, Numbers}
 
 pub number_some : (r : Refusal) → refusal_number r ≡ 0 → ⊥
 unfolding refusal_number
@@ -50,35 +51,30 @@ module _ (t : Bytes) (ns : List ℕ) where
         places_is = o.places_is ∙ ap (λ (m : Met). m.places) f;
       }
 
-  number_by : {v : Verdict} → v ≡ check_templates New t → find_number t ns ≡ pick (eqb (verdict_number v) 0) (pick (asked_well ns) 0 20) (verdict_number v)
-  unfolding find_number
-  number_by e = ap (λ (v : Verdict). pick (eqb (verdict_number v) 0) (pick (asked_well ns) 0 20) (verdict_number v)) (sym e)
+  module _ (s : length t < 2 ^ 64) where
+    pub refused_is : (e : Unfound) → Checked t ns (Err e) → {a b : ℕ} {ps : List ℕ} → Nothing (unfound_number e) a b ps → Answered t ns a b ps
+    unfolding find_number verdict_number
+    refused_is (Templates r) k o =
+        let n : find_number t ns ≡ refusal_number r =
+        ap (λ (v : Verdict). pick (eqb (verdict_number v) 0) (pick (asked_well ns) 0 20) (verdict_number v)) k
+        ∙ ap (λ (x : Bool). pick x (pick (asked_well ns) 0 20) (refusal_number r)) (ne_eqb (refusal_number r) 0 (number_some r)) in
+        nothing_found (refusal_number r) n (number_some r) s o
+    refused_is Numbers k o =
+        let n : find_number t ns ≡ 20 =
+        ap (λ (v : Verdict). pick (eqb (verdict_number v) 0) (pick (asked_well ns) 0 20) (verdict_number v)) k.0
+        ∙ ap (λ (x : Bool). pick x 0 20) k.1 in
+        nothing_found 20 n (λ z. omega arith) s o
 
-  module _ {v : Verdict} (s : length t < 2 ^ 64) (e : v ≡ check_templates New t) where
-    pub templates_refused : {r : Refusal} → v ≡ Refused r → {n a b : ℕ} {ps : List ℕ} → n ≡ refusal_number r → Nothing n a b ps → Answered t ns a b ps
-    unfolding verdict_number
-    templates_refused {r} q {n} m o =
-        let k : find_number t ns ≡ refusal_number r = number_by (sym q ∙ e) ∙ ap (λ (x : Bool). pick x (pick (asked_well ns) 0 20) (refusal_number r)) (ne_eqb (refusal_number r) 0 (number_some r)) in
-        nothing_found n (k ∙ sym m) (λ z. number_some r (sym m ∙ z)) s o
-
-    well : v ≡ Fine → find_number t ns ≡ pick (asked_well ns) 0 20
-    unfolding verdict_number
-    well q = number_by (sym q ∙ e)
-
-    pub too_many : v ≡ Fine → 256 < length ns → {a b : ℕ} {ps : List ℕ} → Nothing 20 a b ps → Answered t ns a b ps
-    too_many q l o = nothing_found 20 (well q ∙ ap (λ (x : Bool). pick (x && rising ns) 0 20) (lt-leb (length ns) 256 l)) (λ z. omega arith) s o
-
-    pub not_rising : v ≡ Fine → length ns ≤ 256 → {y : Bool} → y ≡ rising ns → y ≡ false → {a b : ℕ} {ps : List ℕ} → Nothing 20 a b ps → Answered t ns a b ps
-    not_rising q l f y o = nothing_found 20 (well q ∙ ap (λ (x : Bool). pick (x && rising ns) 0 20) (le-leb (length ns) 256 l) ∙ ap (λ (x : Bool). pick x 0 20) (sym f ∙ y)) (λ z. omega arith) s o
-
-    pub walked : v ≡ Fine → length ns ≤ 256 → {y : Bool} → y ≡ rising ns → y ≡ true → {a b : ℕ} {ps : List ℕ} → Walked t ns a b ps → Answered t ns a b ps
-    unfolding found
-    walked q l f y w =
-        let k : find_number t ns ≡ 0 = well q ∙ ap (λ (x : Bool). pick (x && rising ns) 0 20) (le-leb (length ns) 256 l) ∙ ap (λ (x : Bool). pick x 0 20) (sym f ∙ y) in
-        let g : walk ns 0 (read t) (none_met ns) ≡ found t ns = sym (ap (λ (n : ℕ). pick (eqb n 0) (walk ns 0 (read t) (none_met ns)) (none_met [])) k) in
+    pub walked_is : (check_templates New t ≡ Fine) × (rising ns ≡ true) × (length ns ≤ 256) → {a b : ℕ} {ps : List ℕ} → Walked t ns a b ps → Answered t ns a b ps
+    unfolding find_number verdict_number found
+    walked_is k w =
+        let n : find_number t ns ≡ 0 =
+        ap (λ (v : Verdict). pick (eqb (verdict_number v) 0) (pick (asked_well ns) 0 20) (verdict_number v)) k.0
+        ∙ ap₂ (λ (x y : Bool). pick (x && y) 0 20) (le-leb (length ns) 256 k.2) k.1 in
+        let g : walk ns 0 (read t) (none_met ns) ≡ found t ns = sym (ap (λ (n : ℕ). pick (eqb n 0) (walk ns 0 (read t) (none_met ns)) (none_met [])) n) in
         record {
           in_memory = s;
-          number_is = w.number_is ∙ sym k;
+          number_is = w.number_is ∙ sym n;
           records_is = w.records_is ∙ ap (λ (m : Met). m.records) g;
           places_is = w.places_is ∙ ap (λ (m : Met). m.places) g;
         }

@@ -2,7 +2,7 @@
 -- `not_asked`, `met_before`, `first_met`. Assumes nothing.
 use mathlib.Core.Path.{◌≡◌, refl, sym, ap, ◌∙◌, subst}
 use mathlib.Core.Bool.{Bool, true, false, ◌&&◌}
-use Prim.Native.Nat.{ℕ, suc, ◌+◌, ◌-◌, ◌*◌, ◌≤◌, ◌<◌}
+use Prim.Native.Nat.{ℕ, suc, ◌+◌, ◌-◌, ◌≤◌, ◌<◌}
 use native.Mathlib.Omega.{arith}
 use mathlib.Core.List.{List, [], ◌∷◌}
 use lib.Dec.{eqb, leb, ltb}
@@ -13,15 +13,14 @@ use Rattle.field.specs.Bytes.{Bytes, pick}
 use Rattle.field.specs.Number.{number_from, number_of}
 use Rattle.field.specs.Row.{Row, end, loose, field, bytes, Inside, only_bytes, fields_after, counted, counted_front, inside, opened, built, read, Ended}
 use Rattle.field.specs.Header.{header_of, Within}
+use Rattle.std.specs.Prelude.{Option, Some, None}
+use Rattle.std.specs.Int.{w32, from_be_bytes}
 use Rattle.field.specs.declared.reader.Header.{Header}
-use Rattle.field.specs.declared.reader.Header.TheVariants as H
 use Rattle.field.proofs.RowLaws.{read_step, read_ind, next_nothing, next_sizes, length_bytes}
 use Rattle.field.proofs.HeaderLaws.{next_field, no_field_read, within_field}
-use Rattle.page.specs.Refusal.{after, unless}
+use Rattle.page.specs.Refusal.{Verdict, Fine, Refused, after, unless}
 use Rattle.page.specs.declared.Refusal.{Refusal}
 use Rattle.page.specs.declared.Refusal.TheVariants as R
-use Rattle.page.specs.declared.Verdict.{Verdict}
-use Rattle.page.specs.declared.Verdict.TheVariants.{Fine, Refused}
 use Rattle.outs.specs.Templates.{check_templates, check_records, check_strings_of, front_of_record, all_kinds, count_of}
 use Rattle.outs.specs.declared.Kind.TheVariants.{New}
 use Rattle.find.specs.Find.{Met, index_of, wanted, step, walk, none_met, absent}
@@ -29,17 +28,10 @@ use Rattle.find.specs.Answer.{Walked}
 
 -- ---- the number in four bytes
 
-pub number_four : (s : Bytes) → 7 ≤ length s → {a b c d : ℕ} →
-    a ≡ 0 * 256 + get_or s 3 0 → b ≡ a * 256 + get_or s 4 0 → c ≡ b * 256 + get_or s 5 0 → d ≡ c * 256 + get_or s 6 0 → d ≡ number_of (take 4 (drop 3 s))
+pub number_four : (s : Bytes) → 7 ≤ length s → {n : ℕ} → n ≡ from_be_bytes w32 (get_or s 3 0 ∷ get_or s 4 0 ∷ get_or s 5 0 ∷ get_or s 6 0 ∷ []) → n ≡ number_of (take 4 (drop 3 s))
 unfolding number_from
-number_four [] l = absurd (omega arith)
-number_four (x0 ∷ []) l = absurd (omega arith)
-number_four (x0 ∷ x1 ∷ []) l = absurd (omega arith)
-number_four (x0 ∷ x1 ∷ x2 ∷ []) l = absurd (omega arith)
-number_four (x0 ∷ x1 ∷ x2 ∷ x3 ∷ []) l = absurd (omega arith)
-number_four (x0 ∷ x1 ∷ x2 ∷ x3 ∷ x4 ∷ []) l = absurd (omega arith)
-number_four (x0 ∷ x1 ∷ x2 ∷ x3 ∷ x4 ∷ x5 ∷ []) l = absurd (omega arith)
-number_four (x0 ∷ x1 ∷ x2 ∷ x3 ∷ x4 ∷ x5 ∷ x6 ∷ s) l = λ p q r t. cc
+number_four (x0 ∷ x1 ∷ x2 ∷ x3 ∷ x4 ∷ x5 ∷ x6 ∷ s) l e = omega arith
+number_four _ l e = absurd (omega arith)
 
 -- ---- bytes are as many as those of the row that they read as
 
@@ -107,43 +99,43 @@ pub record Record (s : Bytes) (e : ℕ) : Type 0 where
 front_part : (n : ℕ) (w : Bytes) → 6 ≤ length (take n w) → take 4 (take n w) ≡ take 4 w
 front_part n w h = take-take 4 n w (omega (arith, length-take n w))
 
-module _ (s : Bytes) (e t : ℕ) (h : header_of s ≡ H.Field t e) (le : 3 ≤ e) (me : e ≤ length s) (fine : check_records New (read s) ≡ Fine) where
+module _ (s : Bytes) (y : Header) (h : header_of s ≡ Some y) (le : 3 ≤ y.end) (me : y.end ≤ length s) (fine : check_records New (read s) ≡ Fine) where
   abbrev body : Bytes
-  body = take (e - 3) (drop 3 s)
+  body = take (y.end - 3) (drop 3 s)
 
   abbrev rest : Bytes
-  rest = take (length s - e) (drop e s)
+  rest = take (length s - y.end) (drop y.end s)
 
-  body_size : length body ≡ e - 3
-  body_size = length-take-le (e - 3) (drop 3 s) (omega (arith, length-drop 3 s))
+  body_size : length body ≡ y.end - 3
+  body_size = length-take-le (y.end - 3) (drop 3 s) (omega (arith, length-drop 3 s))
 
-  opened_is : read s ≡ opened (inside t) read t body rest
+  opened_is : read s ≡ opened (inside y.tag) read y.tag body rest
   unfolding built
-  opened_is = read_step s ∙ ap (built read s) (next_field s t e h)
+  opened_is = read_step s ∙ ap (built read s) (next_field s y h)
 
   number_in : 6 ≤ length body → take 4 body ≡ take 4 (drop 3 s)
-  number_in l = take-take 4 (e - 3) (drop 3 s) (omega (arith, body_size))
+  number_in l = take-take 4 (y.end - 3) (drop 3 s) (omega (arith, body_size))
 
-  made : (f : Bytes) (i : Row) → read s ≡ field t f i (read rest) → (6 ≤ length f → take 4 f ≡ take 4 body) → length f + length (bytes i) ≡ length body → Record s e
+  made : (f : Bytes) (i : Row) → read s ≡ field y.tag f i (read rest) → (6 ≤ length f → take 4 f ≡ take 4 body) → length f + length (bytes i) ≡ length body → Record s y.end
   made f i q n l =
-      let c : check_records New (field t f i (read rest)) ≡ Fine = subst (λ (x : Row). check_records New x ≡ Fine) q fine in
-      let k : 6 ≤ length f = fine_front t f i (read rest) c in
+      let c : check_records New (field y.tag f i (read rest)) ≡ Fine = subst (λ (x : Row). check_records New x ≡ Fine) q fine in
+      let k : 6 ≤ length f = fine_front y.tag f i (read rest) c in
       record {
-        tag = t;
+        tag = y.tag;
         front = f;
         inner = i;
         read_is = q;
         number_is = ap number_of (n k ∙ number_in (omega arith));
         end_is = omega (arith, body_size);
         has_number = omega (arith, body_size);
-        rest_fine = fine_rest t f i (read rest) c;
+        rest_fine = fine_rest y.tag f i (read rest) c;
       }
 
-  pub record_in : Record s e
+  pub record_in : Record s y.end
   unfolding opened bytes
-  record_in = on (inside t) opened_is
+  record_in = on (inside y.tag) opened_is
     where
-      on : (c : Inside) → read s ≡ opened c read t body rest → Record s e
+      on : (c : Inside) → read s ≡ opened c read y.tag body rest → Record s y.end
       on only_bytes q = made body end q (λ l. refl) (omega arith)
       on (fields_after n) q = made (take n body) (read (drop n body)) q (λ l. front_part n body l) (omega (arith, part_size n body, length_read (drop n body)))
       on (counted n) q = made (take (counted_front n body) body) (read (drop (counted_front n body) body)) q (λ l. front_part (counted_front n body) body l) (omega (arith, part_size (counted_front n body) body, length_read (drop (counted_front n body) body)))
@@ -165,7 +157,7 @@ ended ns p end m i = refl
 ended ns p (loose b) m i = refl
 ended ns p (field t f k r) m i = absurd i
 
-pub no_more : (ns : List ℕ) (p : ℕ) (s : Bytes) (m : Met) {v : Header} → v ≡ header_of s → v ≡ H.Absent → walk ns p (read s) m ≡ m
+pub no_more : (ns : List ℕ) (p : ℕ) (s : Bytes) (m : Met) {v : Option Header} → v ≡ header_of s → v ≡ None → walk ns p (read s) m ≡ m
 no_more ns p s m q h = ended ns p (read s) m (no_field_read s q h)
 
 walk_field : (ns : List ℕ) (p t : ℕ) (f : Bytes) (i r : Row) (m : Met) → (m.waiting ≡ 0 → ⊥) →
@@ -235,37 +227,37 @@ module _ {ts : Bytes} {ns ps : List ℕ} {w c p : ℕ} {s : Bytes} (a : Walking 
   pub walk_ends : w ≡ 0 → Walked ts ns 0 c ps
   walk_ends e = answered (none_waits ns p (read s) (met ps w c) e)
 
-  module _ {v : Header} (h : (v ≡ header_of s) × Within (length s) v) where
-    pub walk_ends_there : v ≡ H.Absent → Walked ts ns 0 c ps
+  module _ {v : Option Header} (h : (v ≡ header_of s) × Within (length s) v) where
+    pub walk_ends_there : v ≡ None → Walked ts ns 0 c ps
     walk_ends_there e = answered (no_more ns p s (met ps w c) h.0 e)
 
-    module _ {t e : ℕ} (q : v ≡ H.Field t e) where
-      in_row : (3 ≤ e) × (e ≤ length s)
+    module _ {y : Header} (q : v ≡ Some y) where
+      in_row : (3 ≤ y.end) × (y.end ≤ length s)
       in_row = within_field h.1 q
 
-      the_record : Record s e
-      the_record = record_in s e t (sym h.0 ∙ q) in_row.0 in_row.1 a.fine
+      the_record : Record s y.end
+      the_record = record_in s y (sym h.0 ∙ q) in_row.0 in_row.1 a.fine
 
       pub has_seven : 7 ≤ length s
       has_seven = omega (arith, in_row.1, the_record.has_number)
 
-      pub end_in : e ≤ length s
+      pub end_in : y.end ≤ length s
       end_in = in_row.1
 
       pub one_more : c + 1 ≤ length ts
       one_more = omega (arith, in_row.1, the_record.has_number, a.size, a.counted)
 
-      pub next_in : p + e ≤ length ts
+      pub next_in : p + y.end ≤ length ts
       next_in = omega (arith, in_row.1, a.size)
 
-      rest_size : length (take (length s - e) (drop e s)) ≡ length s - e
-      rest_size = length-take-le (length s - e) (drop e s) (omega (arith, length-drop e s))
+      rest_size : length (take (length s - y.end) (drop y.end s)) ≡ length s - y.end
+      rest_size = length-take-le (length s - y.end) (drop y.end s) (omega (arith, length-drop y.end s))
 
-      pub rest_less : length (take (length s - e) (drop e s)) < length s
+      pub rest_less : length (take (length s - y.end) (drop y.end s)) < length s
       rest_less = omega (arith, rest_size, in_row.0, in_row.1)
 
-      goes_on : (ps' : List ℕ) (w' : ℕ) → length ps' ≡ length ps → walk ns p (read s) (met ps w c) ≡ walk ns (p + e) (read (take (length s - e) (drop e s))) (met ps' w' (c + 1)) →
-          Walking ts ns ps' w' (c + 1) (p + e) (take (length s - e) (drop e s))
+      goes_on : (ps' : List ℕ) (w' : ℕ) → length ps' ≡ length ps → walk ns p (read s) (met ps w c) ≡ walk ns (p + y.end) (read (take (length s - y.end) (drop y.end s))) (met ps' w' (c + 1)) →
+          Walking ts ns ps' w' (c + 1) (p + y.end) (take (length s - y.end) (drop y.end s))
       goes_on ps' w' l z =
           record {
             fine = the_record.rest_fine;
@@ -275,12 +267,12 @@ module _ {ts : Bytes} {ns ps : List ℕ} {w c p : ℕ} {s : Bytes} (a : Walking 
             same = a.same ∙ z;
           }
 
-      module _ {n m i : ℕ} (some : w ≡ 0 → ⊥) (k : (n ≡ number_of (take 4 (drop 3 s))) × (n < m)) (j : i ≡ index_of n ns) where
-        pub turn_not_asked : length ns ≤ i → Walking ts ns ps w (c + 1) (p + e) (take (length s - e) (drop e s))
-        turn_not_asked l = goes_on ps w refl (not_asked ns s e the_record p ps w c some k.0 j l)
+      module _ {n i : ℕ} (some : w ≡ 0 → ⊥) (k : n ≡ number_of (take 4 (drop 3 s))) (j : i ≡ index_of n ns) where
+        pub turn_not_asked : length ns ≤ i → Walking ts ns ps w (c + 1) (p + y.end) (take (length s - y.end) (drop y.end s))
+        turn_not_asked l = goes_on ps w refl (not_asked ns s y.end the_record p ps w c some k j l)
 
-        pub turn_met_before : i < length ns → (get_or ps i 0 ≡ absent → ⊥) → Walking ts ns ps w (c + 1) (p + e) (take (length s - e) (drop e s))
-        turn_met_before l z = goes_on ps w refl (met_before ns s e the_record p ps w c some k.0 j l z)
+        pub turn_met_before : i < length ns → (get_or ps i 0 ≡ absent → ⊥) → Walking ts ns ps w (c + 1) (p + y.end) (take (length s - y.end) (drop y.end s))
+        turn_met_before l z = goes_on ps w refl (met_before ns s y.end the_record p ps w c some k j l z)
 
-        pub turn_first_met : i < length ns → get_or ps i 0 ≡ absent → Walking ts ns (set ps i p) (w - 1) (c + 1) (p + e) (take (length s - e) (drop e s))
-        turn_first_met l z = goes_on (set ps i p) (w - 1) (length-set ps i p) (first_met ns s e the_record p ps w c some k.0 j l z)
+        pub turn_first_met : i < length ns → get_or ps i 0 ≡ absent → Walking ts ns (set ps i p) (w - 1) (c + 1) (p + y.end) (take (length s - y.end) (drop y.end s))
+        turn_first_met l z = goes_on (set ps i p) (w - 1) (length-set ps i p) (first_met ns s y.end the_record p ps w c some k j l z)

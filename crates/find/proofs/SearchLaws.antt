@@ -1,18 +1,22 @@
--- The table that numbers are searched in rises, and a search in it finds what stands there. Main statements: `table_rises`, `present`, `missing`.
+-- The table that numbers are searched in rises, and a search in it finds what stands there; whether numbers rise. Main statements: `index_found`, `index_none`,
+-- `rising_is`, `table_turn`, `table_whole`.
 -- Assumes nothing.
 use mathlib.Core.Path.{◌≡◌, refl, sym, ap, ◌∙◌, subst}
-use Prim.Native.Nat.{ℕ, zero, suc, ◌+◌, ◌-◌, ◌/◌, ◌≤◌, ◌<◌}
+use Prim.Native.Nat.{ℕ, zero, suc, ◌+◌, ◌-◌, ◌≤◌, ◌<◌}
 use native.Mathlib.Omega.{arith}
 use native.Mathlib.Decide.{dec_le}
 use mathlib.Core.Bool.{Bool, true, false, ◌&&◌}
-use mathlib.Core.Logic.{◌⊎◌, inl, inr}
 use mathlib.Core.List.{List, [], ◌∷◌, ◌++◌, append_assoc}
 use lib.Dec.{T, eqb, ltb, ltb→lt, eqb_refl}
-use lib.ListN.{length, get_or, take, drop, set, replicate}
+use lib.ListN.{length, get_or, take, set, replicate, length-append, length-replicate}
 use lib.Seq.{take-suc, take_all, set_at, length-take-le}
-use borrow.Author.Tests.{ne_eqb, lt-ltb, le-ltb}
+use borrow.Author.Tests.{ne_eqb, lt-ltb}
+use Rattle.std.specs.Prelude.{Result, Ok, Err, MatchResult, IsTrue}
+use Rattle.std.specs.Ordering.{nat_cmp}
+use Rattle.std.specs.List.Sorted.{IsBinarySearchResult}
+use Rattle.std.proofs.lemmas.List.Sorted.{searched}
 use Rattle.find.specs.Find.{rising, index_of}
-use Rattle.find.specs.Search.{beyond, padded, Asked}
+use Rattle.find.specs.Search.{beyond, padded}
 
 -- ---- rising numbers
 
@@ -86,15 +90,11 @@ unfolding index_of
 index_missing [] n f = refl
 index_missing (m ∷ ns) n f = rw (ne_eqb m n (f zero (omega arith))) (ap suc (index_missing ns n (λ j l. f (suc j) (omega arith))))
 
--- what holds at each step: n is less than all from the end of the room on, and not less than the first of it, but where that is the table's
-pub record Searching (table : List ℕ) (n i room : ℕ) : Type 0 where
-  pub some_room : 1 ≤ room
-  pub in_table : i + room ≤ 256
-  pub from_first : i ≡ 0 ⊎ (get_or table i 0 ≤ n)
-  pub less_behind : (j : ℕ) → i + room ≤ j → j < 256 → n < get_or table j 0
-
 module _ (ns : List ℕ) (r : rising ns ≡ true) (h : length ns ≤ 256) {table : List ℕ} (e : table ≡ padded ns) (small : (j : ℕ) → j < length ns → get_or ns j 0 < beyond) where
-  pub table_rises : (j k : ℕ) → j ≤ k → k < 256 → get_or table j 0 ≤ get_or table k 0
+  table_size : length table ≡ 256
+  table_size = ap length e ∙ length-append ns (replicate (256 - length ns) beyond) ∙ omega (arith, length-replicate (256 - length ns) beyond)
+
+  table_rises : (j k : ℕ) → j ≤ k → k < 256 → get_or table j 0 ≤ get_or table k 0
   table_rises j k l m = on (dec_le (suc k) (length ns)) (dec_le (suc j) (length ns))
     where
       same : {a b : ℕ} → a ≡ b → a ≤ b
@@ -109,105 +109,56 @@ module _ (ns : List ℕ) (r : rising ns ≡ true) (h : length ns ≤ 256) {table
       on (no p) (yes q) = omega (arith, asked_at ns h e j q, beyond_at ns h e k (omega arith) m, small j q)
       on (no p) (no q) = omega (arith, beyond_at ns h e j (omega arith) (omega arith), beyond_at ns h e k (omega arith) m)
 
-  module _ (n : ℕ) (low : n < beyond) where
-    pub search_begins : Searching table n 0 256
-    search_begins = record { some_room = omega arith; in_table = omega arith; from_first = inl refl; less_behind = λ j l m. absurd (omega arith) }
+  -- what a search in the table answers
+  module _ {n : ℕ} (low : n < beyond) (v : Result ℕ ℕ) (b : IsBinarySearchResult (λ y. nat_cmp y n) table v) where
+    asked : MatchResult v (λ i. (i < length table) × (get_or table i 0 ≡ n)) (λ i. (i ≤ length table) × ((k : ℕ) → k < i → get_or table k 0 < n) × ((k : ℕ) → i ≤ k → k < length table → n < get_or table k 0))
+    asked = searched table n v b (λ i j l m. table_rises i j l (omega (arith, table_size)))
 
-    pub search_up : {i room : ℕ} (half : ℕ) → Searching table n i room → 1 < room → half + half ≤ room → room < half + half + 2 → get_or table (i + half) 0 ≤ n → Searching table n (i + half) (room - half)
-    search_up {i} {room} half s g a b t =
-        record {
-          some_room = omega arith;
-          in_table = omega (arith, s.in_table);
-          from_first = inr t;
-          less_behind = λ j l m. s.less_behind j (omega arith) m;
-        }
+    pub index_found : {i : ℕ} → v ≡ Ok i → (i < length ns) × (i ≡ index_of n ns)
+    index_found {i} q = on (dec_le (suc i) (length ns))
+      where
+        there : (i < length table) × (get_or table i 0 ≡ n)
+        there = subst (λ (u : Result ℕ ℕ). MatchResult u (λ i. (i < length table) × (get_or table i 0 ≡ n)) (λ i. (i ≤ length table) × ((k : ℕ) → k < i → get_or table k 0 < n) × ((k : ℕ) → i ≤ k → k < length table → n < get_or table k 0))) q asked
 
-    pub search_down : {i room : ℕ} (half : ℕ) → Searching table n i room → 1 < room → half + half ≤ room → room < half + half + 2 → n < get_or table (i + half) 0 → Searching table n i (room - half)
-    search_down {i} {room} half s g a b t =
-        record {
-          some_room = omega arith;
-          in_table = omega (arith, s.in_table);
-          from_first = s.from_first;
-          less_behind = λ j l m. omega (arith, table_rises (i + half) j (omega arith) m);
-        }
+        on : Dec (suc i ≤ length ns) → (i < length ns) × (i ≡ index_of n ns)
+        on (yes l) =
+            (l, sym (index_present ns n i l (sym (asked_at ns h e i l) ∙ there.1) (λ j k p. omega (arith, rises ns r j i k l, asked_at ns h e i l, there.1))))
+        on (no l) = absurd (omega (arith, beyond_at ns h e i (omega arith) (omega (arith, there.0, table_size)), there.1, low))
 
-    module _ {i room : ℕ} (s : Searching table n i room) (one : room ≤ 1) where
-      pub found : get_or table i 0 ≡ n → i ≡ index_of n ns
-      found t = sym (index_present ns n i there (sym (asked_at ns h e i there) ∙ t) (λ j l p. omega (arith, rises ns r j i l there, asked_at ns h e i there)))
-        where
-          there : i < length ns
-          there = on (dec_le (suc i) (length ns))
-            where
-              on : Dec (suc i ≤ length ns) → i < length ns
-              on (yes q) = q
-              on (no q) = absurd (omega (arith, beyond_at ns h e i (omega arith) (omega (arith, s.in_table, s.some_room))))
+    pub index_none : {i : ℕ} → v ≡ Err i → length ns ≤ index_of n ns
+    index_none {i} q = omega (arith, index_missing ns n (λ j l p. on j l p (dec_le i j)))
+      where
+        apart : (i ≤ length table) × ((k : ℕ) → k < i → get_or table k 0 < n) × ((k : ℕ) → i ≤ k → k < length table → n < get_or table k 0)
+        apart = subst (λ (u : Result ℕ ℕ). MatchResult u (λ i. (i < length table) × (get_or table i 0 ≡ n)) (λ i. (i ≤ length table) × ((k : ℕ) → k < i → get_or table k 0 < n) × ((k : ℕ) → i ≤ k → k < length table → n < get_or table k 0))) q asked
 
-      pub not_found : (get_or table i 0 ≡ n → ⊥) → length ns ≡ index_of n ns
-      not_found t = sym (index_missing ns n (λ j l p. on j l p (dec_le j i)))
-        where
-          first : (j : ℕ) → j < length ns → get_or ns j 0 ≡ n → j < i → i ≡ 0 ⊎ (get_or table i 0 ≤ n) → ⊥
-          first j l p q (inl z) = omega arith
-          first j l p q (inr z) = t (omega (arith, asked_at ns h e j l, table_rises j i (omega arith) (omega (arith, s.in_table, s.some_room))))
-
-          on : (j : ℕ) → j < length ns → get_or ns j 0 ≡ n → Dec (j ≤ i) → ⊥
-          on j l p (yes q) = here (dec_le (suc j) i)
-            where
-              here : Dec (suc j ≤ i) → ⊥
-              here (yes k) = first j l p k s.from_first
-              here (no k) = let z : i ≡ j = omega arith in t (ap (λ (x : ℕ). get_or table x 0) z ∙ asked_at ns h e j l ∙ p)
-          on j l p (no q) = omega (arith, asked_at ns h e j l, s.less_behind j (omega (arith, s.some_room)) (omega arith))
-
--- ---- the same, of what the code's contract says
-
-module _ {ns table : List ℕ} {n : ℕ} (a : Asked ns table n) where
-  pub begins : Searching table n 0 256
-  begins = search_begins ns a.in_order a.not_many a.table_is (λ j l. a.all_low j) n a.low
-
-  pub goes_up : {i room : ℕ} → Searching table n i room → 1 < room → get_or table (i + room / 2) 0 ≤ n → Searching table n (i + room / 2) (room - room / 2)
-  goes_up {i} {room} s g t = search_up ns a.in_order a.not_many a.table_is (λ j l. a.all_low j) n a.low (room / 2) s g (omega arith) (omega arith) t
-
-  pub goes_down : {i room : ℕ} → Searching table n i room → 1 < room → n < get_or table (i + room / 2) 0 → Searching table n i (room - room / 2)
-  goes_down {i} {room} s g t = search_down ns a.in_order a.not_many a.table_is (λ j l. a.all_low j) n a.low (room / 2) s g (omega arith) (omega arith) t
-
-  pub ends_there : {i room : ℕ} → Searching table n i room → room ≤ 1 → get_or table i 0 ≡ n → i ≡ index_of n ns
-  ends_there s one t = found ns a.in_order a.not_many a.table_is (λ j l. a.all_low j) n a.low s one t
-
-  pub ends_without : {i room : ℕ} → Searching table n i room → room ≤ 1 → (get_or table i 0 ≡ n → ⊥) → length ns ≡ index_of n ns
-  ends_without s one t = not_found ns a.in_order a.not_many a.table_is (λ j l. a.all_low j) n a.low s one t
+        on : (j : ℕ) → j < length ns → get_or ns j 0 ≡ n → Dec (i ≤ j) → ⊥
+        on j l p (yes k) = omega (arith, apart.2 j k (omega (arith, table_size)), asked_at ns h e j l)
+        on j l p (no k) = omega (arith, apart.1 j (omega arith), asked_at ns h e j l)
 
 -- ---- whether numbers rise, one after the other
 
-rising_from : (ns : List ℕ) (j : ℕ) → suc j < length ns → rising (drop j ns) ≡ (ltb (get_or ns j 0) (get_or ns (suc j) 0) && rising (drop (suc j) ns))
+abbrev pub Rises : List ℕ → Type 0
+Rises ns = (k : ℕ) → k + 1 < length ns → get_or ns k 0 < get_or ns (k + 1) 0
+
+each_rising : (ns : List ℕ) → Rises ns → rising ns ≡ true
 unfolding rising
-rising_from [] j h = absurd (omega arith)
-rising_from (n ∷ []) j h = absurd (omega arith)
-rising_from (n ∷ m ∷ ns) zero h = refl
-rising_from (n ∷ m ∷ ns) (suc j) h = rising_from (m ∷ ns) j (omega arith)
+each_rising [] f = refl
+each_rising (n ∷ []) f = refl
+each_rising (n ∷ m ∷ ns) f = rw (lt-ltb n m (f 0 (omega arith))) (each_rising (m ∷ ns) (λ k l. behind k (f (suc k) (omega arith))))
+  where
+    behind : (k : ℕ) → get_or (m ∷ ns) k 0 < get_or (n ∷ m ∷ ns) (suc k + 1) 0 → get_or (m ∷ ns) k 0 < get_or (m ∷ ns) (k + 1) 0
+    behind k g = let q : suc k + 1 ≡ suc (k + 1) = omega arith in omega (arith, ap (λ (j : ℕ). get_or (n ∷ m ∷ ns) j 0) q)
 
-rising_last : (ns : List ℕ) (j : ℕ) → length ns ≤ suc j → rising (drop j ns) ≡ true
-unfolding rising
-rising_last [] zero h = refl
-rising_last [] (suc j) h = refl
-rising_last (n ∷ []) zero h = refl
-rising_last (n ∷ m ∷ ns) zero h = absurd (omega arith)
-rising_last (n ∷ ns) (suc j) h = rising_last ns j (omega arith)
+rising_each : (ns : List ℕ) → rising ns ≡ true → Rises ns
+rising_each ns e k l = rises ns e k (k + 1) (omega arith) l
 
-module _ (ns : List ℕ) (i : ℕ) (e : rising ns ≡ rising (drop (i - 1) ns)) (s : 1 ≤ i) where
-  rising_here : i < length ns → rising ns ≡ (ltb (get_or ns (i - 1) 0) (get_or ns i 0) && rising (drop i ns))
-  rising_here h =
-      let p : suc (i - 1) ≡ i = omega arith in
-      e ∙ rising_from ns (i - 1) (omega arith) ∙ ap (λ (x : ℕ). ltb (get_or ns (i - 1) 0) (get_or ns x 0) && rising (drop x ns)) p
-
-  pub falls : i < length ns → get_or ns i 0 ≤ get_or ns (i - 1) 0 → false ≡ rising ns
-  falls h l = sym (rising_here h ∙ ap (λ (b : Bool). b && rising (drop i ns)) (le-ltb (get_or ns (i - 1) 0) (get_or ns i 0) l))
-
-  pub rises_on : i < length ns → get_or ns (i - 1) 0 < get_or ns i 0 → rising ns ≡ rising (drop (i + 1 - 1) ns)
-  rises_on h l =
-      let p : i ≡ i + 1 - 1 = omega arith in
-      rising_here h ∙ ap (λ (b : Bool). b && rising (drop i ns)) (lt-ltb (get_or ns (i - 1) 0) (get_or ns i 0) l) ∙ ap (λ (x : ℕ). rising (drop x ns)) p
-
-  pub rises_all : length ns ≤ i → true ≡ rising ns
-  rises_all h = sym (e ∙ rising_last ns (i - 1) (omega arith))
+pub rising_is : (ns : List ℕ) (b : Bool) → (IsTrue b → Rises ns) × (Rises ns → IsTrue b) → b ≡ rising ns
+rising_is ns true t = sym (each_rising ns (t.0 refl))
+rising_is ns false t = on (rising ns) refl
+  where
+    on : (v : Bool) → rising ns ≡ v → false ≡ rising ns
+    on true e = absurd (let z : false ≡ true = t.1 (rising_each ns e) in let k : ◌≡◌ {A = ℕ} 0 1 = cc in omega arith)
+    on false e = sym e
 
 -- ---- the table, filled from the front
 

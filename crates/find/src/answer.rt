@@ -1,42 +1,68 @@
 // The lookup: the check of the templates, then that of the numbers, then the walk.
 ghost use Rattle.std.specs.Prelude.{◌≡◌, replicate};
 ghost use Rattle.find.specs.Find.{absent};
-ghost use Rattle.find.specs.Answer.{Answered, Nothing};
+ghost use Rattle.find.specs.Answer.{Checked, Answered, Nothing, unfound_number};
+ghost use Rattle.find.specs.declared.answer.Unfound.TheVariants.{Templates};
 
 use crate::lookup::{ABSENT, Places, walk};
 use crate::search::{MOST, is_rising};
+use outs::Kind;
 use outs::templates::check_templates;
-use outs::{Kind, number_of};
-use page::Verdict;
+use page::Refusal;
 
-// Nothing found, and nothing read.
-fn refused(number: u32) -> Places
-    ensures { Nothing number result.number result.records result.places }
-{
-    let places = [ABSENT; 256];
-    Places {
-        number: number,
-        records: 0,
-        places: places,
+// Why nothing is looked up: what is refused of the templates, or that the numbers are too many or do not rise.
+#[derive(Clone, Copy)]
+pub enum Unfound {
+    Templates(Refusal),
+    Numbers,
+}
+
+impl From<Refusal> for Unfound {
+    ghost from_gives = { λ r e. e ≡ Templates r };
+
+    fn from(r: Refusal) -> Unfound {
+        Unfound::Templates(r)
     }
 }
 
 // Document 02, A11: 3, 4 and 6 for the templates, then 20.
+impl From<Unfound> for u32 {
+    ghost from_gives = { λ e n. n ≡ unfound_number e };
+
+    fn from(e: Unfound) -> u32 {
+        match e {
+            Unfound::Templates(r) => u32::from(r),
+            Unfound::Numbers => 20,
+        }
+    }
+}
+
+fn check(templates: &[u8], numbers: &[u32]) -> Result<(), Unfound>
+    ensures { Checked templates.now numbers.now result }
+{
+    check_templates(templates, Kind::New)?;
+    if MOST < numbers.len() || !is_rising(numbers) {
+        return Err(Unfound::Numbers);
+    }
+    Ok(())
+}
+
+// Nothing found, and nothing read.
+fn refused(e: Unfound) -> Places
+    ensures { Nothing (unfound_number e) result.number result.records result.places }
+{
+    Places {
+        number: u32::from(e),
+        records: 0,
+        places: [ABSENT; 256],
+    }
+}
+
 pub fn find(templates: &[u8], numbers: &[u32]) -> Places
     ensures { Answered templates.now numbers.now result.number result.records result.places }
 {
-    match check_templates(templates, Kind::New) {
-        Verdict::Fine => {
-            if MOST < numbers.len() {
-                return refused(20);
-            }
-            if is_rising(numbers) {
-                return walk(templates, numbers);
-            }
-            return refused(20);
-        }
-        Verdict::Refused(e) => {
-            return refused(number_of(e));
-        }
+    match check(templates, numbers) {
+        Ok(()) => walk(templates, numbers),
+        Err(e) => refused(e),
     }
 }

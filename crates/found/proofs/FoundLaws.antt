@@ -19,9 +19,12 @@ use Rattle.spec.specs.Merge as M
 use Rattle.spec.specs.Merge.{Child, becomes_template, nothing_found}
 use Rattle.spec.specs.Children.{found_of, flattened, one_child, many_children, children_to_expr}
 use Rattle.spec.specs.Transform.{children, fragment_of}
+use Rattle.decisions.specs.declared.children.Count.{Count}
+use Rattle.decisions.specs.declared.children.Count.TheVariants.{Zero, One, More}
 use Rattle.decisions.specs.At.{opts, few, is_none, becomes}
 use Rattle.decisions.proofs.Series.{tested, children_60, children_52, children_30, children_31, children_61, contained_none, contained_field}
 use Rattle.decisions.proofs.Laws.{child_element, child_fragment, becomes_is}
+use Rattle.found.proofs.ItemLaws.{how_many}
 use Rattle.found.specs.Finds.{Within, part, placed, kids, entries_at, found_at, expr_at, text_entry, element_entry, template_entry, Finds, Flattened, FirstAt}
 use Rattle.found.specs.declared.Kind.{Kind}
 use Rattle.found.specs.declared.Kind.TheVariants as K
@@ -37,27 +40,27 @@ Given skip s r = Within r s × ((props : Bytes) → Finds skip props (found_at s
 
 -- ---- none, one, or more
 
-abbrev one_or_more : P.Children → ℕ
-one_or_more cs = pick (is_none cs) 1 2
+abbrev one_or_more : P.Children → Count
+one_or_more cs = pick (is_none cs) One More
 
 -- none is behind the only one
-lone : (cs : P.Children) → one_or_more cs ≡ 1 → cs ≡ P.no_children
+lone : (cs : P.Children) → one_or_more cs ≡ One → cs ≡ P.no_children
 unfolding is_none
 lone P.no_children h = refl
-lone (P.text_child b cs) h = absurd (omega arith)
-lone (P.empty_child cs) h = absurd (omega arith)
-lone (P.container_child e cs) h = absurd (omega arith)
-lone (P.tag_child t cs) h = absurd (omega arith)
-lone (P.spread_child e cs) h = absurd (omega arith)
+lone (P.text_child b cs) h = absurd (omega (arith, ap how_many h))
+lone (P.empty_child cs) h = absurd (omega (arith, ap how_many h))
+lone (P.container_child e cs) h = absurd (omega (arith, ap how_many h))
+lone (P.tag_child t cs) h = absurd (omega (arith, ap how_many h))
+lone (P.spread_child e cs) h = absurd (omega (arith, ap how_many h))
 
-some_few : (cs : P.Children) → one_or_more cs ≡ 0 → ⊥
+some_few : (cs : P.Children) → one_or_more cs ≡ Zero → ⊥
 some_few cs = on (is_none cs)
   where
-    on : (b : Bool) → (let n : ℕ = pick b 1 2 in n ≡ 0) → ⊥
-    on true h = omega arith
-    on false h = omega arith
+    on : (b : Bool) → pick b One More ≡ Zero → ⊥
+    on true h = omega (arith, ap how_many h)
+    on false h = omega (arith, ap how_many h)
 
-none_few : (cs : P.Children) → few cs ≡ 0 → cs ≡ P.no_children
+none_few : (cs : P.Children) → few cs ≡ Zero → cs ≡ P.no_children
 unfolding few
 none_few P.no_children h = refl
 none_few (P.text_child b cs) h = absurd (some_few cs h)
@@ -67,23 +70,23 @@ none_few (P.tag_child t cs) h = absurd (some_few cs h)
 none_few (P.spread_child e cs) h = absurd (some_few cs h)
 
 -- a child in front of others
-several : (o : P.Options) (c : Child) (cs : P.Children) → (one_or_more cs ≡ 1 → ⊥) → children_to_expr (c ∷ children o cs) ≡ many_children (c ∷ children o cs)
+several : (o : P.Options) (c : Child) (cs : P.Children) → one_or_more cs ≡ More → children_to_expr (c ∷ children o cs) ≡ many_children (c ∷ children o cs)
 unfolding is_none children children_to_expr
-several o c P.no_children h = absurd (h refl)
+several o c P.no_children h = absurd (omega (arith, ap how_many h))
 several o c (P.text_child b cs) h = refl
 several o c (P.empty_child cs) h = refl
 several o c (P.container_child e cs) h = refl
 several o c (P.tag_child t cs) h = refl
 several o c (P.spread_child e cs) h = refl
 
-more_few : (o : P.Options) (cs : P.Children) → (few cs ≡ 0 → ⊥) → (few cs ≡ 1 → ⊥) → children_to_expr (children o cs) ≡ many_children (children o cs)
+more_few : (o : P.Options) (cs : P.Children) → few cs ≡ More → children_to_expr (children o cs) ≡ many_children (children o cs)
 unfolding few children
-more_few o P.no_children h k = absurd (h refl)
-more_few o (P.text_child b cs) h k = several o (M.text b) cs k
-more_few o (P.empty_child cs) h k = several o M.empty cs k
-more_few o (P.container_child e cs) h k = several o _ cs k
-more_few o (P.tag_child t cs) h k = several o _ cs k
-more_few o (P.spread_child e cs) h k = several o _ cs k
+more_few o P.no_children h = absurd (omega (arith, ap how_many h))
+more_few o (P.text_child b cs) h = several o (M.text b) cs h
+more_few o (P.empty_child cs) h = several o M.empty cs h
+more_few o (P.container_child e cs) h = several o _ cs h
+more_few o (P.tag_child t cs) h = several o _ cs h
+more_few o (P.spread_child e cs) h = several o _ cs h
 
 few_held : (c : Contained) (cs : P.Children) → few (contained_child c cs) ≡ one_or_more cs
 unfolding few contained_child
@@ -94,14 +97,14 @@ few_held (contained e) cs = refl
 nowhere_given : (skip s : Bytes) → ((props : Bytes) → found_at skip props s ≡ nothing_found) → {r : Found} → r ≡ placed K.Nothing 0 0 → Given skip s r
 nowhere_given skip s h {r} e = subst (Given skip s) (sym e) (omega arith, h)
 
-module _ (skip s : Bytes) {n : ℕ} (c : n ≡ few (children_in (read s))) where
-  pub found_none : n ≡ 0 → {r : Found} → r ≡ placed K.Nothing 0 0 → Given skip s r
+module _ (skip s : Bytes) {n : Count} (c : n ≡ few (children_in (read s))) where
+  pub found_none : n ≡ Zero → {r : Found} → r ≡ placed K.Nothing 0 0 → Given skip s r
   unfolding children children_to_expr
   found_none h q =
       nowhere_given skip s (λ props. ap (λ (cs : P.Children). children_to_expr (children (opts skip props) cs)) (none_few (children_in (read s)) (sym c ∙ h))) q
 
   -- the only child: it stands at `at`, and a is the bytes from there on
-  module _ (h : n ≡ 1) (at : ℕ) (f : FirstAt s at) {a : Bytes} (q : a ≡ take (length s - at) (drop at s)) (u : ℕ) (e : u ≡ tag_of_front a) where
+  module _ (h : n ≡ One) (at : ℕ) (f : FirstAt s at) {a : Bytes} (q : a ≡ take (length s - at) (drop at s)) (u : ℕ) (e : u ≡ tag_of_front a) where
     stands_at : Stands s at a
     stands_at = subst (Stands s at) (sym q) (stands_of s at (length s - at) (omega (arith, f.inside)))
 
@@ -153,7 +156,7 @@ module _ (skip s : Bytes) {n : ℕ} (c : n ≡ few (children_in (read s))) where
         absurd (subst T (ap is_child (sym e) ∙ y) b))) w
       where
         zero_not_one : children_in (read s) ≡ P.no_children → ⊥
-        zero_not_one p = let z : few (children_in (read s)) ≡ 0 = ap few p in omega (arith, c, h)
+        zero_not_one p = omega (arith, ap how_many (sym h ∙ c ∙ ap few p))
 
     module _ {b : Bytes} (p : b ≡ body_of a) where
       pub stands_inside : (u ≡ 256 → ⊥) → Stands s (at + 3) b
@@ -195,10 +198,10 @@ module _ (skip s : Bytes) {n : ℕ} (c : n ≡ few (children_in (read s))) where
           )
 
   -- several
-  module _ (h : n ≡ 0 → ⊥) (k : n ≡ 1 → ⊥) {t : Bool} (b : t ≡ becomes skip (children_in (read s))) where
+  module _ (h : n ≡ More) {t : Bool} (b : t ≡ becomes skip (children_in (read s))) where
     many : (props : Bytes) {x : Bool} → t ≡ x → (found_at skip props s ≡ many_children (kids skip props s)) × (becomes_template (kids skip props s) ≡ x)
     many props {x} z =
-        (more_few (opts skip props) (children_in (read s)) (λ y. h (c ∙ y)) (λ y. k (c ∙ y)), becomes_is skip props (children_in (read s)) ∙ (sym b ∙ z))
+        (more_few (opts skip props) (children_in (read s)) (sym c ∙ h), becomes_is skip props (children_in (read s)) ∙ (sym b ∙ z))
 
     pub found_template : t ≡ true → {r : Found} → r ≡ placed K.Template 0 (length s) → Given skip s r
     unfolding many_children choose

@@ -23,6 +23,8 @@ use Rattle.spec.specs.Children.{found_of, sole_mid, stills}
 use Rattle.spec.specs.Transform.{expr, items}
 use Rattle.decisions.specs.At.{opts}
 use Rattle.decisions.proofs.Series.{any_field, any_front, expr_76}
+use Rattle.decisions.specs.declared.children.Count.{Count}
+use Rattle.decisions.specs.declared.children.Count.TheVariants.{Zero, One, More}
 use Rattle.found.specs.Finds.{expr_at, first_item, hole_node, item_count}
 
 -- whichever is chosen
@@ -37,30 +39,35 @@ choose_second P b f g h y = rw h y
 
 -- ---- how many
 
-one_by : (t : ℕ) (f : Bytes) (i r : Row) → Ended r → 1 ≡ item_count (field t f i r)
+abbrev pub how_many : Count → ℕ
+how_many Zero = 0
+how_many One = 1
+how_many More = 2
+
+one_by : (t : ℕ) (f : Bytes) (i r : Row) → Ended r → One ≡ item_count (field t f i r)
 unfolding item_count
 one_by t f i end h = refl
 one_by t f i (loose b) h = refl
 one_by t f i (field u g j r) h = absurd h
 
-none_by : (r : Row) → Ended r → 0 ≡ item_count r
+none_by : (r : Row) → Ended r → Zero ≡ item_count r
 unfolding item_count
 none_by end h = refl
 none_by (loose b) h = refl
 none_by (field u g j r) h = absurd h
 
-pub count_none : (s : Bytes) → Ended (read s) → 0 ≡ item_count (read s)
+pub count_none : (s : Bytes) → Ended (read s) → Zero ≡ item_count (read s)
 count_none s h = none_by (read s) h
 
 module _ (s : Bytes) (t : ℕ) (e : t ≡ tag_of_front s) (n : t ≡ 256 → ⊥) {r : Bytes} (q : r ≡ behind_of s) where
-  pub count_one : Ended (read r) → 1 ≡ item_count (read s)
-  count_one h = any_field (λ (x : Row). 1 ≡ item_count x) s t e n λ f i. one_by t f i (read (behind_of s)) (subst (λ (x : Bytes). Ended (read x)) q h)
+  pub count_one : Ended (read r) → One ≡ item_count (read s)
+  count_one h = any_field (λ (x : Row). One ≡ item_count x) s t e n λ f i. one_by t f i (read (behind_of s)) (subst (λ (x : Bytes). Ended (read x)) q h)
 
-  pub count_more : (u : ℕ) → u ≡ tag_of_front r → (u ≡ 256 → ⊥) → 2 ≡ item_count (read s)
+  pub count_more : (u : ℕ) → u ≡ tag_of_front r → (u ≡ 256 → ⊥) → More ≡ item_count (read s)
   unfolding item_count
   count_more u d m =
-      any_field (λ (x : Row). 2 ≡ item_count x) s t e n λ f i.
-      any_field (λ (x : Row). 2 ≡ item_count (field t f i x)) (behind_of s) u (d ∙ ap tag_of_front q) m λ g j. refl
+      any_field (λ (x : Row). More ≡ item_count x) s t e n λ f i.
+      any_field (λ (x : Row). More ≡ item_count (field t f i x)) (behind_of s) u (d ∙ ap tag_of_front q) m λ g j. refl
 
 -- ---- the elements as entries
 
@@ -113,29 +120,29 @@ module _ (skip props : Bytes) where
   abbrev pub listed : Row → Mid
   listed r = items (opts skip props) (items_in r)
 
-  pub stills_none : (r : Row) → item_count r ≡ 0 → stills (listed r) ≡ []
+  pub stills_none : (r : Row) → item_count r ≡ Zero → stills (listed r) ≡ []
   unfolding item_count items_in items stills
   stills_none end h = refl
   stills_none (loose b) h = refl
-  stills_none (field t f i end) h = absurd (omega arith)
-  stills_none (field t f i (loose b)) h = absurd (omega arith)
-  stills_none (field t f i (field u g j r)) h = absurd (omega arith)
+  stills_none (field t f i end) h = absurd (omega (arith, ap how_many h))
+  stills_none (field t f i (loose b)) h = absurd (omega (arith, ap how_many h))
+  stills_none (field t f i (field u g j r)) h = absurd (omega (arith, ap how_many h))
 
-  pub stills_one : (r : Row) → item_count r ≡ 1 → stills (listed r) ≡ still (first_item skip props r) ∷ []
+  pub stills_one : (r : Row) → item_count r ≡ One → stills (listed r) ≡ still (first_item skip props r) ∷ []
   unfolding item_count first_item
-  stills_one end h = absurd (omega arith)
-  stills_one (loose b) h = absurd (omega arith)
+  stills_one end h = absurd (omega (arith, ap how_many h))
+  stills_one (loose b) h = absurd (omega (arith, ap how_many h))
   stills_one (field t f i end) h = still_item (opts skip props) t f i
   stills_one (field t f i (loose b)) h = ap (λ (is : Items). stills (items (opts skip props) is)) (last_item (opts skip props) t f i (loose b) tt) ∙ still_item (opts skip props) t f i
-  stills_one (field t f i (field u g j r)) h = absurd (omega arith)
+  stills_one (field t f i (field u g j r)) h = absurd (omega (arith, ap how_many h))
 
-  pub stills_more : (r : Row) → (item_count r ≡ 0 → ⊥) → (item_count r ≡ 1 → ⊥) → 2 ≤ length (stills (listed r))
+  pub stills_more : (r : Row) → item_count r ≡ More → 2 ≤ length (stills (listed r))
   unfolding item_count
-  stills_more end h k = absurd (h refl)
-  stills_more (loose b) h k = absurd (h refl)
-  stills_more (field t f i end) h k = absurd (k refl)
-  stills_more (field t f i (loose b)) h k = absurd (k refl)
-  stills_more (field t f i (field u g j r)) h k = omega (arith, stills_item (opts skip props) t f i (field u g j r), stills_item (opts skip props) u g j r)
+  stills_more end h = absurd (omega (arith, ap how_many h))
+  stills_more (loose b) h = absurd (omega (arith, ap how_many h))
+  stills_more (field t f i end) h = absurd (omega (arith, ap how_many h))
+  stills_more (field t f i (loose b)) h = absurd (omega (arith, ap how_many h))
+  stills_more (field t f i (field u g j r)) h = omega (arith, stills_item (opts skip props) t f i (field u g j r), stills_item (opts skip props) u g j r)
 
 -- ---- expressions
 

@@ -22,6 +22,8 @@ use Rattle.spec.specs.Merge.{Entry, still, passed, Child, merge, flush, joined_t
 use Rattle.spec.specs.Children as C
 use Rattle.spec.specs.Children.{found_of, children_to_expr, entries}
 use Rattle.spec.specs.Transform.{children}
+use Rattle.decisions.specs.declared.children.Count.{Count}
+use Rattle.decisions.specs.declared.children.Count.TheVariants.{One, More}
 use Rattle.decisions.specs.At.{opts, few, becomes}
 use Rattle.decisions.proofs.Series.{children_none}
 use Rattle.found.specs.Finds.{kids, entries_at, found_at, expr_at, element_entry, joined_of, FirstAt}
@@ -54,8 +56,8 @@ gives_passed : (p : Pass Mid) → 1 ≤ steady (C.spliced (M.one_found (passed p
 unfolding C.spliced steady stays
 gives_passed p = omega arith
 
-module _ (skip s : Bytes) {n : ℕ} (c : n ≡ few (children_in (read s))) where
-  module _ (h : n ≡ 1) (at : ℕ) (f : FirstAt s at) {a : Bytes} (q : a ≡ take (length s - at) (drop at s)) (u : ℕ) (e : u ≡ tag_of_front a) where
+module _ (skip s : Bytes) {n : Count} (c : n ≡ few (children_in (read s))) where
+  module _ (h : n ≡ One) (at : ℕ) (f : FirstAt s at) {a : Bytes} (q : a ≡ take (length s - at) (drop at s)) (u : ℕ) (e : u ≡ tag_of_front a) where
     pub gives_60 : u ≡ 0x60 → Gives skip s
     gives_60 k props = gives_by ((found_60 skip s c h at f q u e k).1 props) (gives_text _)
 
@@ -72,12 +74,12 @@ module _ (skip s : Bytes) {n : ℕ} (c : n ≡ few (children_in (read s))) where
       pub gives_31 : u ≡ 0x31 → Gives skip b → Gives skip s
       gives_31 k g props = gives_by (same_found skip s c h at f q u e p k props) (g props)
 
-  module _ (h : n ≡ 0 → ⊥) (k : n ≡ 1 → ⊥) {t : Bool} (b : t ≡ becomes skip (children_in (read s))) where
+  module _ (h : n ≡ More) {t : Bool} (b : t ≡ becomes skip (children_in (read s))) where
     pub gives_template : t ≡ true → Gives skip s
-    gives_template z props = gives_by ((found_template skip s c h k b z refl).1 props) (gives_passed _)
+    gives_template z props = gives_by ((found_template skip s c h b z refl).1 props) (gives_passed _)
 
     pub gives_many : t ≡ false → HasOne skip s → Gives skip s
-    gives_many z g props = gives_by (flat_found skip s c h k b z props) (steady_flattened (entries_at skip props s) (g props))
+    gives_many z g props = gives_by (flat_found skip s c h b z props) (steady_flattened (entries_at skip props s) (g props))
 
 -- ---- has_one
 

@@ -4,6 +4,9 @@ use mathlib.Core.Path.{◌≡◌, refl, sym, ap, ◌∙◌, subst}
 use Prim.Native.Nat.{ℕ, ◌+◌, ◌-◌, ◌≤◌}
 use native.Mathlib.Omega.{arith}
 use mathlib.Core.List.{[], ◌∷◌, ◌++◌, append_assoc, append-nil}
+use mathlib.Core.Bool.{Bool, true, false, false≢true}
+use lib.Dec.{eqb}
+use borrow.Author.Tests.{eqb-true, eq-eqb}
 use lib.ListN.{length, take, drop, length-append, length-drop, take-append-drop}
 use lib.Seq.{take_at, drop_at, take_all, length-take-le}
 use Rattle.field.specs.Bytes.{Bytes}
@@ -113,3 +116,11 @@ module _ (s t : Bytes) (a : Tail s t) where
     stands_behind {r} q =
         let k : (length s - length t) + (3 + length (body_of t)) ≡ length s - length (behind_of t) = omega (arith, tail_room, sizes t u e h) in
         subst (λ (x : Bytes). Tail s x) (sym q) (subst (λ (n : ℕ). Stands s n (behind_of t)) k (stands_in s (length s - length t) t a (3 + length (body_of t)) (behind_of t) (behind_here t u e h)))
+
+-- ---- the test for no bytes
+
+pub no_bytes : {b : Bool} {n : ℕ} → b ≡ eqb n 0 → b ≡ true → n ≡ 0
+no_bytes {b} {n} e h = eqb-true n 0 (sym e ∙ h)
+
+pub some_bytes : {b : Bool} {n : ℕ} → b ≡ eqb n 0 → b ≡ false → n ≡ 0 → ⊥
+some_bytes {b} {n} e h z = false≢true (sym h ∙ e ∙ eq-eqb n 0 z)

@@ -14,6 +14,8 @@ use Rattle.spec.specs.Merge as M
 use Rattle.spec.specs.Merge.{Entry, still}
 use Rattle.spec.specs.Children as C
 use Rattle.spec.specs.Children.{found_of, stills}
+use Rattle.decisions.specs.declared.children.Count.{Count}
+use Rattle.decisions.specs.declared.children.Count.TheVariants.{Zero, One, More}
 use Rattle.found.specs.Finds.{Within, part, placed, expr_at, first_item, item_count, Runs, Enters, Finds, Spliced}
 use Rattle.found.specs.declared.Kind.{Kind}
 use Rattle.found.specs.declared.Kind.TheVariants as K
@@ -60,17 +62,17 @@ module _ (s : Bytes) (f : Found) (w : Within f s) where
           spliced_here skip props x z ∙ (ap C.spliced (plain_expr skip props t u e n) ∙ ap (λ (b : Bytes). still (expr_at skip props b) ∷ []) q),
     )
 
-    module _ (k : u ≡ 0x76) {b : Bytes} (p : b ≡ body_of t) {n : ℕ} (c : n ≡ item_count (read b)) where
+    module _ (k : u ≡ 0x76) {b : Bytes} (p : b ≡ body_of t) {n : Count} (c : n ≡ item_count (read b)) where
       spliced_array : (skip props : Bytes) (x : M.Found) → Finds skip props x f.kind (part s f) → C.spliced x ≡ stills (listed skip props (read b))
       unfolding C.spliced
       spliced_array skip props x z = spliced_here skip props x z ∙ ap C.spliced (array_expr skip props t u e k p)
 
-      pub splice_none : n ≡ 0 → {r : Found} → r ≡ placed K.Empty 0 0 → Within r s × Spliced s f r
+      pub splice_none : n ≡ Zero → {r : Found} → r ≡ placed K.Empty 0 0 → Within r s × Spliced s f r
       splice_none o {r} d =
           subst (λ (r : Found). Within r s × Spliced s f r) (sym d)
           (omega arith, λ skip props x z. spliced_array skip props x z ∙ stills_none skip props (read b) (sym c ∙ o))
 
-      pub splice_one : n ≡ 1 → Within (placed K.Item (f.from + 3) (length b)) s × Spliced s f (placed K.Item (f.from + 3) (length b))
+      pub splice_one : n ≡ One → Within (placed K.Item (f.from + 3) (length b)) s × Spliced s f (placed K.Item (f.from + 3) (length b))
       splice_one o =
           let a : Stands s f.from t = subst (Stands s f.from) (sym q) (stands_of s f.from f.len w) in
           let st : Stands s (f.from + 3) b = body_in s f.from t a u e (λ z. omega arith) p in (
@@ -80,12 +82,12 @@ module _ (s : Bytes) (f : Found) (w : Within f s) where
                 ∙ (stills_one skip props (read b) (sym c ∙ o) ∙ ap (λ (y : Bytes). still (first_item skip props (read y)) ∷ []) (sym (stands_part s (f.from + 3) b st))),
           )
 
-      pub splice_more : (n ≡ 0 → ⊥) → (n ≡ 1 → ⊥) → {r : Found} → r ≡ placed K.Many 0 0 → Within r s × Spliced s f r
-      splice_more o j {r} d =
+      pub splice_more : n ≡ More → {r : Found} → r ≡ placed K.Many 0 0 → Within r s × Spliced s f r
+      splice_more o {r} d =
           subst (λ (r : Found). Within r s × Spliced s f r) (sym d) (
             omega arith,
             λ skip props x z. (
-              subst (λ (es : List Entry). 2 ≤ length es) (sym (spliced_array skip props x z)) (stills_more skip props (read b) (λ y. o (c ∙ y)) (λ y. j (c ∙ y))),
+              subst (λ (es : List Entry). 2 ≤ length es) (sym (spliced_array skip props x z)) (stills_more skip props (read b) (sym c ∙ o)),
               λ m. absurd (m refl),
             ),
           )

@@ -14,6 +14,8 @@ use Rattle.spec.specs.Merge.{Entry, still, passed, nothing_found, one_found, arr
 use Rattle.spec.specs.Children as C
 use Rattle.spec.specs.Children.{serialize_jsx, found_of, entries, children_to_expr, children_to_string}
 use Rattle.spec.specs.Transform.{expr, items, shape_of}
+use Rattle.decisions.specs.declared.children.Count.{Count}
+use Rattle.decisions.specs.declared.children.Count.TheVariants.{Zero, One, More}
 use Rattle.decisions.specs.At.{opts, element_at, children_at, FirstChild}
 use Rattle.found.specs.declared.Kind.{Kind}
 use Rattle.found.specs.declared.Kind.TheVariants as K
@@ -124,12 +126,12 @@ pub record FirstAt (s : Bytes) (r : ℕ) : Type 0 where
   pub inside : r ≤ length s
   pub first : FirstChild s (drop r s)
 
-unfoldable pub item_count : Row → ℕ
-item_count end = 0
-item_count (loose b) = 0
-item_count (field t f i end) = 1
-item_count (field t f i (loose b)) = 1
-item_count (field t f i (field u g j r)) = 2
+unfoldable pub item_count : Row → Count
+item_count end = Zero
+item_count (loose b) = Zero
+item_count (field t f i end) = One
+item_count (field t f i (loose b)) = One
+item_count (field t f i (field u g j r)) = More
 
 -- no entries
 unfoldable pub is_empty : Kind → Bool

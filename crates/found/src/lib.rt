@@ -1,15 +1,14 @@
 // What the children of a call give, as one expression: what it is and where it stands, found without writing it.
 #![tactic(auto)]
 
-ghost use Rattle.std.specs.Prelude.{◌≡◌, ◌+◌, ◌-◌, ◌<◌, ◌^◌, length, drop};
+ghost use Rattle.std.specs.Prelude.{◌≡◌, ◌+◌, ◌<◌, ◌^◌, length};
 ghost use Rattle.field.specs.Bytes.{Bytes};
 ghost use Rattle.field.specs.Row.{read};
 ghost use Rattle.page.specs.Tree.{contained_in};
-ghost use Rattle.decisions.specs.At.{FirstChild};
 ghost use Rattle.found.specs.Finds.{Within, part, placed, Runs, Enters, Finds, Flattened, Spliced, FirstAt, item_count, joined_of, then_found, run_found, is_settled, entries_at, found_at};
 
 use crate::several::is_many;
-use decisions::children::{becomes_template, children_at};
+use decisions::children::{Count, becomes_template, children_at};
 use decisions::expr::{Shape, shape_at};
 use field::reader::{behind, body, tag_at};
 use text::jsx_text::is_blank;
@@ -40,12 +39,34 @@ pub enum Kind {
     Hole,
 }
 
-// A place is a part of the slice that was looked at.
+// A place is a part of the slice that was looked at. It stands beside the kind and not in each case of it, since it is moved and cut alike
+// whatever the kind is.
 #[derive(Clone, Copy)]
 pub struct Found {
     pub kind: Kind,
     pub from: usize,
     pub len: usize,
+}
+
+impl Found {
+    // What stands at the place.
+    pub fn part(self, s: &[u8]) -> &[u8]
+        requires { Within self s.now }
+        ensures { result.now ≡ part s.now self }
+    {
+        &s[self.from..self.from + self.len]
+    }
+
+    // A place in the body of the field at `at`, as a place in the whole.
+    fn inside(self, at: usize) -> Found
+        requires { at + 3 + self.from < 2 ^ 63 }
+        ensures { result ≡ placed self.kind (at + 3 + self.from) self.len }
+    {
+        Found {
+            from: at + 3 + self.from,
+            ..self
+        }
+    }
 }
 
 // What a container adds to a run.
@@ -61,73 +82,36 @@ fn joined_at(c: &[u8]) -> Joined
     ensures { result ≡ joined_of (contained_in (read c.now)) }
 {
     match shape_at(c) {
-        Shape::Empty => Joined::Nothing,
+        Shape::Empty | Shape::Boolean(_) => Joined::Nothing,
         Shape::String => {
-            if body(c).len() == 0 {
+            if body(c).is_empty() {
                 return Joined::Nothing;
             }
             Joined::Something
         }
         Shape::Number => Joined::Something,
-        Shape::Boolean(_) => Joined::Nothing,
-        Shape::Null => Joined::Apart,
-        Shape::Literal => Joined::Apart,
-        Shape::Minus => Joined::Apart,
-        Shape::Other => Joined::Apart,
+        Shape::Null | Shape::Literal | Shape::Minus | Shape::Other => Joined::Apart,
     }
 }
 
-// How many elements an array literal has: none, one, or more.
-fn item_count(s: &[u8]) -> usize
+// How many elements an array literal has.
+fn item_count(s: &[u8]) -> Count
     ensures { result ≡ item_count (read s.now) }
 {
     if tag_at(s) == 256 {
-        return 0;
+        return Count::Zero;
     }
     if tag_at(behind(s)) == 256 {
-        return 1;
+        return Count::One;
     }
-    2
-}
-
-// From the first child on; empty where there is none. Unlike that of `children_at`, its contract says where this stands.
-fn from_first(s: &[u8]) -> &[u8]
-    ensures { FirstChild s.now result.now × (result.now ≡ drop (length s.now - length result.now) s.now) }
-{
-    let mut t = s;
-    loop {
-        match tag_at(t) {
-            0x60 => {
-                return t;
-            }
-            0x52 => {
-                return t;
-            }
-            0x30 => {
-                return t;
-            }
-            0x31 => {
-                return t;
-            }
-            0x61 => {
-                return t;
-            }
-            256 => {
-                return &s[..0];
-            }
-            _ => {
-                let r = behind(t);
-                t = r;
-            }
-        }
-    }
+    Count::More
 }
 
 // Where the first child stands; the length where there is none.
 fn first_child(s: &[u8]) -> usize
     ensures { FirstAt s.now result }
 {
-    s.len() - from_first(s).len()
+    s.len() - children_at(s).len()
 }
 
 // The children in s as a place of that kind.
@@ -152,51 +136,33 @@ fn nowhere(kind: Kind) -> Found
     }
 }
 
-// A place in the body of the field at `at`, as a place in the whole.
-fn inside(f: Found, at: usize) -> Found
-    requires { at + 3 + f.from < 2 ^ 63 }
-    ensures { result ≡ placed f.kind (at + 3 + f.from) f.len }
-{
-    let kind = f.kind;
-    Found {
-        kind,
-        from: at + 3 + f.from,
-        len: f.len,
-    }
-}
-
 // The only entry, taken out of its array: a spread is dropped, a hole stays. Several that one fragment alone gives keep its place, so that no
 // level above looks at them again.
 fn flattened(s: &[u8], f: Found) -> Found
     requires { Within f s.now }
     ensures { Within result s.now × Flattened s.now f result }
 {
-    let from = f.from;
-    let len = f.len;
-    let kind = f.kind;
-    match kind {
+    match f.kind {
         Kind::Item => {
-            let t = &s[from..from + len];
+            let t = f.part(s);
             match tag_at(t) {
                 0x77 => Found {
                     kind: Kind::Expr,
-                    from: from + 3,
+                    from: f.from + 3,
                     len: body(t).len(),
                 },
                 0x78 => Found {
                     kind: Kind::Hole,
-                    from,
-                    len,
+                    ..f
                 },
                 _ => Found {
                     kind: Kind::Expr,
-                    from,
-                    len,
+                    ..f
                 },
             }
         }
         Kind::Many => {
-            if len == 0 {
+            if f.len == 0 {
                 return whole(Kind::Many, s);
             }
             f
@@ -210,29 +176,22 @@ fn spliced(s: &[u8], f: Found) -> Found
     requires { Within f s.now }
     ensures { Within result s.now × Spliced s.now f result }
 {
-    let from = f.from;
-    let len = f.len;
-    let kind = f.kind;
-    match kind {
+    match f.kind {
         Kind::Nothing => nowhere(Kind::Empty),
         Kind::Expr => {
-            let c = &s[from..from + len];
-            if tag_at(c) == 0x76 {
-                let b = body(c);
-                return match item_count(b) {
-                    0 => nowhere(Kind::Empty),
-                    1 => Found {
-                        kind: Kind::Item,
-                        from: from + 3,
-                        len: b.len(),
-                    },
-                    _ => nowhere(Kind::Many),
-                };
+            let c = f.part(s);
+            if tag_at(c) != 0x76 {
+                return f;
             }
-            Found {
-                kind: Kind::Expr,
-                from,
-                len,
+            let b = body(c);
+            match item_count(b) {
+                Count::Zero => nowhere(Kind::Empty),
+                Count::One => Found {
+                    kind: Kind::Item,
+                    from: f.from + 3,
+                    len: b.len(),
+                },
+                Count::More => nowhere(Kind::Many),
             }
         }
         _ => f,
@@ -243,16 +202,12 @@ fn spliced(s: &[u8], f: Found) -> Found
 fn then(a: Found, b: Found) -> Found
     ensures { result ≡ then_found a b }
 {
-    let first = a.kind;
-    match first {
+    match a.kind {
         Kind::Empty => b,
-        _ => {
-            let second = b.kind;
-            match second {
-                Kind::Empty => a,
-                _ => nowhere(Kind::Many),
-            }
-        }
+        _ => match b.kind {
+            Kind::Empty => a,
+            _ => nowhere(Kind::Many),
+        },
     }
 }
 
@@ -267,11 +222,11 @@ fn with_run(a: Found, run: bool, s: &[u8]) -> Found
 }
 
 // Several, and no place: what stands behind does not matter.
-fn is_settled(kind: Kind, len: usize) -> bool
-    ensures { result ≡ is_settled kind len }
+fn is_settled(f: Found) -> bool
+    ensures { result ≡ is_settled f.kind f.len }
 {
-    match kind {
-        Kind::Many => len == 0,
+    match f.kind {
+        Kind::Many => f.len == 0,
         _ => false,
     }
 }
@@ -286,36 +241,30 @@ fn entries_of(skip: &[u8], s: &[u8]) -> Found
     let mut run = false;
     let mut cur = nowhere(Kind::Empty);
     loop {
-        let kind = cur.kind;
-        if is_settled(kind, cur.len) {
+        if is_settled(cur) {
             return cur;
         }
         match tag_at(t) {
             0x60 => {
                 // a run that has something needs no test
                 if run {
-                    let r = behind(t);
-                    t = r;
+                    t = behind(t);
                 } else if is_blank(body(t), false) {
-                    let r = behind(t);
-                    t = r;
+                    t = behind(t);
                 } else {
                     run = true;
-                    let r = behind(t);
-                    t = r;
+                    t = behind(t);
                 }
             }
             0x52 => {
                 let c = body(t);
                 match joined_at(c) {
                     Joined::Nothing => {
-                        let r = behind(t);
-                        t = r;
+                        t = behind(t);
                     }
                     Joined::Something => {
                         run = true;
-                        let r = behind(t);
-                        t = r;
+                        t = behind(t);
                     }
                     Joined::Apart => {
                         let at = s.len() - t.len();
@@ -326,8 +275,7 @@ fn entries_of(skip: &[u8], s: &[u8]) -> Found
                         };
                         cur = then(with_run(cur, run, s), x);
                         run = false;
-                        let r = behind(t);
-                        t = r;
+                        t = behind(t);
                     }
                 }
             }
@@ -340,24 +288,21 @@ fn entries_of(skip: &[u8], s: &[u8]) -> Found
                 };
                 cur = then(with_run(cur, run, s), x);
                 run = false;
-                let r = behind(t);
-                t = r;
+                t = behind(t);
             }
             0x31 => {
                 let at = s.len() - t.len();
                 let b = body(t);
-                let x = inside(spliced(b, found_of(skip, b)), at);
+                let x = spliced(b, found_of(skip, b)).inside(at);
                 cur = then(with_run(cur, run, s), x);
                 run = false;
-                let r = behind(t);
-                t = r;
+                t = behind(t);
             }
             256 => {
                 return with_run(cur, run, s);
             }
             _ => {
-                let r = behind(t);
-                t = r;
+                t = behind(t);
             }
         }
     }
@@ -369,11 +314,11 @@ pub fn found_of(skip: &[u8], s: &[u8]) -> Found
     requires { length s.now < 2 ^ 62 }
     ensures { Within result s.now × ((props : Bytes) → Finds skip.now props (found_at skip.now props s.now) result.kind (part s.now result)) }
 {
-    let a = from_first(s);
-    if a.len() == 0 {
+    let a = children_at(s);
+    if a.is_empty() {
         return nowhere(Kind::Nothing);
     }
-    if children_at(behind(a)).len() == 0 {
+    if children_at(behind(a)).is_empty() {
         let at = s.len() - a.len();
         let b = body(a);
         return match tag_at(a) {
@@ -397,7 +342,7 @@ pub fn found_of(skip: &[u8], s: &[u8]) -> Found
                 from: at,
                 len: a.len(),
             },
-            0x31 => inside(found_of(skip, b), at),
+            0x31 => found_of(skip, b).inside(at),
             _ => nowhere(Kind::Nothing),
         };
     }

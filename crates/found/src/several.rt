@@ -7,7 +7,7 @@ ghost use Rattle.found.specs.Finds.{expr_at, entries_at, found_at};
 ghost use Rattle.found.specs.Steady.{one_stays, steady};
 
 use crate::{Joined, first_child, joined_at};
-use decisions::children::{becomes_template, child_count};
+use decisions::children::{Count, becomes_template, child_count};
 use field::reader::{behind, body, tag_at};
 use text::jsx_text::is_blank;
 
@@ -19,9 +19,7 @@ fn stays(c: &[u8]) -> bool
         return true;
     }
     match tag_at(body(c)) {
-        0x76 => false,
-        0x77 => false,
-        256 => false,
+        0x76 | 0x77 | 256 => false,
         _ => true,
     }
 }
@@ -32,25 +30,19 @@ fn gives(skip: &[u8], s: &[u8]) -> bool
     ensures { result ≡ true → (props : Bytes) → 1 ≤ steady (spliced (found_at skip.now props s.now)) }
 {
     match child_count(s) {
-        0 => false,
-        1 => {
+        Count::Zero => false,
+        Count::One => {
             let at = first_child(s);
             let a = &s[at..];
             let b = body(a);
             match tag_at(a) {
-                0x60 => true,
-                0x52 => {
-                    if tag_at(b) == 256 {
-                        return false;
-                    }
-                    stays(b)
-                }
-                0x30 => true,
+                0x60 | 0x30 => true,
+                0x52 => tag_at(b) != 256 && stays(b),
                 0x31 => gives(skip, b),
                 _ => false,
             }
         }
-        _ => {
+        Count::More => {
             if becomes_template(skip, s) {
                 return true;
             }
@@ -72,15 +64,13 @@ fn has_one(skip: &[u8], s: &[u8]) -> bool
                 if !is_blank(body(t), false) {
                     return true;
                 }
-                let r = behind(t);
-                t = r;
+                t = behind(t);
             }
             0x52 => {
                 let c = body(t);
                 match joined_at(c) {
                     Joined::Nothing => {
-                        let r = behind(t);
-                        t = r;
+                        t = behind(t);
                     }
                     Joined::Something => {
                         return true;
@@ -89,8 +79,7 @@ fn has_one(skip: &[u8], s: &[u8]) -> bool
                         if stays(c) {
                             return true;
                         }
-                        let r = behind(t);
-                        t = r;
+                        t = behind(t);
                     }
                 }
             }
@@ -101,13 +90,11 @@ fn has_one(skip: &[u8], s: &[u8]) -> bool
                 let b = body(t);
                 if s.len() / 2 < b.len() {
                     heavy = b;
-                    let r = behind(t);
-                    t = r;
+                    t = behind(t);
                 } else if gives(skip, b) {
                     return true;
                 } else {
-                    let r = behind(t);
-                    t = r;
+                    t = behind(t);
                 }
             }
             256 => {
@@ -117,8 +104,7 @@ fn has_one(skip: &[u8], s: &[u8]) -> bool
                 return gives(skip, heavy);
             }
             _ => {
-                let r = behind(t);
-                t = r;
+                t = behind(t);
             }
         }
     }
@@ -136,40 +122,34 @@ pub fn is_many(skip: &[u8], s: &[u8]) -> bool
         match tag_at(t) {
             0x60 => {
                 if run {
-                    let r = behind(t);
-                    t = r;
+                    t = behind(t);
                 } else if is_blank(body(t), false) {
-                    let r = behind(t);
-                    t = r;
+                    t = behind(t);
                 } else {
                     if one {
                         return true;
                     }
                     run = true;
                     one = true;
-                    let r = behind(t);
-                    t = r;
+                    t = behind(t);
                 }
             }
             0x52 => {
                 let c = body(t);
                 match joined_at(c) {
                     Joined::Nothing => {
-                        let r = behind(t);
-                        t = r;
+                        t = behind(t);
                     }
                     Joined::Something => {
                         if run {
-                            let r = behind(t);
-                            t = r;
+                            t = behind(t);
                         } else {
                             if one {
                                 return true;
                             }
                             run = true;
                             one = true;
-                            let r = behind(t);
-                            t = r;
+                            t = behind(t);
                         }
                     }
                     Joined::Apart => {
@@ -178,8 +158,7 @@ pub fn is_many(skip: &[u8], s: &[u8]) -> bool
                         }
                         run = false;
                         one = true;
-                        let r = behind(t);
-                        t = r;
+                        t = behind(t);
                     }
                 }
             }
@@ -189,26 +168,22 @@ pub fn is_many(skip: &[u8], s: &[u8]) -> bool
                 }
                 run = false;
                 one = true;
-                let r = behind(t);
-                t = r;
+                t = behind(t);
             }
             0x31 => {
                 let b = body(t);
                 run = false;
                 if s.len() / 2 < b.len() {
                     heavy = b;
-                    let r = behind(t);
-                    t = r;
+                    t = behind(t);
                 } else if gives(skip, b) {
                     if one {
                         return true;
                     }
                     one = true;
-                    let r = behind(t);
-                    t = r;
+                    t = behind(t);
                 } else {
-                    let r = behind(t);
-                    t = r;
+                    t = behind(t);
                 }
             }
             256 => {
@@ -218,8 +193,7 @@ pub fn is_many(skip: &[u8], s: &[u8]) -> bool
                 return false;
             }
             _ => {
-                let r = behind(t);
-                t = r;
+                t = behind(t);
             }
         }
     }

@@ -5,9 +5,10 @@ use mathlib.Core.Path.{◌≡◌, refl, sym, ◌∙◌, ap, subst}
 use mathlib.Core.Bool.{Bool, ◌||◌, not}
 use mathlib.Core.List.{[], ◌∷◌, ◌++◌, append-nil, append_assoc}
 use lib.Dec.{T, eqb, eqb_refl, not_T}
+use Rattle.std.specs.Prelude.{Option}
 use Rattle.field.specs.Bytes.{Bytes}
 use Rattle.grammar.specs.Signs.{snoc, choose, letter, name_byte, separator, space, name_goes_on, equals_sign, text_byte, string_byte, entity_byte, quote, quoted_byte, source_byte, source_start}
-use Rattle.grammar.specs.Known.{Known, Found, known_of, entity_of}
+use Rattle.grammar.specs.Known.{Known, known_of, entity_of}
 use Rattle.grammar.specs.Syntax.{part, Name, tag_name_fits, attribute_name_fits, Tag, tag, Attributes, no_attributes, Attribute, no_value, string_value, container_value, tag_value, spread_attribute, Children, no_children, Child, text_child, empty_child, Expr, tag_expr, join_attributes, join_children, add_attribute, add_child}
 use Rattle.grammar.specs.Grammar.{Ends, Run, run_ends, run_on, Decoded, decoded_ends, decoded_on, entity, Spaces, no_space, space_on, IsIdent, ident, IsParts, no_parts, one_part, IsName, is_name, IsSource, source_ends, source_on, quotes, braces, Closing, closing_name, closing_fragment, IsTag, is_alone, is_around, is_fragment, IsAttributes, are_no_attributes, are_attributes, IsAttribute, is_no_value, is_string_value, is_container_value, is_tag_value, is_spread_attribute, IsChildren, are_no_children, are_children, IsChild, is_text_child, is_tag_child, is_empty_child, is_container_child, is_spread_child, IsExpr, is_tag_expr, is_known_expr}
 use Rattle.grammar.specs.Reader.{Braces, child_braces, spread_child_braces, value_braces, spread_braces, within, value_of, in_braces, Stack, For, for_tag, for_attribute, for_closing, Of, of_text, of_string, State, start, opened, in_ident, behind_ident, behind_sep, in_tag, slashed, attribute_named, equals, in_string, in_entity, spread_opened, braces_opened, in_source, in_quotes, behind_tag, in_children, in_text, closing, close_named, refused, closed, filled, filled_if, emptied, pointed, close_of, brace_ends, resumed, resumed_if, fits, named, step_tag, step_attribute_named, step_close_named, step_of_named, step_behind, step_source, step_children, step, read, no_reading, at_end, outcome}
@@ -51,7 +52,7 @@ module _ (p : ℕ → Bool) (x y : Bytes → State) (z : Bytes → Of) (off : (w
       go (x v) (in_entity [] (z v)) 38 s (amp v) ∙
       entity_read (z v) q ∙
       entity_ends (z v) e s' ∙
-      ap (λ (f : Found ℕ). outcome (resumed_if (z v) f) s') i ∙
+      ap (λ (f : Option ℕ). outcome (resumed_if (z v) f) s') i ∙
       ap (λ (f : State). outcome f s') (resumes v d) ∙
       decode k (snoc v d) ∙
       ap (λ (z : Bytes). outcome (y z) r) (append_assoc v (d ∷ []) w)
@@ -390,7 +391,7 @@ mutual
   expr_read (is_tag_expr {r = r} {t} p q e) h K =
       skip_braces h K p ∙ tag_read q (braces_opened h K) (in_braces h ∷ K) (braces_tag h K) ∙ skip_behind_tag t h K e ∙ tag_braces_ends t h K r
   expr_read (is_known_expr {s₁ = s₁} {w} {r} {c} p u k i) h K =
-      skip_braces h K p ∙ braces_source c s₁ h K u (source_begins k tt) ∙ sourced k zero [] h K ∙ source_ends_at (c ∷ w) h K r ∙ ap (λ (f : Found Known). outcome (filled_if f h K) r) i
+      skip_braces h K p ∙ braces_source c s₁ h K u (source_begins k tt) ∙ sourced k zero [] h K ∙ source_ends_at (c ∷ w) h K r ∙ ap (λ (f : Option Known). outcome (filled_if f h K) r) i
 
 -- the whole text
 pub complete : {s : Bytes} {t : Tag} → IsTag s t [] → outcome start s ≡ read t

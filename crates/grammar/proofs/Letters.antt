@@ -9,12 +9,13 @@ use mathlib.Core.Option.{Option, none, some}
 use native.Mathlib.Omega.{arith}
 use lib.Dec.{T, leb, eqb, leb→le, eqb→eq}
 use lib.ListN.{length}
+use Rattle.std.specs.Prelude as S
 use Rattle.field.specs.Bytes.{Bytes, ascii, same}
 use Rattle.utf8.specs.Utf8.{Range, ◌to◌, within, Form, ◌then◌, forms, begun, utf8_behind, utf8}
 use Rattle.utf8.proofs.Laws.{utf8_append, utf8_cons}
 use Rattle.grammar.specs.Signs.{choose, each, some_byte, letter, digit, name_byte, separator, space, text_byte, string_byte, quote}
 use Rattle.grammar.specs.Known as K
-use Rattle.grammar.specs.Known.{Known, Found, kept, trimmed_end, number_of, string_from, string_of, rest_of, or_else, known_trimmed, known_of, entity_of}
+use Rattle.grammar.specs.Known.{Known, kept, trimmed_end, number_of, string_from, string_of, rest_of, or_else, known_trimmed, known_of, entity_of}
 use Rattle.grammar.specs.Syntax.{part, Name}
 use Rattle.grammar.specs.Grammar.{Ends, Run, run_ends, run_on, Decoded, decoded_ends, decoded_on, entity, Spaces, no_space, space_on, IsIdent, ident, IsParts, no_parts, one_part, IsName, is_name, IsSource, source_ends, source_on, quotes, braces}
 use Rattle.grammar.proofs.Tests.{chosen, or_cases, at_eq, quote_is}
@@ -151,23 +152,23 @@ same_is (c ∷ cs) (d ∷ ds) t = on (eqb c d) refl t (same_is cs ds)
 abbrev Entity : Bytes → ℕ → Type 0
 Entity e d = ((x : Bytes) → utf8 (e ++ x) ≡ utf8 x) × (d < 0x80)
 
-entity_one : (e n : Bytes) (c d : ℕ) → Whole n → c < 0x80 → T (same e n) → K.some c ≡ K.some d → Entity e d
+entity_one : (e n : Bytes) (c d : ℕ) → Whole n → c < 0x80 → T (same e n) → S.Some c ≡ S.Some d → Entity e d
 entity_one e n c d w l t q =
     let i : e ≡ n = same_is e n t in
     let j : c ≡ d = cc in
     (λ x. ap (λ (z : Bytes). utf8 (z ++ x)) i ∙ utf8_append n x w, subst (λ (z : ℕ). z < 0x80) j l)
 
-no_entity : {A : Type 0} (d : ℕ) → K.none ≡ K.some d → A
+no_entity : {A : Type 0} (d : ℕ) → S.None ≡ S.Some d → A
 no_entity d e = let z : ◌≡◌ {A = ℕ} 0 1 = cc in absurd (omega arith)
 
-entity_ascii : (e : Bytes) (d : ℕ) → entity_of e ≡ K.some d → Entity e d
+entity_ascii : (e : Bytes) (d : ℕ) → entity_of e ≡ S.Some d → Entity e d
 unfolding entity_of
 entity_ascii e d =
-    chosen (λ z. z ≡ K.some d) (same e (ascii "amp")) _ _ (λ t q. entity_one e (ascii "amp") _ d (unfold utf8 utf8_behind forms begun in refl) (omega arith) t q)
-    (λ _. chosen (λ z. z ≡ K.some d) (same e (ascii "lt")) _ _ (λ t q. entity_one e (ascii "lt") _ d (unfold utf8 utf8_behind forms begun in refl) (omega arith) t q)
-    (λ _. chosen (λ z. z ≡ K.some d) (same e (ascii "gt")) _ _ (λ t q. entity_one e (ascii "gt") _ d (unfold utf8 utf8_behind forms begun in refl) (omega arith) t q)
-    (λ _. chosen (λ z. z ≡ K.some d) (same e (ascii "quot")) _ _ (λ t q. entity_one e (ascii "quot") _ d (unfold utf8 utf8_behind forms begun in refl) (omega arith) t q)
-    (λ _. chosen (λ z. z ≡ K.some d) (same e (ascii "#39")) _ _ (λ t q. entity_one e (ascii "#39") _ d (unfold utf8 utf8_behind forms begun in refl) (omega arith) t q)
+    chosen (λ z. z ≡ S.Some d) (same e (ascii "amp")) _ _ (λ t q. entity_one e (ascii "amp") _ d (unfold utf8 utf8_behind forms begun in refl) (omega arith) t q)
+    (λ _. chosen (λ z. z ≡ S.Some d) (same e (ascii "lt")) _ _ (λ t q. entity_one e (ascii "lt") _ d (unfold utf8 utf8_behind forms begun in refl) (omega arith) t q)
+    (λ _. chosen (λ z. z ≡ S.Some d) (same e (ascii "gt")) _ _ (λ t q. entity_one e (ascii "gt") _ d (unfold utf8 utf8_behind forms begun in refl) (omega arith) t q)
+    (λ _. chosen (λ z. z ≡ S.Some d) (same e (ascii "quot")) _ _ (λ t q. entity_one e (ascii "quot") _ d (unfold utf8 utf8_behind forms begun in refl) (omega arith) t q)
+    (λ _. chosen (λ z. z ≡ S.Some d) (same e (ascii "#39")) _ _ (λ t q. entity_one e (ascii "#39") _ d (unfold utf8 utf8_behind forms begun in refl) (omega arith) t q)
     (λ _ q. no_entity d q)))))
 
 pub run_is : {p : ℕ → Bool} {s w r : Bytes} → Run p s w r → s ≡ w ++ r
@@ -263,81 +264,81 @@ KnownUtf8 (K.boolean b) = Unit {0}
 KnownUtf8 K.null = Unit {0}
 KnownUtf8 (K.other w) = Whole w
 
-is_known : (j k : Known) → KnownUtf8 j → K.some j ≡ K.some k → KnownUtf8 k
+is_known : (j k : Known) → KnownUtf8 j → S.Some j ≡ S.Some k → KnownUtf8 k
 is_known j k u e = let i : j ≡ k = cc in subst KnownUtf8 i u
 
-unknown : {A : Type 0} (k : Known) → K.none ≡ K.some k → A
+unknown : {A : Type 0} (k : Known) → S.None ≡ S.Some k → A
 unknown k e = let z : ◌≡◌ {A = ℕ} 0 1 = cc in absurd (omega arith)
 
-either : (x y : Found Known) (k : Known) → or_else x y ≡ K.some k → (x ≡ K.some k) ⊎ (y ≡ K.some k)
+either : (x y : S.Option Known) (k : Known) → or_else x y ≡ S.Some k → (x ≡ S.Some k) ⊎ (y ≡ S.Some k)
 unfolding or_else
-either K.none y k e = inr e
-either (K.some j) y k e = inl e
+either S.None y k e = inr e
+either (S.Some j) y k e = inl e
 
-number_utf8 : (w : Bytes) (plain : ℕ → Known) (pointed : ℕ → ℕ → Known) (k : Known) → ((n : ℕ) → KnownUtf8 (plain n)) → ((n p : ℕ) → KnownUtf8 (pointed n p)) → number_of w plain pointed ≡ K.some k → KnownUtf8 k
+number_utf8 : (w : Bytes) (plain : ℕ → Known) (pointed : ℕ → ℕ → Known) (k : Known) → ((n : ℕ) → KnownUtf8 (plain n)) → ((n p : ℕ) → KnownUtf8 (pointed n p)) → number_of w plain pointed ≡ S.Some k → KnownUtf8 k
 unfolding number_of
 number_utf8 w plain pointed k f g =
-    chosen (λ z. z ≡ K.some k) (K.is_whole w) _ _ (λ _ e. is_known (plain (K.value_from 0 w)) k (f (K.value_from 0 w)) e)
-    (λ _. chosen (λ z. z ≡ K.some k) (K.is_decimal w) _ _
+    chosen (λ z. z ≡ S.Some k) (K.is_whole w) _ _ (λ _ e. is_known (plain (K.value_from 0 w)) k (f (K.value_from 0 w)) e)
+    (λ _. chosen (λ z. z ≡ S.Some k) (K.is_decimal w) _ _
     (λ _ e. is_known _ k (g (K.value_from 0 (K.before_point w ++ K.after_point w)) (length (K.after_point w))) e)
     (λ _ e. unknown k e))
 
-string_from_is : (q : ℕ) (v x : Bytes) (k : Known) → string_from q v x ≡ K.some k → (y : Bytes) × (x ≡ y ++ (q ∷ [])) × (k ≡ K.quoted (v ++ y))
+string_from_is : (q : ℕ) (v x : Bytes) (k : Known) → string_from q v x ≡ S.Some k → (y : Bytes) × (x ≡ y ++ (q ∷ [])) × (k ≡ K.quoted (v ++ y))
 unfolding string_from
 string_from_is q v [] k = unknown k
 string_from_is q v (c ∷ []) k =
-    chosen (λ z. z ≡ K.some k) (eqb c q) _ _
+    chosen (λ z. z ≡ S.Some k) (eqb c q) _ _
     (λ t e. let i : K.quoted v ≡ k = cc in ([], ap (λ (z : ℕ). z ∷ []) (eqb→eq c q t), sym i ∙ ap K.quoted (sym (append-nil v))))
     (λ _ e. unknown k e)
 string_from_is q v (c ∷ d ∷ w) k =
-    chosen (λ z. z ≡ K.some k) (eqb c q) _ _ (λ _ e. unknown k e)
+    chosen (λ z. z ≡ S.Some k) (eqb c q) _ _ (λ _ e. unknown k e)
     (λ _ e.
     let m = string_from_is q (v ++ (c ∷ [])) (d ∷ w) k e in
     (c ∷ m.0, ap (λ (z : Bytes). c ∷ z) m.1, m.2 ∙ ap K.quoted (append_assoc v (c ∷ []) m.0)))
 
-string_of_utf8 : (w : Bytes) (k : Known) → Whole w → string_of w ≡ K.some k → KnownUtf8 k
+string_of_utf8 : (w : Bytes) (k : Known) → Whole w → string_of w ≡ S.Some k → KnownUtf8 k
 unfolding string_of KnownUtf8
 string_of_utf8 [] k u = unknown k
 string_of_utf8 (c ∷ w) k u =
-    chosen (λ z. z ≡ K.some k) (quote c) _ _
+    chosen (λ z. z ≡ S.Some k) (quote c) _ _
     (λ t e.
     let m = string_from_is c [] w k e in
     let b : Whole (m.0 ++ (c ∷ [])) = ap utf8 (sym m.1) ∙ skip_ascii c w (quote_small c t) u in
     subst KnownUtf8 (sym m.2) (split m.0 c [] (quote_small c t) b).0)
     (λ _ e. unknown k e)
 
-rest_utf8 : (w : Bytes) (k : Known) → Whole w → rest_of w ≡ K.some k → KnownUtf8 k
+rest_utf8 : (w : Bytes) (k : Known) → Whole w → rest_of w ≡ S.Some k → KnownUtf8 k
 unfolding rest_of KnownUtf8
 rest_utf8 w k u =
-    chosen (λ z. z ≡ K.some k) (some_byte K.not_read w || (K.digit_or_point (K.unsigned w) && some_byte K.of_a_number w)) _ _ (λ _ e. unknown k e) (λ _ e. is_known (K.other w) k u e)
+    chosen (λ z. z ≡ S.Some k) (some_byte K.not_read w || (K.digit_or_point (K.unsigned w) && some_byte K.of_a_number w)) _ _ (λ _ e. unknown k e) (λ _ e. is_known (K.other w) k u e)
 
-abbrev signed : Bytes → Found Known
+abbrev signed : Bytes → S.Option Known
 signed w = choose (K.has_minus w) (number_of (K.unsigned w) K.minus_whole K.minus_decimal) (number_of w K.whole K.decimal)
 
-signed_utf8 : (w : Bytes) (k : Known) → signed w ≡ K.some k → KnownUtf8 k
+signed_utf8 : (w : Bytes) (k : Known) → signed w ≡ S.Some k → KnownUtf8 k
 unfolding KnownUtf8
 signed_utf8 w k =
-    chosen (λ z. z ≡ K.some k) (K.has_minus w) (number_of (K.unsigned w) K.minus_whole K.minus_decimal) (number_of w K.whole K.decimal)
+    chosen (λ z. z ≡ S.Some k) (K.has_minus w) (number_of (K.unsigned w) K.minus_whole K.minus_decimal) (number_of w K.whole K.decimal)
     (λ _ e. number_utf8 (K.unsigned w) K.minus_whole K.minus_decimal k (λ n. tt) (λ n p. tt) e)
     (λ _ e. number_utf8 w K.whole K.decimal k (λ n. tt) (λ n p. tt) e)
 
-trimmed_utf8 : (w : Bytes) (k : Known) → Whole w → known_trimmed w ≡ K.some k → KnownUtf8 k
+trimmed_utf8 : (w : Bytes) (k : Known) → Whole w → known_trimmed w ≡ S.Some k → KnownUtf8 k
 unfolding known_trimmed KnownUtf8
 trimmed_utf8 w k u =
-    chosen (λ z. z ≡ K.some k) (same w (ascii "true")) _ _ (λ _ e. is_known (K.boolean true) k tt e)
-    (λ _. chosen (λ z. z ≡ K.some k) (same w (ascii "false")) _ _ (λ _ e. is_known (K.boolean false) k tt e)
-    (λ _. chosen (λ z. z ≡ K.some k) (same w (ascii "null")) _ _ (λ _ e. is_known K.null k tt e)
+    chosen (λ z. z ≡ S.Some k) (same w (ascii "true")) _ _ (λ _ e. is_known (K.boolean true) k tt e)
+    (λ _. chosen (λ z. z ≡ S.Some k) (same w (ascii "false")) _ _ (λ _ e. is_known (K.boolean false) k tt e)
+    (λ _. chosen (λ z. z ≡ S.Some k) (same w (ascii "null")) _ _ (λ _ e. is_known K.null k tt e)
     (λ _ e. on (either (string_of w) (or_else (signed w) (rest_of w)) k e))))
   where
-    last : (signed w ≡ K.some k) ⊎ (rest_of w ≡ K.some k) → KnownUtf8 k
+    last : (signed w ≡ S.Some k) ⊎ (rest_of w ≡ S.Some k) → KnownUtf8 k
     last (inl e) = signed_utf8 w k e
     last (inr e) = rest_utf8 w k u e
 
-    on : (string_of w ≡ K.some k) ⊎ (or_else (signed w) (rest_of w) ≡ K.some k) → KnownUtf8 k
+    on : (string_of w ≡ S.Some k) ⊎ (or_else (signed w) (rest_of w) ≡ S.Some k) → KnownUtf8 k
     on (inl e) = string_of_utf8 w k u e
     on (inr e) = last (either (signed w) (rest_of w) k e)
 
-pub known_utf8 : (w : Bytes) (k : Known) → Whole w → known_of w ≡ K.some k → KnownUtf8 k
+pub known_utf8 : (w : Bytes) (k : Known) → Whole w → known_of w ≡ S.Some k → KnownUtf8 k
 unfolding known_of utf8 High
 known_utf8 w k u e = trimmed_utf8 (trimmed_end w) k (trimmed_behind w [] tt u) e
 

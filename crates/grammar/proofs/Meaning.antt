@@ -4,9 +4,10 @@ use mathlib.Core.Path.{◌≡◌}
 use mathlib.Core.Bool.{Bool}
 use mathlib.Core.List.{[], ◌∷◌, ◌++◌}
 use lib.Dec.{T}
+use Rattle.std.specs.Prelude.{Some}
 use Rattle.field.specs.Bytes.{Bytes}
 use Rattle.grammar.specs.Signs.{snoc, name_byte, equals_sign, text_byte, string_byte, entity_byte, quote, quoted_byte}
-use Rattle.grammar.specs.Known.{Known, some, known_of, entity_of}
+use Rattle.grammar.specs.Known.{Known, known_of, entity_of}
 use Rattle.grammar.specs.Syntax.{part, Name, tag_name_fits, Tag, tag, Attributes, no_attributes, no_value, string_value, container_value, tag_value, spread_attribute, Children, no_children, text_child, tag_child, empty_child, container_child, spread_child, Expr, tag_expr, known_expr, join_attributes, join_children, add_attribute, add_child}
 use Rattle.grammar.specs.Grammar.{Ends, Run, Decoded, Spaces, IsIdent, IsParts, IsName, IsSource, Closing, IsTag, IsAttributes, IsChildren, IsExpr}
 use Rattle.grammar.specs.Reader.{Braces, child_braces, spread_child_braces, value_braces, spread_braces, within, value_of, in_braces, Stack, For, for_tag, for_attribute, for_closing, Of, of_text, of_string, State, start, opened, in_ident, behind_ident, behind_sep, in_tag, slashed, attribute_named, equals, in_string, in_entity, spread_opened, one_point, two_points, braces_opened, in_source, in_quotes, behind_tag, in_children, in_text, closing, close_named, done, refused, fits}
@@ -74,7 +75,7 @@ pub data InText (P : Tag → Bytes → Type 0) (w : Bytes) (n : Name) (ps : Attr
 
 -- in an entity; R is what is left behind it
 pub data InEntity (R : ℕ → Bytes → Type 0) (e : Bytes) (s : Bytes) : Type 0 where
-  entity_goes : {f s₁ : Bytes} {d : ℕ} → Run entity_byte s f (59 ∷ s₁) → entity_of (e ++ f) ≡ some d → R d s₁ → InEntity R e s
+  entity_goes : {f s₁ : Bytes} {d : ℕ} → Run entity_byte s f (59 ∷ s₁) → entity_of (e ++ f) ≡ Some d → R d s₁ → InEntity R e s
 
 pub data Equals (P : Tag → Bytes → Type 0) (a n : Name) (ps : Attributes) (s : Bytes) : Type 0 where
   equals_string : {q : ℕ} {s₁ : Bytes} → Spaces s (q ∷ s₁) → T (quote q) → InString P q [] a n ps s₁ → Equals P a n ps s
@@ -106,7 +107,7 @@ SourceUp zero s w r = IsSource s w (125 ∷ r)
 SourceUp (suc d) s w r = (u s' v : Bytes) × IsSource s u (125 ∷ s') × SourceUp d s' v r × (w ≡ u ++ (125 ∷ v))
 
 pub data InSource (P : Tag → Bytes → Type 0) (d : ℕ) (w : Bytes) (h : Braces) (s : Bytes) : Type 0 where
-  in_the_source : (v r : Bytes) (k : Known) → SourceUp d s v r → known_of (w ++ v) ≡ some k → Filled P h (known_expr k) r → InSource P d w h s
+  in_the_source : (v r : Bytes) (k : Known) → SourceUp d s v r → known_of (w ++ v) ≡ Some k → Filled P h (known_expr k) r → InSource P d w h s
 
 pub data InQuotes (P : Tag → Bytes → Type 0) (q d : ℕ) (w : Bytes) (h : Braces) (s : Bytes) : Type 0 where
   in_the_quotes : {v s₁ : Bytes} → Run (quoted_byte q) s v (q ∷ s₁) → InSource P d (snoc (w ++ v) q) h s₁ → InQuotes P q d w h s

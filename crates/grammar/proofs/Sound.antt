@@ -6,9 +6,10 @@ use mathlib.Core.List.{[], ◌∷◌, ◌++◌, append-nil, append_assoc}
 use mathlib.Core.Logic.{◌⊎◌, inl, inr}
 use native.Mathlib.Omega.{arith}
 use lib.Dec.{T, eqb}
+use Rattle.std.specs.Prelude.{Option, None, Some}
 use Rattle.field.specs.Bytes.{Bytes}
 use Rattle.grammar.specs.Signs.{snoc, letter, name_byte, separator, space, name_goes_on, equals_sign, text_byte, string_byte, entity_byte, quote, quoted_byte, source_byte, source_start}
-use Rattle.grammar.specs.Known.{Known, Found, none, some, known_of, entity_of}
+use Rattle.grammar.specs.Known.{Known, known_of, entity_of}
 use Rattle.grammar.specs.Syntax.{part, Name, tag_name_fits, attribute_name_fits, Tag, tag, Attributes, no_attributes, Attribute, no_value, string_value, Children, no_children, Child, text_child, Expr, tag_expr, known_expr, join_attributes, join_children, add_attribute, add_child}
 use Rattle.grammar.specs.Grammar.{Ends, Run, run_ends, run_on, decoded_ends, decoded_on, entity, Spaces, no_space, space_on, IsIdent, ident, IsParts, no_parts, one_part, IsName, is_name, IsSource, source_ends, source_on, quotes, braces, Closing, closing_name, closing_fragment, IsTag, is_alone, is_around, is_fragment, are_no_attributes, are_attributes, IsAttribute, is_no_value, is_string_value, is_container_value, is_tag_value, is_spread_attribute, are_no_children, are_children, IsChild, is_text_child, is_tag_child, is_empty_child, is_container_child, is_spread_child, IsExpr, is_tag_expr, is_known_expr}
 use Rattle.grammar.specs.Reader.{Braces, child_braces, spread_child_braces, value_braces, spread_braces, within, value_of, in_braces, Stack, For, for_tag, for_attribute, for_closing, Of, of_text, of_string, State, start, opened, in_ident, behind_ident, behind_sep, in_tag, slashed, attribute_named, equals, in_string, in_entity, spread_opened, one_point, two_points, braces_opened, in_source, in_quotes, behind_tag, in_children, in_text, closing, close_named, done, refused, closed, filled, filled_if, emptied, pointed, close_of, brace_ends, resumed, resumed_if, fits, step_tag, step_attribute_named, step_close_named, step_of_named, step_behind, step_source, step_children, step, read, no_reading, at_end, outcome}
@@ -107,7 +108,7 @@ module _ (P : Tag → Bytes → Type 0) where
   string_goes : (c : ℕ) {q : ℕ} {w : Bytes} {a n : Name} {ps : Attributes} {s : Bytes} → T (string_byte q c) → T (not (eqb c 38)) → InString P q (snoc w c) a n ps s → InString P q w a n ps (c ∷ s)
   string_goes c {q} {w} {a} {n} {ps} u m (string_on {v} {s₁} k t) = string_on (decoded_on u m k) (subst (λ (z : Bytes). SpacedTag P n (add_attribute ps (string_value a z)) s₁) (append_assoc w (c ∷ []) v) t)
 
-  string_entity : {q : ℕ} {w e s s₁ : Bytes} {d : ℕ} {a n : Name} {ps : Attributes} → Run entity_byte s e (59 ∷ s₁) → entity_of e ≡ some d → InString P q (snoc w d) a n ps s₁ → InString P q w a n ps (38 ∷ s)
+  string_entity : {q : ℕ} {w e s s₁ : Bytes} {d : ℕ} {a n : Name} {ps : Attributes} → Run entity_byte s e (59 ∷ s₁) → entity_of e ≡ Some d → InString P q (snoc w d) a n ps s₁ → InString P q w a n ps (38 ∷ s)
   string_entity {q} {w} {d = d} {a} {n} {ps} r i (string_on {v} {s₁} k t) = string_on (entity r i k) (subst (λ (z : Bytes). SpacedTag P n (add_attribute ps (string_value a z)) s₁) (append_assoc w (d ∷ []) v) t)
 
   string_stops : {q : ℕ} {w : Bytes} {a n : Name} {ps : Attributes} {s : Bytes} → SpacedTag P n (add_attribute ps (string_value a w)) s → InString P q w a n ps (q ∷ s)
@@ -117,7 +118,7 @@ module _ (P : Tag → Bytes → Type 0) where
   text_goes : (c : ℕ) {w : Bytes} {n : Name} {ps : Attributes} {ks : Children} {s : Bytes} → T (text_byte c) → T (not (eqb c 38)) → InText P (snoc w c) n ps ks s → InText P w n ps ks (c ∷ s)
   text_goes c {w} {n} {ps} {ks} u m (text_on {v} {s₁} q t) = text_on (decoded_on u m q) (subst (λ (z : Bytes). AfterChildren P n ps (add_child ks (text_child z)) s₁) (append_assoc w (c ∷ []) v) t)
 
-  text_entity : {w e s s₁ : Bytes} {d : ℕ} {n : Name} {ps : Attributes} {ks : Children} → Run entity_byte s e (59 ∷ s₁) → entity_of e ≡ some d → InText P (snoc w d) n ps ks s₁ → InText P w n ps ks (38 ∷ s)
+  text_entity : {w e s s₁ : Bytes} {d : ℕ} {n : Name} {ps : Attributes} {ks : Children} → Run entity_byte s e (59 ∷ s₁) → entity_of e ≡ Some d → InText P (snoc w d) n ps ks s₁ → InText P w n ps ks (38 ∷ s)
   text_entity {w} {d = d} {n} {ps} {ks} r i (text_on {v} {s₁} q t) = text_on (entity r i q) (subst (λ (z : Bytes). AfterChildren P n ps (add_child ks (text_child z)) s₁) (append_assoc w (d ∷ []) v) t)
 
   text_ends : (c : ℕ) {w : Bytes} {n : Name} {ps : Attributes} {ks : Children} {s : Bytes} → T (not (text_byte c)) → AfterChildren P n ps (add_child ks (text_child w)) (c ∷ s) → InText P w n ps ks (c ∷ s)
@@ -127,17 +128,17 @@ module _ (P : Tag → Bytes → Type 0) where
   text_begins : (c : ℕ) {n : Name} {ps : Attributes} {ks : Children} {s : Bytes} → T (text_byte c) → T (not (eqb c 38)) → InText P (c ∷ []) n ps ks s → AfterChildren P n ps ks (c ∷ s)
   text_begins c u m (text_on q t) = one_child P (is_text_child (decoded_on u m q)) t
 
-  entity_begins : {e s s₁ : Bytes} {d : ℕ} {n : Name} {ps : Attributes} {ks : Children} → Run entity_byte s e (59 ∷ s₁) → entity_of e ≡ some d → InText P (d ∷ []) n ps ks s₁ → AfterChildren P n ps ks (38 ∷ s)
+  entity_begins : {e s s₁ : Bytes} {d : ℕ} {n : Name} {ps : Attributes} {ks : Children} → Run entity_byte s e (59 ∷ s₁) → entity_of e ≡ Some d → InText P (d ∷ []) n ps ks s₁ → AfterChildren P n ps ks (38 ∷ s)
   entity_begins r i (text_on q t) = one_child P (is_text_child (entity r i q)) t
 
 module _ (R : ℕ → Bytes → Type 0) where
   entity_on : (c : ℕ) {e s : Bytes} → T (not (eqb c 59)) → InEntity R (snoc e c) s → InEntity R e (c ∷ s)
   unfolding entity_byte
-  entity_on c {e} u (entity_goes {f} {d = d} q i k) = entity_goes (run_on u q) (subst (λ (z : Bytes). entity_of z ≡ some d) (append_assoc e (c ∷ []) f) i) k
+  entity_on c {e} u (entity_goes {f} {d = d} q i k) = entity_goes (run_on u q) (subst (λ (z : Bytes). entity_of z ≡ Some d) (append_assoc e (c ∷ []) f) i) k
 
-  entity_stops : {d : ℕ} (e s : Bytes) → entity_of e ≡ some d → R d s → InEntity R e (59 ∷ s)
+  entity_stops : {d : ℕ} (e s : Bytes) → entity_of e ≡ Some d → R d s → InEntity R e (59 ∷ s)
   unfolding Ends entity_byte
-  entity_stops {d} e s i k = entity_goes (run_ends tt) (subst (λ (z : Bytes). entity_of z ≡ some d) (sym (append-nil e)) i) k
+  entity_stops {d} e s i k = entity_goes (run_ends tt) (subst (λ (z : Bytes). entity_of z ≡ Some d) (sym (append-nil e)) i) k
 
 -- ---- names
 module _ (N : Name → Bytes → Type 0) (F : Name → Bool) where
@@ -197,26 +198,26 @@ up_braces (suc d) v r {w = w} p k =
 module _ (P : Tag → Bytes → Type 0) where
   source_goes : (c d : ℕ) {w : Bytes} {h : Braces} {s : Bytes} → T (source_byte c) → InSource P d (snoc w c) h s → InSource P d w h (c ∷ s)
   source_goes c d {w} {h} {s} u (in_the_source v r k p e f) =
-      in_the_source (c ∷ v) r k (up_on d c s v r u p) (subst (λ (z : Bytes). known_of z ≡ some k) (append_assoc w (c ∷ []) v) e) f
+      in_the_source (c ∷ v) r k (up_on d c s v r u p) (subst (λ (z : Bytes). known_of z ≡ Some k) (append_assoc w (c ∷ []) v) e) f
 
   source_quotes : (c d : ℕ) {w : Bytes} {h : Braces} {s : Bytes} → T (quote c) → InQuotes P c d (snoc w c) h s → InSource P d w h (c ∷ s)
   source_quotes c d {w} {h} u (in_the_quotes {v} p (in_the_source x r k q e f)) =
-      in_the_source (c ∷ (v ++ (c ∷ x))) r k (up_quotes d x r u p q) (subst (λ (z : Bytes). known_of z ≡ some k) (simp append_assoc) e) f
+      in_the_source (c ∷ (v ++ (c ∷ x))) r k (up_quotes d x r u p q) (subst (λ (z : Bytes). known_of z ≡ Some k) (simp append_assoc) e) f
 
   source_braces : (d : ℕ) {w : Bytes} {h : Braces} {s : Bytes} → InSource P (suc d) (snoc w 123) h s → InSource P d w h (123 ∷ s)
   unfolding SourceUp
   source_braces d {w} {h} {s} (in_the_source v r k p e f) =
       let i : v ≡ p.0 ++ (125 ∷ p.2) = p.5 in
-      in_the_source (123 ∷ v) r k (subst (λ (z : Bytes). SourceUp d (123 ∷ s) (123 ∷ z) r) (sym i) (up_braces d p.2 r p.3 p.4)) (subst (λ (z : Bytes). known_of z ≡ some k) (append_assoc w (123 ∷ []) v) e) f
+      in_the_source (123 ∷ v) r k (subst (λ (z : Bytes). SourceUp d (123 ∷ s) (123 ∷ z) r) (sym i) (up_braces d p.2 r p.3 p.4)) (subst (λ (z : Bytes). known_of z ≡ Some k) (append_assoc w (123 ∷ []) v) e) f
 
-  source_stops : (w : Bytes) (s : Bytes) (h : Braces) (k : Known) → known_of w ≡ some k → Filled P h (known_expr k) s → InSource P zero w h (125 ∷ s)
+  source_stops : (w : Bytes) (s : Bytes) (h : Braces) (k : Known) → known_of w ≡ Some k → Filled P h (known_expr k) s → InSource P zero w h (125 ∷ s)
   unfolding SourceUp
-  source_stops w s h k e f = in_the_source [] s k source_ends (subst (λ (z : Bytes). known_of z ≡ some k) (sym (append-nil w)) e) f
+  source_stops w s h k e f = in_the_source [] s k source_ends (subst (λ (z : Bytes). known_of z ≡ Some k) (sym (append-nil w)) e) f
 
   brace_stops : (d : ℕ) {w : Bytes} {h : Braces} {s : Bytes} → InSource P d (snoc w 125) h s → InSource P (suc d) w h (125 ∷ s)
   unfolding SourceUp
   brace_stops d {w} {h} {s} (in_the_source v r k p e f) =
-      in_the_source (125 ∷ v) r k ([], s, v, source_ends, p, refl) (subst (λ (z : Bytes). known_of z ≡ some k) (append_assoc w (125 ∷ []) v) e) f
+      in_the_source (125 ∷ v) r k ([], s, v, source_ends, p, refl) (subst (λ (z : Bytes). known_of z ≡ Some k) (append_assoc w (125 ∷ []) v) e) f
 
   quotes_go : (c : ℕ) {q d : ℕ} {w : Bytes} {h : Braces} {s : Bytes} → T (quoted_byte q c) → InQuotes P q d (snoc w c) h s → InQuotes P q d w h (c ∷ s)
   quotes_go c {q} {d} {w} {h} u (in_the_quotes {v} {s₁} k t) = in_the_quotes (run_on u k) (subst (λ (z : Bytes). InSource P d (snoc z q) h s₁) (append_assoc w (c ∷ []) v) t)
@@ -283,17 +284,17 @@ module _ (t : Tag) where
   unfolding resumed_if Means
   resumed_if_means x e s p = on (entity_of e) refl p
     where
-      on : (f : Found ℕ) → entity_of e ≡ f → Means t (resumed_if x f) s → InEntity (Resumed t x) e (59 ∷ s)
-      on none i q = absurd q
-      on (some d) i q = entity_stops (Resumed t x) e s i (resumed_means x d s q)
+      on : (f : Option ℕ) → entity_of e ≡ f → Means t (resumed_if x f) s → InEntity (Resumed t x) e (59 ∷ s)
+      on None i q = absurd q
+      on (Some d) i q = entity_stops (Resumed t x) e s i (resumed_means x d s q)
 
   filled_if_means : (w : Bytes) (h : Braces) (K : Stack) (s : Bytes) → Means t (filled_if (known_of w) h K) s → InSource (Rest t K) zero w h (125 ∷ s)
   unfolding filled_if Means
   filled_if_means w h K s p = on (known_of w) refl p
     where
-      on : (f : Found Known) → known_of w ≡ f → Means t (filled_if f h K) s → InSource (Rest t K) zero w h (125 ∷ s)
-      on none i q = absurd q
-      on (some k) i q = source_stops (Rest t K) w s h k i (filled_means (known_expr k) h K s q)
+      on : (f : Option Known) → known_of w ≡ f → Means t (filled_if f h K) s → InSource (Rest t K) zero w h (125 ∷ s)
+      on None i q = absurd q
+      on (Some k) i q = source_stops (Rest t K) w s h k i (filled_means (known_expr k) h K s q)
 
   brace_ends_means : (d : ℕ) (w : Bytes) (h : Braces) (K : Stack) (s : Bytes) → Means t (brace_ends d w h K) s → InSource (Rest t K) d w h (125 ∷ s)
   unfolding brace_ends Means
@@ -505,7 +506,7 @@ module _ (t : Tag) where
       (λ _. chosen (λ z. Means t z s) (eqb c 125) _ _ (λ u p. at_eq (λ e. InSource (Rest t K) d w h (e ∷ s)) c 125 u (brace_ends_means d w h K s p))
       (λ _ p. absurd p))))
 
-  braces_from : (c : ℕ) {s v r : Bytes} (h : Braces) (K : Stack) (k : Known) → T (source_start c) → T (not (eqb c 125)) → First (c ∷ s) v (125 ∷ r) → IsSource (c ∷ s) v (125 ∷ r) → known_of v ≡ some k → Filled (Rest t K) h (known_expr k) r → BracesOpened (Rest t K) h (c ∷ s)
+  braces_from : (c : ℕ) {s v r : Bytes} (h : Braces) (K : Stack) (k : Known) → T (source_start c) → T (not (eqb c 125)) → First (c ∷ s) v (125 ∷ r) → IsSource (c ∷ s) v (125 ∷ r) → known_of v ≡ Some k → Filled (Rest t K) h (known_expr k) r → BracesOpened (Rest t K) h (c ∷ s)
   braces_from c h K k u n nothing_of i e f = absurd n
   braces_from c {r = r} h K k u n some_of i e f = braces_expr r (known_expr k) (is_known_expr no_space u i e) f
 

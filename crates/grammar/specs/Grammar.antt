@@ -2,10 +2,10 @@
 -- text s begins with an X that reads as x, and that r is what follows it; so a production is a chain of places in the text.
 -- White space may part the signs of a tag. Main definitions: `ReadsAs`, and `Reads`, where closing names agree besides.
 -- Assumes nothing: these are definitions.
-use Rattle.std.specs.Prelude.{ℕ, ◌≡◌, Bool, not, [], ◌∷◌, ◌++◌, T, eqb}
+use Rattle.std.specs.Prelude.{ℕ, ◌≡◌, Bool, not, [], ◌∷◌, ◌++◌, T, eqb, Some}
 use Rattle.field.specs.Bytes.{Bytes}
 use Rattle.grammar.specs.Signs.{letter, name_byte, separator, space, name_goes_on, equals_sign, text_byte, string_byte, entity_byte, quote, quoted_byte, source_byte, source_start}
-use Rattle.grammar.specs.Known.{Known, some, known_of, entity_of}
+use Rattle.grammar.specs.Known.{Known, known_of, entity_of}
 use Rattle.grammar.specs.Syntax.{part, Name, tag_name_fits, attribute_name_fits, Tag, tag, Attributes, no_attributes, attribute, Attribute, no_value, string_value, container_value, tag_value, spread_attribute, Children, no_children, child, Child, text_child, tag_child, empty_child, container_child, spread_child, Expr, tag_expr, known_expr, matched}
 
 -- no byte of the sort p follows
@@ -23,7 +23,7 @@ pub data Decoded (p : ℕ → Bool) : Bytes → Bytes → Bytes → Type 0 where
   decoded_ends : {s : Bytes} → Ends p s → Decoded p s [] s
   decoded_on : {c : ℕ} {s w r : Bytes} → T (p c) → T (not (eqb c 38)) → Decoded p s w r → Decoded p (c ∷ s) (c ∷ w) r
   -- `&` name `;`, decoded once
-  entity : {s e s' w r : Bytes} {d : ℕ} → Run entity_byte s e (59 ∷ s') → entity_of e ≡ some d → Decoded p s' w r → Decoded p (38 ∷ s) (d ∷ w) r
+  entity : {s e s' w r : Bytes} {d : ℕ} → Run entity_byte s e (59 ∷ s') → entity_of e ≡ Some d → Decoded p s' w r → Decoded p (38 ∷ s) (d ∷ w) r
 
 -- white space or nothing
 pub data Spaces : Bytes → Bytes → Type 0 where
@@ -107,7 +107,7 @@ mutual
     -- A3: 'a tag alone'
     is_tag_expr : {s s₁ s₂ r : Bytes} {t : Tag} → Spaces s s₁ → IsTag s₁ t s₂ → Spaces s₂ (125 ∷ r) → IsExpr s (tag_expr t) r
     -- A3: numbers, strings, `true`, `false`, `null` and 'the rest, not empty', but no text 'that starts with `[`'
-    is_known_expr : {s s₁ w r : Bytes} {c : ℕ} {k : Known} → Spaces s (c ∷ s₁) → T (source_start c) → IsSource (c ∷ s₁) (c ∷ w) (125 ∷ r) → known_of (c ∷ w) ≡ some k → IsExpr s (known_expr k) r
+    is_known_expr : {s s₁ w r : Bytes} {c : ℕ} {k : Known} → Spaces s (c ∷ s₁) → T (source_start c) → IsSource (c ∷ s₁) (c ∷ w) (125 ∷ r) → known_of (c ∷ w) ≡ Some k → IsExpr s (known_expr k) r
 
 -- the text is one tag, with 'nothing around' it; closing names are not compared
 abbrev pub ReadsAs : Bytes → Tag → Type 0

@@ -1,6 +1,6 @@
 -- What braces hold where it is no tag, by the text alone: numbers, strings, `true`, `false`, `null`, and the rest; and the five entities.
 -- Main definitions: `known_of`, `entity_of`. Assumes nothing: these are definitions.
-use Rattle.std.specs.Prelude.{ℕ, ◌+◌, ◌*◌, ◌-◌, Bool, true, false, ◌&&◌, ◌||◌, not, [], ◌∷◌, ◌++◌, leb, eqb, length}
+use Rattle.std.specs.Prelude.{ℕ, ◌+◌, ◌*◌, ◌-◌, Bool, true, false, ◌&&◌, ◌||◌, not, [], ◌∷◌, ◌++◌, leb, eqb, length, Option, None, Some}
 use Rattle.field.specs.Bytes.{Bytes, ascii, same}
 use Rattle.grammar.specs.Signs.{choose, each, some_byte, digit, space, quote}
 
@@ -13,10 +13,6 @@ pub data Known : Type 0 where
   boolean : Bool → Known  -- 72
   null : Known  -- 73
   other : Bytes → Known  -- 79 of one 20
-
-pub data Found (A : Type 0) : Type 0 where
-  none : Found A
-  some : A → Found A
 
 -- ---- white space
 unfoldable pub trimmed_front : Bytes → Bytes
@@ -59,10 +55,10 @@ is_empty_text (c ∷ w) = false
 unfoldable pub is_decimal : Bytes → Bool
 is_decimal w = is_whole (before_point w) && not (is_empty_text (after_point w)) && each digit (after_point w)
 
-unfoldable pub number_of : Bytes → (plain : ℕ → Known) → (pointed : ℕ → ℕ → Known) → Found Known
+unfoldable pub number_of : Bytes → (plain : ℕ → Known) → (pointed : ℕ → ℕ → Known) → Option Known
 number_of w plain pointed =
-    choose (is_whole w) (some (plain (value_from 0 w)))
-    (choose (is_decimal w) (some (pointed (value_from 0 (before_point w ++ after_point w)) (length (after_point w)))) none)
+    choose (is_whole w) (Some (plain (value_from 0 w)))
+    (choose (is_decimal w) (Some (pointed (value_from 0 (before_point w ++ after_point w)) (length (after_point w)))) None)
 
 -- A3: 'either after a minus and any white space'. What is behind these, where they stand
 unfoldable pub unsigned : Bytes → Bytes
@@ -76,14 +72,14 @@ has_minus (c ∷ w) = eqb c 45
 -- ---- A3: 'quoted strings without backslash or line end': the quote, bytes that are not it, the quote. (Source text has the other two nowhere
 -- in quotes.)
 
-unfoldable pub string_from : ℕ → Bytes → Bytes → Found Known
-string_from q v [] = none
-string_from q v (c ∷ []) = choose (eqb c q) (some (quoted v)) none
-string_from q v (c ∷ d ∷ w) = choose (eqb c q) none (string_from q (v ++ (c ∷ [])) (d ∷ w))
+unfoldable pub string_from : ℕ → Bytes → Bytes → Option Known
+string_from q v [] = None
+string_from q v (c ∷ []) = choose (eqb c q) (Some (quoted v)) None
+string_from q v (c ∷ d ∷ w) = choose (eqb c q) None (string_from q (v ++ (c ∷ [])) (d ∷ w))
 
-unfoldable pub string_of : Bytes → Found Known
-string_of [] = none
-string_of (c ∷ w) = choose (quote c) (string_from c [] w) none
+unfoldable pub string_of : Bytes → Option Known
+string_of [] = None
+string_of (c ∷ w) = choose (quote c) (string_from c [] w) None
 
 -- ---- the rest
 
@@ -100,31 +96,31 @@ unfoldable pub not_read : ℕ → Bool
 not_read c = eqb c 96 || eqb c 92 || eqb c 47 || eqb c 60
 
 -- A3: 'text starting with a digit or point, also after a minus and white space, is not read as 79 if it holds' one of these
-unfoldable pub rest_of : Bytes → Found Known
-rest_of w = choose (some_byte not_read w || (digit_or_point (unsigned w) && some_byte of_a_number w)) none (some (other w))
+unfoldable pub rest_of : Bytes → Option Known
+rest_of w = choose (some_byte not_read w || (digit_or_point (unsigned w) && some_byte of_a_number w)) None (Some (other w))
 
-unfoldable pub or_else : Found Known → Found Known → Found Known
-or_else none y = y
-or_else (some k) y = some k
+unfoldable pub or_else : Option Known → Option Known → Option Known
+or_else None y = y
+or_else (Some k) y = Some k
 
-unfoldable pub known_trimmed : Bytes → Found Known
+unfoldable pub known_trimmed : Bytes → Option Known
 known_trimmed w =
-    choose (same w (ascii "true")) (some (boolean true))
-    (choose (same w (ascii "false")) (some (boolean false))
-    (choose (same w (ascii "null")) (some null)
+    choose (same w (ascii "true")) (Some (boolean true))
+    (choose (same w (ascii "false")) (Some (boolean false))
+    (choose (same w (ascii "null")) (Some null)
     (or_else (string_of w)
     (or_else (choose (has_minus w) (number_of (unsigned w) minus_whole minus_decimal) (number_of w whole decimal))
     (rest_of w)))))
 
 -- white space in front was dropped by the grammar
-unfoldable pub known_of : Bytes → Found Known
+unfoldable pub known_of : Bytes → Option Known
 known_of w = known_trimmed (trimmed_end w)
 
 -- ---- entities, between `&` and `;`
-unfoldable pub entity_of : Bytes → Found ℕ
+unfoldable pub entity_of : Bytes → Option ℕ
 entity_of e =
-    choose (same e (ascii "amp")) (some 38)
-    (choose (same e (ascii "lt")) (some 60)
-    (choose (same e (ascii "gt")) (some 62)
-    (choose (same e (ascii "quot")) (some 34)
-    (choose (same e (ascii "#39")) (some 39) none))))
+    choose (same e (ascii "amp")) (Some 38)
+    (choose (same e (ascii "lt")) (Some 60)
+    (choose (same e (ascii "gt")) (Some 62)
+    (choose (same e (ascii "quot")) (Some 34)
+    (choose (same e (ascii "#39")) (Some 39) None))))

@@ -1,10 +1,10 @@
 -- The grammar's reader as a machine: a state, a step for each byte, an answer at the end. What is open stands in a list. It is proved to answer
 -- what the grammar says (proofs/Exact.antt), so it need not be believed. Main definitions: `step`, `outcome`, `answer`.
 -- Assumes nothing: these are definitions.
-use Rattle.std.specs.Prelude.{ℕ, zero, suc, Bool, List, [], ◌∷◌, ◌++◌, eqb}
+use Rattle.std.specs.Prelude.{ℕ, zero, suc, Bool, List, [], ◌∷◌, ◌++◌, eqb, Option, None, Some}
 use Rattle.field.specs.Bytes.{Bytes}
 use Rattle.grammar.specs.Signs.{snoc, choose, letter, name_byte, separator, space, text_byte, string_byte, quote, quoted_byte, source_byte, source_start}
-use Rattle.grammar.specs.Known.{Known, Found, none, some, known_of, entity_of}
+use Rattle.grammar.specs.Known.{Known, known_of, entity_of}
 use Rattle.grammar.specs.Syntax.{part, Name, tag_name_fits, attribute_name_fits, Tag, tag, Attributes, no_attributes, no_value, string_value, container_value, tag_value, spread_attribute, Children, no_children, text_child, tag_child, empty_child, container_child, spread_child, Expr, tag_expr, known_expr, matched, add_attribute, add_child}
 
 -- an open brace
@@ -74,9 +74,9 @@ filled b (spread_child_braces n ps ks) K = in_children n ps (add_child ks (sprea
 filled b (value_braces a n ps) K = in_tag n (add_attribute ps (container_value a b)) K
 filled b (spread_braces n ps) K = in_tag n (add_attribute ps (spread_attribute b)) K
 
-unfoldable pub filled_if : Found Known → Braces → Stack → State
-filled_if none h K = refused
-filled_if (some k) h K = filled (known_expr k) h K
+unfoldable pub filled_if : Option Known → Braces → Stack → State
+filled_if None h K = refused
+filled_if (Some k) h K = filled (known_expr k) h K
 
 unfoldable pub emptied : Braces → Stack → State
 emptied (child_braces n ps ks) K = in_children n ps (add_child ks empty_child) K
@@ -107,9 +107,9 @@ unfoldable pub resumed : Of → ℕ → State
 resumed (of_text w n ps ks K) d = in_text (snoc w d) n ps ks K
 resumed (of_string q w a n ps K) d = in_string q (snoc w d) a n ps K
 
-unfoldable pub resumed_if : Of → Found ℕ → State
-resumed_if x none = refused
-resumed_if x (some d) = resumed x d
+unfoldable pub resumed_if : Of → Option ℕ → State
+resumed_if x None = refused
+resumed_if x (Some d) = resumed x d
 
 unfoldable pub fits : For → Name → Bool
 fits (for_tag K) m = tag_name_fits m

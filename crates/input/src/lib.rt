@@ -4,6 +4,8 @@
 ghost use Rattle.std.specs.Prelude.{◌<◌, ◌≤◌, length, take, IfOk};
 ghost use Rattle.std.specs.Io.KnownBytes.{Consumes, IsAtEnd};
 
+pub mod room;
+
 use std::io;
 use std::io::Read;
 

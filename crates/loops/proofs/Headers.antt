@@ -12,43 +12,47 @@ use Rattle.field.specs.Bytes.{Bytes, pick}
 use Rattle.field.specs.Row.{Row, end, loose, field, Inside, only_bytes, fields_after, counted, counted_front, nothing, no_field, next, next_of, opened, built_by, read_by}
 use Rattle.field.specs.Header.{header_of, Within}
 use Rattle.field.specs.declared.reader.Header.{Header}
-use Rattle.field.specs.declared.reader.Header.TheVariants as H
+use Rattle.std.specs.Prelude.{Option, Some, None}
+use Rattle.std.proofs.lemmas.Option.{none-some, same_Some}
 use Rattle.field.proofs.HeaderLaws.{next_field, within_field}
 use Rattle.field.proofs.Reading.{step, nil}
 
 -- ---- the bytes of a header
 
-first_by : (t n : ℕ) (b : Bool) (u e : ℕ) → pick b (H.Field t (3 + n)) H.Absent ≡ H.Field u e → (t ≡ u) × (3 + n ≡ e)
-first_by t n true u e p = (cc, cc)
-first_by t n false u e p = absurd (let z : H.Absent ≡ H.Field u e = p in let k : ◌≡◌ {A = ℕ} 0 1 = cc in omega arith)
+abbrev some : ℕ → ℕ → Option Header
+some t e = Some (record { tag = t; end = e })
 
-pub tag_first : (s : Bytes) (t e : ℕ) → header_of s ≡ H.Field t e → get_or s 0 0 ≡ t
+first_by : (t n : ℕ) (b : Bool) (h : Header) → pick b (some t n) None ≡ Some h → (t ≡ h.tag) × (n ≡ h.end)
+first_by t n true h p = let q = same_Some _ h p in (ap (λ (x : Header). x.tag) q, ap (λ (x : Header). x.end) q)
+first_by t n false h p = absurd (none-some _ p)
+
+pub tag_first : (s : Bytes) (h : Header) → header_of s ≡ Some h → get_or s 0 0 ≡ h.tag
 unfolding header_of
-tag_first [] t e p = absurd (let k : ◌≡◌ {A = ℕ} 0 1 = cc in omega arith)
-tag_first (x ∷ []) t e p = absurd (let k : ◌≡◌ {A = ℕ} 0 1 = cc in omega arith)
-tag_first (x ∷ y ∷ []) t e p = absurd (let k : ◌≡◌ {A = ℕ} 0 1 = cc in omega arith)
-tag_first (x ∷ y ∷ z ∷ w) t e p = (first_by x (y * 256 + z) (leb (y * 256 + z) (length w)) t e p).0
+tag_first [] h p = absurd (none-some _ p)
+tag_first (x ∷ []) h p = absurd (none-some _ p)
+tag_first (x ∷ y ∷ []) h p = absurd (none-some _ p)
+tag_first (x ∷ y ∷ z ∷ w) h p = (first_by x (3 + (y * 256 + z)) (leb (y * 256 + z) (length w)) h p).0
 
 -- a length has two bytes
-pub header_short : (s : Bytes) (t e : ℕ) → header_of s ≡ H.Field t e → get_or s 1 0 < 256 → get_or s 2 0 < 256 → e ≤ 65538
+pub header_short : (s : Bytes) (h : Header) → header_of s ≡ Some h → get_or s 1 0 < 256 → get_or s 2 0 < 256 → h.end ≤ 65538
 unfolding header_of
-header_short [] t e p h l = absurd (let k : ◌≡◌ {A = ℕ} 0 1 = cc in omega arith)
-header_short (x ∷ []) t e p h l = absurd (let k : ◌≡◌ {A = ℕ} 0 1 = cc in omega arith)
-header_short (x ∷ y ∷ []) t e p h l = absurd (let k : ◌≡◌ {A = ℕ} 0 1 = cc in omega arith)
-header_short (x ∷ y ∷ z ∷ w) t e p h l = omega (arith, (first_by x (y * 256 + z) (leb (y * 256 + z) (length w)) t e p).1)
+header_short [] h p i j = absurd (none-some _ p)
+header_short (x ∷ []) h p i j = absurd (none-some _ p)
+header_short (x ∷ y ∷ []) h p i j = absurd (none-some _ p)
+header_short (x ∷ y ∷ z ∷ w) h p i j = omega (arith, (first_by x (3 + (y * 256 + z)) (leb (y * 256 + z) (length w)) h p).1)
 
 -- ---- no field stands in front
 
-torn_by : (t n : ℕ) (w r : Bytes) (b : Bool) → pick b (H.Field t (3 + n)) H.Absent ≡ H.Absent → pick b (next t w r) no_field ≡ no_field
-torn_by t n w r true p = absurd (let z : H.Field t (3 + n) ≡ H.Absent = p in let k : ◌≡◌ {A = ℕ} 0 1 = cc in omega arith)
+torn_by : (t n : ℕ) (w r : Bytes) (b : Bool) → pick b (some t n) None ≡ None → pick b (next t w r) no_field ≡ no_field
+torn_by t n w r true p = absurd (none-some _ (sym p))
 torn_by t n w r false p = refl
 
-pub next_torn : (s : Bytes) → header_of s ≡ H.Absent → (length s ≡ 0 → ⊥) → next_of s ≡ no_field
+pub next_torn : (s : Bytes) → header_of s ≡ None → (length s ≡ 0 → ⊥) → next_of s ≡ no_field
 unfolding header_of next_of
 next_torn [] p n = absurd (n refl)
 next_torn (x ∷ []) p n = refl
 next_torn (x ∷ y ∷ []) p n = refl
-next_torn (x ∷ y ∷ z ∷ w) p n = torn_by x (y * 256 + z) (take (y * 256 + z) w) (drop (y * 256 + z) w) (leb (y * 256 + z) (length w)) p
+next_torn (x ∷ y ∷ z ∷ w) p n = torn_by x (3 + (y * 256 + z)) (take (y * 256 + z) w) (drop (y * 256 + z) w) (leb (y * 256 + z) (length w)) p
 
 pub next_empty : (s : Bytes) → length s ≡ 0 → next_of s ≡ nothing
 unfolding next_of
@@ -59,7 +63,7 @@ pub read_empty : (held : ℕ → Inside) (b : Bytes) → length b ≡ 0 → read
 read_empty held [] h = nil held
 read_empty held (x ∷ b) h = absurd (omega arith)
 
-pub read_torn : (held : ℕ → Inside) (b : Bytes) {v : Header} → v ≡ header_of b → v ≡ H.Absent → (length b ≡ 0 → ⊥) → read_by held b ≡ loose b
+pub read_torn : (held : ℕ → Inside) (b : Bytes) {v : Option Header} → v ≡ header_of b → v ≡ None → (length b ≡ 0 → ⊥) → read_by held b ≡ loose b
 read_torn held b q h z = step held b ∙ ap (built_by held (read_by held) b) (next_torn b (sym q ∙ h) z)
 
 -- ---- a field stands in front
@@ -84,16 +88,16 @@ opened_is held (counted n) t w r = refl
 abbrev pub body : Bytes → ℕ → Bytes
 body b e = take (e - 3) (drop 3 b)
 
-module _ (b : Bytes) {v : Header} (q : v ≡ header_of b) (i : Within (length b) v) {t e : ℕ} (h : v ≡ H.Field t e) where
-  pub next_is : next_of b ≡ next t (body b e) (drop e b)
+module _ (b : Bytes) {v : Option Header} (q : v ≡ header_of b) (i : Within (length b) v) {h : Header} (is : v ≡ Some h) where
+  pub next_is : next_of b ≡ next h.tag (body b h.end) (drop h.end b)
   next_is =
-      next_field b t e (sym q ∙ h)
-      ∙ ap (next t (body b e)) (take_all (length b - e) (drop e b) (omega (arith, length-drop e b)))
+      next_field b h (sym q ∙ is)
+      ∙ ap (next h.tag (body b h.end)) (take_all (length b - h.end) (drop h.end b) (omega (arith, length-drop h.end b)))
 
-  pub field_is : (held : ℕ → Inside) → read_by held b ≡ field t (front_of (held t) (body b e)) (inner_of held (held t) (body b e)) (read_by held (drop e b))
-  field_is held = step held b ∙ ap (built_by held (read_by held) b) next_is ∙ opened_is held (held t) t (body b e) (drop e b)
+  pub field_is : (held : ℕ → Inside) → read_by held b ≡ field h.tag (front_of (held h.tag) (body b h.end)) (inner_of held (held h.tag) (body b h.end)) (read_by held (drop h.end b))
+  field_is held = step held b ∙ ap (built_by held (read_by held) b) next_is ∙ opened_is held (held h.tag) h.tag (body b h.end) (drop h.end b)
 
-  pub length_body : length (body b e) ≡ e - 3
+  pub length_body : length (body b h.end) ≡ h.end - 3
   length_body =
-      let p : (3 ≤ e) × (e ≤ length b) = within_field i h in
-      length-take-le (e - 3) (drop 3 b) (omega (arith, length-drop 3 b))
+      let p : (3 ≤ h.end) × (h.end ≤ length b) = within_field i is in
+      length-take-le (h.end - 3) (drop 3 b) (omega (arith, length-drop 3 b))

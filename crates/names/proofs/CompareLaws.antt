@@ -1,16 +1,20 @@
 -- Laws of bytes compared, and of a name read letter by letter, as it stands or in small letters.
 -- Main statements: `same_eq`, `same_step`, `same_other`, `letter_at`.
 -- Assumes nothing.
-use mathlib.Core.Path.{◌≡◌, refl, sym, ap, ap₂}
+use mathlib.Core.Path.{◌≡◌, refl, sym, ap, ap₂, ◌∙◌}
 use mathlib.Core.Bool.{Bool, true, false, ◌&&◌, false≢true, and-eq-true_iff, and-false}
+use mathlib.Core.Logic.{◌⊎◌, ⊎_elim}
 use mathlib.Core.List.{[], ◌∷◌}
 use Prim.Native.Nat.{ℕ, zero, suc, ◌+◌, ◌≤◌, ◌<◌}
 use native.Mathlib.Nat.{not-suc-le-zero, le_of_suc-le-suc}
 use native.Mathlib.Numerals.{add-one}
+use native.Mathlib.Omega.{arith}
 use lib.Dec.{leb, eqb}
 use lib.ListN.{length, get_or, drop}
 use lib.Seq.{drop-cons, drop-length}
-use borrow.Author.Tests.{eqb-true, eq-eqb, ne_eqb, lt-leb, le-leb}
+use borrow.Author.Tests.{eqb-true, eq-eqb, ne_eqb, lt-leb, le-leb, ltb-true, ltb-false}
+use Rattle.std.specs.Char.{to_ascii_lowercase}
+use Rattle.std.specs.Prelude.{cond, nat_lt}
 use Rattle.field.specs.Bytes.{Bytes, pick, same}
 use Rattle.names.specs.Names.{capital, small_letter, small_letters}
 use Rattle.names.specs.Table.{read_as}
@@ -69,6 +73,16 @@ capital_above c h = rw (lt-leb c 90 h) (and-false (leb 65 c))
 pub capital_within : (c : ℕ) → 65 ≤ c → c ≤ 90 → capital c ≡ true
 capital_within c h k = rw (le-leb 65 c h, le-leb c 90 k)
 
+-- std's small letter
+pub lower_is : (c : ℕ) → to_ascii_lowercase c ≡ small_letter c
+unfolding small_letter
+lower_is c = on (nat_lt c 65) refl (nat_lt c 91) refl
+  where
+    on : (a : Bool) → nat_lt c 65 ≡ a → (b : Bool) → nat_lt c 91 ≡ b → cond a c (cond b (c + 32) c) ≡ pick (capital c) (c + 32) c
+    on true e b f = rw (capital_below c (ltb-true c 65 e))
+    on false e true f = rw (capital_within c (ltb-false c 65 e) (omega (arith, ltb-true c 91 f)))
+    on false e false f = rw (capital_above c (omega (arith, ltb-false c 91 f)))
+
 pub length_small : (n : Bytes) → length (small_letters n) ≡ length n
 unfolding small_letters
 length_small [] = refl
@@ -87,3 +101,28 @@ small_at (c ∷ cs) (suc i) h = small_at cs i (le_of_suc-le-suc h)
 pub letter_at : (s : Bool) (n : Bytes) (i : ℕ) → i < length n → get_or (read_as s n) i 0 ≡ pick s (small_letter (get_or n i 0)) (get_or n i 0)
 letter_at true n i h = small_at n i h
 letter_at false n i h = refl
+
+-- ---- two names walked side by side
+
+letters_step : (s : Bool) (c d : ℕ) (v w : Bytes) → same (read_as s (c ∷ v)) (d ∷ w) ≡ (eqb (pick s (small_letter c) c) d && same (read_as s v) w)
+unfolding same small_letters
+letters_step true c d v w = refl
+letters_step false c d v w = refl
+
+module _ (s : Bool) {x y v w : Bytes} {c d r : ℕ} {b : Bool} (p : x ≡ c ∷ v) (q : y ≡ d ∷ w) (e : r ≡ pick s (small_letter c) c) (h : same (read_as s x) y ≡ b) where
+  step : b ≡ (eqb r d && same (read_as s v) w)
+  step = sym h ∙ ap₂ (λ (k l : Bytes). same (read_as s k) l) p q ∙ letters_step s c d v w ∙ ap (λ (k : ℕ). eqb k d && same (read_as s v) w) (sym e)
+
+  pub letters_off : (r ≡ d → ⊥) → b ≡ false
+  letters_off n = step ∙ ap (λ (k : Bool). k && same (read_as s v) w) (ne_eqb r d n)
+
+  pub letters_on : r ≡ d → same (read_as s v) w ≡ b
+  letters_on n = sym (step ∙ ap (λ (k : Bool). k && same (read_as s v) w) (eq-eqb r d n))
+
+pub letters_ended : (s : Bool) (x y : Bytes) {b : Bool} → length x ≡ length y → (length x ≡ 0) ⊎ (length y ≡ 0) → same (read_as s x) y ≡ b → true ≡ b
+unfolding same small_letters
+letters_ended true [] [] p q h = h
+letters_ended false [] [] p q h = h
+letters_ended s [] (d ∷ w) p q h = absurd (omega arith)
+letters_ended s (c ∷ v) [] p q h = absurd (omega arith)
+letters_ended s (c ∷ v) (d ∷ w) p q h = ⊎_elim (λ e. absurd (omega arith)) (λ e. absurd (omega arith)) q

@@ -8,8 +8,10 @@ use Prim.Native.Nat.{ℕ, zero, suc, ◌+◌, ◌≤◌, ◌<◌}
 use native.Mathlib.Nat.{not-suc-le-zero}
 use native.Mathlib.Numerals.{add-one}
 use native.Mathlib.Omega.{arith}
-use lib.ListN.{length, get_or, take, drop, length-drop, drop_of_length-le, get_or-eq_default}
+use lib.ListN.{length, get_or, take, drop, length-drop, drop_of_length-le}
 use lib.Seq.{drop-drop, get_or-drop, get_or-take, length-take-le}
+use Rattle.std.specs.Prelude.{Option, Some, None, slice_get}
+use Rattle.std.proofs.lemmas.Option.{slice_get_past, slice_get-get_or}
 use Rattle.field.specs.Bytes.{Bytes, pick, same}
 use Rattle.names.specs.Table.{mark_from, mark_in}
 
@@ -20,21 +22,21 @@ mark_skip n zero row = refl
 mark_skip n (suc k) [] = refl
 mark_skip n (suc k) (c ∷ row) = mark_skip n k row
 
-mark_step : (n row : Bytes) → length n < length row → mark_in row n ≡ pick (same (take (length n) row) n) (get_or row (length n) 0) (mark_in (drop (suc (length n)) row) n)
+mark_step : (n row : Bytes) → length n < length row → mark_in row n ≡ pick (same (take (length n) row) n) (slice_get row (length n)) (mark_in (drop (suc (length n)) row) n)
 unfolding mark_from
 mark_step n [] h = absurd (not-suc-le-zero h)
 mark_step n (c ∷ row) h =
-    ap (λ (m : ℕ). pick (same (take (length n) (c ∷ row)) n) (get_or (c ∷ row) (length n) 0) m) (mark_skip n (length n) row)
+    ap (λ (m : Option ℕ). pick (same (take (length n) (c ∷ row)) n) (slice_get (c ∷ row) (length n)) m) (mark_skip n (length n) row)
 
-none : (b : Bool) {x y : ℕ} → x ≡ 0 → y ≡ 0 → pick b x y ≡ 0
+none : (b : Bool) {x y : Option ℕ} → x ≡ None → y ≡ None → pick b x y ≡ None
 none true p q = p
 none false p q = q
 
-mark_end : (n row : Bytes) → length row ≤ length n → mark_in row n ≡ 0
+mark_end : (n row : Bytes) → length row ≤ length n → mark_in row n ≡ None
 unfolding mark_from
 mark_end n [] h = refl
 mark_end n (c ∷ row) h =
-    none (same (take (length n) (c ∷ row)) n) (get_or-eq_default (c ∷ row) 0 h)
+    none (same (take (length n) (c ∷ row)) n) (slice_get_past (c ∷ row) (length n) h)
     (let k : length row ≤ length n = omega arith in mark_skip n (length n) row ∙ ap (λ (l : Bytes). mark_in l n) (drop_of_length-le row k))
 
 -- the name that stands at place p of the row, and its letters
@@ -45,9 +47,9 @@ pub entry_letter : (row : Bytes) (p w i : ℕ) → i < w → get_or (take w (dro
 entry_letter row p w i h = rw (get_or-take w (drop p row) i 0 h, get_or-drop p row i 0)
 
 -- it is the name: the mark behind it is the answer
-pub row_found : (row n : Bytes) (p w : ℕ) → length n ≡ w → p + w < length row → same (take w (drop p row)) n ≡ true → mark_in (drop p row) n ≡ get_or row (p + w) 0
+pub row_found : (row n : Bytes) (p w : ℕ) → length n ≡ w → p + w < length row → same (take w (drop p row)) n ≡ true → mark_in (drop p row) n ≡ Some (get_or row (p + w) 0)
 row_found row n p w l h e =
-    mark_step n (drop p row) (omega (arith, length-drop p row)) ∙ rw (l, e, get_or-drop p row w 0)
+    let k : length n < length (drop p row) = omega (arith, length-drop p row) in mark_step n (drop p row) k ∙ rw (slice_get-get_or (drop p row) (length n) 0 k, l, e, get_or-drop p row w 0)
 
 -- it is another: the next one decides
 pub row_passed : (row n : Bytes) (p w : ℕ) → length n ≡ w → p + w < length row → same (take w (drop p row)) n ≡ false → mark_in (drop p row) n ≡ mark_in (drop (p + (w + 1)) row) n
@@ -55,5 +57,5 @@ row_passed row n p w l h e =
     mark_step n (drop p row) (omega (arith, length-drop p row)) ∙ rw (l, e, drop-drop (suc w) p row, ← add-one w)
 
 -- no whole name is left
-pub row_ended : (row n : Bytes) (p w : ℕ) → length n ≡ w → length row ≤ p + w → mark_in (drop p row) n ≡ 0
+pub row_ended : (row n : Bytes) (p w : ℕ) → length n ≡ w → length row ≤ p + w → mark_in (drop p row) n ≡ None
 row_ended row n p w l h = mark_end n (drop p row) (omega (arith, length-drop p row))

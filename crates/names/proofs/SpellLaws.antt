@@ -12,38 +12,38 @@ use lib.Dec.{leb, eqb}
 use lib.ListN.{length, get_or, take, drop, length-append, take-append-drop}
 use lib.Seq.{take-suc, drop-cons, drop-length}
 use borrow.Author.Tests.{eq-eqb, ne_eqb, le-leb, lt-leb}
+use Rattle.std.specs.Prelude.{Option, Some, None}
 use Rattle.field.specs.Bytes.{Bytes, pick}
-use Rattle.names.specs.Names.{capital}
-use Rattle.names.specs.Table.{spelled_letter, spelled, plain_name}
-use Rattle.names.proofs.CompareLaws.{capital_below, capital_above, capital_within}
+use Rattle.names.specs.Names.{capital, small_letter}
+use Rattle.names.specs.Table.{signed, spelled_letter, spelled, plain_name}
 
 -- ---- one letter
 
-pub letter_below : (s c : ℕ) → c < 65 → c ∷ [] ≡ spelled_letter s c
-unfolding spelled_letter
-letter_below s c h = rw (capital_below c h)
+pub letter_none : (c : ℕ) → small_letter c ∷ [] ≡ spelled_letter None c
+unfolding spelled_letter small_letter
+letter_none c = on (capital c)
+  where
+    on : (b : Bool) → pick b (c + 32) c ∷ [] ≡ pick b ((c + 32) ∷ []) (c ∷ [])
+    on true = refl
+    on false = refl
 
-pub letter_above : (s c : ℕ) → 90 < c → c ∷ [] ≡ spelled_letter s c
-unfolding spelled_letter
-letter_above s c h = rw (capital_above c h)
+pub letter_other : (s : Option ℕ) (c : ℕ) → capital c ≡ false → small_letter c ∷ [] ≡ spelled_letter s c
+unfolding spelled_letter small_letter
+letter_other s c h = rw h
 
-pub letter_alone : (s c : ℕ) → 65 ≤ c → c ≤ 90 → s ≡ 0 → (c + 32) ∷ [] ≡ spelled_letter s c
-unfolding spelled_letter
-letter_alone s c h k e = rw (capital_within c h k, eq-eqb s 0 e)
-
-pub letter_parted : (s c : ℕ) → 65 ≤ c → c ≤ 90 → (s ≡ 0 → ⊥) → (s ∷ []) ++ ((c + 32) ∷ []) ≡ spelled_letter s c
-unfolding spelled_letter
-letter_parted s c h k e = rw (capital_within c h k, ne_eqb s 0 e)
+pub letter_signed : (s c : ℕ) → capital c ≡ true → s ∷ small_letter c ∷ [] ≡ spelled_letter (Some s) c
+unfolding spelled_letter small_letter
+letter_signed s c h = rw h
 
 -- ---- a name
 
-pub spelled_append : (s : ℕ) (a b : Bytes) → spelled s (a ++ b) ≡ spelled s a ++ spelled s b
+pub spelled_append : (s : Option ℕ) (a b : Bytes) → spelled s (a ++ b) ≡ spelled s a ++ spelled s b
 unfolding spelled
 spelled_append s [] b = refl
 spelled_append s (c ∷ a) b = ap (λ (l : Bytes). spelled_letter s c ++ l) (spelled_append s a b) ∙ sym (append_assoc (spelled_letter s c) (spelled s a) (spelled s b))
 
 -- one letter more
-pub spelled_next : (s : ℕ) (n : Bytes) (i : ℕ) → i < length n → spelled s (take i n) ++ spelled_letter s (get_or n i 0) ≡ spelled s (take (i + 1) n)
+pub spelled_next : (s : Option ℕ) (n : Bytes) (i : ℕ) → i < length n → spelled s (take i n) ++ spelled_letter s (get_or n i 0) ≡ spelled s (take (i + 1) n)
 unfolding spelled
 spelled_next s n i h =
     sym
@@ -51,7 +51,7 @@ spelled_next s n i h =
     (ap (λ (l : Bytes). spelled s (take i n) ++ l) (append-nil (spelled_letter s (get_or n i 0)))))
 
 -- the letters so far are no longer than all
-pub spelled_bound : (s : ℕ) (n : Bytes) (i : ℕ) → length (spelled s (take i n)) ≤ length (spelled s n)
+pub spelled_bound : (s : Option ℕ) (n : Bytes) (i : ℕ) → length (spelled s (take i n)) ≤ length (spelled s n)
 spelled_bound s n i =
     let e = ap (λ (l : Bytes). length (spelled s l)) (take-append-drop i n) in
     let f = ap length (spelled_append s (take i n) (drop i n)) in
@@ -59,21 +59,21 @@ spelled_bound s n i =
     omega (arith, e, f, g)
 
 -- a letter becomes one byte or two
-letter_bounds : (s c : ℕ) → (1 ≤ length (spelled_letter s c)) × (length (spelled_letter s c) ≤ 2)
+letter_bounds : (s : Option ℕ) (c : ℕ) → (1 ≤ length (spelled_letter s c)) × (length (spelled_letter s c) ≤ 2)
 unfolding spelled_letter
-letter_bounds s c = on (capital c) (eqb s 0)
+letter_bounds s c = on (capital c) s
   where
-    on : (b d : Bool) → (1 ≤ length (pick b (pick d ((c + 32) ∷ []) (s ∷ (c + 32) ∷ [])) (c ∷ []))) × (length (pick b (pick d ((c + 32) ∷ []) (s ∷ (c + 32) ∷ [])) (c ∷ [])) ≤ 2)
-    on true true = (omega arith, omega arith)
-    on true false = (omega arith, omega arith)
-    on false d = (omega arith, omega arith)
+    on : (b : Bool) (s : Option ℕ) → (1 ≤ length (pick b (signed s (c + 32)) (c ∷ []))) × (length (pick b (signed s (c + 32)) (c ∷ [])) ≤ 2)
+    on true None = (omega arith, omega arith)
+    on true (Some x) = (omega arith, omega arith)
+    on false s = (omega arith, omega arith)
 
-pub spelled_least : (s : ℕ) (n : Bytes) → length n ≤ length (spelled s n)
+pub spelled_least : (s : Option ℕ) (n : Bytes) → length n ≤ length (spelled s n)
 unfolding spelled
 spelled_least s [] = omega arith
 spelled_least s (c ∷ cs) = omega (arith, (letter_bounds s c).0, spelled_least s cs, length-append (spelled_letter s c) (spelled s cs))
 
-pub spelled_most : (s : ℕ) (n : Bytes) → length (spelled s n) ≤ length n + length n
+pub spelled_most : (s : Option ℕ) (n : Bytes) → length (spelled s n) ≤ length n + length n
 unfolding spelled
 spelled_most s [] = omega arith
 spelled_most s (c ∷ cs) = omega (arith, (letter_bounds s c).1, spelled_most s cs, length-append (spelled_letter s c) (spelled s cs))

@@ -2,20 +2,24 @@
 -- entry of the table and one over every name that it has to have.
 -- Main statements: `table_mark`, `table_finds`, `table_has`, `lacks`, `table_lacks`, `table_row`.
 -- Assumes nothing.
-use mathlib.Core.Path.{◌≡◌, refl, sym, ap, ◌∙◌}
-use mathlib.Core.Bool.{Bool, true, false, ◌&&◌, not, false≢true}
-use mathlib.Core.Logic.{◌⊎◌, inl, inr, ⊎_elim}
+use mathlib.Core.Path.{◌≡◌, refl, sym, ap, ap₂, subst, ◌∙◌}
+use mathlib.Core.Bool.{Bool, true, false, ◌&&◌, false≢true}
 use mathlib.Core.List.{List, [], ◌∷◌}
 use Prim.Native.Nat.{ℕ, zero, suc, ◌+◌, ◌-◌, ◌<◌}
 use native.Mathlib.Omega.{arith}
-use lib.Dec.{leb, eqb}
+use lib.Dec.{leb}
 use lib.ListN.{length, get_or, take, drop}
-use borrow.Author.Tests.{leb-true, eq-eqb}
+use borrow.Author.Tests.{leb-true}
+use Rattle.std.specs.Prelude.{Option, Some, None, is_some, slice_get}
+use Rattle.std.proofs.lemmas.Option.{get_or_from_slice_get}
 use Rattle.field.specs.Bytes.{Bytes, pick, same, among}
 use Rattle.names.specs.Table.{fits_in, row_of, HasRow, mark_from, mark_in}
 use Rattle.names.proofs.CompareLaws.{same_eq}
 use Rattle.names.proofs.ListLaws.{and_left, and_right, both_ways, refuted, every, every_at, upto, upto_at}
 use Rattle.names.proofs.FitsLaws.{fits_length}
+
+pub none_some : {C : Type 0} {m : ℕ} → None ≡ Some m → C
+none_some {C = C} e = let P : Option ℕ → Type 0 = λ o. elim o [ None ↦ Unit {0} | Some x ↦ C ] in subst P e tt
 
 -- a row, as the tests below compute it
 abbrev pub row_at : Bytes → List ℕ → ℕ → Bytes
@@ -26,7 +30,7 @@ unfolding row_of
 row_is t s l e = e
 
 -- what is found in the row of a name's length, as the tests have it
-pub mark_at : {r : Bytes} {m l : ℕ} (t : Bytes) (s : List ℕ) (n : Bytes) → m ≡ mark_in r n → length n ≡ l → r ≡ row_of t s l → m ≡ mark_in (row_at t s (length n)) n
+pub mark_at : {r : Bytes} {m : Option ℕ} {l : ℕ} (t : Bytes) (s : List ℕ) (n : Bytes) → m ≡ mark_in r n → length n ≡ l → r ≡ row_of t s l → m ≡ mark_in (row_at t s (length n)) n
 mark_at t s n p e q = p ∙ ap (λ (row : Bytes). mark_in row n) (row_is t s (length n) (q ∙ ap (row_of t s) (sym e)))
 
 -- ---- every entry
@@ -37,42 +41,44 @@ entries f l k [] = true
 entries f l (suc k) (c ∷ row) = entries f l k row
 entries f l zero (c ∷ row) = f (take l (c ∷ row)) (get_or (c ∷ row) l 0) && entries f l l row
 
-entry_head : (f : Bytes → ℕ → Bool) (n w : Bytes) (m r : ℕ) (b : Bool) → same w n ≡ b → f w m ≡ true → (r ≡ 0) ⊎ (f n r ≡ true) → (pick b m r ≡ 0) ⊎ (f n (pick b m r) ≡ true)
-entry_head f n w m r true e t k = inr (ap (λ (x : Bytes). f x m) (sym (same_eq w n e)) ∙ t)
-entry_head f n w m r false e t k = k
+entry_head : (f : Bytes → ℕ → Bool) (n xs : Bytes) (rest : Option ℕ) (b : Bool) → same (take (length n) xs) n ≡ b → f (take (length n) xs) (get_or xs (length n) 0) ≡ true → ((m : ℕ) → rest ≡ Some m → f n m ≡ true) → (m : ℕ) → pick b (slice_get xs (length n)) rest ≡ Some m → f n m ≡ true
+entry_head f n xs rest true p t k m q =
+    ap₂ f (sym (same_eq (take (length n) xs) n p)) (sym (get_or_from_slice_get xs (length n) m 0 q)) ∙ t
+entry_head f n xs rest false p t k m q = k m q
 
 -- so what is found of a name passes the test
-entries_at : (f : Bytes → ℕ → Bool) (n : Bytes) (k : ℕ) (row : Bytes) → entries f (length n) k row ≡ true → (mark_from n k row ≡ 0) ⊎ (f n (mark_from n k row) ≡ true)
+entries_at : (f : Bytes → ℕ → Bool) (n : Bytes) (k : ℕ) (row : Bytes) → entries f (length n) k row ≡ true → (m : ℕ) → mark_from n k row ≡ Some m → f n m ≡ true
 unfolding entries mark_from
-entries_at f n k [] t = inl refl
-entries_at f n (suc k) (c ∷ row) t = entries_at f n k row t
-entries_at f n zero (c ∷ row) t =
+entries_at f n k [] t m e = none_some e
+entries_at f n (suc k) (c ∷ row) t m e = entries_at f n k row t m e
+entries_at f n zero (c ∷ row) t m e =
     let a = f (take (length n) (c ∷ row)) (get_or (c ∷ row) (length n) 0) in
     let b = entries f (length n) (length n) row in
-    entry_head f n (take (length n) (c ∷ row)) (get_or (c ∷ row) (length n) 0) (mark_from n (length n) row) (same (take (length n) (c ∷ row)) n) refl (and_left a b t) (entries_at f n (length n) row (and_right a b t))
+    entry_head f n (c ∷ row) (mark_from n (length n) row) (same (take (length n) (c ∷ row)) n) refl (and_left a b t) (entries_at f n (length n) row (and_right a b t)) m e
 
 -- the test passes at every entry of a table with names of less than k letters
 abbrev pub all_entries : (Bytes → ℕ → Bool) → Bytes → List ℕ → ℕ → Bool
 all_entries f t s k = upto (λ l. entries f l 0 (row_at t s l)) k
 
-pub table_mark : (f : Bytes → ℕ → Bool) (t : Bytes) (s : List ℕ) (k : ℕ) → all_entries f t s k ≡ true → (n : Bytes) → length n < k → (mark_in (row_at t s (length n)) n ≡ 0) ⊎ (f n (mark_in (row_at t s (length n)) n) ≡ true)
+pub table_mark : (f : Bytes → ℕ → Bool) (t : Bytes) (s : List ℕ) (k : ℕ) → all_entries f t s k ≡ true → (n : Bytes) → length n < k → (m : ℕ) → mark_in (row_at t s (length n)) n ≡ Some m → f n m ≡ true
 table_mark f t s k h n l = entries_at f n 0 (row_at t s (length n)) (upto_at (λ m. entries f m 0 (row_at t s m)) k h (length n) l)
 
 -- ---- every name
 
 -- the table has the name
 abbrev pub has : Bytes → List ℕ → Bytes → Bool
-has t s w = not (eqb (mark_in (row_at t s (length w)) w) 0)
+has t s w = is_some (mark_in (row_at t s (length w)) w)
 
 -- a table of the names xs and of no others, all of less than k letters
-pub table_finds : (t : Bytes) (s : List ℕ) (k : ℕ) (xs : List Bytes) (n : Bytes) {r : Bytes} {m l : ℕ} → m ≡ mark_in r n → length n ≡ l → r ≡ row_of t s l → length n < k → all_entries (λ w m. among w xs) t s k ≡ true → every (has t s) xs ≡ true → not (eqb m 0) ≡ among n xs
+pub table_finds : (t : Bytes) (s : List ℕ) (k : ℕ) (xs : List Bytes) (n : Bytes) {r : Bytes} {m : Option ℕ} {l : ℕ} → m ≡ mark_in r n → length n ≡ l → r ≡ row_of t s l → length n < k → all_entries (λ w m. among w xs) t s k ≡ true → every (has t s) xs ≡ true → is_some m ≡ among n xs
 table_finds t s k xs n a b c h p q =
-    let j = mark_in (row_at t s (length n)) n in
-    ap (λ (x : ℕ). not (eqb x 0)) (mark_at t s n a b c) ∙ both_ways (not (eqb j 0)) (among n xs)
-    (λ e. ⊎_elim (λ z. absurd (false≢true (sym (ap not (eq-eqb j 0 z)) ∙ e))) (λ a. a) (table_mark (λ w m. among w xs) t s k p n h))
-    (λ a. every_at (has t s) xs q n a)
+    ap is_some (mark_at t s n a b c) ∙ both_ways (is_some (mark_in (row_at t s (length n)) n)) (among n xs) (on (mark_in (row_at t s (length n)) n) refl) (λ a. every_at (has t s) xs q n a)
+  where
+    on : (o : Option ℕ) → mark_in (row_at t s (length n)) n ≡ o → is_some o ≡ true → among n xs ≡ true
+    on None e u = absurd (false≢true u)
+    on (Some m) e u = table_mark (λ w m. among w xs) t s k p n h m e
 
-pub table_has : (t : Bytes) (s fs : List ℕ) (xs : List Bytes) (n : Bytes) {r : Bytes} {m l : ℕ} → m ≡ mark_in r n → length n ≡ l → r ≡ row_of t s l → fits_in fs n ≡ true → all_entries (λ w m. among w xs) t s (length fs) ≡ true → every (has t s) xs ≡ true → not (eqb m 0) ≡ among n xs
+pub table_has : (t : Bytes) (s fs : List ℕ) (xs : List Bytes) (n : Bytes) {r : Bytes} {m : Option ℕ} {l : ℕ} → m ≡ mark_in r n → length n ≡ l → r ≡ row_of t s l → fits_in fs n ≡ true → all_entries (λ w m. among w xs) t s (length fs) ≡ true → every (has t s) xs ≡ true → is_some m ≡ among n xs
 table_has t s fs xs n a b c h p q = table_finds t s (length fs) xs n a b c (fits_length fs n h).1 p q
 
 -- what fails a test that all of the names pass is none of them

@@ -1,4 +1,4 @@
--- Laws of the void names: the test by length, first letter and last letter, and both answers as one number.
+-- Laws of the void names: the test by length, first letter and last letter, and both answers at once.
 -- Main statements: `ends_other`, `ends_within`, `ends_read_as`, `never_void`, `kind_is`; `void_by_kind`, `lowered_by_kind` and their contraries.
 -- Assumes nothing.
 use mathlib.Core.Path.{◌≡◌, refl, sym, ap, ap₂, ◌∙◌}
@@ -10,9 +10,12 @@ use native.Mathlib.Omega.{arith}
 use lib.Dec.{eqb, ltb}
 use borrow.Author.Tests.{ltb-true, ltb-false}
 use lib.ListN.{length, get_or, get_or-eq_default}
+use Rattle.std.specs.Prelude.{Option, Some, None}
 use Rattle.field.specs.Bytes.{Bytes, pick}
 use Rattle.names.specs.Names.{small_letter, small_letters, void_names, is_void_element}
 use Rattle.names.specs.Table.{read_as, fits_ends, void_ends, void_kind}
+use Rattle.names.specs.declared.elements.Void.{Void}
+use Rattle.names.specs.declared.elements.Void.TheVariants.{AsWritten, InSmallLetters}
 use Rattle.names.proofs.CompareLaws.{length_read_as, letter_at}
 use Rattle.names.proofs.FitsLaws.{small_modulo}
 use Rattle.names.proofs.TableLaws.{lacks}
@@ -83,44 +86,62 @@ pub never_void : (s : Bool) (n : Bytes) → fits_ends void_ends n ≡ false → 
 unfolding is_void_element void_names fits_ends void_ends
 never_void s n h = lacks (fits_ends void_ends) void_names (read_as s n) (ends_read_as void_ends s n ∙ h) refl
 
--- ---- both answers as one number
+-- ---- both answers at once
 
-abbrev kind_by : Bool → Bool → ℕ
-kind_by v l = pick v 1 (pick l 2 0)
+abbrev kind_by : Bool → Bool → Option Void
+kind_by v l = pick v (Some AsWritten) (pick l (Some InSmallLetters) None)
 
 pub kind_is : (n : Bytes) {v l : Bool} → is_void_element n ≡ v → is_void_element (small_letters n) ≡ l → void_kind n ≡ kind_by v l
 kind_is n p q = ap₂ kind_by p q
 
-module _ (n : Bytes) {k : ℕ} (e : k ≡ void_kind n) where
-  pub void_by_kind : k ≡ 1 → is_void_element n ≡ true
-  void_by_kind h = on (is_void_element n) (is_void_element (small_letters n)) (sym e ∙ h)
-    where
-      on : (v l : Bool) → kind_by v l ≡ 1 → v ≡ true
-      on true l g = refl
-      on false true g = absurd (omega (arith, g))
-      on false false g = absurd (omega (arith, g))
+-- how a kind is read
+abbrev as_written : Option Void → Bool
+as_written None = false
+as_written (Some AsWritten) = true
+as_written (Some InSmallLetters) = false
 
-  pub not_void_by_kind : (k ≡ 1 → ⊥) → is_void_element n ≡ false
-  not_void_by_kind h = on (is_void_element n) refl
+abbrev lowered : Option Void → Bool
+lowered None = false
+lowered (Some AsWritten) = false
+lowered (Some InSmallLetters) = true
+
+written_is : (v l : Bool) → as_written (kind_by v l) ≡ v
+written_is true l = refl
+written_is false true = refl
+written_is false false = refl
+
+lowered_is : (v l : Bool) → lowered (kind_by v l) ≡ (l && not v)
+lowered_is true true = refl
+lowered_is true false = refl
+lowered_is false true = refl
+lowered_is false false = refl
+
+module _ (n : Bytes) {k : Option Void} (e : k ≡ void_kind n) where
+  by_written : as_written k ≡ is_void_element n
+  by_written = ap as_written e ∙ written_is (is_void_element n) (is_void_element (small_letters n))
+
+  by_lowered : lowered k ≡ (is_void_element (small_letters n) && not (is_void_element n))
+  by_lowered = ap lowered e ∙ lowered_is (is_void_element n) (is_void_element (small_letters n))
+
+  pub void_by_kind : k ≡ Some AsWritten → is_void_element n ≡ true
+  void_by_kind h = sym by_written ∙ ap as_written h
+
+  pub not_void_by_kind : (k ≡ Some AsWritten → ⊥) → is_void_element n ≡ false
+  not_void_by_kind h = sym by_written ∙ on k refl
     where
-      on : (v : Bool) → is_void_element n ≡ v → is_void_element n ≡ false
-      on true p = absurd (h (e ∙ kind_is n p refl))
-      on false p = p
+      on : (o : Option Void) → k ≡ o → as_written o ≡ false
+      on None p = refl
+      on (Some AsWritten) p = absurd (h p)
+      on (Some InSmallLetters) p = refl
 
   -- void in small letters, and not as it stands
-  pub lowered_by_kind : k ≡ 2 → (is_void_element (small_letters n) && not (is_void_element n)) ≡ true
-  lowered_by_kind h = on (is_void_element n) (is_void_element (small_letters n)) (sym e ∙ h)
-    where
-      on : (v l : Bool) → kind_by v l ≡ 2 → (l && not v) ≡ true
-      on true l g = absurd (omega (arith, g))
-      on false true g = refl
-      on false false g = absurd (omega (arith, g))
+  pub lowered_by_kind : k ≡ Some InSmallLetters → (is_void_element (small_letters n) && not (is_void_element n)) ≡ true
+  lowered_by_kind h = sym by_lowered ∙ ap lowered h
 
-  pub not_lowered_by_kind : (k ≡ 2 → ⊥) → (is_void_element (small_letters n) && not (is_void_element n)) ≡ false
-  not_lowered_by_kind h = on (is_void_element n) (is_void_element (small_letters n)) (λ g. h (e ∙ g))
+  pub not_lowered_by_kind : (k ≡ Some InSmallLetters → ⊥) → (is_void_element (small_letters n) && not (is_void_element n)) ≡ false
+  not_lowered_by_kind h = sym by_lowered ∙ on k refl
     where
-      on : (v l : Bool) → (kind_by v l ≡ 2 → ⊥) → (l && not v) ≡ false
-      on true true g = refl
-      on true false g = refl
-      on false true g = absurd (g refl)
-      on false false g = refl
+      on : (o : Option Void) → k ≡ o → lowered o ≡ false
+      on None p = refl
+      on (Some AsWritten) p = refl
+      on (Some InSmallLetters) p = absurd (h p)

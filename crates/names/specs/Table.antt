@@ -1,8 +1,12 @@
 -- How the code reads a name and the rows of its tables. Nothing here has to be believed: the laws tie each to the definitions of Names.
 -- Assumes nothing: these are definitions.
-use Rattle.std.specs.Prelude.{ℕ, zero, suc, ◌+◌, ◌-◌, ◌≤◌, ◌<◌, ◌/◌, ◌%◌, ◌^◌, Bool, true, false, ◌&&◌, ◌||◌, List, [], ◌∷◌, ◌++◌, leb, eqb, length, take, drop, get_or}
+use Rattle.std.specs.Prelude.{ℕ, zero, suc, ◌+◌, ◌-◌, ◌≤◌, ◌<◌, ◌/◌, ◌%◌, ◌^◌, Bool, true, false, ◌&&◌, ◌||◌, List, [], ◌∷◌, ◌++◌, leb, eqb, length, take, drop, get_or, slice_get, Option, Some, None}
 use Rattle.field.specs.Bytes.{Bytes, ascii, pick, same}
 use Rattle.names.specs.Names.{capital, small_letters, is_void_element}
+use Rattle.names.specs.declared.elements.Void.{Void}
+use Rattle.names.specs.declared.elements.Void.TheVariants.{AsWritten, InSmallLetters}
+use Rattle.names.specs.declared.listed.Spelling.{Spelling}
+use Rattle.names.specs.declared.listed.Spelling.TheVariants.{Whole, Signed, Small}
 
 -- a name as it stands, or in small letters
 abbrev pub read_as : Bool → Bytes → Bytes
@@ -22,9 +26,9 @@ fits_ends ends n = eqb (get_or ends (length n) 0 / 2 ^ (get_or n 0 0 % 32) % 2) 
 unfoldable pub void_ends : List ℕ
 void_ends = 0 ∷ 0 ∷ 0x4000000000104 ∷ 0x4108000800208 ∷ 0x82200003006 ∷ 0x10281000110220 ∷ 0x2000080000 ∷ []
 
--- 1 for a void name, 2 for one that is void in small letters alone
-abbrev pub void_kind : Bytes → ℕ
-void_kind n = pick (is_void_element n) 1 (pick (is_void_element (small_letters n)) 2 0)
+-- a void name, or one that is void in small letters alone
+abbrev pub void_kind : Bytes → Option Void
+void_kind n = pick (is_void_element n) (Some AsWritten) (pick (is_void_element (small_letters n)) (Some InSmallLetters) None)
 
 -- a table is rows of names, the shorter names first, and starts says where the names of each length begin: the row of length l
 unfoldable pub row_of : Bytes → List ℕ → ℕ → Bytes
@@ -36,29 +40,43 @@ pub record HasRow (size : ℕ) (starts : List ℕ) (l : ℕ) : Type 0 where
   pub rising : get_or starts l 0 ≤ get_or starts (l + 1) 0
   pub inside : get_or starts (l + 1) 0 ≤ size
 
--- a row holds names of one length, each with a mark behind it: the mark behind the name n, or 0. So many bytes are passed over first
-unfoldable pub mark_from : Bytes → ℕ → Bytes → ℕ
-mark_from n k [] = 0
+-- a row holds names of one length, each with a mark behind it: the mark behind the name n, if it is there. So many bytes are passed over
+-- first
+unfoldable pub mark_from : Bytes → ℕ → Bytes → Option ℕ
+mark_from n k [] = None
 mark_from n (suc k) (c ∷ row) = mark_from n k row
-mark_from n zero (c ∷ row) = pick (same (take (length n) (c ∷ row)) n) (get_or (c ∷ row) (length n) 0) (mark_from n (length n) row)
+mark_from n zero (c ∷ row) = pick (same (take (length n) (c ∷ row)) n) (slice_get (c ∷ row) (length n)) (mark_from n (length n) row)
 
-abbrev pub mark_in : Bytes → Bytes → ℕ
+abbrev pub mark_in : Bytes → Bytes → Option ℕ
 mark_in row n = mark_from n 0 row
 
--- a capital as its small letter, with the byte s in front of it unless s is 0
-unfoldable pub spelled_letter : ℕ → ℕ → Bytes
-spelled_letter s c = pick (capital c) (pick (eqb s 0) ((c + 32) ∷ []) (s ∷ (c + 32) ∷ [])) (c ∷ [])
+-- a sign, where there is one, and a letter behind it
+abbrev pub signed : Option ℕ → ℕ → Bytes
+signed None c = c ∷ []
+signed (Some s) c = s ∷ c ∷ []
 
-unfoldable pub spelled : ℕ → Bytes → Bytes
+-- a capital as its small letter, with the sign in front of it
+unfoldable pub spelled_letter : Option ℕ → ℕ → Bytes
+spelled_letter s c = pick (capital c) (signed s (c + 32)) (c ∷ [])
+
+unfoldable pub spelled : Option ℕ → Bytes → Bytes
 spelled s [] = []
 spelled s (c ∷ cs) = spelled_letter s c ++ spelled s cs
 
--- what a mark of the attributes' table says: `=` stays, `c` class, `f` for, `h` href, `p` panose-1; any other stands before each capital
-unfoldable pub by_mark : ℕ → Bytes → Bytes
-by_mark m n =
+-- what a mark of the attributes' table says: `=` stays, `c` class, `f` for, `h` href, `p` panose-1; any other stands before each capital.
+-- A name without a mark goes to small letters
+unfoldable pub by_mark : Option ℕ → Bytes → Bytes
+by_mark None n = spelled None n
+by_mark (Some m) n =
     pick (eqb m 61) n
     (pick (eqb m 99) (ascii "class")
-    (pick (eqb m 102) (ascii "for") (pick (eqb m 104) (ascii "href") (pick (eqb m 112) (ascii "panose-1") (spelled m n)))))
+    (pick (eqb m 102) (ascii "for") (pick (eqb m 104) (ascii "href") (pick (eqb m 112) (ascii "panose-1") (spelled (Some m) n)))))
+
+-- what a spelling stands for
+unfoldable pub spelt : Spelling → Bytes → Bytes
+spelt (Whole w) n = w.now
+spelt (Signed s) n = spelled (Some s) n
+spelt Small n = spelled None n
 
 -- small letters, `-` and what else is above the capitals: no capital, no digit and no sign that is escaped
 unfoldable pub plain_name : Bytes → Bool

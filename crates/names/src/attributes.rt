@@ -3,10 +3,10 @@ ghost use Rattle.std.specs.Prelude.{◌≡◌, ◌+◌, ◌≤◌, ◌<◌, ◌^
 ghost use Rattle.field.specs.Bytes.{ascii, same};
 ghost use Rattle.field.specs.Put.{Wrote};
 ghost use Rattle.names.specs.Names.{ident, get_attr_name, normalize_dom_attr_name};
-ghost use Rattle.names.specs.Table.{plain_name, spelled_letter, spelled, by_mark};
+ghost use Rattle.names.specs.Table.{plain_name, spelled_letter, spelled};
 
-use crate::compare::{letters_are, same_bytes};
-use crate::listed::find_mark;
+use crate::compare::{letters_are, same_bytes, small_letter};
+use crate::listed::{Spelling, spelling_of};
 use field::writer::{put_byte, put_bytes};
 
 // No capital, no digit and no sign but `-`, as in most names. Each name of the table has a capital, a digit or a colon, so such a name
@@ -14,6 +14,7 @@ use field::writer::{put_byte, put_bytes};
 pub fn is_plain(name: &[u8]) -> bool
     ensures { result ≡ plain_name name.now }
 {
+    // two loops, which take two tests at most letters: a for loop takes three, and a third more instructions a name (61 for 46)
     let n = name.len();
     let mut i: usize = 0;
     while i < n {
@@ -31,78 +32,50 @@ pub fn is_plain(name: &[u8]) -> bool
     true
 }
 
-// A capital as its small letter, with sep in front of it unless that is 0; any other byte as it is.
-fn put_letter(out: &mut [u8], at: usize, c: u8, sep: u8) -> usize
+// A capital as its small letter, with the sign in front of it; any other byte as it is.
+fn put_letter(out: &mut [u8], at: usize, c: u8, sign: Option<u8>) -> usize
     requires { at + 2 < 2 ^ 64 }
-    ensures { Wrote out.old at (spelled_letter sep c) out.new result }
+    ensures { Wrote out.old at (spelled_letter sign c) out.new result }
 {
-    if c < b'A' {
-        return put_byte(out, at, c);
+    if c.is_ascii_uppercase() {
+        if let Some(s) = sign {
+            let a = put_byte(out, at, s);
+            return put_byte(out, a, small_letter(c));
+        }
     }
-    if c > b'Z' {
-        return put_byte(out, at, c);
-    }
-    if sep == 0 {
-        return put_byte(out, at, c + 32);
-    }
-    let a = put_byte(out, at, sep);
-    put_byte(out, a, c + 32)
+    put_byte(out, at, small_letter(c))
 }
 
 // With room for a sign before each letter. Most letters are small, and are copied as they stand.
-fn put_within(out: &mut [u8], at: usize, name: &[u8], sep: u8) -> usize
-    requires { (at + (length name.now + length name.now) ≤ length out.old) × (at + length (spelled sep name.now) < 2 ^ 63) }
-    ensures { Wrote out.old at (spelled sep name.now) out.new result }
+fn put_within(out: &mut [u8], at: usize, name: &[u8], sign: Option<u8>) -> usize
+    requires { (at + (length name.now + length name.now) ≤ length out.old) × (at + length (spelled sign name.now) < 2 ^ 63) }
+    ensures { Wrote out.old at (spelled sign name.now) out.new result }
 {
-    let n = name.len();
     let mut a = at;
-    let mut i: usize = 0;
-    while i < n {
-        let c = name[i];
-        if c > b'Z' {
-            out[a] = c;
+    for c in name {
+        if *c > b'Z' {
+            out[a] = *c;
             a += 1;
-            i += 1;
-            continue;
+        } else {
+            a = put_letter(out, a, *c, sign);
         }
-        let b = put_letter(out, a, c, sep);
-        a = b;
-        i += 1;
     }
     a
 }
 
 // Room is tested once, where there is plenty.
-pub fn put_spelled(out: &mut [u8], at: usize, name: &[u8], sep: u8) -> usize
-    requires { at + length (spelled sep name.now) < 2 ^ 63 }
-    ensures { Wrote out.old at (spelled sep name.now) out.new result }
+pub fn put_spelled(out: &mut [u8], at: usize, name: &[u8], sign: Option<u8>) -> usize
+    requires { at + length (spelled sign name.now) < 2 ^ 63 }
+    ensures { Wrote out.old at (spelled sign name.now) out.new result }
 {
-    let n = name.len();
-    if at + (n + n) <= out.len() {
-        return put_within(out, at, name, sep);
+    if at + 2 * name.len() <= out.len() {
+        return put_within(out, at, name, sign);
     }
     let mut a = at;
-    let mut i: usize = 0;
-    while i < n {
-        let b = put_letter(out, a, name[i], sep);
-        a = b;
-        i += 1;
+    for c in name {
+        a = put_letter(out, a, *c, sign);
     }
     a
-}
-
-pub fn put_marked(out: &mut [u8], at: usize, name: &[u8], mark: u8) -> usize
-    requires { at + length (by_mark mark name.now) < 2 ^ 63 }
-    ensures { Wrote out.old at (by_mark mark name.now) out.new result }
-{
-    match mark {
-        b'=' => put_bytes(out, at, name),
-        b'c' => put_bytes(out, at, b"class"),
-        b'f' => put_bytes(out, at, b"for"),
-        b'h' => put_bytes(out, at, b"href"),
-        b'p' => put_bytes(out, at, b"panose-1"),
-        _ => put_spelled(out, at, name, mark),
-    }
 }
 
 // className is asked for by itself: it is the one name of the table that pages are full of. Hyphenated names are most of the others.
@@ -116,11 +89,11 @@ pub fn normalize_dom_attr_name(out: &mut [u8], at: usize, name: &[u8]) -> usize
     if is_plain(name) {
         return put_bytes(out, at, name);
     }
-    let mark = find_mark(name);
-    if mark == b'-' {
-        return put_spelled(out, at, name, b'-');
+    match spelling_of(name) {
+        Spelling::Signed(sign) => put_spelled(out, at, name, Some(sign)),
+        Spelling::Small => put_spelled(out, at, name, None),
+        Spelling::Whole(w) => put_bytes(out, at, w),
     }
-    put_marked(out, at, name, mark)
 }
 
 // Of an identifier. A namespaced name is normalised always, by normalize_namespaced.
@@ -163,9 +136,9 @@ pub fn normalize_namespaced(out: &mut [u8], at: usize, ns: &[u8], name: &[u8]) -
     if is_xlink_href(ns, name) {
         return put_bytes(out, at, b"href");
     }
-    let a = put_spelled(out, at, ns, 0);
+    let a = put_spelled(out, at, ns, None);
     let b = put_byte(out, a, b':');
-    put_spelled(out, b, name, 0)
+    put_spelled(out, b, name, None)
 }
 
 // Whether ns:name, normalised, is b.

@@ -35,7 +35,7 @@ fn is_boolean(name: &[u8], small: bool) -> bool
     let starts = STARTS;
     let names = NAMES;
     let row = row_of(&names, &starts, name.len());
-    find_in(row, name, small) != 0
+    find_in(row, name, small).is_some()
 }
 
 pub fn is_boolean_attr(name: &[u8]) -> bool

@@ -4,34 +4,29 @@ ghost use Rattle.field.specs.Bytes.{pick, same};
 ghost use Rattle.names.specs.Names.{small_letter};
 ghost use Rattle.names.specs.Table.{read_as};
 
+// A capital as its small letter.
+pub fn small_letter(c: u8) -> u8
+    ensures { result ≡ small_letter c }
+{
+    c.to_ascii_lowercase()
+}
+
 pub fn letter(c: u8, small: bool) -> u8
     ensures { result ≡ pick small (small_letter c) c }
 {
-    if !small {
-        return c;
-    }
-    if c < b'A' {
-        return c;
-    }
-    if c > b'Z' {
-        return c;
-    }
-    c + 32
+    if small { small_letter(c) } else { c }
 }
 
 pub fn letters_are(a: &[u8], b: &[u8], small: bool) -> bool
     ensures { result ≡ same (read_as small a.now) b.now }
 {
-    let n = a.len();
-    if b.len() != n {
+    if a.len() != b.len() {
         return false;
     }
-    let mut i: usize = 0;
-    while i < n {
-        if letter(a[i], small) != b[i] {
+    for (x, y) in a.iter().zip(b) {
+        if letter(*x, small) != *y {
             return false;
         }
-        i += 1;
     }
     true
 }

@@ -55,7 +55,7 @@ fn finds_void(name: &[u8], small: bool) -> bool
     let starts = STARTS;
     let names = NAMES;
     let row = row_of(&names, &starts, name.len());
-    find_in(row, name, small) != 0
+    find_in(row, name, small).is_some()
 }
 
 pub fn is_void_element(name: &[u8]) -> bool
@@ -67,18 +67,26 @@ pub fn is_void_element(name: &[u8]) -> bool
     finds_void(name, false)
 }
 
-// Both at once: 1 where the name is one of them, 2 where it is only after going to small letters (document 02, A10), else 0.
-pub fn void_kind(name: &[u8]) -> u8
+// As what a name is void.
+#[derive(Clone, Copy, PartialEq, Eq)]
+pub enum Void {
+    AsWritten,
+    // not as it is written, but once it goes to small letters
+    InSmallLetters,
+}
+
+// Both questions at once (document 02, A10).
+pub fn void_kind(name: &[u8]) -> Option<Void>
     ensures { result ≡ void_kind name.now }
 {
     if !may_be_void(name) {
-        return 0;
+        return None;
     }
     if finds_void(name, false) {
-        return 1;
+        return Some(Void::AsWritten);
     }
     if finds_void(name, true) {
-        return 2;
+        return Some(Void::InSmallLetters);
     }
-    0
+    None
 }

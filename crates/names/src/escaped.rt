@@ -4,9 +4,9 @@ ghost use Rattle.field.specs.Put.{Wrote};
 ghost use Rattle.text.specs.Escape.{escape_html};
 ghost use Rattle.names.specs.Names.{small_letters, normalize_dom_attr_name};
 
-use crate::attributes::{is_plain, is_xlink_href, put_marked, put_spelled};
-use crate::compare::{letter, same_bytes};
-use crate::listed::find_listed;
+use crate::attributes::{is_plain, is_xlink_href, put_spelled};
+use crate::compare::{same_bytes, small_letter};
+use crate::listed::{Spelling, spelling_of};
 use field::writer::{put_byte, put_bytes};
 use text::escape::{is_escaped, put_escaped};
 
@@ -14,14 +14,9 @@ fn put_small_escaped(out: &mut [u8], at: usize, name: &[u8]) -> usize
     requires { at + length (escape_html (small_letters name.now)) < 2 ^ 63 }
     ensures { Wrote out.old at (escape_html (small_letters name.now)) out.new result }
 {
-    let n = name.len();
     let mut a = at;
-    let mut i: usize = 0;
-    while i < n {
-        let one = [letter(name[i], true)];
-        let b = put_escaped(out, a, &one);
-        a = b;
-        i += 1;
+    for c in name {
+        a = put_escaped(out, a, &[small_letter(*c)]);
     }
     a
 }
@@ -37,14 +32,17 @@ pub fn put_attr_name(out: &mut [u8], at: usize, name: &[u8]) -> usize
     if is_plain(name) {
         return put_bytes(out, at, name);
     }
-    let mark = find_listed(name);
-    if mark == b'-' {
-        return put_spelled(out, at, name, b'-');
+    match spelling_of(name) {
+        Spelling::Signed(sign) => put_spelled(out, at, name, Some(sign)),
+        Spelling::Small => {
+            if is_escaped(name) {
+                put_spelled(out, at, name, None)
+            } else {
+                put_small_escaped(out, at, name)
+            }
+        }
+        Spelling::Whole(w) => put_bytes(out, at, w),
     }
-    if !is_escaped(name) {
-        return put_small_escaped(out, at, name);
-    }
-    put_marked(out, at, name, mark)
 }
 
 pub fn put_namespaced(out: &mut [u8], at: usize, ns: &[u8], name: &[u8]) -> usize

@@ -1,9 +1,10 @@
 // The 150 attribute names that do not simply go to small letters, as they are written.
-ghost use Rattle.std.specs.Prelude.{◌≡◌, true, ◌⊎◌};
+ghost use Rattle.std.specs.Prelude.{◌≡◌, true, ◌⊎◌, None};
 ghost use Rattle.field.specs.Bytes.{same};
 ghost use Rattle.text.specs.Escape.{escape_html};
 ghost use Rattle.names.specs.Names.{normalize_dom_attr_name};
-ghost use Rattle.names.specs.Table.{by_mark};
+ghost use Rattle.names.specs.Table.{by_mark, spelt};
+ghost use Rattle.names.specs.declared.listed.Spelling.TheVariants.{Small};
 
 use crate::table::{find_in, fits};
 
@@ -82,14 +83,13 @@ const FIRSTS: [u32; 27] = [
     0x10, 0x80, 0x8, 0x80,
 ];
 
-// What the table says of a name, or 0 where it does not have it; no name of the table has a sign that is escaped. Each arm has its own
-// copy of a row, and no place of the whole table is worked out: so LLVM lays only the bytes of that row on the stack, and none of a row
-// with one name.
-pub fn find_listed(name: &[u8]) -> u8
-    ensures { (by_mark result name.now ≡ normalize_dom_attr_name name.now) × ((result ≡ 0) ⊎ (same name.now (escape_html name.now) ≡ true)) }
+// What the table says of a name, where it has it; no name of the table has a sign that is escaped. Each arm has its own copy of a row,
+// and no place of the whole table is worked out: so LLVM lays only the bytes of that row on the stack, and none of a row with one name.
+fn find_mark(name: &[u8]) -> Option<u8>
+    ensures { (by_mark result name.now ≡ normalize_dom_attr_name name.now) × ((result ≡ None) ⊎ (same name.now (escape_html name.now) ≡ true)) }
 {
     if !fits(&FIRSTS, name) {
-        return 0;
+        return None;
     }
     let names = NAMES;
     match name.len() {
@@ -113,13 +113,31 @@ pub fn find_listed(name: &[u8]) -> u8
         24 => find_in(&{ names.of_24 }, name, false),
         25 => find_in(&{ names.of_25 }, name, false),
         26 => find_in(&{ names.of_26 }, name, false),
-        _ => 0,
+        _ => None,
     }
 }
 
-// The same, where nothing is escaped.
-pub fn find_mark(name: &[u8]) -> u8
-    ensures { by_mark result name.now ≡ normalize_dom_attr_name name.now }
+// What a name is spelled from in HTML.
+#[derive(Clone, Copy)]
+pub enum Spelling<'a> {
+    // these bytes, as they stand
+    Whole(&'a [u8]),
+    // the name, each capital as this sign and its small letter
+    Signed(u8),
+    // the name in small letters: the table does not have it
+    Small,
+}
+
+pub fn spelling_of<'a>(name: &'a [u8]) -> Spelling<'a>
+    ensures { (spelt result name.now ≡ normalize_dom_attr_name name.now) × ((result ≡ Small) ⊎ (same name.now (escape_html name.now) ≡ true)) }
 {
-    find_listed(name)
+    match find_mark(name) {
+        None => Spelling::Small,
+        Some(b'=') => Spelling::Whole(name),
+        Some(b'c') => Spelling::Whole(b"class"),
+        Some(b'f') => Spelling::Whole(b"for"),
+        Some(b'h') => Spelling::Whole(b"href"),
+        Some(b'p') => Spelling::Whole(b"panose-1"),
+        Some(sign) => Spelling::Signed(sign),
+    }
 }

@@ -30,21 +30,22 @@ pub fn row_of<'a>(names: &'a [u8], starts: &[u16], n: usize) -> &'a [u8]
     &names[a..e]
 }
 
-// The mark behind the name in the row of its length, or 0.
-pub fn find_in(row: &[u8], name: &[u8], small: bool) -> u8
+// The mark behind the name in the row of its length, if it is there. The loops go over names and letters, and a label ends both: a form
+// that is asked for.
+pub fn find_in(row: &[u8], name: &[u8], small: bool) -> Option<u8>
     requires { 0 < length name.now }
     ensures { result ≡ mark_in row.now (read_as small name.now) }
 {
     let n = name.len();
     let end = row.len();
-    let mut mark: u8 = 0;
+    let mut mark = None;
     let mut p: usize = 0;
     'names: while p + n < end {
         let mut i: usize = 0;
         while row[p + i] == letter(name[i], small) {
             i += 1;
             if i == n {
-                mark = row[p + n];
+                mark = Some(row[p + n]);
                 break 'names;
             }
         }

@@ -5,11 +5,10 @@ use Prim.Native.Nat.{ℕ, ◌+◌, ◌-◌, ◌%◌, ◌≤◌, ◌<◌}
 use native.Mathlib.Omega.{arith}
 use mathlib.Core.List.{List}
 use lib.ListN.{length, get_or}
+use Rattle.std.specs.Prelude.{Result, Ok, Err}
 use Rattle.field.specs.Bytes.{Bytes}
-use Rattle.page.specs.Refusal.{after}
+use Rattle.page.specs.Refusal.{Verdict, Fine, Refused, after}
 use Rattle.page.specs.declared.Refusal.{Refusal}
-use Rattle.page.specs.declared.Verdict.{Verdict}
-use Rattle.page.specs.declared.Verdict.TheVariants.{Fine, Refused}
 use Rattle.loops.proofs.Parts.{part}
 use Rattle.loops.proofs.Turns.{Walk, Going, Stops, ends_at, start, left_is, deep, on_stop, on_leaf, on_open, on_end, on_done}
 use Rattle.outs.specs.Held.{read_out}
@@ -49,25 +48,25 @@ pub begins : (width : ℕ) (s : Bytes) (fs : List Frame) → Going (checks width
 unfolding after check_page_out
 begins width s fs = start (checks width) s fs E.Whole Fine
 
-module _ (width : ℕ) {s : Bytes} {fs : List Frame} {h at e : ℕ} {c : Expect} {t : Verdict} (p : Going (checks width) s fs h at e c Fine t) {r : Front} (d : Stepped width c (part s at e) r) where
-  told : {q : Front} → r ≡ q → Stepped width c (part s at e) q
+module _ (width : ℕ) {s : Bytes} {fs : List Frame} {h at e : ℕ} {c : Expect} {t : Verdict} (p : Going (checks width) s fs h at e c Fine t) {r : Result Front Refusal} (d : Stepped width c (part s at e) r) where
+  told : {q : Result Front Refusal} → r ≡ q → Stepped width c (part s at e) q
   told g = subst (Stepped width c (part s at e)) g d
 
-  pub refuses : {n : Refusal} → r ≡ F.Refused n → Refused n ≡ t
+  pub refuses : {n : Refusal} → r ≡ Err n → Refused n ≡ t
   unfolding after
   refuses {n} g = on_stop p (told g) (stops width n)
 
-  pub finishes : r ≡ F.End → h ≡ 0 → Fine ≡ t
+  pub finishes : r ≡ Ok F.End → h ≡ 0 → Fine ≡ t
   unfolding after
   finishes g z = on_done p (told g).1 z
 
-  pub passes : {n : ℕ} {o : Expect} → r ≡ F.Leaf n o → (3 ≤ n) × Going (checks width) s fs h (at + n) e o Fine t
+  pub passes : {n : ℕ} {o : Expect} → r ≡ Ok (F.Leaf n o) → (3 ≤ n) × Going (checks width) s fs h (at + n) e o Fine t
   unfolding after
   passes {n} {o} g =
       let q : LeafIs width c (part s at e) n o = told g in
       (q.header, on_leaf p n q.ends q.is)
 
-  pub opens_up : {k n : ℕ} {o a : Expect} → r ≡ F.Open k n o a → (3 ≤ k) × (k ≤ n) × (h < 21846) × (at + n ≤ e)
+  pub opens_up : {k n : ℕ} {o a : Expect} → r ≡ Ok (F.Open k n o a) → (3 ≤ k) × (k ≤ n) × (h < 21846) × (at + n ≤ e)
       × ((gs : List Frame) → get_or gs h none ≡ record { rest = (e - at - n) % 65536; after = a; spare = 0 } → ((i : ℕ) → i < h → get_or gs i none ≡ get_or fs i none) → Going (checks width) s gs (h + 1) (at + k) (at + n) o Fine t)
   unfolding after
   opens_up {k} {n} {o} {a} g =
@@ -76,6 +75,6 @@ module _ (width : ℕ) {s : Bytes} {fs : List Frame} {h at e : ℕ} {c : Expect}
       let f : Frame = record { rest = (e - at - n) % 65536; after = a; spare = 0 } in
       (q.header, q.starts, deep p (omega (arith, p.ordered, q.header, q.starts, q.ends)), omega (arith, p.ordered, q.ends), λ gs same below. on_open p gs f same below k n q.header q.starts q.ends q.short refl q.is)
 
-  pub closes : r ≡ F.End → (h ≡ 0 → ⊥) → Going (checks width) s fs (h - 1) at (ends_at (checks width) s fs (h - 1) at) (get_or fs (h - 1) none).after Fine t
+  pub closes : r ≡ Ok F.End → (h ≡ 0 → ⊥) → Going (checks width) s fs (h - 1) at (ends_at (checks width) s fs (h - 1) at) (get_or fs (h - 1) none).after Fine t
   unfolding after
   closes g z = on_end h p (told g).0 (told g).1 z

@@ -2,36 +2,36 @@
 -- `any_on`, `some_few`, `some_any`, `kinds_on`, `old_short`, `new_short`, `new_kinds`, `new_strings`, `record_bad`, `record_on`. Assumes nothing.
 use mathlib.Core.Path.{◌≡◌, refl, sym, ap, ap₂, ◌∙◌, subst}
 use mathlib.Core.Bool.{Bool, true, false, ◌&&◌}
+use mathlib.Core.Logic.{◌⊎◌, inl, inr}
 use Prim.Native.Nat.{ℕ, zero, suc, ◌+◌, ◌-◌, ◌*◌, ◌≤◌, ◌<◌}
 use native.Mathlib.Omega.{arith}
 use native.Mathlib.Numerals.{add-one}
 use mathlib.Core.List.{[], ◌∷◌}
 use lib.Dec.{eqb, leb}
-use lib.ListN.{length, take, drop, get_or, length-take, length-drop, drop_of_length-le}
+use lib.ListN.{length, take, drop, get_or, length-take, length-drop}
 use lib.Seq.{drop-cons, take_all, take-take, length-take-le}
-use borrow.Author.Tests.{eq-eqb, ne_eqb, le-leb, lt-leb, eqb-true}
-use Rattle.field.specs.Bytes.{Bytes}
+use borrow.Author.Tests.{eq-eqb, ne_eqb, le-leb, lt-leb, leb-true, eqb-true}
+use Rattle.field.specs.Bytes.{Bytes, pick}
 use Rattle.field.specs.Number.{number_from, number_of}
 use Rattle.field.specs.Row.{Row, end, loose, field, Inside, only_bytes, fields_after, counted, counted_front, inside, Next, nothing, no_field, next, next_of, opened, built, read}
 use Rattle.field.specs.Header.{header_of, Within}
 use Rattle.field.specs.declared.reader.Header.{Header}
-use Rattle.field.specs.declared.reader.Header.TheVariants as H
-use Rattle.field.proofs.HeaderLaws.{within_field}
+use Rattle.std.specs.Prelude.{Option, Some, None, Result, Ok, Err, IsErr, IsErrAnd}
+use Rattle.std.specs.Bool.{MatchBool}
+use Rattle.std.specs.List.{AllWithin, HoldsAt}
+use Rattle.std.proofs.lemmas.Result.{err_from_is_err_and}
 use Rattle.field.proofs.RowLaws.{read_step, next_nothing}
-use Rattle.page.specs.Check.{check_text, check_end}
-use Rattle.page.specs.Refusal.{after, unless}
+use Rattle.page.specs.Check.{check_text, check_end, check_nothing_after}
+use Rattle.page.specs.Refusal.{Verdict, Fine, Refused, after, unless}
 use Rattle.page.specs.declared.Refusal.{Refusal}
 use Rattle.page.specs.declared.Refusal.TheVariants as R
-use Rattle.page.specs.declared.Verdict.{Verdict}
-use Rattle.page.specs.declared.Verdict.TheVariants.{Fine, Refused}
-use Rattle.loops.proofs.Parts.{part, drop_take, length_part, part_back}
-use Rattle.loops.proofs.Headers.{read_empty, read_torn, front_of, inner_of, body, field_is}
-use Rattle.outs.specs.Templates.{record_tag, count_of, all_kinds, front_of_record, check_strings, check_any_strings, check_some_strings, check_strings_of, check_records, check_templates}
-use Rattle.outs.specs.Passed.{string_then, StringIs, front_then, record_body, record_field, RecordIs}
+use Rattle.loops.proofs.Parts.{drop_take}
+use Rattle.loops.proofs.Headers.{read_empty, front_of, inner_of, body, field_is}
+use Rattle.outs.specs.Templates.{record_tag, count_of, all_kinds, front_of_record, check_strings, check_any_strings, check_some_strings, check_strings_of, check_records}
+use Rattle.outs.specs.Passed.{found, passed, each, Rowwise, string_field, front_then, record_body, record_field}
+use Rattle.outs.proofs.NoField.{unread}
 use Rattle.outs.specs.declared.Kind.{Kind}
 use Rattle.outs.specs.declared.Kind.TheVariants.{Old, New}
-use Rattle.outs.specs.declared.templates.Passed.{Passed}
-use Rattle.outs.specs.declared.templates.Passed.TheVariants as P
 
 -- ---- the row in front
 
@@ -39,48 +39,84 @@ none_in_front : (b : Bytes) → length b ≡ 0 → read b ≡ end
 unfolding read
 none_in_front b h = read_empty inside b h
 
-torn_in_front : (b : Bytes) {v : Header} → v ≡ header_of b → v ≡ H.Absent → (length b ≡ 0 → ⊥) → read b ≡ loose b
+within_header : (b : Bytes) → Within (length b) (header_of b)
+unfolding header_of
+within_header [] = tt
+within_header (t ∷ []) = tt
+within_header (t ∷ h ∷ []) = tt
+within_header (t ∷ h ∷ l ∷ w) = on (leb (h * 256 + l) (length w)) refl
+  where
+    on : (x : Bool) → leb (h * 256 + l) (length w) ≡ x → Within (length (t ∷ h ∷ l ∷ w)) (pick x (Some (record { tag = t; end = 3 + (h * 256 + l) })) None)
+    on true e = (omega arith, omega (arith, leb-true (h * 256 + l) (length w) e))
+    on false e = tt
+
+field_in_front : (b : Bytes) {h : Header} → Some h ≡ header_of b
+    → read b ≡ field h.tag (front_of (inside h.tag) (body b h.end)) (inner_of inside (inside h.tag) (body b h.end)) (read (drop h.end b))
 unfolding read
-torn_in_front b q h z = read_torn inside b q h z
+field_in_front b q = field_is b q (subst (Within (length b)) (sym q) (within_header b)) refl inside
 
-field_in_front : (b : Bytes) {v : Header} → v ≡ header_of b → Within (length b) v → {t e : ℕ} → v ≡ H.Field t e
-    → read b ≡ field t (front_of (inside t) (body b e)) (inner_of inside (inside t) (body b e)) (read (drop e b))
-unfolding read
-field_in_front b q i h = field_is b q i h inside
+-- ---- rows field by field
 
--- ---- one string
+-- what a `?` hands on
+pub handed_on : {A : Type 0} {x : Result A Refusal} {n : Refusal} → IsErr x × IsErrAnd x (λ (m : Refusal). m ≡ n) → x ≡ Err n
+handed_on h = let p = err_from_is_err_and _ h.1 in p.1 ∙ ap Err p.2
 
-module _ (b : Bytes) where
-  pub string_none : length b ≡ 0 → StringIs b P.End
-  string_none h = (h, λ f v. ap (string_then f v) (none_in_front b h))
+-- y is the check of the field in front, and then next of the rest; w where the row ends
+pub record Goes (right : ℕ → Bytes → Verdict) (next : Row → Verdict) (w : Verdict) (b : Bytes) (y : Verdict) : Type 0 where
+  pub goes_is : y ≡ each right next w b (header_of b)
 
-  module _ {v : Header} (q : v ≡ header_of b) where
-    pub string_torn : v ≡ H.Absent → (length b ≡ 0 → ⊥) → StringIs b (P.Refused R.Truncated)
-    string_torn h z f w = ap (string_then f w) (torn_in_front b q h z)
+module _ {right : ℕ → Bytes → Verdict} {next : Row → Verdict} {w : Verdict} {b : Bytes} {y : Verdict} (q : Goes right next w b y) {v : Result (Option ℕ) Refusal} (p : v ≡ passed right b (header_of b)) where
+  pub goes_on : {e : ℕ} → v ≡ Ok (Some e) → y ≡ next (read (drop e b))
+  unfolding after
+  goes_on {e} z = q.goes_is ∙ by_header (header_of b) (sym p ∙ z)
+    where
+      none_next : (r : Verdict) → found {A = Option ℕ} r None ≡ Ok (Some e) → ⊥
+      none_next (Ok u) x = let k : ◌≡◌ {A = ℕ} 0 1 = cc in omega arith
+      none_next (Err n) x = let k : ◌≡◌ {A = ℕ} 0 1 = cc in omega arith
 
-    module _ (i : Within (length b) v) {t e : ℕ} (h : v ≡ H.Field t e) where
-      pub string_other : (t ≡ 0x81 → ⊥) → StringIs b (P.Refused R.Misplaced)
-      unfolding after
-      string_other k f w = ap (string_then f w) (field_in_front b q i h) ∙ rw (ne_eqb t 0x81 k)
+      on : (m : ℕ) (r : Verdict) → found {A = Option ℕ} r (Some m) ≡ Ok (Some e) → after r (λ _. next (read (drop m b))) ≡ next (read (drop e b))
+      on m (Ok u) x = let k : m ≡ e = cc in ap (λ (j : ℕ). next (read (drop j b))) k
+      on m (Err n) x = absurd (let k : ◌≡◌ {A = ℕ} 0 1 = cc in omega arith)
 
-      module _ (k : t ≡ 0x81) {r : Verdict} (g : r ≡ check_text (body b e)) where
-        string_is : (f : Row → Verdict) (w : Verdict) → string_then f w (read b) ≡ after r λ _. f (read (drop e b))
-        unfolding after inside
-        string_is f w =
-            let x : front_of (inside t) (body b e) ≡ body b e = ap (λ (y : ℕ). front_of (inside y) (body b e)) k in
-            ap (string_then f w) (field_in_front b q i h) ∙ rw (eq-eqb t 0x81 k, x, g)
+      by_header : (h : Option Header) → passed right b h ≡ Ok (Some e) → each right next w b h ≡ next (read (drop e b))
+      by_header None x = absurd (none_next (check_nothing_after (read b)) x)
+      by_header (Some h) x = on h.end (right h.tag (take (h.end - 3) (drop 3 b))) x
 
-        pub string_bad : {n : Refusal} → r ≡ Refused n → StringIs b (P.Refused n)
-        unfolding after
-        string_bad z f w = string_is f w ∙ rw z
+  pub ends : v ≡ Ok None → w ≡ y
+  unfolding after
+  ends z = sym (q.goes_is ∙ by_header (header_of b) (sym p ∙ z))
+    where
+      on : (r : Verdict) → found {A = Option ℕ} r None ≡ Ok None → after r (λ _. w) ≡ w
+      on (Ok u) x = refl
+      on (Err n) x = absurd (let k : ◌≡◌ {A = ℕ} 0 1 = cc in omega arith)
 
-        pub string_on : r ≡ Fine → StringIs b (P.Behind e)
-        unfolding after
-        string_on z =
-            let p : (3 ≤ e) × (e ≤ length b) = within_field i h in
-            (p.0, p.1, λ f w. string_is f w ∙ rw z)
+      some_next : (m : ℕ) (r : Verdict) → found {A = Option ℕ} r (Some m) ≡ Ok None → ⊥
+      some_next m (Ok u) x = let k : ◌≡◌ {A = ℕ} 0 1 = cc in omega arith
+      some_next m (Err n) x = let k : ◌≡◌ {A = ℕ} 0 1 = cc in omega arith
+
+      by_header : (h : Option Header) → passed right b h ≡ Ok None → each right next w b h ≡ w
+      by_header None x = on (check_nothing_after (read b)) x
+      by_header (Some h) x = absurd (some_next h.end (right h.tag (take (h.end - 3) (drop 3 b))) x)
+
+  pub stops : {n : Refusal} → v ≡ Err n → Refused n ≡ y
+  unfolding after
+  stops {n} z = sym (q.goes_is ∙ by_header (header_of b) (sym p ∙ z))
+    where
+      on : {A : Type 0} (r : Verdict) (x : A) → found r x ≡ Err n → (k : Unit {0} → Verdict) → after r k ≡ Refused n
+      on (Ok u) x e k = absurd (let j : ◌≡◌ {A = ℕ} 0 1 = cc in omega arith)
+      on (Err m) x e k = let j : m ≡ n = cc in ap Refused j
+
+      by_header : (h : Option Header) → passed right b h ≡ Err n → each right next w b h ≡ Refused n
+      by_header None x = on (check_nothing_after (read b)) None x (λ _. w)
+      by_header (Some h) x = on (right h.tag (take (h.end - 3) (drop 3 b))) (Some h.end) x (λ _. next (read (drop h.end b)))
 
 -- ---- rows of strings
+
+-- a string in front and then f of the rest; v where the row ends
+abbrev string_then : (Row → Verdict) → Verdict → Row → Verdict
+string_then f v end = v
+string_then f v (loose b) = Refused R.Truncated
+string_then f v (field t w i r) = after (unless (eqb t 0x81) R.Misplaced) λ _. after (check_text w) λ _. f r
 
 any_is : (x : Row) → check_any_strings x ≡ string_then check_any_strings Fine x
 unfolding check_any_strings
@@ -94,11 +130,37 @@ more_is k end = refl
 more_is k (loose b) = refl
 more_is k (field t f i r) = refl
 
-one_more : (k : ℕ) (x : Row) → (k ≡ 0 → ⊥) → check_strings k x ≡ string_then (check_strings (k - 1)) (Refused R.Misplaced) x
-one_more zero x z = absurd (z refl)
-one_more (suc k) x z =
+module _ (f : Row → Verdict) (v : Verdict) (b : Bytes) where
+  string_each : string_then f v (read b) ≡ each string_field f v b (header_of b)
+  unfolding after check_nothing_after inside
+  string_each = on (header_of b) refl
+    where
+      on : (h : Option Header) → h ≡ header_of b → string_then f v (read b) ≡ each string_field f v b h
+      on None q = none (unread b q refl)
+        where
+          none : ((length b ≡ 0) × (read b ≡ end)) ⊎ ((length b ≡ 0 → ⊥) × (read b ≡ loose b)) → string_then f v (read b) ≡ after (check_nothing_after (read b)) λ _. v
+          none (inl z) = rw z.1
+          none (inr z) = rw z.1
+      on (Some h) q = ap (string_then f v) (field_in_front b q) ∙ tagged (eqb h.tag 0x81) refl
+        where
+          tagged : (x : Bool) → eqb h.tag 0x81 ≡ x → string_then f v (field h.tag (front_of (inside h.tag) (body b h.end)) (inner_of inside (inside h.tag) (body b h.end)) (read (drop h.end b))) ≡ after (string_field h.tag (body b h.end)) λ _. f (read (drop h.end b))
+          tagged true e = let k : h.tag ≡ 0x81 = eqb-true h.tag 0x81 e in let y : front_of (inside h.tag) (body b h.end) ≡ body b h.end = ap (λ (j : ℕ). front_of (inside j) (body b h.end)) k in rw (e, y)
+          tagged false e = rw e
+
+pub rest_is : (b : Bytes) (e : ℕ) → drop e b ≡ take (length b - e) (drop e b)
+rest_is b e = sym (take_all (length b - e) (drop e b) (omega (arith, length-drop e b)))
+
+pub rowwise_goes : {right : ℕ → Bytes → Verdict} {rows : Row → Verdict} {y : Verdict} → Rowwise right rows → (b : Bytes) → y ≡ rows (read b) → Goes right rows Fine b y
+rowwise_goes r b e = record { goes_is = e ∙ r.field_by_field b }
+
+pub any_rowwise : Rowwise string_field check_any_strings
+any_rowwise = record { field_by_field = λ b. any_is (read b) ∙ string_each check_any_strings Fine b }
+
+pub one_more : {y : Verdict} (k : ℕ) (b : Bytes) → 0 < k → y ≡ check_strings k (read b) → Goes string_field (check_strings (k - 1)) (Refused R.Misplaced) b y
+one_more zero b z e = absurd (omega arith)
+one_more (suc k) b z e =
     let m : k ≡ suc k - 1 = omega arith in
-    more_is k x ∙ ap (λ (j : ℕ). string_then (check_strings j) (Refused R.Misplaced) x) m
+    record { goes_is = e ∙ more_is k (read b) ∙ string_each (check_strings k) (Refused R.Misplaced) b ∙ ap (λ (j : ℕ). each string_field (check_strings j) (Refused R.Misplaced) b (header_of b)) m }
 
 no_more : (x : Row) → check_end x ≡ check_strings zero x
 unfolding check_strings check_end
@@ -106,77 +168,42 @@ no_more end = refl
 no_more (loose b) = refl
 no_more (field t f i r) = refl
 
--- at a place in a row: the rest of the bytes
-abbrev pub from : Bytes → ℕ → Bytes
-from b at = part b at (length b)
-
-from_start : (b : Bytes) → from b 0 ≡ b
-from_start b = take_all (length b - 0) b (omega arith)
-
--- a field that ends at e behind the place
-pub from_on : (b : Bytes) (at e : ℕ) → at ≤ length b → drop e (from b at) ≡ from b (at + e)
-from_on b at e o = part_back b at (length b) o (omega arith) e
-
-pub from_in : (b : Bytes) (at e : ℕ) → at ≤ length b → e ≤ length (from b at) → at + e ≤ length b
-from_in b at e o l = omega (arith, length_part b at (length b) o (omega arith))
-
-module _ (b : Bytes) (at : ℕ) (o : at ≤ length b) {r : Passed} (d : StringIs (from b at) r) where
-  told : {q : Passed} → r ≡ q → StringIs (from b at) q
-  told g = subst (StringIs (from b at)) g d
-
-  pub behind_string : {e : ℕ} → r ≡ P.Behind e → (3 ≤ e) × (at + e ≤ length b)
-  behind_string {e} g =
-      let q : StringIs (from b at) (P.Behind e) = told g in
-      (q.0, from_in b at e o q.1)
-
-  module _ {y : Verdict} (p : y ≡ check_any_strings (read (from b at))) where
-    pub any_on : {e : ℕ} → r ≡ P.Behind e → y ≡ check_any_strings (read (from b (at + e)))
-    any_on {e} g =
-        let q : StringIs (from b at) (P.Behind e) = told g in
-        p ∙ any_is (read (from b at)) ∙ q.2 check_any_strings Fine ∙ ap (λ (x : Bytes). check_any_strings (read x)) (from_on b at e o)
-
-    pub any_refused : {n : Refusal} → r ≡ P.Refused n → Refused n ≡ y
-    any_refused g = sym (p ∙ any_is (read (from b at)) ∙ told g check_any_strings Fine)
-
-    pub any_end : r ≡ P.End → Fine ≡ y
-    any_end g = sym (p ∙ any_is (read (from b at)) ∙ (told g).1 check_any_strings Fine)
-
-  module _ {y : Verdict} (k : ℕ) (z : k ≡ 0 → ⊥) (p : y ≡ check_strings k (read (from b at))) where
-    pub more_on : {e : ℕ} → r ≡ P.Behind e → y ≡ check_strings (k - 1) (read (from b (at + e)))
-    more_on {e} g =
-        let q : StringIs (from b at) (P.Behind e) = told g in
-        p ∙ one_more k (read (from b at)) z ∙ q.2 (check_strings (k - 1)) (Refused R.Misplaced) ∙ ap (λ (x : Bytes). check_strings (k - 1) (read x)) (from_on b at e o)
-
-    pub more_refused : {n : Refusal} → r ≡ P.Refused n → Refused n ≡ y
-    more_refused g = sym (p ∙ one_more k (read (from b at)) z ∙ told g (check_strings (k - 1)) (Refused R.Misplaced))
-
-    pub more_end : r ≡ P.End → Refused R.Misplaced ≡ y
-    more_end g = sym (p ∙ one_more k (read (from b at)) z ∙ (told g).1 (check_strings (k - 1)) (Refused R.Misplaced))
-
--- from the start of a row, and at its end
-pub any_start : (b : Bytes) → check_any_strings (read b) ≡ check_any_strings (read (from b 0))
-any_start b = ap (λ (x : Bytes). check_any_strings (read x)) (sym (from_start b))
-
-pub strings_start : (k : ℕ) (b : Bytes) → check_strings k (read b) ≡ check_strings k (read (from b 0))
-strings_start k b = ap (λ (x : Bytes). check_strings k (read x)) (sym (from_start b))
-
 pub strings_end : {y r : Verdict} (k : ℕ) (b : Bytes) → k ≡ 0 → y ≡ check_strings k (read b) → r ≡ check_end (read b) → r ≡ y
 strings_end k b z p q = q ∙ no_more (read b) ∙ sym (p ∙ ap (λ (x : ℕ). check_strings x (read b)) z)
 
+pub strings_start : (n : ℕ) (b : Bytes) → check_strings n (read b) ≡ check_strings (n - 0) (read b)
+strings_start n b = let e : n ≡ n - 0 = omega arith in ap (λ (k : ℕ). check_strings k (read b)) e
+
+pub one_less : (n i : ℕ) (b : Bytes) → check_strings (n - i - 1) (read b) ≡ check_strings (n - (i + 1)) (read b)
+one_less n i b = let e : n - i - 1 ≡ n - (i + 1) = omega arith in ap (λ (k : ℕ). check_strings k (read b)) e
+
 -- ---- kinds
 
-module _ (s : Bytes) (i : ℕ) (l : i < length s) where
-  pub kinds_on : (leb 1 (get_or s i 0) && leb (get_or s i 0) 2) ≡ true → all_kinds (drop i s) ≡ all_kinds (drop (i + 1) s)
-  unfolding all_kinds
-  kinds_on h = rw (add-one, drop-cons s i 0 l, h)
+both : (a b : Bool) → (a && b) ≡ true → (a ≡ true) × (b ≡ true)
+both true b e = (refl, e)
+both false b e = absurd (let k : ◌≡◌ {A = ℕ} 0 1 = cc in omega arith)
 
-  pub kinds_off : (leb 1 (get_or s i 0) && leb (get_or s i 0) 2) ≡ false → all_kinds (drop i s) ≡ false
-  unfolding all_kinds
-  kinds_off h = rw (drop-cons s i 0 l, h)
+abbrev pub is_kind : ℕ → Bool
+is_kind k = leb 1 k && leb k 2
 
-pub kinds_all : (s : Bytes) (i : ℕ) → length s ≤ i → all_kinds (drop i s) ≡ true
+each_kind : (s : Bytes) → ((i : ℕ) → i < length s → is_kind (get_or s i 0) ≡ true) → true ≡ all_kinds s
 unfolding all_kinds
-kinds_all s i h = ap all_kinds (drop_of_length-le s h)
+each_kind [] f = refl
+each_kind (k ∷ s) f = rw (f 0 (omega arith)) (each_kind s (λ i l. f (suc i) (omega arith)))
+
+no_kind : (s : Bytes) (i : ℕ) → i < length s → is_kind (get_or s i 0) ≡ false → false ≡ all_kinds s
+unfolding all_kinds
+no_kind [] i l e = absurd (omega arith)
+no_kind (k ∷ s) zero l e = rw e
+no_kind (k ∷ s) (suc i) l e = on (is_kind k) (no_kind s i (omega arith) e)
+  where
+    on : (x : Bool) → false ≡ all_kinds s → false ≡ (x && all_kinds s)
+    on true z = z
+    on false z = refl
+
+pub kinds_is : (s : Bytes) (b : Bool) → MatchBool b (AllWithin (λ k. is_kind k ≡ true) s 0 (length s)) ((i : ℕ) × (i < length s) × HoldsAt (λ k. is_kind k ≡ false) s i) → b ≡ all_kinds s
+kinds_is s true t = each_kind s (λ i l. t i 0 (omega arith) l)
+kinds_is s false t = no_kind s t.0 t.1 (t.2 0)
 
 -- ---- the body of an 80
 
@@ -201,11 +228,11 @@ old_short (x ∷ []) h = refl
 old_short (x ∷ y ∷ []) h = sym (ap check_some_strings (none_in_front [] refl))
 old_short (x ∷ y ∷ z ∷ w) h = absurd (omega arith)
 
-pub old_strings : (w : Bytes) → 3 ≤ length w → {r : Verdict} → r ≡ check_any_strings (read (from w 2)) → r ≡ record_body Old w
+pub old_strings : (w : Bytes) → 3 ≤ length w → {r : Verdict} → r ≡ check_any_strings (read (take (length w - 2) (drop 2 w))) → r ≡ record_body Old w
 unfolding after front_of_record check_strings_of
 old_strings w l {r} q =
     let f : eqb (length (take 2 w)) 2 ≡ true = eq-eqb (length (take 2 w)) 2 (length-take-le 2 w (omega arith)) in
-    let a : from w 2 ≡ drop 2 w = take_all (length w - 2) (drop 2 w) (omega (arith, length-drop 2 w)) in
+    let a : take (length w - 2) (drop 2 w) ≡ drop 2 w = take_all (length w - 2) (drop 2 w) (omega (arith, length-drop 2 w)) in
     q ∙ ap (λ (x : Bytes). check_any_strings (read x)) a ∙ sym (some_any (drop 2 w) (λ z. omega (arith, length-drop 2 w))) ∙ rw f
 
 -- ---- the body of an 84
@@ -257,10 +284,10 @@ module _ (w : Bytes) (l : 6 ≤ length w) where
       unfolding after
       new_kinds z = sym (body_is ∙ rw (front_is, z))
 
-      pub new_strings : v ≡ true → {r : Verdict} → r ≡ check_strings (n + 1) (read (from w (6 + n))) → r ≡ record_body New w
+      pub new_strings : v ≡ true → {r : Verdict} → r ≡ check_strings (n + 1) (read (take (length w - (6 + n)) (drop (6 + n) w))) → r ≡ record_body New w
       unfolding after check_strings_of
       new_strings z {r} s =
-          let a : from w (6 + n) ≡ drop (6 + n) w = take_all (length w - (6 + n)) (drop (6 + n) w) (omega (arith, length-drop (6 + n) w)) in
+          let a : take (length w - (6 + n)) (drop (6 + n) w) ≡ drop (6 + n) w = take_all (length w - (6 + n)) (drop (6 + n) w) (omega (arith, length-drop (6 + n) w)) in
           s ∙ ap₂ (λ (x : ℕ) (y : Bytes). check_strings x (read y)) (add-one n ∙ ap suc (sym taken_count)) a ∙ sym (body_is ∙ rw (front_is, z))
 
 -- ---- a record
@@ -293,56 +320,16 @@ module _ (k : Kind) (t : ℕ) (w : Bytes) where
   unfolding after
   tag_same z q = rw (eq-eqb t (record_tag k) z) q
 
-module _ (k : Kind) (b : Bytes) where
-  pub record_none : length b ≡ 0 → RecordIs k b P.End
-  unfolding check_records
-  record_none h = (h, ap (check_records k) (none_in_front b h))
-
-  module _ {v : Header} (q : v ≡ header_of b) where
-    pub record_torn : v ≡ H.Absent → (length b ≡ 0 → ⊥) → RecordIs k b (P.Refused R.Truncated)
-    unfolding check_records
-    record_torn h z = ap (check_records k) (torn_in_front b q h z)
-
-    module _ (i : Within (length b) v) {t e : ℕ} (h : v ≡ H.Field t e) {r : Verdict} (g : r ≡ record_field k t (body b e)) where
-      record_is : check_records k (read b) ≡ after r λ _. check_records k (read (drop e b))
-      record_is =
-          ap (check_records k) (field_in_front b q i h)
-          ∙ record_by k t (body b e) (read (drop e b)) (eqb t (record_tag k)) refl
-          ∙ ap (λ (x : Verdict). after x λ _. check_records k (read (drop e b))) (sym g)
-
-      pub record_bad : {n : Refusal} → r ≡ Refused n → RecordIs k b (P.Refused n)
-      unfolding after
-      record_bad z = record_is ∙ rw z
-
-      pub record_on : r ≡ Fine → RecordIs k b (P.Behind e)
-      unfolding after
-      record_on z =
-          let p : (3 ≤ e) × (e ≤ length b) = within_field i h in
-          (p.0, p.1, record_is ∙ rw z)
-
--- ---- records in a row
-
-pub records_start : (k : Kind) (b : Bytes) → check_templates k b ≡ check_records k (read (from b 0))
-unfolding check_templates
-records_start k b = ap (λ (x : Bytes). check_records k (read x)) (sym (from_start b))
-
-module _ (k : Kind) (b : Bytes) (at : ℕ) (o : at ≤ length b) {r : Passed} (d : RecordIs k (from b at) r) where
-  stands : {q : Passed} → r ≡ q → RecordIs k (from b at) q
-  stands g = subst (RecordIs k (from b at)) g d
-
-  pub behind_record : {e : ℕ} → r ≡ P.Behind e → (3 ≤ e) × (at + e ≤ length b)
-  behind_record {e} g =
-      let q : RecordIs k (from b at) (P.Behind e) = stands g in
-      (q.0, from_in b at e o q.1)
-
-  module _ {y : Verdict} (p : y ≡ check_records k (read (from b at))) where
-    pub records_on : {e : ℕ} → r ≡ P.Behind e → y ≡ check_records k (read (from b (at + e)))
-    records_on {e} g =
-        let q : RecordIs k (from b at) (P.Behind e) = stands g in
-        p ∙ q.2 ∙ ap (λ (x : Bytes). check_records k (read x)) (from_on b at e o)
-
-    pub records_refused : {n : Refusal} → r ≡ P.Refused n → Refused n ≡ y
-    records_refused g = sym (p ∙ stands g)
-
-    pub records_end : r ≡ P.End → Fine ≡ y
-    records_end g = sym (p ∙ (stands g).1)
+pub record_rowwise : (k : Kind) → Rowwise (record_field k) (check_records k)
+unfolding after check_nothing_after check_records
+record_rowwise k = record { field_by_field = λ b. on b (header_of b) refl }
+  where
+    on : (b : Bytes) (h : Option Header) → h ≡ header_of b → check_records k (read b) ≡ each (record_field k) (check_records k) Fine b h
+    on b None q = none (unread b q refl)
+      where
+        none : ((length b ≡ 0) × (read b ≡ end)) ⊎ ((length b ≡ 0 → ⊥) × (read b ≡ loose b)) → check_records k (read b) ≡ after (check_nothing_after (read b)) λ _. Fine
+        none (inl z) = rw z.1
+        none (inr z) = rw z.1
+    on b (Some h) q =
+        ap (check_records k) (field_in_front b q)
+        ∙ record_by k h.tag (body b h.end) (read (drop h.end b)) (eqb h.tag (record_tag k)) refl

@@ -1,29 +1,42 @@
 -- What the steps of the check of templates out promise each other. Nothing here needs belief. Assumes nothing: these are definitions.
-use Rattle.std.specs.Prelude.{ℕ, ◌≤◌, ◌≡◌, eqb, length, take, drop}
+use Rattle.std.specs.Prelude.{ℕ, ◌-◌, ◌≡◌, eqb, take, drop, Option, Some, None, Result, Ok, Err}
 use Rattle.field.specs.Bytes.{Bytes}
-use Rattle.field.specs.Row.{Row, end, loose, field, counted_front, read}
-use Rattle.page.specs.Check.{check_text}
-use Rattle.page.specs.Refusal.{after, unless}
+use Rattle.field.specs.Row.{Row, counted_front, read}
+use Rattle.field.specs.Header.{header_of}
+use Rattle.field.specs.declared.reader.Header.{Header}
+use Rattle.page.specs.Check.{check_text, check_nothing_after}
+use Rattle.page.specs.Refusal.{Verdict, Fine, after, unless}
+use Rattle.page.specs.declared.Refusal.{Refusal}
 use Rattle.page.specs.declared.Refusal.TheVariants as R
-use Rattle.page.specs.declared.Verdict.{Verdict}
-use Rattle.page.specs.declared.Verdict.TheVariants as W
-use Rattle.outs.specs.Templates.{record_tag, front_of_record, check_strings_of, check_records}
+use Rattle.outs.specs.Templates.{record_tag, front_of_record, check_strings_of}
 use Rattle.outs.specs.declared.Kind.{Kind}
 use Rattle.outs.specs.declared.Kind.TheVariants.{Old, New}
-use Rattle.outs.specs.declared.templates.Passed.{Passed}
-use Rattle.outs.specs.declared.templates.Passed.TheVariants.{End, Refused, Behind}
 
--- a string in front and then f of the rest; v where none stands
-abbrev pub string_then : (Row → Verdict) → Verdict → Row → Verdict
-string_then f v end = v
-string_then f v (loose b) = W.Refused R.Truncated
-string_then f v (field t w i r) = after (unless (eqb t 0x81) R.Misplaced) λ _. after (check_text w) λ _. f r
+-- ---- a row whose fields are each right by their tag and their body
 
--- the same, whatever follows
-abbrev pub StringIs : Bytes → Passed → Type 0
-StringIs b End = (length b ≡ 0) × ((f : Row → Verdict) (v : Verdict) → string_then f v (read b) ≡ v)
-StringIs b (Refused n) = (f : Row → Verdict) (v : Verdict) → string_then f v (read b) ≡ W.Refused n
-StringIs b (Behind e) = (3 ≤ e) × (e ≤ length b) × ((f : Row → Verdict) (v : Verdict) → string_then f v (read b) ≡ f (read (drop e b)))
+-- x where nothing is refused
+abbrev pub found : {A : Type 0} → Verdict → A → Result A Refusal
+found (Ok u) x = Ok x
+found (Err n) x = Err n
+
+-- the place behind the field in front, or none where the row ends
+abbrev pub passed : (ℕ → Bytes → Verdict) → Bytes → Option Header → Result (Option ℕ) Refusal
+passed right b None = found (check_nothing_after (read b)) None
+passed right b (Some h) = found (right h.tag (take (h.end - 3) (drop 3 b))) (Some h.end)
+
+-- a check of the field in front, and then next of the rest; v where the row ends
+abbrev pub each : (ℕ → Bytes → Verdict) → (Row → Verdict) → Verdict → Bytes → Option Header → Verdict
+each right next v b None = after (check_nothing_after (read b)) λ _. v
+each right next v b (Some h) = after (right h.tag (take (h.end - 3) (drop 3 b))) λ _. next (read (drop h.end b))
+
+-- a check of rows that goes field by field
+pub record Rowwise (right : ℕ → Bytes → Verdict) (rows : Row → Verdict) : Type 0 where
+  pub field_by_field : (b : Bytes) → rows (read b) ≡ each right rows Fine b (header_of b)
+
+-- ---- strings and records
+
+abbrev pub string_field : ℕ → Bytes → Verdict
+string_field t w = after (unless (eqb t 0x81) R.Misplaced) λ _. check_text w
 
 -- a record's body by its bytes: what stands before the strings, and the strings
 abbrev pub front_then : Kind → Bytes → Row → Verdict
@@ -35,8 +48,3 @@ record_body New w = front_then New (take (counted_front 4 w) w) (read (drop (cou
 
 abbrev pub record_field : Kind → ℕ → Bytes → Verdict
 record_field k t w = after (unless (eqb t (record_tag k)) R.Misplaced) λ _. record_body k w
-
-abbrev pub RecordIs : Kind → Bytes → Passed → Type 0
-RecordIs k b End = (length b ≡ 0) × (check_records k (read b) ≡ W.Fine)
-RecordIs k b (Refused n) = check_records k (read b) ≡ W.Refused n
-RecordIs k b (Behind e) = (3 ≤ e) × (e ≤ length b) × (check_records k (read b) ≡ check_records k (read (drop e b)))

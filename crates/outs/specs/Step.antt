@@ -1,14 +1,15 @@
 -- What the steps of the check of a page out promise each other. Nothing here needs belief. Assumes nothing: these are definitions.
-use Rattle.std.specs.Prelude.{ℕ, ◌-◌, ◌≤◌, ◌≡◌, eqb, length, take, drop}
+use Rattle.std.specs.Prelude.{ℕ, ◌-◌, ◌≤◌, ◌≡◌, eqb, length, take, drop, Result, Ok, Err}
 use Rattle.field.specs.Bytes.{Bytes, pick}
 use Rattle.page.specs.Refusal.{after}
-use Rattle.page.specs.declared.Verdict.TheVariants as W
+use Rattle.page.specs.Refusal as W
+use Rattle.page.specs.declared.Refusal.{Refusal}
 use Rattle.outs.specs.Held.{read_out}
 use Rattle.outs.specs.PageOut.{among_items, good}
 use Rattle.outs.specs.declared.Expect.{Expect}
 use Rattle.outs.specs.declared.Expect.TheVariants as E
 use Rattle.outs.specs.declared.page_out.Front.{Front}
-use Rattle.outs.specs.declared.page_out.Front.TheVariants.{End, Refused, Leaf, Open}
+use Rattle.outs.specs.declared.page_out.Front.TheVariants.{End, Leaf, Open}
 
 -- what an item leaves where the place of the templates has not come: that place, or what the item makes of what is expected
 abbrev pub left_unplaced : Expect → ℕ → Expect
@@ -28,8 +29,8 @@ pub record OpenIs (width : ℕ) (c : Expect) (b : Bytes) (k e : ℕ) (i n : Expe
   pub short : e ≤ 65538
   pub is : good width c (read_out width b) ≡ after (good width i (read_out width (take (e - k) (drop k b)))) λ _. good width n (read_out width (drop e b))
 
-abbrev pub Stepped : ℕ → Expect → Bytes → Front → Type 0
-Stepped width c b End = (length b ≡ 0) × (good width c (read_out width b) ≡ W.Fine)
-Stepped width c b (Refused n) = good width c (read_out width b) ≡ W.Refused n
-Stepped width c b (Leaf e n) = LeafIs width c b e n
-Stepped width c b (Open k e i n) = OpenIs width c b k e i n
+abbrev pub Stepped : ℕ → Expect → Bytes → Result Front Refusal → Type 0
+Stepped width c b (Err n) = good width c (read_out width b) ≡ W.Refused n
+Stepped width c b (Ok End) = (length b ≡ 0) × (good width c (read_out width b) ≡ W.Fine)
+Stepped width c b (Ok (Leaf e n)) = LeafIs width c b e n
+Stepped width c b (Ok (Open k e i n)) = OpenIs width c b k e i n

@@ -2,15 +2,10 @@
 // in a page out, so its check is a loop with a stack of its own. Who may have written them is not asked.
 #![tactic(auto)]
 
-ghost use Rattle.std.specs.Prelude.{◌≡◌};
-ghost use Rattle.page.specs.Refusal.{refusal_number};
-
 pub mod leaf;
 pub mod order;
 pub mod page_out;
 pub mod templates;
-
-use page::Refusal;
 
 // What the records of templates out are: 80s, or 84s (document 02, A6).
 #[derive(Clone, Copy)]
@@ -53,26 +48,4 @@ pub enum Expect {
     Key,
     // of an object: properties and spreads
     Properties,
-}
-
-// The paper's number of a refusal, which every answer over both outs has.
-pub fn number_of(r: Refusal) -> u32
-    ensures { result ≡ refusal_number r }
-{
-    match r {
-        Refusal::ScratchTooSmall => 1,
-        Refusal::InputTooLong => 2,
-        Refusal::Truncated => 3,
-        Refusal::Misplaced => 4,
-        Refusal::BadName => 5,
-        Refusal::NotUtf8 => 6,
-        Refusal::NumberTooLarge => 7,
-        Refusal::TooDeep => 8,
-        Refusal::TagLeft => 10,
-        Refusal::RepeatedAttribute => 16,
-        Refusal::MixedCaseVoid => 19,
-        Refusal::OutputTooLong => 11,
-        Refusal::TemplatesTooSmall => 12,
-        Refusal::PageTooSmall => 13,
-    }
 }

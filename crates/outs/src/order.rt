@@ -6,39 +6,31 @@ ghost use Rattle.outs.specs.Step.{left_unplaced};
 ghost use Rattle.outs.specs.declared.Expect.TheVariants as E;
 
 use crate::Expect;
-use page::{Refusal, Verdict};
+use page::Refusal;
 
 fn is_expression(tag: u8) -> bool
     ensures { result ≡ expression tag }
 {
-    ((0x70 <= tag) & (tag <= 0x76))
-        | ((0x79 <= tag) & (tag <= 0x7b))
-        | ((0x90 <= tag) & (tag <= 0x94))
+    matches!(tag, 0x70..=0x76 | 0x79..=0x7b | 0x90..=0x94)
 }
 
 pub fn is_allowed(expect: Expect, tag: u8) -> bool
     ensures { result ≡ allowed expect tag }
 {
     match expect {
+        Expect::Whole => matches!(tag, 0x10..=0x13 | 0x82 | 0x83),
+        Expect::Items | Expect::Declarations => matches!(tag, 0x10..=0x13 | 0x83),
+        Expect::Placed | Expect::Rest => matches!(tag, 0x10..=0x13),
+        Expect::Statement => matches!(tag, 0x10 | 0x12),
+        Expect::NoStatement => matches!(tag, 0x11 | 0x13),
         Expect::Pieces => (tag == 0x20) | is_expression(tag),
-        Expect::Exprs => is_expression(tag),
-        Expect::One => is_expression(tag),
+        Expect::Exprs | Expect::One | Expect::OneThenName | Expect::Key => is_expression(tag),
+        Expect::Elements => is_expression(tag) | matches!(tag, 0x77 | 0x78),
+        Expect::NameThenOne | Expect::JustName => tag == 0x81,
+        Expect::Callee => matches!(tag, 0x40 | 0x41 | 0x81),
+        Expect::Props => matches!(tag, 0x73 | 0x95),
+        Expect::Properties => matches!(tag, 0x53 | 0x96),
         Expect::Nothing => false,
-        Expect::NameThenOne => tag == 0x81,
-        Expect::OneThenName => is_expression(tag),
-        Expect::JustName => tag == 0x81,
-        Expect::Callee => (tag == 0x81) | (tag == 0x40) | (tag == 0x41),
-        Expect::Props => (tag == 0x73) | (tag == 0x95),
-        Expect::Key => is_expression(tag),
-        Expect::Properties => (tag == 0x96) | (tag == 0x53),
-        Expect::Elements => is_expression(tag) | (tag == 0x77) | (tag == 0x78),
-        Expect::Whole => (tag == 0x82) | (tag == 0x83) | ((0x10 <= tag) & (tag <= 0x13)),
-        Expect::Items => (tag == 0x83) | ((0x10 <= tag) & (tag <= 0x13)),
-        Expect::Placed => (0x10 <= tag) & (tag <= 0x13),
-        Expect::Declarations => (tag == 0x83) | ((0x10 <= tag) & (tag <= 0x13)),
-        Expect::Statement => (tag == 0x10) | (tag == 0x12),
-        Expect::Rest => (0x10 <= tag) & (tag <= 0x13),
-        Expect::NoStatement => (tag == 0x11) | (tag == 0x13),
     }
 }
 
@@ -46,7 +38,7 @@ pub fn is_allowed(expect: Expect, tag: u8) -> bool
 fn among_items(expect: Expect, tag: u8) -> Expect
     ensures { result ≡ among_items expect tag }
 {
-    if (tag == 0x10) | (tag == 0x12) {
+    if matches!(tag, 0x10 | 0x12) {
         return Expect::Rest;
     }
     expect
@@ -75,52 +67,38 @@ pub fn left_of(expect: Expect, tag: u8) -> Expect
     ensures { result ≡ left expect tag }
 {
     match expect {
-        Expect::Pieces => Expect::Pieces,
-        Expect::Exprs => Expect::Exprs,
-        Expect::One => Expect::Nothing,
-        Expect::Nothing => Expect::Nothing,
-        Expect::NameThenOne => Expect::One,
-        Expect::OneThenName => Expect::JustName,
-        Expect::JustName => Expect::Nothing,
-        Expect::Callee => Expect::Props,
-        Expect::Props => Expect::Key,
-        Expect::Key => Expect::Nothing,
-        Expect::Properties => Expect::Properties,
-        Expect::Elements => Expect::Elements,
         Expect::Whole => left_whole(tag),
         Expect::Items => left_unplaced(Expect::Placed, tag),
         Expect::Placed => among_items(Expect::NoStatement, tag),
         Expect::Declarations => left_unplaced(Expect::Statement, tag),
         Expect::Statement => Expect::Rest,
-        Expect::Rest => Expect::Rest,
-        Expect::NoStatement => Expect::NoStatement,
+        Expect::NameThenOne => Expect::One,
+        Expect::OneThenName => Expect::JustName,
+        Expect::Callee => Expect::Props,
+        Expect::Props => Expect::Key,
+        Expect::One | Expect::JustName | Expect::Key | Expect::Nothing => Expect::Nothing,
+        Expect::Rest
+        | Expect::NoStatement
+        | Expect::Pieces
+        | Expect::Exprs
+        | Expect::Elements
+        | Expect::Properties => expect,
     }
 }
 
 // At the end of a body.
-pub fn close(expect: Expect) -> Verdict
+pub fn close(expect: Expect) -> Result<(), Refusal>
     ensures { result ≡ closed expect }
 {
     match expect {
-        Expect::Pieces => Verdict::Fine,
-        Expect::Exprs => Verdict::Fine,
-        Expect::One => Verdict::Refused(Refusal::Misplaced),
-        Expect::Nothing => Verdict::Fine,
-        Expect::NameThenOne => Verdict::Refused(Refusal::Misplaced),
-        Expect::OneThenName => Verdict::Refused(Refusal::Misplaced),
-        Expect::JustName => Verdict::Refused(Refusal::Misplaced),
-        Expect::Callee => Verdict::Refused(Refusal::Misplaced),
-        Expect::Props => Verdict::Refused(Refusal::Misplaced),
-        Expect::Key => Verdict::Fine,
-        Expect::Properties => Verdict::Fine,
-        Expect::Elements => Verdict::Fine,
-        Expect::Whole => Verdict::Fine,
-        Expect::Items => Verdict::Fine,
-        Expect::Placed => Verdict::Fine,
-        Expect::Declarations => Verdict::Fine,
-        Expect::Statement => Verdict::Refused(Refusal::Misplaced),
-        Expect::Rest => Verdict::Fine,
-        Expect::NoStatement => Verdict::Fine,
+        Expect::Statement
+        | Expect::One
+        | Expect::NameThenOne
+        | Expect::OneThenName
+        | Expect::JustName
+        | Expect::Callee
+        | Expect::Props => Err(Refusal::Misplaced),
+        _ => Ok(()),
     }
 }
 
@@ -128,37 +106,21 @@ pub fn close(expect: Expect) -> Verdict
 pub fn is_nest(tag: u8) -> bool
     ensures { result ≡ nests tag }
 {
-    ((0x10 <= tag) & (tag <= 0x12))
-        | (tag == 0x53)
-        | (tag == 0x76)
-        | (tag == 0x77)
-        | (tag == 0x79)
-        | ((0x90 <= tag) & (tag <= 0x96))
+    matches!(tag, 0x10..=0x12 | 0x53 | 0x76 | 0x77 | 0x79 | 0x90..=0x96)
 }
 
+#[tactic(auto, unfolding(crate::specs::PageOut::within))]
 pub fn inner_of(tag: u8) -> Expect
     ensures { result ≡ within tag }
 {
-    if ((0x10 <= tag) & (tag <= 0x12)) | (tag == 0x79) {
-        return Expect::Pieces;
+    match tag {
+        0x10..=0x12 | 0x79 => Expect::Pieces,
+        0x76 => Expect::Elements,
+        0x90 => Expect::Exprs,
+        0x91 | 0x96 => Expect::NameThenOne,
+        0x93 => Expect::OneThenName,
+        0x94 => Expect::Callee,
+        0x95 => Expect::Properties,
+        _ => Expect::One,
     }
-    if tag == 0x90 {
-        return Expect::Exprs;
-    }
-    if (tag == 0x91) | (tag == 0x96) {
-        return Expect::NameThenOne;
-    }
-    if tag == 0x93 {
-        return Expect::OneThenName;
-    }
-    if tag == 0x94 {
-        return Expect::Callee;
-    }
-    if tag == 0x95 {
-        return Expect::Properties;
-    }
-    if tag == 0x76 {
-        return Expect::Elements;
-    }
-    Expect::One
 }

@@ -6,16 +6,16 @@ ghost use Rattle.outs.specs.Step.{Stepped};
 use crate::Expect;
 use crate::leaf::check_leaf;
 use crate::order::{close, inner_of, is_allowed, is_nest, left_of};
-use field::reader::{Header, read_header};
+use field::reader::read_header;
 use loops::{DEPTH, waits_until};
-use page::{Refusal, Verdict};
+use page::Refusal;
+use page::name::check_nothing_after;
 
-// What stands at the front of what is left of a body: its end, a refusal, a field that is done with, or one that is to be entered, whose
-// fields go from start up to end. After is what may come behind it.
+// What stands at the front of what is left of a body: its end, a field that is done with, or one that is to be entered, whose fields go from
+// start up to end. After is what may come behind it.
 #[derive(Clone, Copy)]
 pub enum Front {
     End,
-    Refused(Refusal),
     Leaf {
         end: usize,
         after: Expect,
@@ -29,7 +29,7 @@ pub enum Front {
 }
 
 // A body that waits for a field in it to end: how many of its bytes come behind that field, and what may still come in them. Four bytes
-// without padding, so that the stack is cleared at once.
+// without padding, so that the stack is cleared at once: spare is nothing else.
 #[derive(Clone, Copy)]
 pub struct Frame {
     pub rest: u16,
@@ -37,53 +37,42 @@ pub struct Frame {
     pub spare: u8,
 }
 
-fn step(b: &[u8], expect: Expect, width: usize) -> Front
+fn step(b: &[u8], expect: Expect, width: usize) -> Result<Front, Refusal>
     ensures { Stepped width expect b.now result }
 {
-    match read_header(b) {
-        Header::Absent => {
-            if b.len() != 0 {
-                return Front::Refused(Refusal::Truncated);
-            }
-            match close(expect) {
-                Verdict::Fine => Front::End,
-                Verdict::Refused(e) => Front::Refused(e),
-            }
-        }
-        Header::Field { tag, end } => {
-            if !is_allowed(expect, tag) {
-                return Front::Refused(Refusal::Misplaced);
-            }
-            let after = left_of(expect, tag);
-            if tag == 0x90 {
-                if end - 3 < width {
-                    return Front::Refused(Refusal::Misplaced);
-                }
-                return Front::Open {
-                    start: 3 + width,
-                    end,
-                    inner: Expect::Exprs,
-                    after,
-                };
-            }
-            if is_nest(tag) {
-                let inner = inner_of(tag);
-                return Front::Open {
-                    start: 3,
-                    end,
-                    inner,
-                    after,
-                };
-            }
-            match check_leaf(tag as usize, &b[3..end]) {
-                Verdict::Fine => Front::Leaf { end, after },
-                Verdict::Refused(e) => Front::Refused(e),
-            }
-        }
+    let Some(h) = read_header(b) else {
+        check_nothing_after(b)?;
+        close(expect)?;
+        return Ok(Front::End);
+    };
+    if !is_allowed(expect, h.tag) {
+        return Err(Refusal::Misplaced);
     }
+    let after = left_of(expect, h.tag);
+    if h.tag == 0x90 {
+        if h.end - 3 < width {
+            return Err(Refusal::Misplaced);
+        }
+        return Ok(Front::Open {
+            start: 3 + width,
+            end: h.end,
+            inner: Expect::Exprs,
+            after,
+        });
+    }
+    if is_nest(h.tag) {
+        return Ok(Front::Open {
+            start: 3,
+            end: h.end,
+            inner: inner_of(h.tag),
+            after,
+        });
+    }
+    check_leaf(usize::from(h.tag), &b[3..h.end])?;
+    Ok(Front::Leaf { end: h.end, after })
 }
 
-pub fn check_page_out(s: &[u8], width: usize) -> Verdict
+pub fn check_page_out(s: &[u8], width: usize) -> Result<(), Refusal>
     ensures { result ≡ check_page_out width s.now }
 {
     let none = Frame {
@@ -97,10 +86,7 @@ pub fn check_page_out(s: &[u8], width: usize) -> Verdict
     let mut end = s.len();
     let mut expect = Expect::Whole;
     loop {
-        match step(&s[at..end], expect, width) {
-            Front::Refused(e) => {
-                return Verdict::Refused(e);
-            }
+        match step(&s[at..end], expect, width)? {
             Front::Leaf { end: e, after } => {
                 at += e;
                 expect = after;
@@ -111,12 +97,11 @@ pub fn check_page_out(s: &[u8], width: usize) -> Verdict
                 inner,
                 after,
             } => {
-                let f = Frame {
+                stack[height] = Frame {
                     rest: ((end - at - e) % 65536) as u16,
                     after,
                     spare: 0,
                 };
-                stack[height] = f;
                 height += 1;
                 end = at + e;
                 at += start;
@@ -124,7 +109,7 @@ pub fn check_page_out(s: &[u8], width: usize) -> Verdict
             }
             Front::End => {
                 if height == 0 {
-                    return Verdict::Fine;
+                    return Ok(());
                 }
                 height -= 1;
                 let f = stack[height];

@@ -14,27 +14,13 @@ use Rattle.field.specs.Row.{Row, end, loose, field, read, Ended, Inside, only_by
 use Rattle.field.specs.Front.{tag_of_front, body_of, behind_of, behind_by}
 use Rattle.field.proofs.RowLaws.{read_step, next_sizes}
 use Rattle.field.proofs.FrontLaws.{read_empty, nest_at}
-use Rattle.utf8.specs.Utf8.{utf8}
-use Rattle.page.specs.Refusal.{after}
+use Rattle.page.specs.Refusal.{Verdict, Fine, Refused, after}
 use Rattle.page.specs.Tree.{choose}
 use Rattle.page.specs.Check.{check_header, check_end, check_text, check_empty, check_number, check_boolean, check_name_by, is_name_tag, is_tag, is_expr, is_child, check_child_by, check_expr_by, check_element, check_attributes, check_attribute, check_value, check_children, check_container, check_expr, check_items, check_pieces, check_nothing_after}
 use Rattle.page.specs.CheckField.{check_missing, check_element_name, check_nodes, check_tag_field, check_expr_field}
 use Rattle.page.specs.declared.Refusal.TheVariants as R
-use Rattle.page.specs.declared.Verdict.{Verdict}
-use Rattle.page.specs.declared.Verdict.TheVariants.{Fine, Refused}
 use Rattle.page.proofs.RowEnds.{NotEnd, not_end}
-use Rattle.page.proofs.Steps.{Checked, Then, last_at, front, inner, row_at, same_body, one_field, ended, tested, seventies, between, name_tag_cases, child_cases, value_cases, piece_cases, expr_cases, item_cases}
-
--- ---- texts
-
-module _ (b : Bytes) {v : Bool} (e : v ≡ utf8 b) where
-  pub text_fine : v ≡ true → Fine ≡ check_text b
-  unfolding check_text
-  text_fine h = rw (← e, h)
-
-  pub text_bad : v ≡ false → Refused R.NotUtf8 ≡ check_text b
-  unfolding check_text
-  text_bad h = rw (← e, h)
+use Rattle.page.proofs.Steps.{Checked, Then, front, inner, row_at, same_body, one_field, ended, tested, seventies, between, name_tag_cases, child_cases, value_cases, piece_cases, expr_cases, item_cases}
 
 -- ---- one field of a series by its tag and the bytes of its body
 
@@ -138,7 +124,7 @@ module _ (depth : ℕ) (s : Bytes) (t : ℕ) (e : t ≡ tag_of_front s) (h : t �
   pub element_name : 0x40 ≤ t → t < 0x43 → Checked (check_element_name depth (read s)) depth (check_name_by t (depth + 1) b (read b))
   unfolding check_element_name
   element_name l m =
-      record { checked = ap (check_element_name depth) row ∙ rw (name_body depth t b fits, le-leb 0x40 t l, le-leb t 0x42 (omega arith), add-one depth) }
+      record { then_is = ap (check_element_name depth) row ∙ rw (name_body depth t b fits, le-leb 0x40 t l, le-leb t 0x42 (omega arith), add-one depth) }
     where
       fits : is_name_tag t ≡ true
       fits = rw (le-leb 0x40 t l, le-leb t 0x42 (omega arith))
@@ -153,7 +139,7 @@ module _ (depth : ℕ) (s : Bytes) (t : ℕ) (e : t ≡ tag_of_front s) (h : t �
 
   pub attribute_name : (t ≡ 0x40) ⊎ (t ≡ 0x42) → Checked (check_attribute depth (read s)) depth (after (check_name_by t (depth + 1) b (read b)) λ _. check_value depth (read r))
   unfolding check_attribute
-  attribute_name k = record { checked = ap (check_attribute depth) row ∙ same_body (eqb t 0x40 || eqb t 0x42) depth _ _ _ (λ z. name_body depth t b named) ∙ rw (fits, add-one depth) }
+  attribute_name k = record { then_is = ap (check_attribute depth) row ∙ same_body (eqb t 0x40 || eqb t 0x42) depth _ _ _ (λ z. name_body depth t b named) ∙ rw (fits, add-one depth) }
     where
       named : is_name_tag t ≡ true
       named = ⊎_elim (λ z. rw z) (λ z. rw z) k
@@ -186,15 +172,6 @@ element_then depth s u = record { then_is = rw u (rw (read_step s) (on (next_of 
     on no_field = refl
     on (next t w r) = in_field (inside t) t w r
 
--- the nodes t that the code goes on with, of an element and of a fragment
-module _ (depth : ℕ) (b t : Bytes) (a : Bool) {x : Verdict} (g : x ≡ check_nodes a depth (read t)) where
-  pub element_nodes : {v : Verdict} → v ≡ check_element_name depth (read b) → v ≡ Fine → t ≡ behind_of b → a ≡ true → x ≡ check_element depth (read b)
-  element_nodes n f u h = last_at (element_then depth b u) n f (rw h at g)
-
-  pub fragment_nodes : t ≡ b → a ≡ false → x ≡ check_children depth (read b)
-  unfolding check_nodes
-  fragment_nodes u h = rw (u, h) at g
-
 -- behind the front lie no more bytes than there are
 pub behind_short : (s : Bytes) → length (behind_of s) ≤ length s
 unfolding behind_of
@@ -222,11 +199,11 @@ module _ (first : Bool) (depth : ℕ) (s : Bytes) (t : ℕ) (e : t ≡ tag_of_fr
   module _ (f : first ≡ true) where
     pub nodes_50 : t ≡ 0x50 → Checked (check_nodes first depth (read s)) depth (after (check_attribute (depth + 1) (read b)) λ _. check_nodes first depth (read r))
     unfolding check_nodes check_attributes inside choose
-    nodes_50 k = record { checked = rw f (ap (check_attributes depth) (nest_at s t e 0x50 k tt refl) ∙ rw (add-one depth, q, u)) }
+    nodes_50 k = record { then_is = rw f (ap (check_attributes depth) (nest_at s t e 0x50 k tt refl) ∙ rw (add-one depth, q, u)) }
 
     pub nodes_53 : t ≡ 0x53 → Checked (check_nodes first depth (read s)) depth (after (check_expr (depth + 1) (read b)) λ _. check_nodes first depth (read r))
     unfolding check_nodes check_attributes inside choose
-    nodes_53 k = record { checked = rw f (ap (check_attributes depth) (nest_at s t e 0x53 k tt refl) ∙ rw (add-one depth, q, u)) }
+    nodes_53 k = record { then_is = rw f (ap (check_attributes depth) (nest_at s t e 0x53 k tt refl) ∙ rw (add-one depth, q, u)) }
 
   -- an attribute behind a child
   pub nodes_late : first ≡ false → is_child t ≡ false → Refused R.Misplaced ≡ check_nodes first depth (read s)
@@ -286,11 +263,11 @@ module _ (depth : ℕ) (s : Bytes) where
 module _ (depth : ℕ) {t : ℕ} (w : Bytes) where
   pub tag_30 : t ≡ 0x30 → Checked (check_tag_field depth t w) depth (check_element (depth + 1) (read w))
   unfolding check_tag_field choose
-  tag_30 k = record { checked = rw (k, add-one depth) }
+  tag_30 k = record { then_is = rw (k, add-one depth) }
 
-  pub tag_31 : t ≡ 0x31 → Checked (check_tag_field depth t w) depth (check_children (depth + 1) (read w))
-  unfolding check_tag_field choose
-  tag_31 k = record { checked = rw (k, add-one depth) }
+  pub tag_31 : t ≡ 0x31 → Checked (check_tag_field depth t w) depth (check_nodes false (depth + 1) (read w))
+  unfolding check_tag_field check_nodes choose
+  tag_31 k = record { then_is = rw (k, add-one depth) }
 
   pub tag_other : (t ≡ 0x30 → ⊥) → (t ≡ 0x31 → ⊥) → Refused R.Misplaced ≡ check_tag_field depth t w
   unfolding check_tag_field check_header after
@@ -298,15 +275,15 @@ module _ (depth : ℕ) {t : ℕ} (w : Bytes) where
 
   pub child_60 : t ≡ 0x60 → Checked (check_child_field depth t w) depth (check_text w)
   unfolding check_child_field check_child_by choose
-  child_60 k = record { checked = rw k }
+  child_60 k = record { then_is = rw k }
 
   pub child_52 : t ≡ 0x52 → Checked (check_child_field depth t w) depth (check_container (depth + 1) (read w))
   unfolding check_child_field check_child_by choose
-  child_52 k = record { checked = rw (k, add-one depth) }
+  child_52 k = record { then_is = rw (k, add-one depth) }
 
   pub child_61 : t ≡ 0x61 → Checked (check_child_field depth t w) depth (check_expr (depth + 1) (read w))
   unfolding check_child_field check_child_by choose
-  child_61 k = record { checked = rw (k, add-one depth) }
+  child_61 k = record { then_is = rw (k, add-one depth) }
 
   pub child_tag : (t ≡ 0x60 → ⊥) → (t ≡ 0x52 → ⊥) → (t ≡ 0x61 → ⊥) → check_tag_field depth t w ≡ check_child_field depth t w
   unfolding check_tag_field check_child_field check_child_by choose
@@ -314,11 +291,11 @@ module _ (depth : ℕ) {t : ℕ} (w : Bytes) where
 
   pub value_51 : t ≡ 0x51 → Checked (check_value_field depth t w) depth (check_text w)
   unfolding check_value_field choose
-  value_51 k = record { checked = rw k }
+  value_51 k = record { then_is = rw k }
 
   pub value_52 : t ≡ 0x52 → Checked (check_value_field depth t w) depth (check_container (depth + 1) (read w))
   unfolding check_value_field choose
-  value_52 k = record { checked = rw (k, add-one depth) }
+  value_52 k = record { then_is = rw (k, add-one depth) }
 
   pub value_tag : (t ≡ 0x51 → ⊥) → (t ≡ 0x52 → ⊥) → check_tag_field depth t w ≡ check_value_field depth t w
   unfolding check_tag_field check_value_field choose
@@ -326,31 +303,31 @@ module _ (depth : ℕ) {t : ℕ} (w : Bytes) where
 
   pub expr_text : (t ≡ 0x70) ⊎ (t ≡ 0x74) → Checked (check_expr_field depth t w) depth (check_text w)
   unfolding check_expr_field check_expr_by choose
-  expr_text k = record { checked = ⊎_elim (λ z. rw z) (λ z. rw z) k }
+  expr_text k = record { then_is = ⊎_elim (λ z. rw z) (λ z. rw z) k }
 
   pub expr_number : (t ≡ 0x71) ⊎ (t ≡ 0x7a) → Checked (check_expr_field depth t w) depth (check_number t w)
   unfolding check_expr_field check_expr_by choose
-  expr_number k = record { checked = ⊎_elim (λ z. rw z) (λ z. rw z) k }
+  expr_number k = record { then_is = ⊎_elim (λ z. rw z) (λ z. rw z) k }
 
   pub expr_minus : (t ≡ 0x75) ⊎ (t ≡ 0x7b) → Checked (check_expr_field depth t w) depth (check_number t w)
   unfolding check_expr_field check_expr_by choose
-  expr_minus k = record { checked = ⊎_elim (λ z. rw z) (λ z. rw z) k }
+  expr_minus k = record { then_is = ⊎_elim (λ z. rw z) (λ z. rw z) k }
 
   pub expr_72 : t ≡ 0x72 → Checked (check_expr_field depth t w) depth (check_boolean w)
   unfolding check_expr_field check_expr_by choose
-  expr_72 k = record { checked = rw k }
+  expr_72 k = record { then_is = rw k }
 
   pub expr_73 : t ≡ 0x73 → Checked (check_expr_field depth t w) depth (check_empty w)
   unfolding check_expr_field check_expr_by choose
-  expr_73 k = record { checked = rw k }
+  expr_73 k = record { then_is = rw k }
 
   pub expr_76 : t ≡ 0x76 → Checked (check_expr_field depth t w) depth (check_items (depth + 1) (read w))
   unfolding check_expr_field check_expr_by choose
-  expr_76 k = record { checked = rw (k, add-one depth) }
+  expr_76 k = record { then_is = rw (k, add-one depth) }
 
   pub expr_79 : t ≡ 0x79 → Checked (check_expr_field depth t w) depth (check_pieces (depth + 1) (read w))
   unfolding check_expr_field check_expr_by choose
-  expr_79 k = record { checked = rw (k, add-one depth) }
+  expr_79 k = record { then_is = rw (k, add-one depth) }
 
   pub expr_tag : ((t ≡ 0x70) ⊎ (t ≡ 0x74) → ⊥) → ((t ≡ 0x71) ⊎ (t ≡ 0x7a) → ⊥) → (t ≡ 0x72 → ⊥) → (t ≡ 0x73 → ⊥) → ((t ≡ 0x75) ⊎ (t ≡ 0x7b) → ⊥) → (t ≡ 0x76 → ⊥) → (t ≡ 0x79 → ⊥) →
       check_tag_field depth t w ≡ check_expr_field depth t w
@@ -373,11 +350,11 @@ module _ (depth : ℕ) {t : ℕ} (w : Bytes) where
 
   pub item_77 : t ≡ 0x77 → Checked (check_item_field depth t w) depth (check_expr (depth + 1) (read w))
   unfolding check_item_field choose
-  item_77 k = record { checked = rw (k, add-one depth) }
+  item_77 k = record { then_is = rw (k, add-one depth) }
 
   pub item_78 : t ≡ 0x78 → Checked (check_item_field depth t w) depth (check_empty w)
   unfolding check_item_field choose
-  item_78 k = record { checked = rw k }
+  item_78 k = record { then_is = rw k }
 
   pub item_expr : (t ≡ 0x77 → ⊥) → (t ≡ 0x78 → ⊥) → check_expr_field depth t w ≡ check_item_field depth t w
   unfolding check_expr_field check_item_field choose
@@ -385,7 +362,7 @@ module _ (depth : ℕ) {t : ℕ} (w : Bytes) where
 
   pub piece_20 : t ≡ 0x20 → Checked (check_piece_field depth t w) depth (check_text w)
   unfolding check_piece_field choose
-  piece_20 k = record { checked = rw k }
+  piece_20 k = record { then_is = rw k }
 
   pub piece_tag : (t ≡ 0x20 → ⊥) → check_tag_field depth t w ≡ check_piece_field depth t w
   unfolding check_tag_field check_piece_field choose

@@ -22,7 +22,7 @@ use Rattle.page.specs.Check.{check_end, check_text, check_empty, check_boolean, 
 use Rattle.page.specs.Encode.{boolean_byte, texts_row, name_row, attr_name_row, tag_row, attributes_row, value_row, children_row, expr_row, items_row, pieces_row, module_items_row, page_row}
 use Rattle.page.specs.Limits.{Deep, NameOk, Utf8Ok, MembersOk, ElementNameOk, AttrNameOk, TagOk, AttributesOk, ValueOk, ChildrenOk, ExprOk, ItemsOk, PiecesOk, ModuleItemsOk}
 use Rattle.page.specs.declared.Refusal.TheVariants as R
-use Rattle.page.specs.declared.Verdict.TheVariants.{Fine}
+use Rattle.page.specs.Refusal.{Fine}
 use Rattle.page.proofs.NumberLaws.{whole_back, scaled_back}
 use Rattle.page.proofs.Verdicts.{refused, after_fine, header_fine, fine_after, fine_unless, fine_header, or_left}
 use Rattle.page.proofs.Tags.{ChildTag, text_tag, container_tag, element_child_tag, fragment_child_tag, spread_child_tag, child_tag}

@@ -16,7 +16,7 @@ use Rattle.page.specs.Tree.{page_in, options_in, works_sums}
 use Rattle.page.specs.Check.{check_page, check_options}
 use Rattle.page.specs.Encode.{page_row, encode, options_row, encode_options}
 use Rattle.page.specs.Limits.{ModuleItemsOk, WithinLimits, OptionsOk}
-use Rattle.page.specs.declared.Verdict.TheVariants.{Fine}
+use Rattle.page.specs.Refusal.{Fine}
 use Rattle.page.proofs.Sound.{page_sound}
 use Rattle.page.proofs.Complete.{page_complete}
 use Rattle.page.proofs.Options.{Given, given_row, GivenOk, options_of, options_sound, given_complete, given_of, given_of_row, given_of_ok, options_complete}

@@ -4,14 +4,14 @@
 -- Assumes nothing.
 use mathlib.Core.Path.{◌≡◌, refl, sym, ap, ap₂, ◌∙◌, subst}
 use mathlib.Core.Bool.{Bool, true, false, ◌&&◌}
-use Prim.Native.Nat.{ℕ, ◌+◌, ◌%◌, ◌≤◌, ◌<◌}
+use Prim.Native.Nat.{min, ℕ, ◌+◌, ◌%◌, ◌≤◌, ◌<◌}
 use native.Mathlib.Nat.{mod-eq_of_lt}
 use native.Mathlib.Omega.{arith}
 use mathlib.Core.List.{[], ◌∷◌, ◌++◌}
 use lib.Dec.{T, leb, eqb, leb→le, eqb→eq, eqb_refl}
 use lib.ListN.{length, take, drop, take-append-drop, length-drop}
 use lib.Seq.{length-take-le, take_all, take_at, drop_at}
-use borrow.Author.Tests.{leb-true}
+use borrow.Author.Tests.{leb-true, leb-false}
 use Rattle.field.specs.Bytes.{Bytes, AllBytes, pick, null?}
 use Rattle.field.specs.Number.{big_endian, number_of}
 use Rattle.field.proofs.NumberLaws.{length_big_endian, big_endian_append, number_read, big_endian_back, all_big_endian, all_take, all_drop}
@@ -20,11 +20,10 @@ use Rattle.text.specs.Escape.{escape_html, escape_byte}
 use Rattle.text.proofs.DecimalLaws.{length_decimal, decimal_some}
 use Rattle.text.proofs.PlacesLaws.{length_shortest, shortest_some, shortest_escaped}
 use Rattle.page.specs.Number.{Number, whole, scaled, number_tag, minus_tag, has_places, at_most_15, render, number_bytes, number_in, number_length, in_range}
-use Rattle.page.specs.Refusal.{after, unless}
+use Rattle.page.specs.Refusal.{Fine, after, unless}
 use Rattle.page.specs.Check.{check_number}
 use Rattle.page.specs.Limits.{NumberOk}
 use Rattle.page.specs.declared.Refusal.TheVariants as R
-use Rattle.page.specs.declared.Verdict.TheVariants.{Fine}
 use Rattle.page.proofs.Verdicts.{after_fine, unless_fine, fine_after, fine_unless, and_both}
 
 pub number_all : (n : Number) → AllBytes (number_bytes n)
@@ -49,6 +48,15 @@ minus_tag_by P a b (whole n) = a
 minus_tag_by P a b (scaled n p) = b
 
 -- ---- the text
+
+-- as the code writes it
+pub min_15 : (p : ℕ) {q : ℕ} → q ≡ min p 15 → q ≡ at_most_15 p
+unfolding at_most_15
+min_15 p {q} e = on (leb p 15) refl
+  where
+    on : (b : Bool) → leb p 15 ≡ b → q ≡ pick b p 15
+    on true h = omega (arith, e, leb-true p 15 h)
+    on false h = omega (arith, e, leb-false p 15 h)
 
 at_most : (p : ℕ) → at_most_15 p ≤ 15
 unfolding at_most_15

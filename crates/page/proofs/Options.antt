@@ -21,7 +21,7 @@ use Rattle.page.specs.Check.{check_texts, check_empty, check_source, check_optio
 use Rattle.page.specs.Encode.{texts_row, list_row, options_row}
 use Rattle.page.specs.Limits.{Utf8Ok, TextsOk, OptionsOk}
 use Rattle.page.specs.declared.Refusal.TheVariants as R
-use Rattle.page.specs.declared.Verdict.TheVariants.{Fine}
+use Rattle.page.specs.Refusal.{Fine}
 use Rattle.page.proofs.Verdicts.{refused, after_fine, unless_fine, header_fine, fine_after, fine_unless, fine_header, and_both, both_and}
 use Rattle.page.proofs.Sound.{leaf_row, node_row, tag_is, text_ok, empty_is, texts_here}
 use Rattle.page.proofs.Complete.{fine_text, texts_back}

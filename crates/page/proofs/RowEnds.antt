@@ -6,19 +6,18 @@ use Prim.Native.Nat.{ℕ, zero, suc, ◌+◌, ◌-◌, ◌≤◌, ◌<◌}
 use native.Mathlib.Omega.{arith}
 use lib.Dec.{eqb}
 use lib.ListN.{length}
-use borrow.Author.Tests.{le-leb, lt-leb, ne_eqb}
+use borrow.Author.Tests.{ne_eqb}
 use Rattle.field.specs.Bytes.{Bytes}
 use Rattle.field.specs.Row.{Row, end, loose, field, read, Ended, Inside, only_bytes, fields_after, counted, inside, opened, Next, nothing, no_field, next, next_of, built}
 use Rattle.field.specs.Front.{tag_of_front, body_of, behind_of, behind_by}
 use Rattle.field.proofs.RowLaws.{read_step, next_nothing}
 use Rattle.field.proofs.FrontLaws.{read_at, leaf_at, read_empty, read_torn}
-use Rattle.page.specs.Refusal.{after, unless}
+use Rattle.page.specs.Refusal.{Verdict, Fine, Refused, after, unless}
 use Rattle.page.specs.Check.{check_header, check_end, check_name, is_name, no_hyphen, check_members, at_least, check_ident, check_nothing_after}
 use Rattle.page.specs.CheckField.{check_missing, check_counted, check_first, check_namespaced}
 use Rattle.page.specs.declared.Refusal.{Refusal}
 use Rattle.page.specs.declared.Refusal.TheVariants as R
-use Rattle.page.specs.declared.Verdict.{Verdict}
-use Rattle.page.specs.declared.Verdict.TheVariants.{Fine, Refused}
+use Rattle.page.proofs.Steps.{Then, Checked}
 
 -- ---- verdicts in a row
 
@@ -27,22 +26,11 @@ module _ (ok : Bool) (depth : ℕ) (v : Unit {0} → Verdict) where
   unfolding check_header after
   header_other h = rw h
 
-  module _ (h : ok ≡ true) where
-    pub header_deep : 48 < depth → Refused R.TooDeep ≡ after (check_header ok depth) v
-    unfolding check_header after
-    header_deep d = rw (h, lt-leb depth 48 d)
-
-    pub header_fine : depth ≤ 48 → after (check_header ok depth) v ≡ v tt
-    unfolding check_header after
-    header_fine d = rw (h, le-leb depth 48 d)
-
-pub after_fine : (v : Verdict) (w : Unit {0} → Verdict) → v ≡ Fine → after v w ≡ w tt
+-- one test and then another, with the same refusal
+pub and_then : (a b : Bool) (n : Refusal) → Then (unless (a && b) n) (unless a n) (unless b n)
 unfolding after
-after_fine v w h = rw h
-
-pub after_refused : (v : Verdict) (w : Unit {0} → Verdict) (n : Refusal) → v ≡ Refused n → Refused n ≡ after v w
-unfolding after
-after_refused v w n h = rw h
+and_then true b n = record { then_is = refl }
+and_then false b n = record { then_is = refl }
 
 -- ---- the end of a row
 
@@ -131,15 +119,17 @@ counted_other zero m depth t f i r h = refl
 counted_other (suc k) m depth t f i r h = rw (← header_other (eqb t 0x40) depth (λ _. after (unless (is_name f && no_hyphen f) R.BadName) λ _. check_members k depth r) h)
 
 -- one more 40
-counted_more : (k m m' depth : ℕ) (f : Bytes) (r : Row) → m' ≡ m - 1 → depth ≤ 48 → (is_name f && no_hyphen f) ≡ true →
-    check_counted (suc k) m depth (field 0x40 f end r) ≡ check_counted k m' depth r
-unfolding check_counted check_members at_least check_header after
-counted_more k zero m' depth f r e d h =
-    let z : m' ≡ 0 = omega arith in
-    rw (le-leb depth 48 d, h, z)
-counted_more k (suc m) m' depth f r e d h =
-    let z : m' ≡ m = omega arith in
-    rw (le-leb depth 48 d, h, z)
+counted_more : (k m depth : ℕ) (f : Bytes) (r : Row) →
+    check_counted (suc k) m depth (field 0x40 f end r) ≡ after (check_header true depth) λ _. after (unless (is_name f && no_hyphen f) R.BadName) λ _. check_counted k (m - 1) depth r
+unfolding check_counted check_members at_least after
+counted_more k m depth f r = in_row (check_header true depth) (unless (is_name f && no_hyphen f) R.BadName) m
+  where
+    in_row : (a b : Verdict) (m : ℕ) →
+        after (after a λ _. after b λ _. check_members k depth r) (λ _. unless (at_least m (field 0x40 f end r)) R.Misplaced) ≡ after a λ _. after b λ _. after (check_members k depth r) λ _. unless (at_least (m - 1) r) R.Misplaced
+    in_row Fine Fine zero = refl
+    in_row Fine Fine (suc m) = let z : suc m - 1 ≡ m = omega arith in rw z
+    in_row Fine (Refused n) m = refl
+    in_row (Refused n) b m = refl
 
 module _ (depth n : ℕ) (s t : Bytes) (l : n ≤ 8) (inv : check_counted 8 2 depth (read s) ≡ check_counted (8 - n) (2 - n) depth (read t)) (tag : ℕ) (e : tag ≡ tag_of_front t) where
   pub members_few : Ended (read t) → n < 2 → check_missing (read t) ≡ check_counted 8 2 depth (read s)
@@ -172,26 +162,12 @@ module _ (depth n : ℕ) (s t : Bytes) (l : n ≤ 8) (inv : check_counted 8 2 de
         let m : 8 - n ≡ 0 = omega arith in
         sym (at ∙ ap (λ (x : ℕ). check_counted x (2 - n) depth (field 0x40 (body_of t) end (read (behind_of t)))) m)
 
-    module _ (h : n ≡ 8 → ⊥) where
-      next_one : check_counted 8 2 depth (read s) ≡ check_counted (suc (7 - n)) (2 - n) depth (field 0x40 (body_of t) end (read (behind_of t)))
-      next_one =
-          let m : 8 - n ≡ suc (7 - n) = omega arith in
-          at ∙ ap (λ (x : ℕ). check_counted x (2 - n) depth (field 0x40 (body_of t) end (read (behind_of t)))) m
-
-      pub members_deep : 48 < depth → Refused R.TooDeep ≡ check_counted 8 2 depth (read s)
-      unfolding check_counted check_members check_header after
-      members_deep d = sym (next_one ∙ rw (lt-leb depth 48 d))
-
-      module _ (d : depth ≤ 48) (b : Bytes) (q : b ≡ body_of t) (v : Bool) (p : v ≡ (is_name b && no_hyphen b)) where
-        pub members_bad : v ≡ false → Refused R.BadName ≡ check_counted 8 2 depth (read s)
-        unfolding check_counted check_members check_header after
-        members_bad z = sym (next_one ∙ rw (le-leb depth 48 d, ← q, ← p, z))
-
-        pub members_on : v ≡ true → (r : Bytes) → r ≡ behind_of t → check_counted 8 2 depth (read s) ≡ check_counted (8 - (n + 1)) (2 - (n + 1)) depth (read r)
-        members_on z r u =
-            let m : 8 - (n + 1) ≡ 7 - n = omega arith in
-            let g : (is_name (body_of t) && no_hyphen (body_of t)) ≡ true = rw (← q, ← p, z) in
-            next_one ∙ counted_more (7 - n) (2 - n) (2 - (n + 1)) depth (body_of t) (read (behind_of t)) (omega arith) d g ∙ rw (m, u)
+    pub members_next : (n ≡ 8 → ⊥) → {b : Bytes} → b ≡ body_of t → {r : Bytes} → r ≡ behind_of t →
+        Checked (check_counted 8 2 depth (read s)) depth (after (unless (is_name b && no_hyphen b) R.BadName) λ _. check_counted (8 - (n + 1)) (2 - (n + 1)) depth (read r))
+    members_next h q u =
+        let m : 8 - n ≡ suc (8 - (n + 1)) = omega arith in
+        let l : 2 - n - 1 ≡ 2 - (n + 1) = omega arith in
+        record { then_is = at ∙ ap (λ (x : ℕ). check_counted x (2 - n) depth (field 0x40 (body_of t) end (read (behind_of t)))) m ∙ counted_more (8 - (n + 1)) (2 - n) depth (body_of t) (read (behind_of t)) ∙ rw (l, ← q, ← u) }
 
 -- ---- the 40 in front, and two of them
 
@@ -219,18 +195,14 @@ module _ (depth : ℕ) (s : Bytes) (tag : ℕ) (e : tag ≡ tag_of_front s) wher
     unfolding inside
     first_at = ap (check_first depth) (leaf_at s tag e 0x40 k tt refl)
 
-    pub first_deep : 48 < depth → Refused R.TooDeep ≡ check_first depth (read s)
-    unfolding check_first check_ident check_header after
-    first_deep d = sym (first_at ∙ rw (lt-leb depth 48 d))
-
-    module _ (d : depth ≤ 48) (b : Bytes) (q : b ≡ body_of s) (v : Bool) (p : v ≡ is_name b) where
-      pub first_fine : v ≡ true → Fine ≡ check_first depth (read s)
-      unfolding check_first check_ident check_header check_name after
-      first_fine z = sym (first_at ∙ rw (le-leb depth 48 d, ← q, ← p, z))
-
-      pub first_bad : v ≡ false → Refused R.BadName ≡ check_first depth (read s)
-      unfolding check_first check_ident check_header check_name after
-      first_bad z = sym (first_at ∙ rw (le-leb depth 48 d, ← q, ← p, z))
+    pub first_name : {b : Bytes} → b ≡ body_of s → Checked (check_first depth (read s)) depth (check_name b)
+    unfolding check_first check_ident after
+    first_name q = record { then_is = first_at ∙ in_row (check_header true depth) (check_name (body_of s)) ∙ rw (← q) }
+      where
+        in_row : (a b : Verdict) → after a (λ _. after b λ _. Fine) ≡ after a λ _. b
+        in_row Fine Fine = refl
+        in_row Fine (Refused n) = refl
+        in_row (Refused n) b = refl
 
 -- what follows a 40 is checked once that is fine
 ident_then : (depth : ℕ) (s : Bytes) (v : Row → Verdict) → check_ident depth (read s) v ≡ after (check_first depth (read s)) λ _. v (read (behind_of s))
@@ -252,18 +224,10 @@ ident_then depth s v = rw (read_step s) (on (next_of s))
     on no_field = refl
     on (next t w r) = in_field (inside t) t w r
 
-module _ (depth : ℕ) (s : Bytes) (v : Verdict) (e : v ≡ check_first depth (read s)) where
-  pub space_refused : (n : Refusal) → v ≡ Refused n → Refused n ≡ check_namespaced depth (read s)
+module _ (depth : ℕ) (s : Bytes) {t : Bytes} (q : t ≡ behind_of s) where
+  pub space_then : Then (check_namespaced depth (read s)) (check_first depth (read s)) (check_ident depth (read t) check_end)
   unfolding check_namespaced
-  space_refused n h = after_refused (check_first depth (read s)) _ n (sym e ∙ h) ∙ sym (ident_then depth s (λ r. check_ident depth r check_end))
+  space_then = record { then_is = ident_then depth s (λ r. check_ident depth r check_end) ∙ rw (← q) }
 
-  module _ (h : v ≡ Fine) (t : Bytes) (q : t ≡ behind_of s) (w : Verdict) (f : w ≡ check_first depth (read t)) where
-    second : check_namespaced depth (read s) ≡ after (check_first depth (read t)) λ _. check_end (read (behind_of t))
-    unfolding check_namespaced
-    second = ident_then depth s (λ r. check_ident depth r check_end) ∙ after_fine (check_first depth (read s)) _ (sym e ∙ h) ∙ ap (λ (x : Bytes). check_ident depth (read x) check_end) (sym q) ∙ ident_then depth t check_end
-
-    pub name_refused : (n : Refusal) → w ≡ Refused n → Refused n ≡ check_namespaced depth (read s)
-    name_refused n k = after_refused (check_first depth (read t)) _ n (sym f ∙ k) ∙ sym second
-
-    pub name_end : w ≡ Fine → (r : Bytes) → r ≡ behind_of t → (x : Verdict) → x ≡ check_end (read r) → x ≡ check_namespaced depth (read s)
-    name_end k r u x g = g ∙ ap (λ (y : Bytes). check_end (read y)) u ∙ sym (second ∙ after_fine (check_first depth (read t)) _ (sym f ∙ k))
+  pub local_then : Then (check_ident depth (read s) check_end) (check_first depth (read s)) (check_end (read t))
+  local_then = record { then_is = ident_then depth s check_end ∙ rw (← q) }

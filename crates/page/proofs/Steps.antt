@@ -1,44 +1,38 @@
 -- A check of a row in the form of the code: a verdict behind a header, a verdict and then another, and the row in front by its tag and its body.
--- Main statements: `deep_at`, `fine_at`, `on_at`, `refused_at`, `last_at`, `row_at`, `one_field`, `same_body`, `ended`. Assumes nothing.
+-- Main statements: `on_at`, `refused_at`, `exit_at`, `last_at`, `row_at`, `one_field`, `same_body`, `ended`. Assumes nothing.
 use mathlib.Core.Path.{◌≡◌, refl, sym, ap, ◌∙◌, subst}
 use mathlib.Core.Bool.{Bool, true, false, ◌&&◌, ◌||◌}
-use Prim.Native.Nat.{ℕ, ◌≤◌, ◌<◌}
+use Prim.Native.Nat.{ℕ, ◌≤◌}
 use native.Mathlib.Omega.{arith}
 use lib.Dec.{leb, eqb}
 use lib.ListN.{take, drop}
-use borrow.Author.Tests.{le-leb, lt-leb, leb-true, eqb-true, eqb-false}
+use borrow.Author.Tests.{leb-true, eqb-true, eqb-false}
 use Rattle.field.specs.Bytes.{Bytes}
 use Rattle.field.specs.Row.{Row, end, loose, field, read, Ended, Inside, only_bytes, fields_after, counted, counted_front, inside, opened}
 use Rattle.field.specs.Front.{tag_of_front, body_of, behind_of}
 use Rattle.field.proofs.FrontLaws.{read_at}
-use Rattle.page.specs.Refusal.{after}
+use Rattle.std.specs.Prelude.{IsErr, IsErrAnd}
+use Rattle.std.proofs.lemmas.Result.{err_from_is_err_and}
+use Rattle.page.specs.Refusal.{Verdict, Fine, Refused, after}
 use Rattle.page.specs.Check.{check_header, is_name_tag, is_tag, is_expr, is_child}
 use Rattle.page.specs.declared.Refusal.{Refusal}
-use Rattle.page.specs.declared.Refusal.TheVariants as R
-use Rattle.page.specs.declared.Verdict.{Verdict}
-use Rattle.page.specs.declared.Verdict.TheVariants.{Fine, Refused}
 
 -- ---- a verdict in the form of the code
-
--- y is v behind a header that may stand
-pub record Checked (y : Verdict) (depth : ℕ) (v : Verdict) : Type 0 where
-  pub checked : y ≡ after (check_header true depth) λ _. v
 
 -- y is v and then k
 pub record Then (y v k : Verdict) : Type 0 where
   pub then_is : y ≡ after v λ _. k
 
-module _ {y : Verdict} {depth : ℕ} {v : Verdict} (e : Checked y depth v) where
-  pub deep_at : 48 < depth → Refused R.TooDeep ≡ y
-  unfolding check_header after
-  deep_at d = sym (e.checked ∙ rw (lt-leb depth 48 d))
+-- y is v behind a header that may stand
+abbrev pub Checked : Verdict → ℕ → Verdict → Type 0
+Checked y depth v = Then y (check_header true depth) v
 
-  pub past : depth ≤ 48 → y ≡ v
-  unfolding check_header after
-  past d = e.checked ∙ rw (le-leb depth 48 d)
+-- x is what a `?` returns for the refusal n
+abbrev pub Handed : Verdict → Refusal → Type 0
+Handed x n = IsErr x × IsErrAnd x (λ (m : Refusal). m ≡ n)
 
-  pub fine_at : depth ≤ 48 → {r : Verdict} → r ≡ v → r ≡ y
-  fine_at d {r} h = h ∙ sym (past d)
+pub handed : {x : Verdict} {n : Refusal} → Handed x n → x ≡ Refused n
+handed h = let p = err_from_is_err_and _ h.1 in p.1 ∙ ap Refused p.2
 
 module _ {y v k : Verdict} (e : Then y v k) {r : Verdict} (h : r ≡ v) where
   pub on_at : r ≡ Fine → y ≡ k
@@ -49,13 +43,16 @@ module _ {y v k : Verdict} (e : Then y v k) {r : Verdict} (h : r ≡ v) where
   unfolding after
   refused_at f = sym (e.then_is ∙ rw (← h, f))
 
+  pub exit_at : {n : Refusal} → r ≡ Refused n → {x : Verdict} → Handed x n → x ≡ y
+  exit_at f g = handed g ∙ refused_at f
+
   -- what comes behind is what another check found
   pub last_at : r ≡ Fine → {x : Verdict} → x ≡ k → x ≡ y
   last_at f {x} g = g ∙ sym (on_at f)
 
--- past the header
-pub next_at : {y v k : Verdict} {depth : ℕ} → Checked y depth (after v λ _. k) → depth ≤ 48 → Then y v k
-next_at e d = record { then_is = past e d }
+-- past the first of three
+pub next_at : {y a v k : Verdict} → Then y a (after v λ _. k) → {r : Verdict} → r ≡ a → r ≡ Fine → Then y v k
+next_at e h f = record { then_is = on_at e h f }
 
 -- ---- the row in front by its tag and its body
 

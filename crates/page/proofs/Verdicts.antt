@@ -6,13 +6,11 @@ use mathlib.Core.Bool.{Bool, true, false, ◌&&◌, ◌||◌}
 use Prim.Native.Nat.{ℕ}
 use native.Mathlib.Omega.{arith}
 use lib.Dec.{T, leb}
-use Rattle.page.specs.Refusal.{after, unless}
+use Rattle.page.specs.Refusal.{Verdict, Fine, Refused, after, unless}
 use Rattle.page.specs.Check.{check_header}
 use Rattle.page.specs.Limits.{Deep}
 use Rattle.page.specs.declared.Refusal.{Refusal}
 use Rattle.page.specs.declared.Refusal.TheVariants as R
-use Rattle.page.specs.declared.Verdict.{Verdict}
-use Rattle.page.specs.declared.Verdict.TheVariants.{Fine, Refused}
 
 -- ---- nothing found, so
 

@@ -9,13 +9,11 @@ use borrow.Author.Tests.{le-leb, lt-leb, leb-true, eq-eqb, ne_eqb}
 use Rattle.field.specs.Bytes.{Bytes}
 use Rattle.field.specs.Row.{Row, field, read, Ended, inside}
 use Rattle.field.specs.Front.{tag_of_front, body_of, behind_of}
-use Rattle.page.specs.Refusal.{after}
+use Rattle.page.specs.Refusal.{Verdict, Fine, Refused, after}
 use Rattle.page.specs.Tree.{choose}
 use Rattle.page.specs.Check.{check_header, check_text, check_empty, check_source, check_pieces, check_module_items, check_nothing_after, check_page, check_texts, check_option_by, check_options_from}
 use Rattle.page.specs.CheckField.{check_module_item, check_option}
 use Rattle.page.specs.declared.Refusal.TheVariants as R
-use Rattle.page.specs.declared.Verdict.{Verdict}
-use Rattle.page.specs.declared.Verdict.TheVariants.{Fine, Refused}
 use Rattle.page.proofs.Steps.{Then, front, inner, row_at, one_field, ended, tested, at, between}
 
 -- ---- a page

@@ -1,9 +1,7 @@
 -- The refusals of 01 by number, and verdicts in a row. Assumes nothing: these are definitions.
-use Rattle.std.specs.Prelude.{ℕ, Bool, true, false}
+use Rattle.std.specs.Prelude.{ℕ, Bool, true, false, Result, Ok, Err}
 use Rattle.page.specs.declared.Refusal.{Refusal}
 use Rattle.page.specs.declared.Refusal.TheVariants as R
-use Rattle.page.specs.declared.Verdict.{Verdict}
-use Rattle.page.specs.declared.Verdict.TheVariants.{Fine, Refused}
 
 -- 01, Limits and the answer: the table's numbers, and 02's 16 and 19. 9 is reserved: since 02's A1 nothing is refused under it
 unfoldable pub refusal_number : Refusal → ℕ
@@ -21,6 +19,16 @@ refusal_number R.MixedCaseVoid = 19
 refusal_number R.OutputTooLong = 11
 refusal_number R.TemplatesTooSmall = 12
 refusal_number R.PageTooSmall = 13
+
+-- what a check says: nothing to refuse, or the first refusal from the front
+abbrev pub Verdict : Type 0
+Verdict = Result (Unit {0}) Refusal
+
+pattern abbrev pub Fine : Verdict
+Fine = Ok tt
+
+pattern abbrev pub Refused : Refusal → Verdict
+Refused n = Err n
 
 -- one check, and the next where it finds nothing
 unfoldable pub after : Verdict → (Unit {0} → Verdict) → Verdict

@@ -2,6 +2,10 @@
 // read leniently from any bytes; whether the bytes are the page's own is what the checks say. What becomes of a page is left to `spec`.
 #![tactic(auto)]
 
+ghost use Rattle.std.specs.Prelude.{◌≡◌, ◌≤◌, true, OnOk};
+ghost use Rattle.page.specs.Check.{check_header};
+ghost use Rattle.page.specs.Refusal.{refusal_number};
+
 pub mod element;
 pub mod leaf;
 pub mod name;
@@ -11,42 +15,54 @@ pub mod whole;
 // 01, Limits and the answer: the depth of the deepest field.
 pub const MAX_DEPTH: usize = 48;
 
-// The refusals of document 01, each under its trade's word.
-#[derive(Clone, Copy)]
+// The refusals of document 01, each under its number; the comments have its trade's word.
+#[derive(Clone, Copy, PartialEq, Eq)]
 pub enum Refusal {
-    // 1, short desk
-    ScratchTooSmall,
-    // 2, thick
-    InputTooLong,
-    // 3, torn
-    Truncated,
-    // 4, misplaced
-    Misplaced,
-    // 5, bad name
-    BadName,
-    // 6, bad letters
-    NotUtf8,
-    // 7, big number
-    NumberTooLarge,
-    // 8, too deep
-    TooDeep,
-    // 10, bare tag; 9, unfinished, is never given again
-    TagLeft,
-    // 16: document 02, A4
-    RepeatedAttribute,
-    // 19: document 02, A10
-    MixedCaseVoid,
-    // 11, long
-    OutputTooLong,
-    // 12, small shelf
-    TemplatesTooSmall,
-    // 13, small page
-    PageTooSmall,
+    // short desk
+    ScratchTooSmall = 1,
+    // thick
+    InputTooLong = 2,
+    // torn
+    Truncated = 3,
+    // misplaced
+    Misplaced = 4,
+    // bad name
+    BadName = 5,
+    // bad letters
+    NotUtf8 = 6,
+    // big number
+    NumberTooLarge = 7,
+    // too deep
+    TooDeep = 8,
+    // bare tag; 9, unfinished, is never given again
+    TagLeft = 10,
+    // document 02, A4
+    RepeatedAttribute = 16,
+    // document 02, A10
+    MixedCaseVoid = 19,
+    // long
+    OutputTooLong = 11,
+    // small shelf
+    TemplatesTooSmall = 12,
+    // small page
+    PageTooSmall = 13,
 }
 
-// What a check says: nothing to refuse, or the first refusal from the front.
-#[derive(Clone, Copy)]
-pub enum Verdict {
-    Fine,
-    Refused(Refusal),
+// The depth of a field whose tag may stand there.
+fn check_depth(depth: usize) -> Result<(), Refusal>
+    ensures gives { result ≡ check_header true depth }
+    ensures fits { OnOk result (depth ≤ 48) }
+{
+    if MAX_DEPTH < depth {
+        return Err(Refusal::TooDeep);
+    }
+    Ok(())
+}
+
+impl From<Refusal> for u32 {
+    ghost from_gives = { λ e n. n ≡ refusal_number e };
+
+    fn from(e: Refusal) -> u32 {
+        e as u32
+    }
 }

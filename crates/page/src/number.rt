@@ -5,54 +5,26 @@ ghost use Rattle.field.specs.Put.{Wrote};
 ghost use Rattle.page.specs.Number.{has_places, at_most_15, render, number_in, number_bytes};
 ghost use Rattle.page.specs.Check.{check_number};
 
-use crate::{Refusal, Verdict};
+use crate::Refusal;
 use field::writer::{put_byte, put_eight};
 use text::decimal::{put_decimal, put_shortest};
 
 // 01, Expression: the largest number of a 71 and a 75.
-const MAX_WHOLE: u64 = 9_007_199_254_740_991;
+pub const MAX_WHOLE: u64 = 9_007_199_254_740_991;
 
 // 02, A2.
-const MAX_DIGITS: u64 = 999_999_999_999_999;
+pub const MAX_DIGITS: u64 = 999_999_999_999_999;
 
-const MAX_PLACES: usize = 15;
-
-// n with one byte more behind it.
-fn shifted(n: u64, b: u8) -> u64
-    requires { n < 2 ^ 56 }
-    ensures { (result ≡ n * 256 + b) × (result < 256 * (n + 1)) }
-{
-    n * 256 + b as u64
-}
-
-// The number in eight bytes, the high byte first. LLVM makes one load of it.
-fn eight_in(s: &[u8]) -> u64
-    requires { length s.now ≡ 8 }
-    ensures { result ≡ number_of s.now }
-{
-    let a = shifted(0, s[0]);
-    let b = shifted(a, s[1]);
-    let c = shifted(b, s[2]);
-    let d = shifted(c, s[3]);
-    let e = shifted(d, s[4]);
-    let f = shifted(e, s[5]);
-    let g = shifted(f, s[6]);
-    shifted(g, s[7])
-}
+pub const MAX_PLACES: usize = 15;
 
 // The same byte by byte, of a body that has fewer and is refused.
 fn short_in(s: &[u8]) -> u64
-    ensures { result ≡ number_of (take 8 s.now) }
+    requires { length s.now < 8 }
+    ensures { result ≡ number_of s.now }
 {
-    let mut n: u64 = 0;
-    let mut i: usize = 0;
-    while i < 8 {
-        if i < s.len() {
-            n = shifted(n, s[i]);
-        } else {
-            return n;
-        }
-        i += 1;
+    let mut n = 0;
+    for b in s {
+        n = n * 256 + u64::from(*b);
     }
     n
 }
@@ -61,10 +33,10 @@ fn short_in(s: &[u8]) -> u64
 pub fn number_in(s: &[u8]) -> u64
     ensures { result ≡ number_of (take 8 s.now) }
 {
-    if 8 <= s.len() {
-        return eight_in(&s[..8]);
+    match s.first_chunk::<8>() {
+        Some(eight) => u64::from_be_bytes(*eight),
+        None => short_in(s),
     }
-    short_in(s)
 }
 
 // The byte behind the digits.
@@ -80,43 +52,31 @@ fn places_in(s: &[u8]) -> usize
 fn has_places(tag: usize) -> bool
     ensures { result ≡ has_places tag }
 {
-    if tag == 0x7a {
-        return true;
-    }
-    tag == 0x7b
+    matches!(tag, 0x7a..=0x7b)
 }
 
-pub fn check_number(tag: usize, s: &[u8]) -> Verdict
+pub fn check_number(tag: usize, s: &[u8]) -> Result<(), Refusal>
     ensures { result ≡ check_number tag s.now }
 {
     if has_places(tag) {
         if s.len() != 9 {
-            return Verdict::Refused(Refusal::Misplaced);
+            return Err(Refusal::Misplaced);
         }
         if MAX_DIGITS < number_in(s) {
-            return Verdict::Refused(Refusal::NumberTooLarge);
+            return Err(Refusal::NumberTooLarge);
         }
         if MAX_PLACES < places_in(s) {
-            return Verdict::Refused(Refusal::NumberTooLarge);
+            return Err(Refusal::NumberTooLarge);
         }
-        return Verdict::Fine;
+        return Ok(());
     }
     if s.len() != 8 {
-        return Verdict::Refused(Refusal::Misplaced);
+        return Err(Refusal::Misplaced);
     }
     if MAX_WHOLE < number_in(s) {
-        return Verdict::Refused(Refusal::NumberTooLarge);
+        return Err(Refusal::NumberTooLarge);
     }
-    Verdict::Fine
-}
-
-fn at_most_15(p: usize) -> usize
-    ensures { (result ≡ at_most_15 p) × (result ≤ 15) }
-{
-    if p <= MAX_PLACES {
-        return p;
-    }
-    MAX_PLACES
+    Ok(())
 }
 
 // As 000 writes it, without a minus.
@@ -126,8 +86,7 @@ pub fn put_number(out: &mut [u8], at: usize, tag: usize, s: &[u8]) -> usize
 {
     let n = number_in(s);
     if has_places(tag) {
-        let p = at_most_15(places_in(s));
-        return put_shortest(out, at, n, p);
+        return put_shortest(out, at, n, places_in(s).min(MAX_PLACES));
     }
     put_decimal(out, at, n)
 }

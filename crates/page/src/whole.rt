@@ -4,13 +4,13 @@ ghost use Rattle.field.specs.Row.{read};
 ghost use Rattle.page.specs.Check.{check_module_items, check_page, check_texts, check_options};
 ghost use Rattle.page.specs.CheckField.{check_module_item, check_option};
 
+use crate::Refusal;
 use crate::element::check_pieces;
 use crate::leaf::{check_empty, check_source, check_text};
 use crate::name::check_nothing_after;
-use crate::{Refusal, Verdict};
 use field::reader::{behind, body, tag_at};
 
-fn check_module_item(tag: usize, b: &[u8]) -> Verdict
+fn check_module_item(tag: usize, b: &[u8]) -> Result<(), Refusal>
     ensures { result ≡ check_module_item tag b.now }
 {
     match tag {
@@ -21,12 +21,12 @@ fn check_module_item(tag: usize, b: &[u8]) -> Verdict
             return check_empty(b);
         }
         _ => {
-            return Verdict::Refused(Refusal::Misplaced);
+            return Err(Refusal::Misplaced);
         }
     }
 }
 
-fn check_module_items(s: &[u8]) -> Verdict
+fn check_module_items(s: &[u8]) -> Result<(), Refusal>
     ensures { result ≡ check_module_items (read s.now) }
 {
     let mut t = s;
@@ -36,44 +36,32 @@ fn check_module_items(s: &[u8]) -> Verdict
             return check_nothing_after(t);
         }
         let r = behind(t);
-        match check_module_item(tag, body(t)) {
-            Verdict::Fine => {
-                t = r;
-            }
-            Verdict::Refused(e) => {
-                return Verdict::Refused(e);
-            }
-        }
+        check_module_item(tag, body(t))?;
+        t = r;
     }
 }
 
 // The refusals 3 to 8 of a page.
-pub fn check_page(s: &[u8]) -> Verdict
+pub fn check_page(s: &[u8]) -> Result<(), Refusal>
     ensures { result ≡ check_page (read s.now) }
 {
     match tag_at(s) {
         0x01 => {
             let r = behind(s);
-            match check_module_items(body(s)) {
-                Verdict::Fine => {
-                    return check_nothing_after(r);
-                }
-                Verdict::Refused(e) => {
-                    return Verdict::Refused(e);
-                }
-            }
+            check_module_items(body(s))?;
+            return check_nothing_after(r);
         }
         256 => {
-            return Verdict::Refused(Refusal::Truncated);
+            return Err(Refusal::Truncated);
         }
         _ => {
-            return Verdict::Refused(Refusal::Misplaced);
+            return Err(Refusal::Misplaced);
         }
     }
 }
 
 // A series of source texts.
-fn check_texts(s: &[u8]) -> Verdict
+fn check_texts(s: &[u8]) -> Result<(), Refusal>
     ensures { result ≡ check_texts (read s.now) }
 {
     let mut t = s;
@@ -81,34 +69,28 @@ fn check_texts(s: &[u8]) -> Verdict
         match tag_at(t) {
             0x20 => {
                 let r = behind(t);
-                match check_text(body(t)) {
-                    Verdict::Fine => {
-                        t = r;
-                    }
-                    Verdict::Refused(e) => {
-                        return Verdict::Refused(e);
-                    }
-                }
+                check_text(body(t))?;
+                t = r;
             }
             256 => {
                 return check_nothing_after(t);
             }
             _ => {
-                return Verdict::Refused(Refusal::Misplaced);
+                return Err(Refusal::Misplaced);
             }
         }
     }
 }
 
 // One option; from is the least tag that may still come.
-fn check_option(from: usize, tag: usize, b: &[u8]) -> Verdict
+fn check_option(from: usize, tag: usize, b: &[u8]) -> Result<(), Refusal>
     ensures { result ≡ check_option «from» tag b.now }
 {
     if tag < from {
-        return Verdict::Refused(Refusal::Misplaced);
+        return Err(Refusal::Misplaced);
     }
     if 0x05 < tag {
-        return Verdict::Refused(Refusal::Misplaced);
+        return Err(Refusal::Misplaced);
     }
     if tag == 0x04 {
         return check_source(b);
@@ -120,7 +102,7 @@ fn check_option(from: usize, tag: usize, b: &[u8]) -> Verdict
 }
 
 // The refusals 3 to 8 of options.
-pub fn check_options(s: &[u8]) -> Verdict
+pub fn check_options(s: &[u8]) -> Result<(), Refusal>
     ensures { result ≡ check_options (read s.now) }
 {
     let mut t = s;
@@ -131,14 +113,8 @@ pub fn check_options(s: &[u8]) -> Verdict
             return check_nothing_after(t);
         }
         let r = behind(t);
-        match check_option(from, tag, body(t)) {
-            Verdict::Fine => {
-                from = tag + 1;
-                t = r;
-            }
-            Verdict::Refused(e) => {
-                return Verdict::Refused(e);
-            }
-        }
+        check_option(from, tag, body(t))?;
+        from = tag + 1;
+        t = r;
     }
 }

@@ -22,8 +22,8 @@ pub fn print_card(
 {
     let a = jsx_precompile_transform(input, b"", scratch, templates, page);
     if a.number != 0 {
-        let end = put_decimal(text, 0, a.number as u64);
-        return put_byte(text, end, 10);
+        let end = put_decimal(text, 0, u64::from(a.number));
+        return put_byte(text, end, b'\n');
     }
     print_page(
         text,

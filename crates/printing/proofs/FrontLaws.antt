@@ -3,7 +3,7 @@
 -- Assumes nothing.
 use mathlib.Core.Path.{◌≡◌, refl, sym, ap, ◌∙◌, subst}
 use mathlib.Core.Bool.{Bool, true, false}
-use Prim.Native.Nat.{ℕ, ◌+◌, ◌-◌, ◌*◌, ◌≤◌, ◌<◌}
+use Prim.Native.Nat.{ℕ, ◌+◌, ◌-◌, ◌*◌, ◌≤◌, ◌<◌, min}
 use native.Mathlib.Nat.{le_refl}
 use native.Mathlib.Omega.{arith}
 use mathlib.Core.List.{[], ◌∷◌}
@@ -81,6 +81,14 @@ inner_within (counted n) w = omega (arith, length-drop (counted_front n w) w)
 pub inner_less : (s : Bytes) → (tag_of_front s ≡ 256 → ⊥) → {b : Bytes} → b ≡ inner_of s → length b < length s
 unfolding inner_of
 inner_less s h q = omega (arith, ap length q, inner_within (inside (tag_of_front s)) (body_of s), body_less s (tag_of_front s) refl h {b = body_of s} refl)
+
+-- what the code takes by `min`
+pub min_is : (n k : ℕ) → min n k ≡ at_most k n
+min_is n k = on (leb k n) refl
+  where
+    on : (b : Bool) → leb k n ≡ b → min n k ≡ pick b k n
+    on true e = let h : k ≤ n = leb-true k n e in omega arith
+    on false e = let h : n < k = leb-false k n e in omega arith
 
 at_most_within : (k n : ℕ) → at_most k n ≤ n
 at_most_within k n = on (leb k n) refl

@@ -8,6 +8,10 @@ use native.Mathlib.Omega.{arith}
 use mathlib.Core.List.{[], ◌∷◌, ◌++◌, append_assoc}
 use lib.ListN.{length, take, get_or, length-append}
 use borrow.Author.Tests.{ne_eqb}
+use Rattle.std.specs.Prelude.{Option}
+use Rattle.std.specs.Option.{unwrap_or}
+use Rattle.std.specs.List.{slice_get}
+use Rattle.std.proofs.lemmas.Option.{unwrap_or-slice_get}
 use Rattle.field.specs.Bytes.{Bytes, ascii}
 use Rattle.field.specs.Number.{number_of, number_from}
 use Rattle.field.specs.Row.{Row, end, loose, field, read, Ended}
@@ -71,6 +75,14 @@ module _ (s : Bytes) {b : Bytes} (e : b ≡ behind_of s) where
 
   pub sum_loose : Ended (read b) → (length b ≡ 0 → ⊥) → get_or b 0 0 ≡ sum_in (read s)
   sum_loose i h = sym (ap sum_behind (read_torn b i h) ∙ one_byte b h) ∙ sum_at
+
+  -- its first byte, where there is one
+  pub sum_first : Ended (read b) → {o p : Option ℕ} {n : ℕ} → o ≡ slice_get b 0 → p ≡ o → n ≡ unwrap_or p 0 → n ≡ sum_in (read s)
+  sum_first i {n = n} u v w = w ∙ ap (λ (o : Option ℕ). unwrap_or o 0) (v ∙ u) ∙ unwrap_or-slice_get b 0 0 ∙ on b refl
+    where
+      on : (x : Bytes) → x ≡ b → get_or b 0 0 ≡ sum_in (read s)
+      on [] q = rw (sym q) (sum_none (ap length (sym q)))
+      on (c ∷ x) q = sum_loose i (λ z. let k : length (c ∷ x) ≡ length b = ap length q in omega arith)
 
 -- ---- the import
 

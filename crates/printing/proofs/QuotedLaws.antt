@@ -1,17 +1,22 @@
 -- Laws of strings in quotes and of names: bytes are quoted one by one, and a name goes on byte by byte.
--- Main statements: `quoted_more`, `quoted_le`; `name_none`, `name_not`, `name_starts`, `name_stops`, `name_goes_on`, `name_ends`.
+-- Main statements: `quoted_more`, `quoted_le`; `quoted_escaped`, `quoted_hex`, `quoted_plain`; `name_none`, `name_first`, `goes_on_all`.
 -- Assumes nothing.
 use mathlib.Core.Path.{◌≡◌, refl, sym, ap, ◌∙◌}
 use mathlib.Core.Bool.{Bool, true, false, ◌&&◌, ◌||◌}
-use Prim.Native.Nat.{ℕ, suc, ◌+◌, ◌≤◌, ◌<◌}
+use Prim.Native.Nat.{ℕ, ◌+◌, ◌/◌, ◌%◌, ◌≤◌, ◌<◌}
 use native.Mathlib.Numerals.{add-one}
 use native.Mathlib.Omega.{arith}
 use mathlib.Core.List.{[], ◌∷◌, ◌++◌, append_assoc, append-nil}
-use lib.Dec.{leb}
-use lib.ListN.{length, get_or, take, drop, length-append, take-append-drop, drop_of_length-le}
-use lib.Seq.{take-suc, drop-cons}
+use lib.Dec.{leb, ltb, eqb}
+use lib.ListN.{length, get_or, take, drop, length-append, take-append-drop}
+use lib.Seq.{take-suc}
+use mathlib.Core.Logic.{◌⊎◌, inl, inr}
+use borrow.Author.Tests.{ne_eqb}
+use Rattle.std.proofs.lemmas.Bool.Decides.{nat_tests}
+use Rattle.std.specs.Char.{is_ascii_control}
+use Rattle.std.specs.List.{list_all}
 use Rattle.field.specs.Bytes.{Bytes}
-use Rattle.printing.specs.Card.{quoted_byte, quoted_bytes, starts_name, goes_on, is_identifier}
+use Rattle.printing.specs.Card.{hex_digit, quoted_byte, quoted_bytes, starts_name, goes_on, is_identifier}
 
 -- ---- bytes, one by one
 
@@ -43,38 +48,30 @@ unfolding is_identifier
 name_none [] h = refl
 name_none (c ∷ s) h = absurd (omega arith)
 
-first : (s : Bytes) → 0 < length s → is_identifier s ≡ (starts_name (get_or s 0 0) && goes_on (drop 1 s))
+pub name_first : (s : Bytes) (c : ℕ) (r : Bytes) → s ≡ c ∷ r → is_identifier s ≡ (starts_name c && goes_on r)
 unfolding is_identifier
-first [] h = absurd (omega arith)
-first (c ∷ s) h = refl
+name_first s c r e = ap is_identifier e
 
-module _ (s : Bytes) (r : Bool) (h : 0 < length s) (e : r ≡ starts_name (get_or s 0 0)) where
-  first_by : is_identifier s ≡ (r && goes_on (drop 1 s))
-  first_by = first s h ∙ ap (λ (b : Bool). b && goes_on (drop 1 s)) (sym e)
-
-  pub name_not : r ≡ false → false ≡ is_identifier s
-  name_not q = sym (first_by ∙ ap (λ (b : Bool). b && goes_on (drop 1 s)) q)
-
-  pub name_starts : r ≡ true → is_identifier s ≡ goes_on (drop 1 s)
-  name_starts q = first_by ∙ ap (λ (b : Bool). b && goes_on (drop 1 s)) q
-
--- ---- the loop of `is_identifier`: all bytes up to i are a name's, and r says whether the one at i could start one
-
-module _ (s : Bytes) (i : ℕ) (r : Bool) (h : i < length s) (inv : is_identifier s ≡ goes_on (drop i s)) (e : r ≡ starts_name (get_or s i 0)) where
-  next_by : is_identifier s ≡ ((r || (leb 48 (get_or s i 0) && leb (get_or s i 0) 57)) && goes_on (drop (i + 1) s))
-  unfolding goes_on
-  next_by =
-      inv
-      ∙ ap goes_on (drop-cons s i 0 h)
-      ∙ ap (λ (b : Bool). (b || (leb 48 (get_or s i 0) && leb (get_or s i 0) 57)) && goes_on (drop (suc i) s)) (sym e)
-      ∙ ap (λ (k : ℕ). (r || (leb 48 (get_or s i 0) && leb (get_or s i 0) 57)) && goes_on (drop k s)) (sym (add-one i))
-
-  pub name_stops : (r || (leb 48 (get_or s i 0) && leb (get_or s i 0) 57)) ≡ false → false ≡ is_identifier s
-  name_stops q = sym (next_by ∙ ap (λ (b : Bool). b && goes_on (drop (i + 1) s)) q)
-
-  pub name_goes_on : (r || (leb 48 (get_or s i 0) && leb (get_or s i 0) 57)) ≡ true → is_identifier s ≡ goes_on (drop (i + 1) s)
-  name_goes_on q = next_by ∙ ap (λ (b : Bool). b && goes_on (drop (i + 1) s)) q
-
-pub name_ends : (s : Bytes) (i : ℕ) → length s ≤ i → is_identifier s ≡ goes_on (drop i s) → true ≡ is_identifier s
+pub goes_on_all : (s : Bytes) → list_all (λ c. starts_name c || (leb 48 c && leb c 57)) s ≡ goes_on s
 unfolding goes_on
-name_ends s i h inv = sym (inv ∙ ap goes_on (drop_of_length-le s h))
+goes_on_all [] = refl
+goes_on_all (c ∷ s) = ap (λ (b : Bool). (starts_name c || (leb 48 c && leb c 57)) && b) (goes_on_all s)
+
+-- ---- a byte in a string, by the tests that its writer makes
+
+pub quoted_escaped : (c : ℕ) → (c ≡ 34) ⊎ (c ≡ 92) → 92 ∷ c ∷ [] ≡ quoted_byte c
+unfolding quoted_byte
+quoted_escaped c (inl e) = rw e refl
+quoted_escaped c (inr e) = rw e refl
+
+control_is : (c : ℕ) → (ltb c 32 || eqb c 127) ≡ is_ascii_control c
+control_is c = grind (arith, nat_tests)
+
+module _ (c : ℕ) (a : c ≡ 34 → ⊥) (b : c ≡ 92 → ⊥) (d : c ≡ 10 → ⊥) (e : c ≡ 13 → ⊥) where
+  pub quoted_hex : is_ascii_control c ≡ true → 92 ∷ 120 ∷ hex_digit (c / 16) ∷ hex_digit (c % 16) ∷ [] ≡ quoted_byte c
+  unfolding quoted_byte
+  quoted_hex h = rw (ne_eqb c 34 a, ne_eqb c 92 b, ne_eqb c 10 d, ne_eqb c 13 e, control_is c, h) refl
+
+  pub quoted_plain : is_ascii_control c ≡ false → c ∷ [] ≡ quoted_byte c
+  unfolding quoted_byte
+  quoted_plain h = rw (ne_eqb c 34 a, ne_eqb c 92 b, ne_eqb c 10 d, ne_eqb c 13 e, control_is c, h) refl

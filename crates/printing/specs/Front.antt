@@ -1,5 +1,5 @@
 -- The body of the field at the front of bytes, in its two parts: bytes, and the fields behind them. Assumes nothing: these are definitions.
-use Rattle.std.specs.Prelude.{ℕ, [], leb, length, take, drop}
+use Rattle.std.specs.Prelude.{ℕ, Bool, ◌&&◌, ◌||◌, [], leb, eqb, length, take, drop}
 use Rattle.field.specs.Bytes.{Bytes, pick}
 use Rattle.field.specs.Row.{Inside, only_bytes, fields_after, counted, counted_front, inside}
 use Rattle.field.specs.Front.{tag_of_front, body_of}
@@ -22,6 +22,11 @@ inner_of s = inner_by (inside (tag_of_front s)) (body_of s)
 
 abbrev pub at_most : ℕ → ℕ → ℕ
 at_most k n = pick (leb k n) k n
+
+-- the tags whose body is fields alone, as in `inside`
+abbrev pub fields_alone : ℕ → Bool
+fields_alone t =
+    (leb 0x01 t && leb t 0x03) || (leb 0x10 t && leb t 0x12) || eqb t 0x30 || eqb t 0x31 || eqb t 0x41 || eqb t 0x42 || eqb t 0x50 || eqb t 0x52 || eqb t 0x53 || eqb t 0x61 || eqb t 0x76 || eqb t 0x77 || eqb t 0x79 || eqb t 0x82 || (leb 0x91 t && leb t 0x96)
 
 -- how many bytes of a body are its front
 abbrev pub front_length : Inside → Bytes → ℕ

@@ -80,7 +80,7 @@ fn print_template(out: &mut [u8], at: usize, s: &[u8]) -> usize
     let a = put_bytes(out, at, b"_jsxTemplate(");
     let b = put_template_name(out, a, front(s));
     let c = print_behind(out, b, inner(s));
-    put_byte(out, c, 41)
+    put_byte(out, c, b')')
 }
 
 // A choice.
@@ -116,8 +116,7 @@ pub fn print_all(out: &mut [u8], at: usize, s: &[u8]) -> usize
     let mut t = s;
     while tag_at(t) != 256 {
         a = print_first(out, a, t);
-        let r = behind(t);
-        t = r;
+        t = behind(t);
     }
     a
 }
@@ -135,7 +134,7 @@ pub fn print_parted(out: &mut [u8], at: usize, s: &[u8]) -> usize
     print_behind(out, a, behind(s))
 }
 
-// With `, ` before each.
+// With `, ` before each. A loop of its own beside `print_all`: one loop with an empty separator would state neither of the two definitions.
 #[cycle(print)]
 fn print_behind(out: &mut [u8], at: usize, s: &[u8]) -> usize
     requires { at + length (behind_text (read s.now)) < 2 ^ 63 }
@@ -146,8 +145,7 @@ fn print_behind(out: &mut [u8], at: usize, s: &[u8]) -> usize
     while tag_at(t) != 256 {
         let b = put_bytes(out, a, b", ");
         a = print_first(out, b, t);
-        let r = behind(t);
-        t = r;
+        t = behind(t);
     }
     a
 }

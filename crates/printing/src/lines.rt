@@ -1,5 +1,5 @@
 // The lines: import, templates, items.
-ghost use Rattle.std.specs.Prelude.{◌≡◌, ◌+◌, ◌<◌, ◌^◌, length, ◌||◌, ◌++◌, ◌∷◌, []};
+ghost use Rattle.std.specs.Prelude.{◌≡◌, ◌+◌, ◌<◌, ◌^◌, length, ◌++◌, ◌∷◌, []};
 ghost use Rattle.field.specs.Put.{Wrote};
 ghost use Rattle.field.specs.Bytes.{ascii};
 ghost use Rattle.field.specs.Row.{read};
@@ -43,15 +43,6 @@ fn odd(n: u8) -> bool
     n % 2 == 1
 }
 
-fn either(a: bool, b: bool) -> bool
-    ensures { result ≡ (a || b) }
-{
-    if a {
-        return true;
-    }
-    b
-}
-
 // The helpers of a sum.
 fn put_helpers(out: &mut [u8], at: usize, n: u8) -> usize
     requires { at + length (helpers_text n) < 2 ^ 63 }
@@ -63,14 +54,8 @@ fn put_helpers(out: &mut [u8], at: usize, n: u8) -> usize
     let escape = odd(n / 8);
     let a = put_helper(out, at, jsx, false, b"jsx");
     let b = put_helper(out, a, template, jsx, b"jsxTemplate");
-    let c = put_helper(out, b, attr, either(jsx, template), b"jsxAttr");
-    put_helper(
-        out,
-        c,
-        escape,
-        either(jsx, either(template, attr)),
-        b"jsxEscape",
-    )
+    let c = put_helper(out, b, attr, jsx | template, b"jsxAttr");
+    put_helper(out, c, escape, jsx | (template | attr), b"jsxEscape")
 }
 
 // The sum in an import's body.
@@ -81,10 +66,7 @@ fn sum_in(s: &[u8]) -> u8
     if tag_at(t) != 256 {
         return 0;
     }
-    if t.len() == 0 {
-        return 0;
-    }
-    t[0]
+    t.first().copied().unwrap_or(0)
 }
 
 // The import, by its body.
@@ -112,8 +94,7 @@ fn print_templates(out: &mut [u8], at: usize, s: &[u8]) -> usize
         let d = put_bytes(out, c, b" = [");
         let e = print_parted(out, d, inner(t));
         a = put_bytes(out, e, b"];\n");
-        let r = behind(t);
-        t = r;
+        t = behind(t);
     }
     a
 }
@@ -124,7 +105,7 @@ fn print_item(out: &mut [u8], at: usize, s: &[u8]) -> usize
     ensures { Wrote out.old at (all_text (read s.now) ++ (10 ∷ [])) out.new result }
 {
     let a = print_all(out, at, s);
-    put_byte(out, a, 10)
+    put_byte(out, a, b'\n')
 }
 
 // Both outputs of a page.
@@ -138,26 +119,22 @@ pub fn print_page<'a>(out: &mut [u8], at: usize, templates: &'a [u8], page: &'a 
         match tag_at(t) {
             0x82 => {
                 a = print_import(out, a, inner(t));
-                let r = behind(t);
-                t = r;
+                t = behind(t);
             }
             0x83 => {
                 a = print_templates(out, a, templates);
-                let r = behind(t);
-                t = r;
+                t = behind(t);
             }
             0x13 => {
                 a = put_bytes(out, a, b";\n");
-                let r = behind(t);
-                t = r;
+                t = behind(t);
             }
             256 => {
                 return a;
             }
             _ => {
                 a = print_item(out, a, inner(t));
-                let r = behind(t);
-                t = r;
+                t = behind(t);
             }
         }
     }

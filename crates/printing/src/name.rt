@@ -25,7 +25,7 @@ pub fn put_pointed(out: &mut [u8], at: usize, s: &[u8]) -> usize
     let mut a = put_bytes(out, at, front(s));
     let mut t = behind(s);
     while tag_at(t) != 256 {
-        let b = put_byte(out, a, 46);
+        let b = put_byte(out, a, b'.');
         a = put_bytes(out, b, front(t));
         let r = behind(t);
         t = r;
@@ -60,6 +60,6 @@ pub fn put_minus(out: &mut [u8], at: usize, tag: usize, f: &[u8]) -> usize
     requires { at + length (45 ∷ render (number_in tag f.now)) < 2 ^ 63 }
     ensures { Wrote out.old at (45 ∷ render (number_in tag f.now)) out.new result }
 {
-    let a = put_byte(out, at, 45);
+    let a = put_byte(out, at, b'-');
     put_number(out, a, tag, f)
 }

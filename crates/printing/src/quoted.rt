@@ -1,7 +1,9 @@
-// Strings and names in quotes. The tests are joined by `|` and `&`, without a branch: each is then the definition's own.
-ghost use Rattle.std.specs.Prelude.{◌≡◌, ◌+◌, ◌<◌, ◌^◌, length};
+// Strings and names in quotes.
+ghost use Rattle.std.specs.Prelude.{◌≡◌, ◌+◌, ◌<◌, ◌^◌, ◌||◌, length};
+ghost use Rattle.std.specs.List.{list_all};
+ghost use Rattle.std.specs.Char.{is_ascii_digit};
 ghost use Rattle.field.specs.Put.{Wrote};
-ghost use Rattle.printing.specs.Card.{hex_digit, quoted_byte, quoted_bytes, quoted, starts_name, goes_on, is_identifier, prop_name};
+ghost use Rattle.printing.specs.Card.{hex_digit, quoted_byte, quoted_bytes, quoted, starts_name, is_identifier, prop_name};
 
 use field::writer::{put_byte, put_bytes};
 
@@ -10,9 +12,9 @@ fn hex_digit(n: u8) -> u8
     ensures { result ≡ hex_digit n }
 {
     if n < 10 {
-        return 48 + n;
+        return b'0' + n;
     }
-    87 + n
+    b'a' + (n - 10)
 }
 
 // A byte in a string.
@@ -20,19 +22,17 @@ fn put_quoted_byte(out: &mut [u8], at: usize, c: u8) -> usize
     requires { at + length (quoted_byte c) < 2 ^ 63 }
     ensures { Wrote out.old at (quoted_byte c) out.new result }
 {
-    if (c == 34) | (c == 92) {
-        return put_bytes(out, at, &[92, c]);
+    match c {
+        b'"' | b'\\' => put_bytes(out, at, &[b'\\', c]),
+        b'\n' => put_bytes(out, at, b"\\n"),
+        b'\r' => put_bytes(out, at, b"\\r"),
+        _ if c.is_ascii_control() => put_bytes(
+            out,
+            at,
+            &[b'\\', b'x', hex_digit(c / 16), hex_digit(c % 16)],
+        ),
+        _ => put_byte(out, at, c),
     }
-    if c == 10 {
-        return put_bytes(out, at, &[92, 110]);
-    }
-    if c == 13 {
-        return put_bytes(out, at, &[92, 114]);
-    }
-    if (c < 32) | (c == 127) {
-        return put_bytes(out, at, &[92, 120, hex_digit(c / 16), hex_digit(c % 16)]);
-    }
-    put_byte(out, at, c)
 }
 
 fn put_quoted_bytes(out: &mut [u8], at: usize, s: &[u8]) -> usize
@@ -40,10 +40,8 @@ fn put_quoted_bytes(out: &mut [u8], at: usize, s: &[u8]) -> usize
     ensures { Wrote out.old at (quoted_bytes s.now) out.new result }
 {
     let mut a = at;
-    let mut i: usize = 0;
-    while i < s.len() {
-        a = put_quoted_byte(out, a, s[i]);
-        i += 1;
+    for c in s {
+        a = put_quoted_byte(out, a, *c);
     }
     a
 }
@@ -52,36 +50,31 @@ pub fn put_quoted(out: &mut [u8], at: usize, s: &[u8]) -> usize
     requires { at + length (quoted s.now) < 2 ^ 63 }
     ensures { Wrote out.old at (quoted s.now) out.new result }
 {
-    let a = put_byte(out, at, 34);
+    let a = put_byte(out, at, b'"');
     let b = put_quoted_bytes(out, a, s);
-    put_byte(out, b, 34)
+    put_byte(out, b, b'"')
 }
 
 fn starts_name(c: u8) -> bool
     ensures { result ≡ starts_name c }
 {
-    ((97 <= c) & (c <= 122)) | (((65 <= c) & (c <= 90)) | ((c == 95) | (c == 36)))
+    matches!(c, b'a'..=b'z' | b'A'..=b'Z' | b'_' | b'$')
+}
+
+fn goes_on(s: &[u8]) -> bool
+    ensures { result ≡ list_all (λ c. starts_name c || is_ascii_digit c) s.now }
+{
+    s.iter().all(|c| starts_name(*c) || c.is_ascii_digit())
 }
 
 // is_text_valid_identifier
 fn is_identifier(s: &[u8]) -> bool
     ensures { result ≡ is_identifier s.now }
 {
-    if s.len() == 0 {
+    let Some((first, rest)) = s.split_first() else {
         return false;
-    }
-    if !starts_name(s[0]) {
-        return false;
-    }
-    let mut i: usize = 1;
-    while i < s.len() {
-        let c = s[i];
-        if !(starts_name(c) | ((48 <= c) & (c <= 57))) {
-            return false;
-        }
-        i += 1;
-    }
-    true
+    };
+    starts_name(*first) && goes_on(rest)
 }
 
 // A property's name: bare, or in quotes.

@@ -8,9 +8,10 @@ use native.Mathlib.Omega.{arith}
 use lib.Dec.{T, ltb, eqb}
 use lib.ListN.{length, take, drop, get_or, length-drop, drop_of_length-le}
 use lib.Seq.{take_all}
+use Rattle.std.specs.Prelude.{Option, None, Some}
 use Rattle.field.specs.Bytes.{Bytes, ascii, same}
 use Rattle.grammar.specs.Signs.{choose, some_byte, digit}
-use Rattle.grammar.specs.Known.{Known, whole, minus_whole, decimal, minus_decimal, quoted, boolean, null, other, Found, none, some, value_from, is_whole, is_decimal, before_point, after_point, number_of, unsigned, has_minus, trimmed_front, string_of, digit_or_point, of_a_number, not_read, rest_of, or_else, known_trimmed, known_of}
+use Rattle.grammar.specs.Known.{Known, whole, minus_whole, decimal, minus_decimal, quoted, boolean, null, other, value_from, is_whole, is_decimal, before_point, after_point, number_of, unsigned, has_minus, trimmed_front, string_of, digit_or_point, of_a_number, not_read, rest_of, or_else, known_trimmed, known_of}
 use Rattle.grammar.proofs.Tests.{chose, passed}
 use Rattle.read_tag.specs.Sources.{Trimmed}
 use Rattle.read_tag.specs.Knowns.{Numbered, Unsigned, signed_whole, signed_decimal, Quoted, barred, unquoted, Holding, Holds, HeldWhole, HeldDecimal}
@@ -73,26 +74,26 @@ module _ (s : Bytes) (a : Bool) (e : a ≡ some_byte not_read s) where
 -- ---- the rest
 
 module _ (s o : Bytes) (at : ℕ) (b : Bool) (e : b ≡ barred s) where
-  pub rest_barred : (a : ℕ) → b ≡ true → Holds (rest_of s) o at o record { read = false; fits = true; at = a; deep = 0 }
+  pub rest_barred : b ≡ true → Holds (rest_of s) o at o None
   unfolding Holds rest_of barred
-  rest_barred a t = subst (λ (k : Found Known). Holds k o at o record { read = false; fits = true; at = a; deep = 0 }) (sym (chose (barred s) none (some (other s)) (yes (barred s) (sym e ∙ t)))) (refl, refl)
+  rest_barred t = subst (λ (k : Option Known). Holds k o at o None) (sym (chose (barred s) None (Some (other s)) (yes (barred s) (sym e ∙ t)))) refl
 
-  pub rest_other : (o' : Bytes) (r : Held) → b ≡ false → Holds (some (other s)) o at o' r → Holds (rest_of s) o at o' r
-  unfolding rest_of barred
-  rest_other o' r f h = subst (λ (k : Found Known). Holds k o at o' r) (sym (passed (barred s) none (some (other s)) (no (barred s) (sym e ∙ f)))) h
+  pub rest_other : (o' : Bytes) (r : Held) → b ≡ false → Holding (other s) o at o' r → Holds (rest_of s) o at o' (Some r)
+  unfolding Holds rest_of barred
+  rest_other o' r f h = subst (λ (k : Option Known). Holds k o at o' (Some r)) (sym (passed (barred s) None (Some (other s)) (no (barred s) (sym e ∙ f)))) h
 
 -- ---- numbers
 
 module _ (w : Bytes) (f : ℕ → Known) (g : ℕ → ℕ → Known) where
-  of_whole : is_whole w ≡ true → number_of w f g ≡ some (f (value_from 0 w))
+  of_whole : is_whole w ≡ true → number_of w f g ≡ Some (f (value_from 0 w))
   unfolding number_of
   of_whole e = chose (is_whole w) _ _ (yes (is_whole w) e)
 
-  of_decimal : is_whole w ≡ false → is_decimal w ≡ true → number_of w f g ≡ some (g (value_from 0 (before_point w ++ after_point w)) (length (after_point w)))
+  of_decimal : is_whole w ≡ false → is_decimal w ≡ true → number_of w f g ≡ Some (g (value_from 0 (before_point w ++ after_point w)) (length (after_point w)))
   unfolding number_of
   of_decimal e d = passed (is_whole w) _ _ (no (is_whole w) e) ∙ chose (is_decimal w) _ _ (yes (is_decimal w) d)
 
-  of_none : is_whole w ≡ false → is_decimal w ≡ false → number_of w f g ≡ none
+  of_none : is_whole w ≡ false → is_decimal w ≡ false → number_of w f g ≡ None
   unfolding number_of
   of_none e d = passed (is_whole w) _ _ (no (is_whole w) e) ∙ passed (is_decimal w) _ _ (no (is_decimal w) d)
 
@@ -105,104 +106,104 @@ module _ (s : Bytes) where
   unsigned_plain : has_minus s ≡ false → number_of s whole decimal ≡ number_of (unsigned s) whole decimal
   unsigned_plain e = ap (λ (z : Bytes). number_of z whole decimal) (sym (plain_unsigned s e))
 
-  signed : Bool → Found Known
+  signed : Bool → Option Known
   signed b = choose b (number_of (unsigned s) minus_whole minus_decimal) (number_of s whole decimal)
 
   is_signed : unquoted s ≡ or_else (signed (has_minus s)) (rest_of s)
   unfolding unquoted signed
   is_signed = refl
 
-  signed_none : is_whole (unsigned s) ≡ false → is_decimal (unsigned s) ≡ false → (b : Bool) → has_minus s ≡ b → signed b ≡ none
+  signed_none : is_whole (unsigned s) ≡ false → is_decimal (unsigned s) ≡ false → (b : Bool) → has_minus s ≡ b → signed b ≡ None
   unfolding signed choose
   signed_none w d true e = of_none (unsigned s) minus_whole minus_decimal w d
   signed_none w d false e = unsigned_plain e ∙ of_none (unsigned s) whole decimal w d
 
-  signed_of_whole : is_whole (unsigned s) ≡ true → (b : Bool) → has_minus s ≡ b → signed b ≡ some (signed_whole b (value_from 0 (unsigned s)))
+  signed_of_whole : is_whole (unsigned s) ≡ true → (b : Bool) → has_minus s ≡ b → signed b ≡ Some (signed_whole b (value_from 0 (unsigned s)))
   unfolding signed choose signed_whole
   signed_of_whole w true e = of_whole (unsigned s) minus_whole minus_decimal w
   signed_of_whole w false e = unsigned_plain e ∙ of_whole (unsigned s) whole decimal w
 
-  signed_of_decimal : is_whole (unsigned s) ≡ false → is_decimal (unsigned s) ≡ true → (b : Bool) → has_minus s ≡ b → signed b ≡ some (signed_decimal b (value_from 0 (before_point (unsigned s) ++ after_point (unsigned s))) (length (after_point (unsigned s))))
+  signed_of_decimal : is_whole (unsigned s) ≡ false → is_decimal (unsigned s) ≡ true → (b : Bool) → has_minus s ≡ b → signed b ≡ Some (signed_decimal b (value_from 0 (before_point (unsigned s) ++ after_point (unsigned s))) (length (after_point (unsigned s))))
   unfolding signed choose signed_decimal
   signed_of_decimal w d true e = of_decimal (unsigned s) minus_whole minus_decimal w d
   signed_of_decimal w d false e = unsigned_plain e ∙ of_decimal (unsigned s) whole decimal w d
 
-  module _ (u : ℕ) (m : Unsigned s u) (r : Numeral) (y : Numbered (take (length s - u) (drop u s)) r) (o : Bytes) (at : ℕ) (o' : Bytes) (h : Held) where
-    numbered : (q : Numeral) → r ≡ q → Numbered (unsigned s) q
+  module _ (u : ℕ) (m : Unsigned s u) (r : Option Numeral) (y : Numbered (take (length s - u) (drop u s)) r) (o : Bytes) (at : ℕ) (o' : Bytes) where
+    numbered : (q : Option Numeral) → r ≡ q → Numbered (unsigned s) q
     numbered q e = subst (Numbered (unsigned s)) e (subst (λ (w : Bytes). Numbered w r) (take_all (length s - u) (drop u s) (omega (arith, length-drop u s)) ∙ m.rest) y)
 
-    pub unquoted_rest : r ≡ N.Nothing → Holds (rest_of s) o at o' h → Holds (unquoted s) o at o' h
+    pub unquoted_rest : (h : Option Held) → r ≡ None → Holds (rest_of s) o at o' h → Holds (unquoted s) o at o' h
     unfolding or_else Numbered
-    unquoted_rest e k =
-        let n = numbered N.Nothing e in
-        subst (λ (z : Found Known). Holds z o at o' h) (sym (is_signed ∙ ap (λ (z : Found Known). or_else z (rest_of s)) (signed_none n.0 n.1 (has_minus s) refl))) k
+    unquoted_rest h e k =
+        let n = numbered None e in
+        subst (λ (z : Option Known). Holds z o at o' h) (sym (is_signed ∙ ap (λ (z : Option Known). or_else z (rest_of s)) (signed_none n.0 n.1 (has_minus s) refl))) k
 
-    pub unquoted_whole : (v : ℕ) → r ≡ N.Whole v → HeldWhole (ltb 0 u) v o at o' h → Holds (unquoted s) o at o' h
+    pub unquoted_whole : (h : Held) (v : ℕ) → r ≡ Some (N.Whole v) → HeldWhole (ltb 0 u) v o at o' h → Holds (unquoted s) o at o' (Some h)
     unfolding or_else Numbered HeldWhole Holds
-    unquoted_whole v e k =
-        let n = numbered (N.Whole v) e in
+    unquoted_whole h v e k =
+        let n = numbered (Some (N.Whole v)) e in
         let x : Holding (signed_whole (has_minus s) (value_from 0 (unsigned s))) o at o' h = subst (λ (b : Bool). Holding (signed_whole b (value_from 0 (unsigned s))) o at o' h) m.sign (k (value_from 0 (unsigned s)) n.1) in
-        subst (λ (z : Found Known). Holds z o at o' h) (sym (is_signed ∙ ap (λ (z : Found Known). or_else z (rest_of s)) (signed_of_whole n.0 (has_minus s) refl))) x
+        subst (λ (z : Option Known). Holds z o at o' (Some h)) (sym (is_signed ∙ ap (λ (z : Option Known). or_else z (rest_of s)) (signed_of_whole n.0 (has_minus s) refl))) x
 
-    pub unquoted_scaled : (v p : ℕ) → r ≡ N.Scaled v p → HeldDecimal (ltb 0 u) v p o at o' h → Holds (unquoted s) o at o' h
+    pub unquoted_scaled : (h : Held) (v p : ℕ) → r ≡ Some (N.Scaled v p) → HeldDecimal (ltb 0 u) v p o at o' h → Holds (unquoted s) o at o' (Some h)
     unfolding or_else Numbered HeldDecimal Holds
-    unquoted_scaled v p e k =
-        let n = numbered (N.Scaled v p) e in
+    unquoted_scaled h v p e k =
+        let n = numbered (Some (N.Scaled v p)) e in
         let c : ℕ = value_from 0 (before_point (unsigned s) ++ after_point (unsigned s)) in
         let x : Holding (signed_decimal (ltb 0 u) c p) o at o' h = k c n.2 in
         let y : Holding (signed_decimal (has_minus s) c (length (after_point (unsigned s)))) o at o' h = subst (λ (q : ℕ). Holding (signed_decimal (has_minus s) c q) o at o' h) n.3 (subst (λ (b : Bool). Holding (signed_decimal b c p) o at o' h) m.sign x) in
-        subst (λ (z : Found Known). Holds z o at o' h) (sym (is_signed ∙ ap (λ (z : Found Known). or_else z (rest_of s)) (signed_of_decimal n.0 n.1 (has_minus s) refl))) y
+        subst (λ (z : Option Known). Holds z o at o' (Some h)) (sym (is_signed ∙ ap (λ (z : Option Known). or_else z (rest_of s)) (signed_of_decimal n.0 n.1 (has_minus s) refl))) y
 
 -- ---- the tests in their order
 
-cascade : Bool → Bool → Bool → Found Known → Found Known
-cascade a b c k = choose a (some (boolean true)) (choose b (some (boolean false)) (choose c (some null) k))
+cascade : Bool → Bool → Bool → Option Known → Option Known
+cascade a b c k = choose a (Some (boolean true)) (choose b (Some (boolean false)) (choose c (Some null) k))
 
-module _ (s o : Bytes) (at : ℕ) (o' : Bytes) (h : Held) where
+module _ (s o : Bytes) (at : ℕ) (o' : Bytes) (h : Option Held) where
   by_words : cascade (same s (ascii "true")) (same s (ascii "false")) (same s (ascii "null")) (or_else (string_of s) (unquoted s)) ≡ known_trimmed s
   unfolding cascade known_trimmed unquoted
   by_words = refl
 
-  is : (k : Found Known) → k ≡ known_trimmed s → Holds k o at o' h → Holds (known_trimmed s) o at o' h
-  is k e y = subst (λ (z : Found Known). Holds z o at o' h) e y
+  is : (k : Option Known) → k ≡ known_trimmed s → Holds k o at o' h → Holds (known_trimmed s) o at o' h
+  is k e y = subst (λ (z : Option Known). Holds z o at o' h) e y
 
-  left : Found Known
+  left : Option Known
   left = or_else (string_of s) (unquoted s)
 
-  pub trimmed_true : same s (ascii "true") ≡ true → Holds (some (boolean true)) o at o' h → Holds (known_trimmed s) o at o' h
+  pub trimmed_true : same s (ascii "true") ≡ true → Holds (Some (boolean true)) o at o' h → Holds (known_trimmed s) o at o' h
   unfolding cascade choose left
-  trimmed_true a = is (some (boolean true)) (sym (ap (λ (z : Bool). cascade z (same s (ascii "false")) (same s (ascii "null")) left) a) ∙ by_words)
+  trimmed_true a = is (Some (boolean true)) (sym (ap (λ (z : Bool). cascade z (same s (ascii "false")) (same s (ascii "null")) left) a) ∙ by_words)
 
   module _ (a : same s (ascii "true") ≡ false) where
-    pub trimmed_false : same s (ascii "false") ≡ true → Holds (some (boolean false)) o at o' h → Holds (known_trimmed s) o at o' h
+    pub trimmed_false : same s (ascii "false") ≡ true → Holds (Some (boolean false)) o at o' h → Holds (known_trimmed s) o at o' h
     unfolding cascade choose left
-    trimmed_false b = is (some (boolean false)) (sym (ap₂ (λ (y z : Bool). cascade y z (same s (ascii "null")) left) a b) ∙ by_words)
+    trimmed_false b = is (Some (boolean false)) (sym (ap₂ (λ (y z : Bool). cascade y z (same s (ascii "null")) left) a b) ∙ by_words)
 
     module _ (b : same s (ascii "false") ≡ false) where
       by_two : (c : Bool) → same s (ascii "null") ≡ c → cascade false false c left ≡ known_trimmed s
       unfolding left
       by_two c e = sym (ap₂ (λ (y z : Bool). cascade y z c left) a b) ∙ sym (ap (λ (z : Bool). cascade (same s (ascii "true")) (same s (ascii "false")) z left) e) ∙ by_words
 
-      pub trimmed_null : same s (ascii "null") ≡ true → Holds (some null) o at o' h → Holds (known_trimmed s) o at o' h
+      pub trimmed_null : same s (ascii "null") ≡ true → Holds (Some null) o at o' h → Holds (known_trimmed s) o at o' h
       unfolding cascade choose
-      trimmed_null c = is (some null) (by_two true c)
+      trimmed_null c = is (Some null) (by_two true c)
 
       module _ (c : same s (ascii "null") ≡ false) where
         is_left : left ≡ known_trimmed s
         unfolding cascade choose
         is_left = by_two false c
 
-        pub trimmed_string : (t : Bool) → Quoted s t → t ≡ true → Holds (some (quoted (take (length s - 1 - 1) (drop 1 s)))) o at o' h → Holds (known_trimmed s) o at o' h
+        pub trimmed_string : (t : Bool) → Quoted s t → t ≡ true → Holds (Some (quoted (take (length s - 1 - 1) (drop 1 s)))) o at o' h → Holds (known_trimmed s) o at o' h
         unfolding Quoted left or_else
         trimmed_string t q e =
             let y : Quoted s true = subst (Quoted s) e q in
-            is (some (quoted (take (length s - 1 - 1) (drop 1 s)))) (sym (ap (λ (z : Found Known). or_else z (unquoted s)) y.1) ∙ is_left)
+            is (Some (quoted (take (length s - 1 - 1) (drop 1 s)))) (sym (ap (λ (z : Option Known). or_else z (unquoted s)) y.1) ∙ is_left)
 
         pub trimmed_unquoted : (t : Bool) → Quoted s t → t ≡ false → Holds (unquoted s) o at o' h → Holds (known_trimmed s) o at o' h
         unfolding Quoted left or_else
         trimmed_unquoted t q e =
             let y : Quoted s false = subst (Quoted s) e q in
-            is (unquoted s) (sym (ap (λ (z : Found Known). or_else z (unquoted s)) y) ∙ is_left)
+            is (unquoted s) (sym (ap (λ (z : Option Known). or_else z (unquoted s)) y) ∙ is_left)
 
 pub string_long : (s : Bytes) (t : Bool) → Quoted s t → t ≡ true → 2 ≤ length s
 unfolding Quoted
@@ -210,6 +211,6 @@ string_long s t q e =
     let y : Quoted s true = subst (Quoted s) e q in
     y.0
 
-pub known_trims : (s : Bytes) (i e k : ℕ) (o : Bytes) (at : ℕ) (o' : Bytes) (h : Held) → Trimmed s i e k → Holds (known_trimmed (take (k - i) (drop i s))) o at o' h → Holds (known_of (take (e - i) (drop i s))) o at o' h
+pub known_trims : (s : Bytes) (i e k : ℕ) (o : Bytes) (at : ℕ) (o' : Bytes) (h : Option Held) → Trimmed s i e k → Holds (known_trimmed (take (k - i) (drop i s))) o at o' h → Holds (known_of (take (e - i) (drop i s))) o at o' h
 unfolding known_of
 known_trims s i e k o at o' h u y = subst (λ (w : Bytes). Holds (known_trimmed w) o at o' h) (sym u.same) y

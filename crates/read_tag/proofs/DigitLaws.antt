@@ -9,6 +9,7 @@ use borrow.Author.Tests.{leb-true, leb-false, lt-ltb, ltb-true, eq-eqb, eqb-true
 use lib.Dec.{T, leb, ltb, eqb, eqb→eq, not_T}
 use lib.ListN.{length, take, drop, get_or, length-drop, drop_of_length-le}
 use lib.Seq.{take_all, length-take-le, get_or-take}
+use Rattle.std.specs.Prelude.{Some, None}
 use Rattle.field.specs.Bytes.{Bytes}
 use Rattle.grammar.specs.Signs.{choose, each, digit}
 use Rattle.grammar.specs.Known.{value_from, is_whole, is_decimal, before_point, after_point, is_empty_text}
@@ -230,11 +231,11 @@ module _ (s : Bytes) (a : Digits) (u : Counted s 0 0 a) where
   unfolding front
   front_first n = get_or-take (a.end - 0) (drop 0 s) 0 0 (omega arith)
 
-  pub number_none : a.end ≡ 0 → Numbered s N.Nothing
+  pub number_none : a.end ≡ 0 → Numbered s None
   unfolding Numbered
   number_none e = none_front s (subst (λ (k : ℕ). Ends digit (drop k s)) e (run_end u.ran.run))
 
-  pub number_zero : (eqb (get_or s 0 0) 48 && ltb 1 a.end) ≡ true → Numbered s N.Nothing
+  pub number_zero : (eqb (get_or s 0 0) 48 && ltb 1 a.end) ≡ true → Numbered s None
   unfolding Numbered
   number_zero z =
       let b = both (eqb (get_or s 0 0) 48) (ltb 1 a.end) z in
@@ -250,7 +251,7 @@ module _ (s : Bytes) (a : Digits) (u : Counted s 0 0 a) where
         whole_is front (ap (each digit) (sym (append-nil front)) ∙ each_front front_run []) (λ q. n (sym front_length ∙ q))
         (ap₂ (λ (x y : ℕ). eqb x 48 && ltb 1 y) (front_first n) front_length ∙ z)
 
-    pub number_whole : length s ≤ a.end → Numbered s (N.Whole a.value)
+    pub number_whole : length s ≤ a.end → Numbered s (Some (N.Whole a.value))
     unfolding Numbered front
     number_whole l =
         let e : front ≡ s = take_all (a.end - 0) (drop 0 s) (omega arith) in
@@ -267,7 +268,7 @@ module _ (s : Bytes) (a : Digits) (u : Counted s 0 0 a) where
       no_whole : is_whole s ≡ false
       no_whole = whole_each s (ap (each digit) (run_is front_run ∙ ap (λ (y : Bytes). front ++ y) (next s a.end l)) ∙ each_front front_run (get_or s a.end 0 ∷ drop (a.end + 1) s) ∙ other_each (get_or s a.end 0) (drop (a.end + 1) s) no_digit)
 
-      pub number_other : (get_or s a.end 0 ≡ 46 → ⊥) → Numbered s N.Nothing
+      pub number_other : (get_or s a.end 0 ≡ 46 → ⊥) → Numbered s None
       unfolding Numbered before_point
       number_other m =
           let c : ℕ = get_or s a.end 0 in
@@ -297,7 +298,7 @@ module _ (s : Bytes) (a : Digits) (u : Counted s 0 0 a) where
         decimal_is = ap₂ (λ (x y : Bytes). is_whole x && not (is_empty_text y) && each digit y) before after
 
         module _ (d : Digits) (v : Counted s (a.end + 1) a.value d) where
-          pub number_no_places : d.end ≤ a.end + 1 → Numbered s N.Nothing
+          pub number_no_places : d.end ≤ a.end + 1 → Numbered s None
           unfolding Numbered rest
           number_no_places h =
               let e : d.end ≡ a.end + 1 = omega (arith, v.ran.after) in
@@ -307,7 +308,7 @@ module _ (s : Bytes) (a : Digits) (u : Counted s 0 0 a) where
           unfolding rest
           each_rest y e = ap (each digit) (run_is v.ran.run) ∙ each_front v.ran.run (drop d.end s) ∙ ap (each digit) e
 
-          pub number_broken : d.end < length s → Numbered s N.Nothing
+          pub number_broken : d.end < length s → Numbered s None
           unfolding Numbered Ends
           number_broken h =
               let nx : drop d.end s ≡ get_or s d.end 0 ∷ drop (d.end + 1) s = next s d.end h in
@@ -327,7 +328,7 @@ module _ (s : Bytes) (a : Digits) (u : Counted s 0 0 a) where
           unfolding front
           first = u.value
 
-          pub number_decimal : a.end + 1 < d.end → length s ≤ d.end → Numbered s (N.Scaled d.value (d.end - (a.end + 1)))
+          pub number_decimal : a.end + 1 < d.end → length s ≤ d.end → Numbered s (Some (N.Scaled d.value (d.end - (a.end + 1))))
           unfolding Numbered
           number_decimal m h =
               let i = v.ran.inside in

@@ -18,13 +18,13 @@ use Rattle.field.proofs.PutLaws.{wrote_is, wrote_then, wrote_length, wrote_field
 use Rattle.page.specs.Number as N
 use Rattle.page.specs.Number.{number_tag, minus_tag, number_bytes, in_range}
 use Rattle.page.specs.Encode.{boolean_byte, tag_row, expr_row}
-use Rattle.grammar.specs.Known.{Known, quoted, boolean, null, other, some}
+use Rattle.grammar.specs.Known.{Known, quoted, boolean, null, other}
 use Rattle.grammar.specs.Syntax.{known_expr}
 use Rattle.tag_tree.specs.PageTag.{page_known, page_tag, page_expr}
 use Rattle.tag_tree.specs.TagAnswer.{known_in_range, shallow}
 use Rattle.read_tag.specs.Progress.{expr_bytes}
 use Rattle.read_tag.proofs.ProgressLaws.{leaf_alone}
-use Rattle.read_tag.specs.Knowns.{Capped, signed_whole, signed_decimal, whole_tag, decimal_tag, Holding, Holds, HeldWhole, HeldDecimal}
+use Rattle.read_tag.specs.Knowns.{Capped, signed_whole, signed_decimal, whole_tag, decimal_tag, Holding, HeldWhole, HeldDecimal}
 
 -- ---- a field alone
 
@@ -42,10 +42,9 @@ module _ (k : Known) (t : ℕ) (f : Bytes) (row : expr_row (page_expr (known_exp
   body = ap bytes row ∙ leaf_alone t f
 
   -- b: whether it is within the limit; only then the bytes that were written count
-  leaf_held : {o o' : Bytes} {at e : ℕ} (b : Bool) (g : Bytes) → b ≡ known_in_range k → (b ≡ true → g ≡ f) → length g ≡ length f → Wrote o at (field_bytes t g) o' e → Holding k o at o' record { read = true; fits = b; at = e; deep = 0 }
+  leaf_held : {o o' : Bytes} {at e : ℕ} (b : Bool) (g : Bytes) → b ≡ known_in_range k → (b ≡ true → g ≡ f) → length g ≡ length f → Wrote o at (field_bytes t g) o' e → Holding k o at o' record { fits = b; at = e; deep = 0 }
   leaf_held b g r s l w =
       record {
-        is_read = refl;
         in_limit = r;
         place = omega (arith, w.end_is, length_field_bytes t g, l, ap length body, length_field_bytes t f);
         wrote = λ z. wrote_is (ap (field_bytes t) (s z) ∙ sym body) w;
@@ -54,16 +53,16 @@ module _ (k : Known) (t : ℕ) (f : Bytes) (row : expr_row (page_expr (known_exp
         size = wrote_length w;
       }
 
-pub held_boolean : {o o₁ o' : Bytes} {at a e : ℕ} (b : Bool) → Wrote o at (head 0x72 1) o₁ a → Wrote o₁ a (boolean_byte b ∷ []) o' e → Holds (some (boolean b)) o at o' record { read = true; fits = true; at = e; deep = 0 }
-unfolding Holds page_tag page_known tag_row known_in_range
+pub held_boolean : {o o₁ o' : Bytes} {at a e : ℕ} (b : Bool) → Wrote o at (head 0x72 1) o₁ a → Wrote o₁ a (boolean_byte b ∷ []) o' e → Holding (boolean b) o at o' record { fits = true; at = e; deep = 0 }
+unfolding page_tag page_known tag_row known_in_range
 held_boolean b u v = leaf_held (boolean b) 0x72 (boolean_byte b ∷ []) refl (omega arith) true (boolean_byte b ∷ []) refl (λ z. refl) refl (wrote_field 0x72 u v)
 
-pub held_null : {o o' : Bytes} {at e : ℕ} → Wrote o at (head 0x73 0) o' e → Holds (some null) o at o' record { read = true; fits = true; at = e; deep = 0 }
-unfolding Holds page_tag page_known tag_row known_in_range field_bytes big_endian
+pub held_null : {o o' : Bytes} {at e : ℕ} → Wrote o at (head 0x73 0) o' e → Holding null o at o' record { fits = true; at = e; deep = 0 }
+unfolding page_tag page_known tag_row known_in_range field_bytes big_endian
 held_null u = leaf_held null 0x73 [] refl (omega arith) true [] refl (λ z. refl) refl u
 
-pub held_quoted : {o o' : Bytes} {at e : ℕ} (w : Bytes) → length w ≤ 32768 → Wrote o at (field_bytes 0x70 w) o' e → Holds (some (quoted w)) o at o' record { read = true; fits = true; at = e; deep = 0 }
-unfolding Holds page_tag page_known tag_row known_in_range
+pub held_quoted : {o o' : Bytes} {at e : ℕ} (w : Bytes) → length w ≤ 32768 → Wrote o at (field_bytes 0x70 w) o' e → Holding (quoted w) o at o' record { fits = true; at = e; deep = 0 }
+unfolding page_tag page_known tag_row known_in_range
 held_quoted w l u = leaf_held (quoted w) 0x70 w refl (omega arith) true w refl (λ z. refl) refl u
 
 -- ---- a 79 of one 20
@@ -90,14 +89,13 @@ unfolding long_body
 two_short w l =
     ap₂ (λ (a b : Bool). a || (b || false)) (le-ltb 65535 (length (bytes (field 0x20 w end end))) (omega (arith, ap length (leaf_alone 0x20 w), length_field_bytes 0x20 w))) (leaf_short 0x20 w (omega arith))
 
-pub held_other : {o o₁ o' : Bytes} {at a e : ℕ} (w : Bytes) → length w ≤ 32768 → Wrote o at (head 0x79 (3 + length w)) o₁ a → Wrote o₁ a (field_bytes 0x20 w) o' e → Holds (some (other w)) o at o' record { read = true; fits = true; at = e; deep = 1 }
-unfolding Holds page_tag page_known tag_row known_in_range expr_bytes
+pub held_other : {o o₁ o' : Bytes} {at a e : ℕ} (w : Bytes) → length w ≤ 32768 → Wrote o at (head 0x79 (3 + length w)) o₁ a → Wrote o₁ a (field_bytes 0x20 w) o' e → Holding (other w) o at o' record { fits = true; at = e; deep = 1 }
+unfolding page_tag page_known tag_row known_in_range expr_bytes
 held_other {o} {o₁} {o'} {at} {a} {e} w l u v =
     let h : Wrote o at (head 0x79 (length (field_bytes 0x20 w))) o₁ a = subst (λ (n : ℕ). Wrote o at (head 0x79 n) o₁ a) (sym (length_field_bytes 0x20 w)) u in
     let y : Wrote o at (field_bytes 0x79 (field_bytes 0x20 w)) o' e = wrote_field 0x79 h v in
     let x : Wrote o at (bytes (field 0x79 [] (field 0x20 w end end) end)) o' e = wrote_is (sym (two_bytes w)) y in
     record {
-      is_read = refl;
       in_limit = refl;
       place = x.end_is;
       wrote = λ z. x;
@@ -142,7 +140,7 @@ module _ (minus : Bool) (t v : ℕ) where
   whole_range true x = refl
   whole_range false x = refl
 
-  pub held_whole : {o o₁ o' : Bytes} {at a e : ℕ} → t ≡ whole_tag minus → Wrote o at (head t 8) o₁ a → Wrote o₁ a (big_endian 8 v []) o' e → HeldWhole minus v o at o' record { read = true; fits = leb v 9_007_199_254_740_991; at = e; deep = 0 }
+  pub held_whole : {o o₁ o' : Bytes} {at a e : ℕ} → t ≡ whole_tag minus → Wrote o at (head t 8) o₁ a → Wrote o₁ a (big_endian 8 v []) o' e → HeldWhole minus v o at o' record { fits = leb v 9_007_199_254_740_991; at = e; deep = 0 }
   unfolding HeldWhole number_bytes big_endian
   held_whole {o} {o₁} {o'} {at} {a} {e} q u w x c =
       leaf_held (signed_whole minus x) (whole_tag minus) (number_bytes (N.whole x)) (whole_row minus x) (omega arith) (leb v 9_007_199_254_740_991) (number_bytes (N.whole v))
@@ -166,7 +164,7 @@ module _ (minus : Bool) (t v : ℕ) where
     first true b e = refl
     first false b e = e
 
-    pub held_decimal : {o o₁ o₂ o' : Bytes} {at a b e : ℕ} → t ≡ decimal_tag minus → Wrote o at (head t 9) o₁ a → Wrote o₁ a (big_endian 8 v []) o₂ b → Wrote o₂ b ((p % 256) ∷ []) o' e → HeldDecimal minus v p o at o' record { read = true; fits = leb v 999_999_999_999_999 && leb p 15; at = e; deep = 0 }
+    pub held_decimal : {o o₁ o₂ o' : Bytes} {at a b e : ℕ} → t ≡ decimal_tag minus → Wrote o at (head t 9) o₁ a → Wrote o₁ a (big_endian 8 v []) o₂ b → Wrote o₂ b ((p % 256) ∷ []) o' e → HeldDecimal minus v p o at o' record { fits = leb v 999_999_999_999_999 && leb p 15; at = e; deep = 0 }
     unfolding HeldDecimal number_bytes big_endian
     held_decimal {o} {o₁} {o₂} {o'} {at} {a} {b} {e} q u w y x c =
         leaf_held (signed_decimal minus x p) (decimal_tag minus) (number_bytes (N.scaled x p)) (decimal_row minus x) (omega arith) (leb v 999_999_999_999_999 && leb p 15) (number_bytes (N.scaled v p))

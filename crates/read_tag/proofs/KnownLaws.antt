@@ -1,17 +1,17 @@
--- What braces hold, test by test: bytes that bar it, its minus, its quotes. Main statements: `scanned_on`, `scanned_found`, `unsigned_minus`,
--- `string_on`, `string_at_quote`. Assumes nothing.
+-- What braces hold, test by test: its minus, its quotes. Main statements: `unsigned_minus`, `string_on`, `string_at_quote`. Assumes nothing.
 use Prim.Native.Nat.{ℕ, suc, ◌+◌, ◌-◌, ◌≤◌, ◌<◌}
 use mathlib.Core.Path.{◌≡◌, refl, sym, ◌∙◌, ap, subst}
-use mathlib.Core.Bool.{Bool, true, false, ◌&&◌, not}
+use mathlib.Core.Bool.{Bool, true, false, not}
 use mathlib.Core.List.{[], ◌∷◌, ◌++◌}
 use native.Mathlib.Omega.{arith}
 use borrow.Author.Tests.{lt-ltb, eq-eqb, ne_eqb, not-false}
 use lib.Dec.{T, eqb, eqb→eq}
 use lib.ListN.{length, take, drop, get_or, length-drop, drop_of_length-le}
 use lib.Seq.{take-suc, get_or-drop}
+use Rattle.std.specs.Prelude.{None, Some}
 use Rattle.field.specs.Bytes.{Bytes}
-use Rattle.grammar.specs.Signs.{each, some_byte, space, quote}
-use Rattle.grammar.specs.Known.{quoted, none, some, trimmed_front, unsigned, has_minus, string_from, string_of}
+use Rattle.grammar.specs.Signs.{space, quote}
+use Rattle.grammar.specs.Known.{quoted, trimmed_front, unsigned, has_minus, string_from, string_of}
 use Rattle.grammar.specs.Grammar.{Ends, Run, run_ends, run_on}
 use Rattle.grammar.proofs.Tests.{chose, passed}
 use Rattle.read_tag.specs.Runs.{Ran}
@@ -34,35 +34,6 @@ take_more s k i h l =
     ap (λ (n : ℕ). take n (drop k s)) a ∙
     take-suc (drop k s) (i - k) 0 b ∙
     ap (λ (z : ℕ). take (i - k) (drop k s) ++ (z ∷ [])) (get_or-drop k s (i - k) 0 ∙ ap (λ (n : ℕ). get_or s n 0) c)
-
--- ---- a byte of the sort p, somewhere
-
--- none of them stands before k
-pub record Scanned (p : ℕ → Bool) (s : Bytes) (k : ℕ) : Type 0 where
-  pub inside : k ≤ length s
-  pub same : some_byte p s ≡ some_byte p (drop k s)
-
-module _ (p : ℕ → Bool) (s : Bytes) where
-  pub scanned_none : Scanned p s 0
-  scanned_none = record { inside = omega arith; same = refl }
-
-  one : (c : ℕ) (r : Bytes) → p c ≡ false → some_byte p (c ∷ r) ≡ some_byte p r
-  unfolding each
-  one c r e = ap (λ (b : Bool). not (not b && each (λ d. not (p d)) r)) e
-
-  here : (c : ℕ) (r : Bytes) → p c ≡ true → some_byte p (c ∷ r) ≡ true
-  unfolding each
-  here c r e = ap (λ (b : Bool). not (not b && each (λ d. not (p d)) r)) e
-
-  pub scanned_on : (k : ℕ) (b : Bool) → Scanned p s k → k < length s → b ≡ p (get_or s k 0) → b ≡ false → Scanned p s (k + 1)
-  scanned_on k b u h e f = record { inside = omega arith; same = u.same ∙ ap (some_byte p) (next s k h) ∙ one (get_or s k 0) (drop (k + 1) s) (sym e ∙ f) }
-
-  pub scanned_found : (k : ℕ) (b : Bool) → Scanned p s k → k < length s → b ≡ p (get_or s k 0) → b ≡ true → true ≡ some_byte p s
-  scanned_found k b u h e f = sym (u.same ∙ ap (some_byte p) (next s k h) ∙ here (get_or s k 0) (drop (k + 1) s) (sym e ∙ f))
-
-  pub scanned_out : (k : ℕ) → Scanned p s k → length s ≤ k → false ≡ some_byte p s
-  unfolding each
-  scanned_out k u l = sym (u.same ∙ ap (some_byte p) (drop_of_length-le s l))
 
 -- ---- a minus
 
@@ -113,25 +84,25 @@ string_none (c ∷ s) e = absurd (omega arith)
 pub string_no_quote : (s : Bytes) (b : Bool) → (length s ≡ 0 → ⊥) → b ≡ quote (get_or s 0 0) → not b ≡ true → Quoted s false
 unfolding Quoted string_of
 string_no_quote [] b h e f = absurd (h refl)
-string_no_quote (c ∷ s) b h e f = passed (quote c) (string_from c [] s) none (subst T (sym (ap not (sym e) ∙ f)) tt)
+string_no_quote (c ∷ s) b h e f = passed (quote c) (string_from c [] s) None (subst T (sym (ap not (sym e) ∙ f)) tt)
 
 pub string_starts : (s : Bytes) (b : Bool) → (length s ≡ 0 → ⊥) → b ≡ quote (get_or s 0 0) → not b ≡ false → Stringing s (get_or s 0 0) 1
 unfolding string_of
 string_starts [] b h e f = absurd (h refl)
-string_starts (c ∷ s) b h e f = record { after = omega arith; inside = omega arith; same = chose (quote c) (string_from c [] s) none (subst T (sym (sym e ∙ not-false b f)) tt) }
+string_starts (c ∷ s) b h e f = record { after = omega arith; inside = omega arith; same = chose (quote c) (string_from c [] s) None (subst T (sym (sym e ∙ not-false b f)) tt) }
 
 one_more : (q c : ℕ) (v r : Bytes) → T (not (eqb c q)) → string_from q v (c ∷ r) ≡ string_from q (v ++ (c ∷ [])) r
 unfolding string_from
-one_more q c v [] t = passed (eqb c q) (some (quoted v)) none t
-one_more q c v (d ∷ r) t = passed (eqb c q) none _ t
+one_more q c v [] t = passed (eqb c q) (Some (quoted v)) None t
+one_more q c v (d ∷ r) t = passed (eqb c q) None _ t
 
-at_last : (q c : ℕ) (v : Bytes) → T (eqb c q) → string_from q v (c ∷ []) ≡ some (quoted v)
+at_last : (q c : ℕ) (v : Bytes) → T (eqb c q) → string_from q v (c ∷ []) ≡ Some (quoted v)
 unfolding string_from
-at_last q c v t = chose (eqb c q) (some (quoted v)) none t
+at_last q c v t = chose (eqb c q) (Some (quoted v)) None t
 
-not_last : (q c d : ℕ) (v r : Bytes) → T (eqb c q) → string_from q v (c ∷ d ∷ r) ≡ none
+not_last : (q c d : ℕ) (v r : Bytes) → T (eqb c q) → string_from q v (c ∷ d ∷ r) ≡ None
 unfolding string_from
-not_last q c d v r t = chose (eqb c q) none _ t
+not_last q c d v r t = chose (eqb c q) None _ t
 
 module _ (s : Bytes) (q k : ℕ) (u : Stringing s q k) where
   pub string_on : k < length s → (get_or s k 0 ≡ q → ⊥) → Stringing s q (k + 1)
@@ -162,7 +133,7 @@ module _ (s : Bytes) (q k : ℕ) (u : Stringing s q k) where
           u.same ∙
               ap (string_from q (take (k - 1) (drop 1 s))) (next s k h ∙ ap (λ (r : Bytes). get_or s k 0 ∷ r) (drop_of_length-le s {i = k + 1} (omega arith))) ∙
               at_last q (get_or s k 0) (take (k - 1) (drop 1 s)) found ∙
-              ap (λ (i : ℕ). some (quoted (take i (drop 1 s)))) n,
+              ap (λ (i : ℕ). Some (quoted (take i (drop 1 s)))) n,
         )
 
     goes : (k + 1 ≡ length s → ⊥) → Quoted s false

@@ -4,7 +4,6 @@ pub mod ProgressLaws
 pub mod FlagLaws
 pub mod SmallLaws
 pub mod SourceLaws
-pub mod EntityLaws
 pub mod TrimLaws
 pub mod ShapeLaws
 pub mod NameLaws

@@ -6,12 +6,13 @@ use mathlib.Core.Path.{◌≡◌, refl, sym, ◌∙◌, ap, ap₂, subst}
 use mathlib.Core.Bool.{Bool, true, false, ◌&&◌, ◌||◌, not, false≢true}
 use mathlib.Core.List.{[], ◌∷◌, ◌++◌, append_assoc}
 use native.Mathlib.Omega.{arith}
-use borrow.Author.Tests.{ne_eqb, le-leb, lt-leb}
+use borrow.Author.Tests.{le-leb, lt-leb}
 use lib.Dec.{T, leb, eqb}
 use lib.ListN.{length, take, drop, get_or, length-append, length-drop, drop_of_length-le}
 use lib.Seq.{length-take-le}
+use Rattle.std.specs.Prelude.{Option, Some, None}
 use Rattle.field.specs.Bytes.{Bytes}
-use Rattle.grammar.specs.Signs.{choose, each, letter, name_byte, separator, space, name_goes_on}
+use Rattle.grammar.specs.Signs.{choose, letter, name_byte, separator, space, name_goes_on}
 use Rattle.grammar.specs.Syntax.{Part, part, Name, short, no_hyphen, attribute_name_fits, tag_name_fits}
 use Rattle.grammar.specs.Grammar.{Ends, Run, run_ends, run_on, Spaces, no_space, space_on, IsIdent, ident, IsParts, no_parts, one_part, IsName, is_name}
 use Rattle.grammar.specs.Reader.{For, for_tag, for_attribute, for_closing, State, in_ident, behind_ident, behind_sep, refused, fits, named, step_behind, step, at_end, outcome}
@@ -21,7 +22,6 @@ use Rattle.read_tag.specs.Runs.{Ran}
 use Rattle.read_tag.specs.Shapes.{name_tag, all_short, all_plain, all_points, Separated, shape_tag}
 use Rattle.read_tag.specs.Names.{Behind, last, parted, PartAt, named_if, Scanned}
 use Rattle.read_tag.specs.declared.name.NamePart.{NamePart}
-use Rattle.read_tag.specs.declared.name.ScannedName.TheVariants as F
 use Rattle.read_tag.proofs.FlagLaws.{and_assoc, and_true}
 use Rattle.read_tag.proofs.ShapeLaws.{shape_is, shape_long, shape_one}
 use Rattle.read_tag.proofs.RunLaws.{next}
@@ -37,36 +37,6 @@ word_next s k e h l =
 
 pub word_length : (s : Bytes) (k e : ℕ) → e ≤ length s → length (word s k e) ≡ e - k
 word_length s k e h = length-take-le (e - k) (drop k s) (omega (arith, length-drop k s))
-
--- ---- no hyphen in a part
-
--- what a loop over its bytes knows at k
-pub record Unhyphened (s : Bytes) (i e k : ℕ) : Type 0 where
-  pub after : i ≤ k
-  pub inside : k ≤ e
-  pub same : no_hyphen (word s k e) ≡ no_hyphen (word s i e)
-
-module _ (s : Bytes) (i e : ℕ) where
-  pub unhyphened_none : i ≤ e → Unhyphened s i e i
-  unhyphened_none h = record { after = omega arith; inside = h; same = refl }
-
-  module _ (l : e ≤ length s) where
-    pub unhyphened_on : (k : ℕ) → Unhyphened s i e k → k < e → (get_or s k 0 ≡ 45 → ⊥) → Unhyphened s i e (k + 1)
-    unfolding no_hyphen each
-    unhyphened_on k u h n =
-        record {
-          after = omega (arith, u.after);
-          inside = omega arith;
-          same = ap (λ (b : Bool). not (not (not b && each (λ c. not (eqb c 45)) (word s (k + 1) e)))) (sym (ne_eqb (get_or s k 0) 45 n)) ∙ sym (ap no_hyphen (word_next s k e h l)) ∙ u.same;
-        }
-
-    pub hyphen_found : (k : ℕ) → Unhyphened s i e k → k < e → get_or s k 0 ≡ 45 → false ≡ no_hyphen (word s i e)
-    unfolding no_hyphen each
-    hyphen_found k u h n = ap (λ (c : ℕ). no_hyphen (c ∷ word s (k + 1) e)) (sym n) ∙ sym (ap no_hyphen (word_next s k e h l)) ∙ u.same
-
-    pub hyphen_free : (k : ℕ) → Unhyphened s i e k → e ≤ k → true ≡ no_hyphen (word s i e)
-    unfolding no_hyphen each
-    hyphen_free k u h = let z : 0 ≡ e - k = omega arith in ap (λ (n : ℕ). no_hyphen (take n (drop k s))) z ∙ u.same
 
 -- ---- a part, and what follows it
 
@@ -231,7 +201,7 @@ tail_more : (n : Name) (p q : Part) → tail ((n ++ (p ∷ [])) ++ (q ∷ [])) �
 tail_more [] p q = refl
 tail_more (o ∷ n) p q = refl
 
-shape_whole : (n : Name) (p : Part) → Separated (tail (n ++ (p ∷ []))) → shape_tag (length (n ++ (p ∷ []))) (all_short (n ++ (p ∷ []))) (all_plain (n ++ (p ∷ []))) (all_points (tail (n ++ (p ∷ [])))) ≡ choose (tag_name_fits (n ++ (p ∷ []))) (name_tag (n ++ (p ∷ []))) 0
+shape_whole : (n : Name) (p : Part) → Separated (tail (n ++ (p ∷ []))) → shape_tag (length (n ++ (p ∷ []))) (all_short (n ++ (p ∷ []))) (all_plain (n ++ (p ∷ []))) (all_points (tail (n ++ (p ∷ [])))) ≡ choose (tag_name_fits (n ++ (p ∷ []))) (Some (name_tag (n ++ (p ∷ [])))) None
 shape_whole [] p h = shape_is p [] h
 shape_whole (o ∷ n) p h = shape_is o (n ++ (p ∷ [])) h
 
@@ -266,31 +236,21 @@ fits_nothing n t (for_tag K) = t
 fits_nothing n t (for_attribute m ps K) = (not_or (attribute_name_fits n) _ t).0
 fits_nothing n t (for_closing m ps ks K) = t
 
-tag_positive : (n : Name) → (name_tag n ≡ 0 → ⊥)
-unfolding name_tag choose
-tag_positive [] e = omega arith
-tag_positive (p ∷ []) e = omega arith
-tag_positive (p ∷ part d v ∷ ps) e = on (eqb d 58) e
-  where
-    on : (b : Bool) → ◌≡◌ {A = ℕ} (choose b 0x42 0x41) 0 → ⊥
-    on true f = omega arith
-    on false f = omega arith
-
-fits_by : (n : Name) (t : ℕ) → t ≡ choose (tag_name_fits n) (name_tag n) 0 → (t ≡ 0 → ⊥) → T (tag_name_fits n) × (t ≡ name_tag n)
+fits_by : (n : Name) (t : ℕ) → Some t ≡ choose (tag_name_fits n) (Some (name_tag n)) None → T (tag_name_fits n) × (t ≡ name_tag n)
 unfolding choose
 fits_by n t = on (tag_name_fits n)
   where
-    on : (b : Bool) → t ≡ choose b (name_tag n) 0 → (t ≡ 0 → ⊥) → T b × (t ≡ name_tag n)
-    on true e z = (tt, e)
-    on false e z = absurd (z e)
+    on : (b : Bool) → Some t ≡ choose b (Some (name_tag n)) None → T b × (t ≡ name_tag n)
+    on true e = (tt, cc)
+    on false e = cc
 
-misfit_by : (n : Name) (t : ℕ) → t ≡ choose (tag_name_fits n) (name_tag n) 0 → t ≡ 0 → T (not (tag_name_fits n))
+misfit_by : (n : Name) → None ≡ choose (tag_name_fits n) (Some (name_tag n)) None → T (not (tag_name_fits n))
 unfolding choose
-misfit_by n t = on (tag_name_fits n)
+misfit_by n = on (tag_name_fits n)
   where
-    on : (b : Bool) → t ≡ choose b (name_tag n) 0 → t ≡ 0 → T (not b)
-    on true e z = absurd (tag_positive n (sym e ∙ z))
-    on false e z = tt
+    on : (b : Bool) → None ≡ choose b (Some (name_tag n)) None → T (not b)
+    on true e = cc
+    on false e = tt
 
 module _ (s : Bytes) (i : ℕ) where
   pub naming_first : i < length s → letter (get_or s i 0) ≡ true → Naming s i i 1 true true true
@@ -369,7 +329,7 @@ module _ (s : Bytes) (i : ℕ) where
               go (behind_sep longer r.sep x) (in_ident longer r.sep (get_or s r.next 0 ∷ []) x) (get_or s r.next 0) (drop (r.next + 1) s) (part_begins longer r.sep x (get_or s r.next 0) y);
         }
 
-    shape_here : (t : ℕ) → t ≡ shape_tag parts (a && leb (r.end - k) 128) (b && f) c → t ≡ choose (tag_name_fits longer) (name_tag longer) 0
+    shape_here : (t : Option ℕ) → t ≡ shape_tag parts (a && leb (r.end - k) 128) (b && f) c → t ≡ choose (tag_name_fits longer) (Some (name_tag longer)) None
     unfolding longer
     shape_here t e =
         e ∙
@@ -383,11 +343,11 @@ module _ (s : Bytes) (i : ℕ) where
     unfolding longer
     leads_last z x = u.leads x ∙ read_last s k r u.inside p z u.before u.sign x
 
-    pub name_found : r.sep ≡ 0 → (t : ℕ) → t ≡ shape_tag parts (a && leb (r.end - k) 128) (b && f) c → (t ≡ 0 → ⊥) → Scanned s i (F.Found t r.next)
+    pub name_found : r.sep ≡ 0 → (o : Option ℕ) {t : ℕ} → o ≡ shape_tag parts (a && leb (r.end - k) 128) (b && f) c → o ≡ Some t → Scanned s i (Some record { tag = t; end = r.next })
     unfolding Scanned longer
-    name_found z t e n =
+    name_found z o {t} e n =
         let j = unsigned s p.behind z in
-        let g = fits_by longer t (shape_here t e) n in
+        let g = fits_by longer t (sym n ∙ shape_here o e) in
         record {
           after = omega (arith, u.after, p.ran.after, j.0.after);
           inside = j.0.inside;
@@ -399,14 +359,14 @@ module _ (s : Bytes) (i : ℕ) where
         }
 
     -- none of 01's names
-    pub name_misfit : r.sep ≡ 0 → (t : ℕ) → t ≡ shape_tag parts (a && leb (r.end - k) 128) (b && f) c → t ≡ 0 → Scanned s i F.Nothing
+    pub name_misfit : r.sep ≡ 0 → (o : Option ℕ) → o ≡ shape_tag parts (a && leb (r.end - k) 128) (b && f) c → o ≡ None → Scanned s i None
     unfolding Scanned named_if
-    name_misfit z t e n x =
-        let g = fits_nothing longer (misfit_by longer t (shape_here t e) n) x in
+    name_misfit z o e n x =
+        let g = fits_nothing longer (misfit_by longer (sym n ∙ shape_here o e)) x in
         leads_last z x ∙ ap (λ (m : State). outcome m (drop r.next s)) (passed (fits x longer) (named x longer) refused g) ∙ refused_never (drop r.next s)
 
     -- the text ends behind a sign
-    pub name_cut : (r.sep ≡ 0 → ⊥) → length s ≤ r.next → Scanned s i F.Nothing
+    pub name_cut : (r.sep ≡ 0 → ⊥) → length s ≤ r.next → Scanned s i None
     unfolding Scanned
     name_cut z l x =
         u.leads x ∙
@@ -415,7 +375,7 @@ module _ (s : Bytes) (i : ℕ) where
         (unfold outcome at_end in refl)
 
     -- no letter behind a sign
-    pub name_broken : (r.sep ≡ 0 → ⊥) → (t : Bool) → r.next < length s → t ≡ letter (get_or s r.next 0) → not t ≡ true → Scanned s i F.Nothing
+    pub name_broken : (r.sep ≡ 0 → ⊥) → (t : Bool) → r.next < length s → t ≡ letter (get_or s r.next 0) → not t ≡ true → Scanned s i None
     unfolding Scanned Ends
     name_broken z t l e g x =
         let m : Name = u.before ++ (part u.sign (word s k r.end) ∷ []) in
@@ -430,12 +390,12 @@ module _ (s : Bytes) (i : ℕ) where
   -- ---- one identifier alone
 
   module _ (h : i < length s) (t : letter (get_or s i 0) ≡ true) (r : NamePart) (p : PartAt s i r) (z : r.sep ≡ 0) where
-    pub ident_found : r.end - i ≤ 128 → Scanned s i (F.Found 0x40 r.next)
+    pub ident_found : r.end - i ≤ 128 → Scanned s i (Some record { tag = 0x40; end = r.next })
     ident_found l =
-        name_found i 1 true true true (no_hyphen (word s i r.end)) r (naming_first h t) p refl z 0x40
-        (shape_one 1 (leb (r.end - i) 128) (no_hyphen (word s i r.end)) true (ap not (le-leb (r.end - i) 128 l)) refl) (λ e. omega arith)
+        name_found i 1 true true true (no_hyphen (word s i r.end)) r (naming_first h t) p refl z (Some 0x40)
+        (shape_one 1 (leb (r.end - i) 128) (no_hyphen (word s i r.end)) true (ap not (le-leb (r.end - i) 128 l)) refl) refl
 
-    pub ident_long : 128 < r.end - i → Scanned s i F.Nothing
+    pub ident_long : 128 < r.end - i → Scanned s i None
     ident_long l =
-        name_misfit i 1 true true true (no_hyphen (word s i r.end)) r (naming_first h t) p refl z 0
+        name_misfit i 1 true true true (no_hyphen (word s i r.end)) r (naming_first h t) p refl z None
         (shape_long 1 (leb (r.end - i) 128) (no_hyphen (word s i r.end)) true (ap not (lt-leb (r.end - i) 128 l))) refl

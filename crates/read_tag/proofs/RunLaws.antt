@@ -1,14 +1,17 @@
--- A run grows by a byte, and ends. Main statements: `next`, `running_none`, `tested_on`, `tested_stops`, `ran_out`. Assumes nothing.
+-- A run grows by a byte, and ends. Main statements: `next`, `running_none`, `tested_on`, `tested_stops`, `ran_out`,
+-- `any_some`. Assumes nothing.
 use Prim.Native.Nat.{ℕ, ◌+◌, ◌-◌, ◌≤◌, ◌<◌}
 use mathlib.Core.Path.{◌≡◌, refl, sym, ◌∙◌, ap, subst}
-use mathlib.Core.Bool.{Bool, true, false, not, false≢true}
+use mathlib.Core.Bool.{Bool, true, false, ◌&&◌, ◌||◌, not, false≢true}
 use mathlib.Core.List.{[], ◌∷◌, ◌++◌}
 use native.Mathlib.Omega.{arith}
 use native.Mathlib.Numerals.{add-one}
 use lib.Dec.{T}
 use lib.ListN.{length, take, drop, get_or, length-append, drop_of_length-le}
 use lib.Seq.{drop-cons, take_at}
+use Rattle.std.specs.List.{list_any}
 use Rattle.field.specs.Bytes.{Bytes}
+use Rattle.grammar.specs.Signs.{each, some_byte}
 use Rattle.grammar.specs.Grammar.{Ends, Run, run_ends, run_on}
 use Rattle.read_tag.specs.Runs.{Ran}
 
@@ -80,3 +83,14 @@ module _ (p : ℕ → Bool) where
 
     pub tested_stops : (k : ℕ) (b : Bool) → Running p s i k → k < length s → b ≡ p (get_or s k 0) → not b ≡ true → Ran p s i k
     tested_stops k b u h e f = ran_stops k u h (subst T (sym (ap not (sym e) ∙ f)) tt)
+
+-- ---- a byte of the sort somewhere
+
+pub any_some : (p : ℕ → Bool) (s : Bytes) → list_any p s ≡ some_byte p s
+unfolding each
+any_some p [] = refl
+any_some p (c ∷ s) = on (p c) (any_some p s)
+  where
+    on : (b : Bool) → list_any p s ≡ some_byte p s → (b || list_any p s) ≡ not (not b && each (λ d. not (p d)) s)
+    on true e = refl
+    on false e = e

@@ -8,6 +8,7 @@ use native.Mathlib.Omega.{arith}
 use borrow.Author.Tests.{le-leb, lt-leb, eq-eqb, ne_eqb}
 use lib.Dec.{T, leb, eqb, leb→le, nleb→lt}
 use lib.ListN.{length}
+use Rattle.std.specs.Prelude.{Option, Some, None}
 use Rattle.field.specs.Bytes.{Bytes}
 use Rattle.grammar.specs.Signs.{choose, separator}
 use Rattle.grammar.specs.Syntax.{Part, part, Name, short, no_hyphen, member_parts, attribute_name_fits, member_fits, tag_name_fits}
@@ -31,7 +32,7 @@ members_are (part d w ∷ ps) =
     shuffle (eqb d 46) (short w) (no_hyphen w) (all_points ps) (all_short ps) (all_plain ps)
 
 -- a member: the test as the grammar has it and as the code has it
-member_bits : (s h l p t g : Bool) → ◌≡◌ {A = ℕ} (choose (s && t) (choose p (choose ((h && g) && l) 0x41 0) 0) 0) (choose (((s && h) && l) && (p && (t && g))) 0x41 0)
+member_bits : (s h l p t g : Bool) → ◌≡◌ {A = Option ℕ} (choose (s && t) (choose p (choose ((h && g) && l) (Some 0x41) None) None) None) (choose (((s && h) && l) && (p && (t && g))) (Some 0x41) None)
 unfolding choose
 member_bits true true true true true true = refl
 member_bits true true true true true false = refl
@@ -49,13 +50,13 @@ member_bits true false l false true g = refl
 member_bits true false l false false g = refl
 member_bits false h l p t g = refl
 
-one_bits : (s : Bool) → ◌≡◌ {A = ℕ} (choose (s && true) 0x40 0) (choose (s || false) 0x40 0)
+one_bits : (s : Bool) → ◌≡◌ {A = Option ℕ} (choose (s && true) (Some 0x40) None) (choose (s || false) (Some 0x40) None)
 unfolding choose
 one_bits true = refl
 one_bits false = refl
 
 -- two parts and a colon
-colon_bits : (s t : Bool) (x : Bool) → ◌≡◌ {A = ℕ} (choose (s && (t && true)) 0x42 0) (choose (((true && s) && t) || (x && (false && true))) 0x42 0)
+colon_bits : (s t : Bool) (x : Bool) → ◌≡◌ {A = Option ℕ} (choose (s && (t && true)) (Some 0x42) None) (choose (((true && s) && t) || (x && (false && true))) (Some 0x42) None)
 unfolding choose
 colon_bits true true x = refl
 colon_bits true false true = refl
@@ -64,7 +65,7 @@ colon_bits false t true = refl
 colon_bits false t false = refl
 
 -- two parts and a point
-point_bits : (s t h g : Bool) → ◌≡◌ {A = ℕ} (choose (s && (t && true)) (choose ((h && (g && true)) && true) 0x41 0) 0) (choose (((false && s) && t) || (((s && h) && true) && (((true && t) && g) && true))) 0x41 0)
+point_bits : (s t h g : Bool) → ◌≡◌ {A = Option ℕ} (choose (s && (t && true)) (choose ((h && (g && true)) && true) (Some 0x41) None) None) (choose (((false && s) && t) || (((s && h) && true) && (((true && t) && g) && true))) (Some 0x41) None)
 unfolding choose
 point_bits true true true true = refl
 point_bits true true true false = refl
@@ -73,11 +74,11 @@ point_bits true false true g = refl
 point_bits true false false g = refl
 point_bits false t h g = refl
 
-two_points : (a : ℕ) (w v : Bytes) → shape_tag 2 (all_short (part a w ∷ part 46 v ∷ [])) (all_plain (part a w ∷ part 46 v ∷ [])) (all_points (part 46 v ∷ [])) ≡ choose (tag_name_fits (part a w ∷ part 46 v ∷ [])) (name_tag (part a w ∷ part 46 v ∷ [])) 0
+two_points : (a : ℕ) (w v : Bytes) → shape_tag 2 (all_short (part a w ∷ part 46 v ∷ [])) (all_plain (part a w ∷ part 46 v ∷ [])) (all_points (part 46 v ∷ [])) ≡ choose (tag_name_fits (part a w ∷ part 46 v ∷ [])) (Some (name_tag (part a w ∷ part 46 v ∷ []))) None
 unfolding shape_tag all_short all_plain all_points tag_name_fits attribute_name_fits member_fits member_parts name_tag choose
 two_points a w v = point_bits (short w) (short v) (no_hyphen w) (no_hyphen v)
 
-two_colon : (a : ℕ) (w v : Bytes) → shape_tag 2 (all_short (part a w ∷ part 58 v ∷ [])) (all_plain (part a w ∷ part 58 v ∷ [])) (all_points (part 58 v ∷ [])) ≡ choose (tag_name_fits (part a w ∷ part 58 v ∷ [])) (name_tag (part a w ∷ part 58 v ∷ [])) 0
+two_colon : (a : ℕ) (w v : Bytes) → shape_tag 2 (all_short (part a w ∷ part 58 v ∷ [])) (all_plain (part a w ∷ part 58 v ∷ [])) (all_points (part 58 v ∷ [])) ≡ choose (tag_name_fits (part a w ∷ part 58 v ∷ [])) (Some (name_tag (part a w ∷ part 58 v ∷ []))) None
 unfolding shape_tag all_short all_plain all_points tag_name_fits attribute_name_fits member_fits member_parts name_tag choose
 two_colon a w v = colon_bits (short w) (short v) ((short w && no_hyphen w) && true)
 
@@ -98,62 +99,62 @@ six_eight k = on (leb (suc k) 6) refl
     on true e = let l = leb→le (suc k) 6 (subst T (sym e) tt) in le-leb (suc (suc (suc k))) 8 (omega arith) ∙ sym e
     on false e = let l = nleb→lt (suc k) 6 (subst (λ (b : Bool). T (not b)) (sym e) tt) in lt-leb (suc (suc (suc k))) 8 (omega arith) ∙ sym e
 
-counted : (k : ℕ) (s h p : Bool) → shape_tag (suc (suc (suc k))) s h p ≡ choose s (choose p (choose (h && leb (suc k) 6) 0x41 0) 0) 0
+counted : (k : ℕ) (s h p : Bool) → shape_tag (suc (suc (suc k))) s h p ≡ choose s (choose p (choose (h && leb (suc k) 6) (Some 0x41) None) None) None
 unfolding shape_tag choose
 counted k s h p =
-    ap (λ (z : Bool). choose s (choose z 0x40 (choose p (choose (h && leb (suc (suc (suc k))) 8) 0x41 0) (choose (eqb (suc (suc (suc k))) 2) 0x42 0))) 0) (ne_eqb (suc (suc (suc k))) 1 (λ z. omega arith)) ∙
-    ap (λ (z : Bool). choose s (choose p (choose (h && leb (suc (suc (suc k))) 8) 0x41 0) (choose z 0x42 0)) 0) (ne_eqb (suc (suc (suc k))) 2 (λ z. omega arith)) ∙
-    ap (λ (z : Bool). choose s (choose p (choose (h && z) 0x41 0) 0) 0) (six_eight k)
+    ap (λ (z : Bool). choose s (choose z (Some 0x40) (choose p (choose (h && leb (suc (suc (suc k))) 8) (Some 0x41) None) (choose (eqb (suc (suc (suc k))) 2) (Some 0x42) None))) None) (ne_eqb (suc (suc (suc k))) 1 (λ z. omega arith)) ∙
+    ap (λ (z : Bool). choose s (choose p (choose (h && leb (suc (suc (suc k))) 8) (Some 0x41) None) (choose z (Some 0x42) None)) None) (ne_eqb (suc (suc (suc k))) 2 (λ z. omega arith)) ∙
+    ap (λ (z : Bool). choose s (choose p (choose (h && z) (Some 0x41) None) None) None) (six_eight k)
 
-more_points : (a : ℕ) (w v : Bytes) (q : Part) (qs : Name) → shape_tag (suc (suc (suc (length qs)))) (all_short (part a w ∷ part 46 v ∷ q ∷ qs)) (all_plain (part a w ∷ part 46 v ∷ q ∷ qs)) (all_points (part 46 v ∷ q ∷ qs)) ≡ choose (tag_name_fits (part a w ∷ part 46 v ∷ q ∷ qs)) (name_tag (part a w ∷ part 46 v ∷ q ∷ qs)) 0
+more_points : (a : ℕ) (w v : Bytes) (q : Part) (qs : Name) → shape_tag (suc (suc (suc (length qs)))) (all_short (part a w ∷ part 46 v ∷ q ∷ qs)) (all_plain (part a w ∷ part 46 v ∷ q ∷ qs)) (all_points (part 46 v ∷ q ∷ qs)) ≡ choose (tag_name_fits (part a w ∷ part 46 v ∷ q ∷ qs)) (Some (name_tag (part a w ∷ part 46 v ∷ q ∷ qs))) None
 unfolding tag_name_fits attribute_name_fits member_fits name_tag choose all_short all_plain
 more_points a w v q qs =
     let L : Name = part 46 v ∷ q ∷ qs in
     counted (length qs) (all_short (part a w ∷ L)) (all_plain (part a w ∷ L)) (all_points L) ∙
     member_bits (short w) (no_hyphen w) (leb (suc (length qs)) 6) (all_points L) (all_short L) (all_plain L) ∙
-    ap (λ (z : Bool). choose (((short w && no_hyphen w) && leb (suc (length qs)) 6) && z) 0x41 0) (sym (members_are L))
+    ap (λ (z : Bool). choose (((short w && no_hyphen w) && leb (suc (length qs)) 6) && z) (Some 0x41) None) (sym (members_are L))
 
-more_colons : (a : ℕ) (w v : Bytes) (q : Part) (qs : Name) → shape_tag (suc (suc (suc (length qs)))) (all_short (part a w ∷ part 58 v ∷ q ∷ qs)) (all_plain (part a w ∷ part 58 v ∷ q ∷ qs)) (all_points (part 58 v ∷ q ∷ qs)) ≡ choose (tag_name_fits (part a w ∷ part 58 v ∷ q ∷ qs)) (name_tag (part a w ∷ part 58 v ∷ q ∷ qs)) 0
+more_colons : (a : ℕ) (w v : Bytes) (q : Part) (qs : Name) → shape_tag (suc (suc (suc (length qs)))) (all_short (part a w ∷ part 58 v ∷ q ∷ qs)) (all_plain (part a w ∷ part 58 v ∷ q ∷ qs)) (all_points (part 58 v ∷ q ∷ qs)) ≡ choose (tag_name_fits (part a w ∷ part 58 v ∷ q ∷ qs)) (Some (name_tag (part a w ∷ part 58 v ∷ q ∷ qs))) None
 unfolding tag_name_fits attribute_name_fits member_fits name_tag choose all_points
 more_colons a w v q qs =
     let L : Name = part 58 v ∷ q ∷ qs in
-    let c : ◌≡◌ {A = ℕ} (choose (all_short (part a w ∷ L)) 0 0) 0 = same_both (all_short (part a w ∷ L)) in
+    let c : ◌≡◌ {A = Option ℕ} (choose (all_short (part a w ∷ L)) None None) None = same_both (all_short (part a w ∷ L)) in
     let d : member_parts L ≡ (all_points L && (all_short L && all_plain L)) = members_are L in
     counted (length qs) (all_short (part a w ∷ L)) (all_plain (part a w ∷ L)) (all_points L) ∙ c ∙
     sym (nothing ((short w && no_hyphen w) && leb (suc (length qs)) 6)) ∙
-    ap (λ (z : Bool). choose (((short w && no_hyphen w) && leb (suc (length qs)) 6) && z) 0x42 0) (sym d)
+    ap (λ (z : Bool). choose (((short w && no_hyphen w) && leb (suc (length qs)) 6) && z) (Some 0x42) None) (sym d)
   where
-    same_both : (b : Bool) → ◌≡◌ {A = ℕ} (choose b 0 0) 0
+    same_both : (b : Bool) → ◌≡◌ {A = Option ℕ} (choose b None None) None
     same_both true = refl
     same_both false = refl
 
-    nothing : (b : Bool) → ◌≡◌ {A = ℕ} (choose (b && false) 0x42 0) 0
+    nothing : (b : Bool) → ◌≡◌ {A = Option ℕ} (choose (b && false) (Some 0x42) None) None
     nothing true = refl
     nothing false = refl
 
--- whatever name was counted: its tag where it is one of 01's, else 0
-pub shape_is : (p : Part) (ps : Name) → Separated ps → shape_tag (length (p ∷ ps)) (all_short (p ∷ ps)) (all_plain (p ∷ ps)) (all_points ps) ≡ choose (tag_name_fits (p ∷ ps)) (name_tag (p ∷ ps)) 0
+-- whatever name was counted: its tag where it is one of 01's, else none
+pub shape_is : (p : Part) (ps : Name) → Separated ps → shape_tag (length (p ∷ ps)) (all_short (p ∷ ps)) (all_plain (p ∷ ps)) (all_points ps) ≡ choose (tag_name_fits (p ∷ ps)) (Some (name_tag (p ∷ ps))) None
 unfolding Separated
 shape_is (part a w) [] h = unfold shape_tag all_short all_plain all_points tag_name_fits attribute_name_fits member_fits name_tag choose in one_bits (short w)
 shape_is (part a w) (part e v ∷ []) h =
-    by_sign e h.0 (λ (d : ℕ). shape_tag 2 (all_short (part a w ∷ part d v ∷ [])) (all_plain (part a w ∷ part d v ∷ [])) (all_points (part d v ∷ [])) ≡ choose (tag_name_fits (part a w ∷ part d v ∷ [])) (name_tag (part a w ∷ part d v ∷ [])) 0) (two_points a w v) (two_colon a w v)
+    by_sign e h.0 (λ (d : ℕ). shape_tag 2 (all_short (part a w ∷ part d v ∷ [])) (all_plain (part a w ∷ part d v ∷ [])) (all_points (part d v ∷ [])) ≡ choose (tag_name_fits (part a w ∷ part d v ∷ [])) (Some (name_tag (part a w ∷ part d v ∷ []))) None) (two_points a w v) (two_colon a w v)
 shape_is (part a w) (part e v ∷ q ∷ qs) h =
-    by_sign e h.0 (λ (d : ℕ). shape_tag (suc (suc (suc (length qs)))) (all_short (part a w ∷ part d v ∷ q ∷ qs)) (all_plain (part a w ∷ part d v ∷ q ∷ qs)) (all_points (part d v ∷ q ∷ qs)) ≡ choose (tag_name_fits (part a w ∷ part d v ∷ q ∷ qs)) (name_tag (part a w ∷ part d v ∷ q ∷ qs)) 0) (more_points a w v q qs) (more_colons a w v q qs)
+    by_sign e h.0 (λ (d : ℕ). shape_tag (suc (suc (suc (length qs)))) (all_short (part a w ∷ part d v ∷ q ∷ qs)) (all_plain (part a w ∷ part d v ∷ q ∷ qs)) (all_points (part d v ∷ q ∷ qs)) ≡ choose (tag_name_fits (part a w ∷ part d v ∷ q ∷ qs)) (Some (name_tag (part a w ∷ part d v ∷ q ∷ qs))) None) (more_points a w v q qs) (more_colons a w v q qs)
 
 -- ---- the tests of the code, one after the other
-by_bits : Bool → Bool → Bool → Bool → Bool → ℕ
-by_bits s a p m b = choose s (choose a 0x40 (choose p (choose m 0x41 0) (choose b 0x42 0))) 0
+by_bits : Bool → Bool → Bool → Bool → Bool → Option ℕ
+by_bits s a p m b = choose s (choose a (Some 0x40) (choose p (choose m (Some 0x41) None) (choose b (Some 0x42) None))) None
 
 module _ (n : ℕ) (s h p : Bool) where
   all_bits : (x a q m b : Bool) → s ≡ x → eqb n 1 ≡ a → p ≡ q → (h && leb n 8) ≡ m → eqb n 2 ≡ b → by_bits x a q m b ≡ shape_tag n s h p
   unfolding by_bits shape_tag
   all_bits x a q m b i j k l o =
       sym
-      (ap (λ (z : Bool). choose z (choose (eqb n 1) 0x40 (choose p (choose (h && leb n 8) 0x41 0) (choose (eqb n 2) 0x42 0))) 0) i ∙
-      ap (λ (z : Bool). choose x (choose z 0x40 (choose p (choose (h && leb n 8) 0x41 0) (choose (eqb n 2) 0x42 0))) 0) j ∙
-      ap (λ (z : Bool). choose x (choose a 0x40 (choose z (choose (h && leb n 8) 0x41 0) (choose (eqb n 2) 0x42 0))) 0) k ∙
-      ap (λ (z : Bool). choose x (choose a 0x40 (choose q (choose z 0x41 0) (choose (eqb n 2) 0x42 0))) 0) l ∙
-      ap (λ (z : Bool). choose x (choose a 0x40 (choose q (choose m 0x41 0) (choose z 0x42 0))) 0) o)
+      (ap (λ (z : Bool). choose z (choose (eqb n 1) (Some 0x40) (choose p (choose (h && leb n 8) (Some 0x41) None) (choose (eqb n 2) (Some 0x42) None))) None) i ∙
+      ap (λ (z : Bool). choose x (choose z (Some 0x40) (choose p (choose (h && leb n 8) (Some 0x41) None) (choose (eqb n 2) (Some 0x42) None))) None) j ∙
+      ap (λ (z : Bool). choose x (choose a (Some 0x40) (choose z (choose (h && leb n 8) (Some 0x41) None) (choose (eqb n 2) (Some 0x42) None))) None) k ∙
+      ap (λ (z : Bool). choose x (choose a (Some 0x40) (choose q (choose z (Some 0x41) None) (choose (eqb n 2) (Some 0x42) None))) None) l ∙
+      ap (λ (z : Bool). choose x (choose a (Some 0x40) (choose q (choose m (Some 0x41) None) (choose z (Some 0x42) None))) None) o)
 
   held : (b : Bool) → not b ≡ false → b ≡ true
   held true e = refl
@@ -163,28 +164,28 @@ module _ (n : ℕ) (s h p : Bool) where
   lost true e = sym e
   lost false e = refl
 
-  pub shape_long : not s ≡ true → ◌≡◌ {A = ℕ} 0 (shape_tag n s h p)
+  pub shape_long : not s ≡ true → ◌≡◌ {A = Option ℕ} None (shape_tag n s h p)
   unfolding by_bits choose
   shape_long e = all_bits false (eqb n 1) p (h && leb n 8) (eqb n 2) (lost s e) refl refl refl refl
 
   module _ (e : not s ≡ false) where
-    pub shape_one : n ≡ 1 → ◌≡◌ {A = ℕ} 0x40 (shape_tag n s h p)
+    pub shape_one : n ≡ 1 → ◌≡◌ {A = Option ℕ} (Some 0x40) (shape_tag n s h p)
     unfolding by_bits choose
     shape_one f = all_bits true true p (h && leb n 8) (eqb n 2) (held s e) (eq-eqb n 1 f) refl refl refl
 
     module _ (f : n ≡ 1 → ⊥) where
-      pub shape_member : p ≡ true → (h && leb n 8) ≡ true → ◌≡◌ {A = ℕ} 0x41 (shape_tag n s h p)
+      pub shape_member : p ≡ true → (h && leb n 8) ≡ true → ◌≡◌ {A = Option ℕ} (Some 0x41) (shape_tag n s h p)
       unfolding by_bits choose
       shape_member i j = all_bits true false true true (eqb n 2) (held s e) (ne_eqb n 1 f) i j refl
 
-      pub shape_no_member : p ≡ true → (h && leb n 8) ≡ false → ◌≡◌ {A = ℕ} 0 (shape_tag n s h p)
+      pub shape_no_member : p ≡ true → (h && leb n 8) ≡ false → ◌≡◌ {A = Option ℕ} None (shape_tag n s h p)
       unfolding by_bits choose
       shape_no_member i j = all_bits true false true false (eqb n 2) (held s e) (ne_eqb n 1 f) i j refl
 
-      pub shape_two : p ≡ false → n ≡ 2 → ◌≡◌ {A = ℕ} 0x42 (shape_tag n s h p)
+      pub shape_two : p ≡ false → n ≡ 2 → ◌≡◌ {A = Option ℕ} (Some 0x42) (shape_tag n s h p)
       unfolding by_bits choose
       shape_two i j = all_bits true false false (h && leb n 8) true (held s e) (ne_eqb n 1 f) i refl (eq-eqb n 2 j)
 
-      pub shape_none : p ≡ false → (n ≡ 2 → ⊥) → ◌≡◌ {A = ℕ} 0 (shape_tag n s h p)
+      pub shape_none : p ≡ false → (n ≡ 2 → ⊥) → ◌≡◌ {A = Option ℕ} None (shape_tag n s h p)
       unfolding by_bits choose
       shape_none i j = all_bits true false false (h && leb n 8) false (held s e) (ne_eqb n 1 f) i refl (ne_eqb n 2 j)

@@ -10,6 +10,7 @@ use native.Mathlib.Numerals.{add-one}
 use lib.Dec.{T, eqb, eqb→eq, not_T}
 use lib.ListN.{length, take, drop, get_or, length-append, length-drop, drop_of_length-le}
 use lib.Seq.{drop-cons, take_at, length-take-le}
+use Rattle.std.specs.Prelude.{Some, None}
 use Rattle.field.specs.Bytes.{Bytes}
 use Rattle.grammar.specs.Signs.{snoc, quote, quoted_byte, source_byte}
 use Rattle.grammar.specs.Known.{known_of}
@@ -20,7 +21,6 @@ use Rattle.grammar.proofs.Complete.{go, sourced, brace_opens, brace_closes, sour
 use Rattle.grammar.proofs.Letters.{run_is}
 use Rattle.read_tag.specs.Runs.{Ran}
 use Rattle.read_tag.specs.Sources.{Sourced}
-use Rattle.read_tag.specs.declared.source.Source.TheVariants as F
 
 pub record Sourcing (s : Bytes) (i k d : ℕ) : Type 0 where
   pub after : i ≤ k
@@ -71,7 +71,7 @@ module _ (s : Bytes) (i : ℕ) where
       further k (suc d) (k + 1) (suc d - 1) (125 ∷ []) u (omega arith) (omega (arith, u.small)) n (omega arith)
       (λ w h K. ap (outcome (in_source (suc d) w h K)) n ∙ brace_closes d w h K (drop (k + 1) s) ∙ ap (λ (y : ℕ). outcome (in_source y (snoc w 125) h K) (drop (k + 1) s)) z)
 
-  pub source_found : (k d : ℕ) → Sourcing s i k d → k < length s → get_or s k 0 ≡ 125 → d ≡ 0 → Sourced s i (F.Ends k)
+  pub source_found : (k d : ℕ) → Sourcing s i k d → k < length s → get_or s k 0 ≡ 125 → d ≡ 0 → Sourced s i (Some k)
   unfolding Sourced
   source_found k d u l e z =
       let n : drop k s ≡ 125 ∷ drop (k + 1) s = next k l ∙ ap (λ (y : ℕ). y ∷ drop (k + 1) s) e in
@@ -87,7 +87,7 @@ module _ (s : Bytes) (i : ℕ) where
       )
 
   -- the text ends
-  pub source_out : (k d : ℕ) → Sourcing s i k d → length s ≤ k → Sourced s i F.Nothing
+  pub source_out : (k d : ℕ) → Sourcing s i k d → length s ≤ k → Sourced s i None
   unfolding Sourced
   source_out k d u l h K = u.leads h K ∙ ap (outcome (in_source d u.read h K)) (drop_of_length-le s l) ∙ (unfold outcome at_end in refl)
 
@@ -101,7 +101,7 @@ module _ (s : Bytes) (i : ℕ) where
   other : (c e : ℕ) → (c ≡ e → ⊥) → T (not (eqb c e))
   other c e n = not_T (eqb c e) (λ t. n (eqb→eq c e t))
 
-  pub source_barred : (k d : ℕ) (a b : Bool) → Sourcing s i k d → k < length s → a ≡ source_byte (get_or s k 0) → a ≡ false → (get_or s k 0 ≡ 125 → ⊥) → (get_or s k 0 ≡ 123 → ⊥) → b ≡ quote (get_or s k 0) → not b ≡ true → Sourced s i F.Nothing
+  pub source_barred : (k d : ℕ) (a b : Bool) → Sourcing s i k d → k < length s → a ≡ source_byte (get_or s k 0) → a ≡ false → (get_or s k 0 ≡ 125 → ⊥) → (get_or s k 0 ≡ 123 → ⊥) → b ≡ quote (get_or s k 0) → not b ≡ true → Sourced s i None
   unfolding Sourced
   source_barred k d a b u l e t x y f g h K =
       let c : ℕ = get_or s k 0 in
@@ -133,7 +133,7 @@ module _ (s : Bytes) (i : ℕ) where
   yes false c e f = absurd (false≢true (sym f))
 
   -- not closed where the text ends
-  pub source_open : (k d e : ℕ) (b : Bool) → Sourcing s i k d → k < length s → b ≡ quote (get_or s k 0) → not b ≡ false → Ran (quoted_byte (get_or s k 0)) s (k + 1) e → length s ≤ e → Sourced s i F.Nothing
+  pub source_open : (k d e : ℕ) (b : Bool) → Sourcing s i k d → k < length s → b ≡ quote (get_or s k 0) → not b ≡ false → Ran (quoted_byte (get_or s k 0)) s (k + 1) e → length s ≤ e → Sourced s i None
   unfolding Sourced
   source_open k d e b u l f g r m h K =
       let x : Bytes = snoc u.read (get_or s k 0) ++ take (e - (k + 1)) (drop (k + 1) s) in
@@ -152,7 +152,7 @@ module _ (s : Bytes) (i : ℕ) where
   ended_at e p m x = subst (Ends p) (next e m) x
 
   -- not closed on its line, or a backslash
-  pub source_broken : (k d e : ℕ) (b : Bool) → Sourcing s i k d → k < length s → b ≡ quote (get_or s k 0) → not b ≡ false → Ran (quoted_byte (get_or s k 0)) s (k + 1) e → e < length s → (get_or s e 0 ≡ get_or s k 0 → ⊥) → Sourced s i F.Nothing
+  pub source_broken : (k d e : ℕ) (b : Bool) → Sourcing s i k d → k < length s → b ≡ quote (get_or s k 0) → not b ≡ false → Ran (quoted_byte (get_or s k 0)) s (k + 1) e → e < length s → (get_or s e 0 ≡ get_or s k 0 → ⊥) → Sourced s i None
   unfolding Sourced
   source_broken k d e b u l f g r m n h K =
       let q : ℕ = get_or s k 0 in

@@ -8,24 +8,24 @@ use native.Mathlib.Omega.{arith}
 use lib.Dec.{T, eqb, eqb→eq, not_T}
 use lib.ListN.{length, take, drop, get_or, length-append, length-drop, drop_of_length-le}
 use lib.Seq.{length-take-le}
+use Rattle.std.specs.Prelude.{Option, None, Some}
 use Rattle.field.specs.Bytes.{Bytes, ascii, same}
 use Rattle.field.specs.Put.{head, Wrote}
 use Rattle.field.proofs.PutLaws.{wrote_none, wrote_then, wrote_length, wrote_behind}
 use Rattle.names.proofs.CompareLaws.{same_other}
 use Rattle.grammar.specs.Signs.{snoc, choose, text_byte, string_byte, entity_byte, quote}
-use Rattle.grammar.specs.Known.{Found, none, some, entity_of}
+use Rattle.grammar.specs.Known.{entity_of}
 use Rattle.grammar.specs.Syntax.{Name, Attributes, string_value, Children, text_child, add_attribute, add_child}
 use Rattle.grammar.specs.Grammar.{Ends, Run, run_ends, run_on}
 use Rattle.grammar.specs.Reader.{Stack, Of, of_text, of_string, State, in_tag, in_string, in_entity, in_children, in_text, resumed, resumed_if, no_reading, at_end, step, step_children, outcome}
-use Rattle.grammar.proofs.Tests.{chose, passed, clash, quote_is, no_text_no_amp}
+use Rattle.grammar.proofs.Tests.{chose, passed, clash, no_text_no_amp}
 use Rattle.grammar.proofs.Complete.{go, through, entity_read, entity_ends, refused_never, string_ends}
 use Rattle.read_tag.specs.Runs.{Ran, plain_text, plain_string}
-use Rattle.read_tag.specs.Entities.{entity_code}
 use Rattle.read_tag.specs.Texts.{run_byte, plain, Signed, holding, running, Entered, Decoded, Decodes, TextRead, StringRead}
+use Rattle.read_tag.specs.declared.texts.Around.{Around}
+use Rattle.read_tag.specs.declared.texts.Around.TheVariants.{Tags, Quotes}
 use Rattle.read_tag.specs.declared.texts.Run as Answer
-use Rattle.read_tag.specs.declared.texts.Run.TheVariants as R
 use Rattle.read_tag.specs.declared.texts.Entity.{Entity}
-use Rattle.read_tag.specs.declared.texts.Entity.TheVariants as E
 use Rattle.read_tag.proofs.RunLaws.{next, Front, front_none, front_on, Running, running_on, ran_stops, ran_out}
 
 -- ---- tests
@@ -50,21 +50,10 @@ double : (b : Bool) → T (not (not b)) → T b
 double true t = tt
 double false t = absurd t
 
--- ---- the sort of a run
-
-module _ {s : Bytes} {i r : ℕ} (q : ℕ) where
-  pub plain_of_text : q ≡ 60 → Ran plain_text s i r → Ran (plain q) s i r
-  unfolding plain
-  plain_of_text e u = subst (λ (p : ℕ → Bool). Ran p s i r) (sym (chose (eqb q 60) plain_text (plain_string q) (subst (λ (z : ℕ). T (eqb z 60)) (sym e) tt))) u
-
-  pub plain_of_string : (q ≡ 60 → ⊥) → Ran (plain_string q) s i r → Ran (plain q) s i r
-  unfolding plain
-  plain_of_string n u = subst (λ (p : ℕ → Bool). Ran p s i r) (sym (passed (eqb q 60) plain_text (plain_string q) (other q 60 n))) u
-
 -- ---- entities
 
 -- the five have at most four bytes
-none_long : (e : Bytes) → 5 ≤ length e → entity_of e ≡ none
+none_long : (e : Bytes) → 5 ≤ length e → entity_of e ≡ None
 unfolding entity_of
 none_long e h =
     passed (same e (ascii "amp")) _ _ (differs (ascii "amp") (λ z. omega arith)) ∙
@@ -76,39 +65,10 @@ none_long e h =
     differs : (w : Bytes) → (length e ≡ length w → ⊥) → T (not (same e w))
     differs w n = subst (λ (z : Bool). T (not z)) (sym (same_other e w n)) tt
 
--- none of them stands for 0
-unfoldable NotZero : Found ℕ → Type 0
-NotZero none = Unit {0}
-NotZero (some d) = d ≡ 0 → ⊥
-
-either : (b : Bool) (x y : Found ℕ) → NotZero x → NotZero y → NotZero (choose b x y)
-unfolding choose
-either true x y u v = u
-either false x y u v = v
-
-entity_not_zero : (e : Bytes) → NotZero (entity_of e)
-unfolding entity_of NotZero
-entity_not_zero e =
-    either _ _ _ (λ z. omega arith)
-    (either _ _ _ (λ z. omega arith)
-    (either _ _ _ (λ z. omega arith)
-    (either _ _ _ (λ z. omega arith)
-    (either _ _ _ (λ z. omega arith) tt))))
-
-code_none : (f : Found ℕ) → NotZero f → entity_code f ≡ 0 → f ≡ none
-unfolding entity_code NotZero
-code_none none n e = refl
-code_none (some d) n e = absurd (n e)
-
-code_some : (f : Found ℕ) (d : ℕ) → d ≡ entity_code f → (d ≡ 0 → ⊥) → f ≡ some d
-unfolding entity_code
-code_some none d e n = absurd (n e)
-code_some (some c) d e n = ap some (sym e)
-
 -- a name that is long already stays long
 long_by : (x : Of) (c : ℕ) (s e : Bytes) → 5 ≤ length e → ((v : Bytes) → 5 ≤ length v → outcome (in_entity v x) s ≡ no_reading) → (b : Bool) → outcome (choose b (resumed_if x (entity_of e)) (in_entity (snoc e c) x)) s ≡ no_reading
 unfolding choose
-long_by x c s e h f true = ap (λ (z : Found ℕ). outcome (resumed_if x z) s) (none_long e h) ∙ (unfold resumed_if in refused_never s)
+long_by x c s e h f true = ap (λ (z : Option ℕ). outcome (resumed_if x z) s) (none_long e h) ∙ (unfold resumed_if in refused_never s)
 long_by x c s e h f false = f (snoc e c) (omega (arith, length-append e (c ∷ [])))
 
 long_never : (x : Of) (s e : Bytes) → 5 ≤ length e → outcome (in_entity e x) s ≡ no_reading
@@ -130,13 +90,13 @@ module _ (s : Bytes) (i : ℕ) where
   entity_on k u h n = running_on entity_byte s i k u h (other (get_or s k 0) 59 n)
 
   -- no `;` within five bytes
-  pub entity_long : (k : ℕ) → Running entity_byte s i k → k < length s → (get_or s k 0 ≡ 59 → ⊥) → 4 ≤ k - i → Entered s i E.Nothing
+  pub entity_long : (k : ℕ) → Running entity_byte s i k → k < length s → (get_or s k 0 ≡ 59 → ⊥) → 4 ≤ k - i → Entered s i None
   unfolding Entered
   entity_long k u h n l x =
       let v = entity_on k u h n in
       entity_front x v.front [] ∙ long_never x (drop (k + 1) s) v.read (omega (arith, v.counted, u.after))
 
-  pub entity_out : (k : ℕ) → Running entity_byte s i k → length s ≤ k → Entered s i E.Nothing
+  pub entity_out : (k : ℕ) → Running entity_byte s i k → length s ≤ k → Entered s i None
   unfolding Entered
   entity_out k u l x =
       let r = ran_out entity_byte s i k u l in
@@ -150,37 +110,36 @@ module _ (s : Bytes) (i : ℕ) where
         ap (outcome (in_entity (take (k - i) (drop i s)) x)) (next s k h ∙ ap (λ (z : ℕ). z ∷ drop (k + 1) s) e) ∙
         entity_ends x (take (k - i) (drop i s)) (drop (k + 1) s)
 
-    pub entity_unknown : (d : ℕ) → d ≡ entity_code (entity_of (take (k - i) (drop i s))) → d ≡ 0 → Entered s i E.Nothing
+    pub entity_unknown : (d : Option ℕ) → d ≡ entity_of (take (k - i) (drop i s)) → d ≡ None → Entered s i None
     unfolding Entered
     entity_unknown d f z x =
-        let w = take (k - i) (drop i s) in
-        named x ∙ ap (λ (g : Found ℕ). outcome (resumed_if x g) (drop (k + 1) s)) (code_none (entity_of w) (entity_not_zero w) (sym f ∙ z)) ∙ (unfold resumed_if in refused_never (drop (k + 1) s))
+        named x ∙ ap (λ (g : Option ℕ). outcome (resumed_if x g) (drop (k + 1) s)) (sym f ∙ z) ∙ (unfold resumed_if in refused_never (drop (k + 1) s))
 
-    pub entity_found : (d : ℕ) → d ≡ entity_code (entity_of (take (k - i) (drop i s))) → (d ≡ 0 → ⊥) → Entered s i (E.Stands d (k + 1))
+    pub entity_found : (o : Option ℕ) {d : ℕ} → o ≡ entity_of (take (k - i) (drop i s)) → o ≡ Some d → Entered s i (Some record { code = d; end = k + 1 })
     unfolding Entered
-    entity_found d f n =
-        let w = take (k - i) (drop i s) in (
-          omega (arith, u.after),
-          omega arith,
-          λ x. named x ∙ ap (λ (g : Found ℕ). outcome (resumed_if x g) (drop (k + 1) s)) (code_some (entity_of w) d f n) ∙ (unfold resumed_if in refl),
-        )
+    entity_found o {d} f n = (
+      omega (arith, u.after),
+      omega arith,
+      λ x. named x ∙ ap (λ (g : Option ℕ). outcome (resumed_if x g) (drop (k + 1) s)) (sym f ∙ n) ∙ (unfold resumed_if in refl),
+    )
 
-pub entity_further : (s : Bytes) (i : ℕ) {d f : ℕ} (r : Entity) → Entered s i r → r ≡ E.Stands d f → (i < f) × (f ≤ length s)
+pub entity_further : (s : Bytes) (i : ℕ) {e : Entity} (r : Option Entity) → Entered s i r → r ≡ Some e → (i < e.end) × (e.end ≤ length s)
 unfolding Entered
-entity_further s i {d} {f} r y z =
-    let m : Entered s i (E.Stands d f) = subst (Entered s i) z y in
+entity_further s i {e} r y z =
+    let m : Entered s i (Some e) = subst (Entered s i) z y in
     (m.0, m.1)
 
 -- ---- runs
 
 -- a byte up to an entity keeps the reader in its run; `&` begins an entity; an entity that has ended leads back
-plain_step : (q : ℕ) (x : Of) → Signed q x → (w : Bytes) (c : ℕ) → T (plain q c) → step (running (holding x w)) c ≡ running (holding x (snoc w c))
-unfolding Signed holding running step
-plain_step q (of_text v n ps ks K) e w c t =
-    let u : T (text_byte c && not (eqb c 38)) = unfold plain plain_text choose in subst (λ (z : ℕ). T (plain z c)) e t in
-    passed (eqb c 38) _ _ (snd_of (text_byte c) (not (eqb c 38)) u) ∙ chose (text_byte c) _ _ (fst_of (text_byte c) (not (eqb c 38)) u)
-plain_step q (of_string p v a n ps K) e w c t =
-    let u : T (string_byte p c && not (eqb c 38)) = quote_is (λ (z : ℕ). T (plain z c) → T (string_byte z c && not (eqb c 38))) p e.1 (unfold plain plain_string choose in λ z. z) (unfold plain plain_string choose in λ z. z) (subst (λ (z : ℕ). T (plain z c)) e.0 t) in
+plain_step : (q : Around) (x : Of) → Signed q x → (w : Bytes) (c : ℕ) → T (plain q c) → step (running (holding x w)) c ≡ running (holding x (snoc w c))
+unfolding Signed holding running step plain plain_text plain_string
+plain_step Tags (of_text v n ps ks K) e w c t =
+    passed (eqb c 38) _ _ (snd_of (text_byte c) (not (eqb c 38)) t) ∙ chose (text_byte c) _ _ (fst_of (text_byte c) (not (eqb c 38)) t)
+plain_step Tags (of_string p v a n ps K) e w c t = absurd e
+plain_step (Quotes q) (of_text v n ps ks K) e w c t = absurd e
+plain_step (Quotes q) (of_string p v a n ps K) e w c t =
+    let u : T (string_byte p c && not (eqb c 38)) = subst (λ (z : ℕ). T (string_byte z c && not (eqb c 38))) e.0 t in
     passed (eqb c 38) _ _ (snd_of (string_byte p c) (not (eqb c 38)) u) ∙ chose (string_byte p c) _ _ (fst_of (string_byte p c) (not (eqb c 38)) u)
 
 entity_begins : (x : Of) (w : Bytes) → step (running (holding x w)) 38 ≡ in_entity [] (holding x w)
@@ -198,20 +157,20 @@ run_end (run_ends e) = e
 run_end (run_on t y) = run_end y
 
 -- where a stretch ends and no entity stands, the run ends
-no_plain : (b : Bool) (q c : ℕ) → T (not (eqb c 38)) → T (not (choose b plain_text (plain_string q) c)) → T (not (choose b text_byte (string_byte q) c))
-unfolding choose
-no_plain true q c m t = both_not (text_byte c) (not (eqb c 38)) (unfold plain_text in t) m
-no_plain false q c m t = both_not (string_byte q c) (not (eqb c 38)) (unfold plain_string in t) m
+no_plain : (q : Around) (c : ℕ) → T (not (eqb c 38)) → T (not (plain q c)) → T (not (run_byte q c))
+unfolding plain run_byte plain_text plain_string
+no_plain Tags c m t = both_not (text_byte c) (not (eqb c 38)) t m
+no_plain (Quotes q) c m t = both_not (string_byte q c) (not (eqb c 38)) t m
 
 -- what the loop knows at k, with o' written up to b
-pub record Decoding (q : ℕ) (s : Bytes) (i : ℕ) (o : Bytes) (at k : ℕ) (o' : Bytes) (b : ℕ) : Type 0 where
+pub record Decoding (q : Around) (s : Bytes) (i : ℕ) (o : Bytes) (at k : ℕ) (o' : Bytes) (b : ℕ) : Type 0 where
   pub inside : k ≤ length s
   pub text : Bytes
   pub leads : (x : Of) → Signed q x → outcome (running (holding x [])) (drop i s) ≡ outcome (running (holding x text)) (drop k s)
   pub wrote : Wrote o at text o' b
   pub short : i + length text ≤ k
 
-module _ (q : ℕ) (s : Bytes) (i : ℕ) (o : Bytes) (at : ℕ) where
+module _ (q : Around) (s : Bytes) (i : ℕ) (o : Bytes) (at : ℕ) where
   pub decoding_none : i ≤ length s → Decoding q s i o at i o at
   decoding_none h = record { inside = h; text = []; leads = λ x e. refl; wrote = wrote_none o at; short = omega arith }
 
@@ -236,38 +195,38 @@ module _ (q : ℕ) (s : Bytes) (i : ℕ) (o : Bytes) (at : ℕ) where
           ap (outcome (running (holding x u.text))) (next s k h ∙ ap (λ (z : ℕ). z ∷ drop (k + 1) s) e) ∙
           go (running (holding x u.text)) (in_entity [] (holding x u.text)) 38 (drop (k + 1) s) (entity_begins x u.text)
 
-      pub decoding_entity : {o₂ : Bytes} {d f b : ℕ} (r : Entity) → Entered s (k + 1) r → r ≡ E.Stands d f → Wrote o₁ a (d ∷ []) o₂ b → Decoding q s i o at f o₂ b
+      pub decoding_entity : {o₂ : Bytes} {y : Entity} {b : ℕ} (r : Option Entity) → Entered s (k + 1) r → r ≡ Some y → Wrote o₁ a (y.code ∷ []) o₂ b → Decoding q s i o at y.end o₂ b
       unfolding Entered
-      decoding_entity {o₂} {d} {f} {b} r y z v =
-          let m : Entered s (k + 1) (E.Stands d f) = subst (Entered s (k + 1)) z y in
+      decoding_entity {o₂} {y} {b} r x z v =
+          let m : Entered s (k + 1) (Some y) = subst (Entered s (k + 1)) z x in
           let m₀ = m.0 in
           record {
             inside = m.1;
-            text = snoc u.text d;
-            leads = λ x g. opens x g ∙ m.2 (holding x u.text) ∙ ap (λ (t : State). outcome t (drop f s)) (entity_over x u.text d);
+            text = snoc u.text y.code;
+            leads = λ x g. opens x g ∙ m.2 (holding x u.text) ∙ ap (λ (t : State). outcome t (drop y.end s)) (entity_over x u.text y.code);
             wrote = wrote_then u.wrote v;
-            short = omega (arith, m₀, u.short, length-append u.text (d ∷ []));
+            short = omega (arith, m₀, u.short, length-append u.text (y.code ∷ []));
           }
 
-      pub decoding_barred : (r : Entity) → Entered s (k + 1) r → r ≡ E.Nothing → Decodes q s i o at o₁ R.Nothing
+      pub decoding_barred : (r : Option Entity) → Entered s (k + 1) r → r ≡ None → Decodes q s i o at o₁ None
       unfolding Decodes Entered
       decoding_barred r y z =
-          let m : Entered s (k + 1) E.Nothing = subst (Entered s (k + 1)) z y in
+          let m : Entered s (k + 1) None = subst (Entered s (k + 1)) z y in
           (wrote_length u.wrote, λ x g. opens x g ∙ m (holding x u.text))
 
-    ended : Ends (run_byte q) (drop k s) → Decodes q s i o at o₁ (R.Ends k a)
+    ended : Ends (run_byte q) (drop k s) → Decodes q s i o at o₁ (Some record { end = k; at = a })
     unfolding Decodes
     ended e = record { text = u.text; inside = u.inside; stops = e; leads = u.leads; wrote = u.wrote; short = u.short }
 
-    pub decoding_out : length s ≤ k → Decodes q s i o at o₁ (R.Ends k a)
+    pub decoding_out : length s ≤ k → Decodes q s i o at o₁ (Some record { end = k; at = a })
     unfolding Ends
     decoding_out l = ended (subst (Ends (run_byte q)) (sym (drop_of_length-le s l)) tt)
 
-    pub decoding_ends : {j : ℕ} → Ran (plain q) s j k → k < length s → (get_or s k 0 ≡ 38 → ⊥) → Decodes q s i o at o₁ (R.Ends k a)
-    unfolding Ends plain run_byte
+    pub decoding_ends : {j : ℕ} → Ran (plain q) s j k → k < length s → (get_or s k 0 ≡ 38 → ⊥) → Decodes q s i o at o₁ (Some record { end = k; at = a })
+    unfolding Ends
     decoding_ends r h n =
         let t : T (not (plain q (get_or s k 0))) = subst (Ends (plain q)) (next s k h) (run_end r.run) in
-        ended (subst (Ends (run_byte q)) (sym (next s k h)) (no_plain (eqb q 60) q (get_or s k 0) (other (get_or s k 0) 38 n) t))
+        ended (subst (Ends (run_byte q)) (sym (next s k h)) (no_plain q (get_or s k 0) (other (get_or s k 0) 38 n) t))
 
 -- ---- a text child
 
@@ -289,36 +248,36 @@ module _ (s : Bytes) (i : ℕ) (o : Bytes) (at : ℕ) (o₁ : Bytes) (h : i < le
       ap (λ (x : State). outcome x (drop (i + 1) s)) (text_begins (get_or s i 0) (subst T (sym t) tt) n ps ks K) ∙
       ap (outcome (in_text [] n ps ks K)) (sym (next s i h))
 
-  pub text_barred : (r : Answer.Run) → Decodes 60 s i o (at + 3) o₁ r → r ≡ R.Nothing → TextRead s i o at o₁ R.Nothing
+  pub text_barred : (r : Option Answer.Run) → Decodes Tags s i o (at + 3) o₁ r → r ≡ None → TextRead s i o at o₁ None
   unfolding TextRead Decodes running holding Signed
   text_barred r d z =
-      let m : Decodes 60 s i o (at + 3) o₁ R.Nothing = subst (Decodes 60 s i o (at + 3) o₁) z d in
-      (m.0, λ n ps ks K. as_text n ps ks K ∙ m.1 (of_text [] n ps ks K) refl)
+      let m : Decodes Tags s i o (at + 3) o₁ None = subst (Decodes Tags s i o (at + 3) o₁) z d in
+      (m.0, λ n ps ks K. as_text n ps ks K ∙ m.1 (of_text [] n ps ks K) tt)
 
   moved : {e : ℕ} → Ends text_byte (drop e s) → e ≡ i → ⊥
   unfolding Ends
   moved {e} x z = clash (text_byte (get_or s i 0)) (subst T (sym t) tt) (subst (Ends text_byte) (ap (λ (k : ℕ). drop k s) z ∙ next s i h) x)
 
-  pub text_ends : {o₂ : Bytes} {e b m : ℕ} (r : Answer.Run) → Decodes 60 s i o (at + 3) o₁ r → r ≡ R.Ends e b → Wrote o₁ at (head 0x60 (b - (at + 3))) o₂ m → TextRead s i o at o₂ (R.Ends e b)
-  unfolding TextRead Decodes run_byte choose running holding Signed
-  text_ends {o₂} {e} {b} {m} r d z v =
-      let y : Decoded 60 s i e o (at + 3) o₁ b = subst (Decodes 60 s i o (at + 3) o₁) z d in
-      let x : Ends text_byte (drop e s) = y.stops in
-      let g : e ≡ i → ⊥ = moved x in
+  pub text_ends : {o₂ : Bytes} {t : Answer.Run} {m : ℕ} (r : Option Answer.Run) → Decodes Tags s i o (at + 3) o₁ r → r ≡ Some t → Wrote o₁ at (head 0x60 (t.at - (at + 3))) o₂ m → TextRead s i o at o₂ (Some t)
+  unfolding TextRead Decodes run_byte running holding Signed
+  text_ends {o₂} {t} {m} r d z v =
+      let y : Decoded Tags s i t.end o (at + 3) o₁ t.at = subst (Decodes Tags s i o (at + 3) o₁) z d in
+      let x : Ends text_byte (drop t.end s) = y.stops in
+      let g : t.end ≡ i → ⊥ = moved x in
       record {
         text = y.text;
         after = omega (arith, y.short);
         inside = y.inside;
         short = y.short;
-        leads = λ n ps ks K. as_text n ps ks K ∙ y.leads (of_text [] n ps ks K) refl ∙ text_leaves (drop e s) y.text x n ps ks K;
+        leads = λ n ps ks K. as_text n ps ks K ∙ y.leads (of_text [] n ps ks K) tt ∙ text_leaves (drop t.end s) y.text x n ps ks K;
         wrote = wrote_behind 0x60 refl y.wrote v;
       }
 
 -- the head's place
-pub decoded_length : (q : ℕ) (s : Bytes) (i : ℕ) (o : Bytes) (at : ℕ) (o₁ : Bytes) {e b : ℕ} (r : Answer.Run) → Decodes q s i o at o₁ r → r ≡ R.Ends e b → (at ≤ b) × (e ≤ length s)
+pub decoded_length : (q : Around) (s : Bytes) (i : ℕ) (o : Bytes) (at : ℕ) (o₁ : Bytes) {t : Answer.Run} (r : Option Answer.Run) → Decodes q s i o at o₁ r → r ≡ Some t → (at ≤ t.at) × (t.end ≤ length s)
 unfolding Decodes
-decoded_length q s i o at o₁ {e} {b} r d z =
-    let y : Decoded q s i e o at o₁ b = subst (Decodes q s i o at o₁) z d in
+decoded_length q s i o at o₁ {t} r d z =
+    let y : Decoded q s i t.end o at o₁ t.at = subst (Decodes q s i o at o₁) z d in
     (omega (arith, y.wrote.end_is), y.inside)
 
 -- ---- a string of an attribute
@@ -327,35 +286,34 @@ module _ (q : ℕ) (s : Bytes) (i : ℕ) (o : Bytes) (at : ℕ) (o₁ : Bytes) (
   quoted : T (quote q)
   quoted = subst T (sym t) tt
 
-  pub string_barred : (r : Answer.Run) → Decodes q s i o (at + 3) o₁ r → r ≡ R.Nothing → StringRead q s i o at o₁ R.Nothing
+  pub string_barred : (r : Option Answer.Run) → Decodes (Quotes q) s i o (at + 3) o₁ r → r ≡ None → StringRead q s i o at o₁ None
   unfolding StringRead Decodes running holding Signed
   string_barred r d z =
-      let m : Decodes q s i o (at + 3) o₁ R.Nothing = subst (Decodes q s i o (at + 3) o₁) z d in
+      let m : Decodes (Quotes q) s i o (at + 3) o₁ None = subst (Decodes (Quotes q) s i o (at + 3) o₁) z d in
       (m.0, λ a n ps K. m.1 (of_string q [] a n ps K) (refl, quoted))
 
-  module _ {e b : ℕ} (r : Answer.Run) (d : Decodes q s i o (at + 3) o₁ r) (z : r ≡ R.Ends e b) where
-    whole : Decoded q s i e o (at + 3) o₁ b
+  module _ {y : Answer.Run} (r : Option Answer.Run) (d : Decodes (Quotes q) s i o (at + 3) o₁ r) (z : r ≡ Some y) where
+    whole : Decoded (Quotes q) s i y.end o (at + 3) o₁ y.at
     unfolding Decodes
-    whole = subst (Decodes q s i o (at + 3) o₁) z d
+    whole = subst (Decodes (Quotes q) s i o (at + 3) o₁) z d
 
-    runs : (a n : Name) (ps : Attributes) (K : Stack) → outcome (in_string q [] a n ps K) (drop i s) ≡ outcome (in_string q whole.text a n ps K) (drop e s)
+    runs : (a n : Name) (ps : Attributes) (K : Stack) → outcome (in_string q [] a n ps K) (drop i s) ≡ outcome (in_string q whole.text a n ps K) (drop y.end s)
     unfolding running holding Signed
     runs a n ps K = whole.leads (of_string q [] a n ps K) (refl, quoted)
 
     -- the text ends in it
-    pub string_open : length s ≤ e → StringRead q s i o at o₁ R.Nothing
+    pub string_open : length s ≤ y.end → StringRead q s i o at o₁ None
     unfolding StringRead
     string_open l = (wrote_length whole.wrote, λ a n ps K. runs a n ps K ∙ ap (outcome (in_string q whole.text a n ps K)) (drop_of_length-le s l) ∙ (unfold outcome at_end in refl))
 
-    at_quote : e < length s → get_or s e 0 ≡ q
-    unfolding Ends string_byte
+    at_quote : y.end < length s → get_or s y.end 0 ≡ q
+    unfolding Ends run_byte string_byte
     at_quote l =
-        let c : ℕ = get_or s e 0 in
-        let x : T (not (run_byte q c)) = subst (Ends (run_byte q)) (next s e l) whole.stops in
-        let y : T (not (string_byte q c)) = quote_is (λ (p : ℕ). T (not (run_byte p c)) → T (not (string_byte p c))) q quoted (unfold run_byte choose in λ w. w) (unfold run_byte choose in λ w. w) x in
-        eqb→eq c q (double (eqb c q) y)
+        let c : ℕ = get_or s y.end 0 in
+        let x : T (not (string_byte q c)) = subst (Ends (run_byte (Quotes q))) (next s y.end l) whole.stops in
+        eqb→eq c q (double (eqb c q) x)
 
-    pub string_closes : {o₂ : Bytes} {m : ℕ} → e < length s → Wrote o₁ at (head 0x51 (b - (at + 3))) o₂ m → StringRead q s i o at o₂ (R.Ends (e + 1) b)
+    pub string_closes : {o₂ : Bytes} {m : ℕ} → y.end < length s → Wrote o₁ at (head 0x51 (y.at - (at + 3))) o₂ m → StringRead q s i o at o₂ (Some record { end = y.end + 1; at = y.at })
     unfolding StringRead
     string_closes l v =
         record {
@@ -365,7 +323,7 @@ module _ (q : ℕ) (s : Bytes) (i : ℕ) (o : Bytes) (at : ℕ) (o₁ : Bytes) (
           short = omega (arith, whole.short);
           leads = λ a n ps K.
               runs a n ps K ∙
-              ap (outcome (in_string q whole.text a n ps K)) (next s e l ∙ ap (λ (c : ℕ). c ∷ drop (e + 1) s) (at_quote l)) ∙
-              go (in_string q whole.text a n ps K) (in_tag n (add_attribute ps (string_value a whole.text)) K) q (drop (e + 1) s) (string_ends q whole.text a n ps K quoted);
+              ap (outcome (in_string q whole.text a n ps K)) (next s y.end l ∙ ap (λ (c : ℕ). c ∷ drop (y.end + 1) s) (at_quote l)) ∙
+              go (in_string q whole.text a n ps K) (in_tag n (add_attribute ps (string_value a whole.text)) K) q (drop (y.end + 1) s) (string_ends q whole.text a n ps K quoted);
           wrote = wrote_behind 0x51 refl whole.wrote v;
         }

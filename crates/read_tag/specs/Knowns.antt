@@ -1,12 +1,12 @@
 -- What is promised of what braces hold: by `known_of`, which reads it, and by the field that it becomes. Main definition: `Holds`.
 -- Assumes nothing: these are definitions.
-use Rattle.std.specs.Prelude.{ℕ, ◌+◌, ◌-◌, ◌^◌, ◌≤◌, ◌<◌, ◌≡◌, Bool, true, false, ◌&&◌, ◌||◌, ◌++◌, leb, ltb, length, take, drop}
+use Rattle.std.specs.Prelude.{ℕ, ◌+◌, ◌-◌, ◌^◌, ◌≤◌, ◌<◌, ◌≡◌, Bool, true, false, ◌&&◌, ◌||◌, ◌++◌, leb, ltb, length, take, drop, Option, None, Some}
 use Rattle.field.specs.Bytes.{Bytes}
 use Rattle.field.specs.Row.{end, long_body}
 use Rattle.field.specs.Put.{Wrote}
 use Rattle.page.specs.Encode.{expr_row}
 use Rattle.grammar.specs.Signs.{choose, some_byte, digit}
-use Rattle.grammar.specs.Known.{Known, whole, minus_whole, decimal, minus_decimal, quoted, Found, none, some, value_from, is_whole, is_decimal, before_point, after_point, number_of, unsigned, has_minus, string_of, digit_or_point, of_a_number, not_read, rest_of, or_else}
+use Rattle.grammar.specs.Known.{Known, whole, minus_whole, decimal, minus_decimal, quoted, value_from, is_whole, is_decimal, before_point, after_point, number_of, unsigned, has_minus, string_of, digit_or_point, of_a_number, not_read, rest_of, or_else}
 use Rattle.grammar.specs.Syntax.{known_expr}
 use Rattle.tag_tree.specs.PageTag.{page_expr}
 use Rattle.tag_tree.specs.TagAnswer.{known_in_range, shallow}
@@ -15,7 +15,7 @@ use Rattle.read_tag.specs.Progress.{expr_bytes}
 use Rattle.read_tag.specs.declared.known.Held.{Held}
 use Rattle.read_tag.specs.declared.known.Digits.{Digits}
 use Rattle.read_tag.specs.declared.known.Numeral.{Numeral}
-use Rattle.read_tag.specs.declared.known.Numeral.TheVariants as N
+use Rattle.read_tag.specs.declared.known.Numeral.TheVariants.{Whole, Scaled}
 
 -- ---- numbers
 
@@ -30,10 +30,10 @@ pub record Counted (s : Bytes) (k n : ℕ) (r : Digits) : Type 0 where
   pub ran : Ran digit s k r.end
   pub value : Capped (value_from n (take (r.end - k) (drop k s))) r.value
 
-unfoldable pub Numbered : Bytes → Numeral → Type 0
-Numbered s N.Nothing = (is_whole s ≡ false) × (is_decimal s ≡ false)
-Numbered s (N.Whole v) = (is_whole s ≡ true) × Capped (value_from 0 s) v
-Numbered s (N.Scaled v p) = (is_whole s ≡ false) × (is_decimal s ≡ true) × Capped (value_from 0 (before_point s ++ after_point s)) v × (p ≡ length (after_point s))
+unfoldable pub Numbered : Bytes → Option Numeral → Type 0
+Numbered s None = (is_whole s ≡ false) × (is_decimal s ≡ false)
+Numbered s (Some (Whole v)) = (is_whole s ≡ true) × Capped (value_from 0 s) v
+Numbered s (Some (Scaled v p)) = (is_whole s ≡ false) × (is_decimal s ≡ true) × Capped (value_from 0 (before_point s ++ after_point s)) v × (p ≡ length (after_point s))
 
 -- u is behind a minus and white space, where they stand
 pub record Unsigned (s : Bytes) (u : ℕ) : Type 0 where
@@ -60,22 +60,21 @@ decimal_tag false = 0x7a
 -- ---- strings, and the rest
 
 unfoldable pub Quoted : Bytes → Bool → Type 0
-Quoted s true = (2 ≤ length s) × (string_of s ≡ some (quoted (take (length s - 1 - 1) (drop 1 s))))
-Quoted s false = string_of s ≡ none
+Quoted s true = (2 ≤ length s) × (string_of s ≡ Some (quoted (take (length s - 1 - 1) (drop 1 s))))
+Quoted s false = string_of s ≡ None
 
 -- no 79
 unfoldable pub barred : Bytes → Bool
 barred s = some_byte not_read s || (digit_or_point (unsigned s) && some_byte of_a_number s)
 
 -- what is no string
-unfoldable pub unquoted : Bytes → Found Known
+unfoldable pub unquoted : Bytes → Option Known
 unquoted s = or_else (choose (has_minus s) (number_of (unsigned s) minus_whole minus_decimal) (number_of s whole decimal)) (rest_of s)
 
 -- ---- answers
 
--- k was read: whether its number is within the limit, the place behind its field, which is written if so, and how deep it is
+-- of k: whether its number is within the limit, the place behind its field, which is written if so, and how deep it is
 pub record Holding (k : Known) (o : Bytes) (at : ℕ) (o' : Bytes) (r : Held) : Type 0 where
-  pub is_read : r.read ≡ true
   pub in_limit : r.fits ≡ known_in_range k
   pub place : r.at ≡ at + length (expr_bytes (known_expr k))
   pub wrote : r.fits ≡ true → Wrote o at (expr_bytes (known_expr k)) o' r.at
@@ -83,9 +82,12 @@ pub record Holding (k : Known) (o : Bytes) (at : ℕ) (o' : Bytes) (r : Held) : 
   pub short : long_body (expr_row (page_expr (known_expr k)) end) ≡ false
   pub size : length o' ≡ length o
 
-unfoldable pub Holds : Found Known → Bytes → ℕ → Bytes → Held → Type 0
-Holds none o at o' r = (r.read ≡ false) × (length o' ≡ length o)
-Holds (some k) o at o' r = Holding k o at o' r
+-- read where the grammar reads it, and only there
+unfoldable pub Holds : Option Known → Bytes → ℕ → Bytes → Option Held → Type 0
+Holds None o at o' None = length o' ≡ length o
+Holds None o at o' (Some r) = ⊥
+Holds (Some k) o at o' None = ⊥
+Holds (Some k) o at o' (Some r) = Holding k o at o' r
 
 -- of a number, whatever it is that was counted
 unfoldable pub HeldWhole : Bool → ℕ → Bytes → ℕ → Bytes → Held → Type 0

@@ -3,7 +3,6 @@ pub mod Runs
 pub mod Progress
 pub mod Flags
 pub mod Sources
-pub mod Entities
 pub mod Shapes
 pub mod Names
 pub mod Texts

@@ -1,7 +1,7 @@
 -- What the scans of names promise, by the grammar's words and by what its reader does there. Main definitions: `Scanned`,
 -- `NamePut`, `NamesCompared`.
 -- Assumes nothing: these are definitions.
-use Rattle.std.specs.Prelude.{ℕ, ◌+◌, ◌≤◌, ◌<◌, ◌≡◌, Bool, [], ◌∷◌, T, eqb, length, drop, get_or}
+use Rattle.std.specs.Prelude.{ℕ, ◌+◌, ◌≤◌, ◌<◌, ◌≡◌, Bool, [], ◌∷◌, T, eqb, length, drop, get_or, Option, Some, None}
 use Rattle.field.specs.Bytes.{Bytes}
 use Rattle.field.specs.Row.{bytes}
 use Rattle.field.specs.Put.{Wrote}
@@ -16,7 +16,6 @@ use Rattle.read_tag.specs.Progress.{name_bytes}
 use Rattle.read_tag.specs.Shapes.{name_tag}
 use Rattle.read_tag.specs.declared.name.NamePart.{NamePart}
 use Rattle.read_tag.specs.declared.name.ScannedName.{ScannedName}
-use Rattle.read_tag.specs.declared.name.ScannedName.TheVariants.{Nothing, Found}
 
 -- what follows an identifier that ends at e: white space alone, and 0 for the sign; or a sign and where the next identifier would begin
 pub data Behind (s : Bytes) (e : ℕ) : ℕ → ℕ → Type 0 where
@@ -49,9 +48,9 @@ pub record FoundName (s : Bytes) (i tag e : ℕ) : Type 0 where
   pub leads : (x : For) → outcome (in_ident [] 0 (get_or s i 0 ∷ []) x) (drop (i + 1) s) ≡ outcome (named_if x name) (drop e s)
 
 -- whatever the name at i is read for: no reading, or a name of 01's
-unfoldable pub Scanned : Bytes → ℕ → ScannedName → Type 0
-Scanned s i Nothing = (x : For) → outcome (in_ident [] 0 (get_or s i 0 ∷ []) x) (drop (i + 1) s) ≡ no_reading
-Scanned s i (Found tag e) = FoundName s i tag e
+unfoldable pub Scanned : Bytes → ℕ → Option ScannedName → Type 0
+Scanned s i None = (x : For) → outcome (in_ident [] 0 (get_or s i 0 ∷ []) x) (drop (i + 1) s) ≡ no_reading
+Scanned s i (Some r) = FoundName s i r.tag r.end
 
 -- ---- the name's field, and two names compared
 

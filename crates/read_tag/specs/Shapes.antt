@@ -1,5 +1,5 @@
 -- The shape of a name as the code counts it. Main definition: `shape_tag`. Assumes nothing: these are definitions.
-use Rattle.std.specs.Prelude.{ℕ, Bool, true, ◌&&◌, [], ◌∷◌, T, leb, eqb}
+use Rattle.std.specs.Prelude.{ℕ, Bool, true, ◌&&◌, [], ◌∷◌, T, leb, eqb, Option, Some, None}
 use Rattle.grammar.specs.Signs.{choose, separator}
 use Rattle.grammar.specs.Syntax.{part, Name, short, no_hyphen}
 
@@ -27,6 +27,6 @@ unfoldable pub Separated : Name → Type 0
 Separated [] = Unit {0}
 Separated (part d w ∷ ps) = T (separator d) × Separated ps
 
--- by the count of parts, whether all have at most 128 bytes, none a hyphen, and points alone part them; 0: no name of 01
-unfoldable pub shape_tag : (parts : ℕ) (short plain points : Bool) → ℕ
-shape_tag n s h p = choose s (choose (eqb n 1) 0x40 (choose p (choose (h && leb n 8) 0x41 0) (choose (eqb n 2) 0x42 0))) 0
+-- by the count of parts, whether all have at most 128 bytes, none a hyphen, and points alone part them; none: no name of 01
+unfoldable pub shape_tag : (parts : ℕ) (short plain points : Bool) → Option ℕ
+shape_tag n s h p = choose s (choose (eqb n 1) (Some 0x40) (choose p (choose (h && leb n 8) (Some 0x41) None) (choose (eqb n 2) (Some 0x42) None))) None

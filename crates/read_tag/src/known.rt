@@ -2,27 +2,20 @@
 ghost use Rattle.std.specs.Prelude.{◌≡◌, ◌+◌, ◌-◌, ◌^◌, ◌≤◌, ◌<◌, length, take, drop};
 ghost use Rattle.field.specs.Row.{field_bytes};
 ghost use Rattle.field.specs.Put.{Wrote};
-ghost use Rattle.grammar.specs.Signs.{digit, some_byte};
-ghost use Rattle.grammar.specs.Known.{some, boolean, null, quoted, other, not_read, of_a_number, rest_of, known_trimmed, known_of};
+ghost use Rattle.std.specs.List.{list_any};
+ghost use Rattle.grammar.specs.Signs.{digit};
+ghost use Rattle.grammar.specs.Known.{boolean, null, quoted, other, not_read, of_a_number, rest_of, known_trimmed, known_of};
 ghost use Rattle.read_tag.specs.Sources.{Trimmed};
-ghost use Rattle.read_tag.specs.Knowns.{Counted, Numbered, Unsigned, whole_tag, decimal_tag, Quoted, barred, unquoted, Holds, HeldWhole, HeldDecimal};
+ghost use Rattle.read_tag.specs.Knowns.{Counted, Numbered, Unsigned, whole_tag, decimal_tag, Quoted, barred, unquoted, Holding, Holds, HeldWhole, HeldDecimal};
 
 use crate::signs::{is_quote, is_space, skip_spaces};
-use field::writer::{put_byte, put_bytes, put_eight, put_head};
+use field::writer::{put_byte, put_bytes, put_eight, put_field, put_head};
 use names::same_bytes;
+use page::number::{MAX_DIGITS, MAX_PLACES, MAX_WHOLE};
 
-// 01, Expression: the largest number of a 71 and a 75.
-const MAX_WHOLE: u64 = 9_007_199_254_740_991;
-
-// 02, A2.
-const MAX_DIGITS: u64 = 999_999_999_999_999;
-
-const MAX_PLACES: usize = 15;
-
-// Whether it was read, whether its number is within the limit, the place behind its field, and how many fields deep it is below the first.
+// What was read: whether its number is within the limit, the place behind its field, and how many fields deep it is below the first.
 #[derive(Clone, Copy)]
 pub struct Held {
-    pub read: bool,
     pub fits: bool,
     pub at: usize,
     pub deep: usize,
@@ -37,7 +30,6 @@ pub struct Digits {
 
 #[derive(Clone, Copy)]
 pub enum Numeral {
-    Nothing,
     Whole(u64),
     Scaled { digits: u64, places: usize },
 }
@@ -47,15 +39,12 @@ pub fn trim_end(text: &[u8], i: usize, e: usize) -> usize
     requires { (i ≤ e) × (e ≤ length text.now) }
     ensures { Trimmed text.now i e result }
 {
-    let mut k = e;
-    while i < k {
-        let c = text[k - 1];
-        if !is_space(c) {
-            return k;
+    for k in (i..e).rev() {
+        if !is_space(text[k]) {
+            return k + 1;
         }
-        k -= 1;
     }
-    k
+    i
 }
 
 fn is_digit(c: u8) -> bool
@@ -69,52 +58,53 @@ fn read_digits(s: &[u8], k: usize, n: u64) -> Digits
     requires { (k ≤ length s.now) × (n < 2 ^ 60) }
     ensures { Counted s.now k n result }
 {
-    let mut i = k;
     let mut v = n;
-    while i < s.len() {
+    for i in k..s.len() {
         let c = s[i];
         if !is_digit(c) {
             return Digits { end: i, value: v };
         }
-        i += 1;
         if MAX_WHOLE < v {
             continue;
         }
         v = v * 10 + (c - b'0') as u64;
     }
-    Digits { end: i, value: v }
+    Digits {
+        end: s.len(),
+        value: v,
+    }
 }
 
 // A whole number or a decimal, if s is one.
-fn read_number(s: &[u8]) -> Numeral
+fn read_number(s: &[u8]) -> Option<Numeral>
     ensures { Numbered s.now result }
 {
     let a = read_digits(s, 0, 0);
     let p = a.end;
     if p == 0 {
-        return Numeral::Nothing;
+        return None;
     }
     if (s[0] == b'0') & (1 < p) {
-        return Numeral::Nothing;
+        return None;
     }
     if s.len() <= p {
-        return Numeral::Whole(a.value);
+        return Some(Numeral::Whole(a.value));
     }
     if s[p] != b'.' {
-        return Numeral::Nothing;
+        return None;
     }
     let b = read_digits(s, p + 1, a.value);
     let e = b.end;
     if e <= p + 1 {
-        return Numeral::Nothing;
+        return None;
     }
     if e < s.len() {
-        return Numeral::Nothing;
+        return None;
     }
-    Numeral::Scaled {
+    Some(Numeral::Scaled {
         digits: b.value,
         places: e - (p + 1),
-    }
+    })
 }
 
 // Behind a minus and white space, where they stand.
@@ -141,12 +131,10 @@ fn is_string(s: &[u8]) -> bool
     if !is_quote(q) {
         return false;
     }
-    let mut k: usize = 1;
-    while k < s.len() {
+    for k in 1..s.len() {
         if s[k] == q {
             return k + 1 == s.len();
         }
-        k += 1;
     }
     false
 }
@@ -165,16 +153,9 @@ fn is_not_read(c: u8) -> bool
 }
 
 fn holds_not_read(s: &[u8]) -> bool
-    ensures { result ≡ some_byte not_read s.now }
+    ensures { result ≡ list_any not_read s.now }
 {
-    let mut k: usize = 0;
-    while k < s.len() {
-        if is_not_read(s[k]) {
-            return true;
-        }
-        k += 1;
-    }
-    false
+    s.iter().any(|c| is_not_read(*c))
 }
 
 // A letter, point or underscore.
@@ -185,16 +166,9 @@ fn is_of_number(c: u8) -> bool
 }
 
 fn holds_of_number(s: &[u8]) -> bool
-    ensures { result ≡ some_byte of_a_number s.now }
+    ensures { result ≡ list_any of_a_number s.now }
 {
-    let mut k: usize = 0;
-    while k < s.len() {
-        if is_of_number(s[k]) {
-            return true;
-        }
-        k += 1;
-    }
-    false
+    s.iter().any(|c| is_of_number(*c))
 }
 
 // Whether it cannot be a 79; u is behind its minus.
@@ -214,23 +188,13 @@ fn is_barred(s: &[u8], u: usize) -> bool
     holds_of_number(s)
 }
 
-// A field whose body is text.
-fn put_leaf(out: &mut [u8], at: usize, tag: u8, s: &[u8]) -> usize
-    requires { at + 3 + length s.now < 2 ^ 63 }
-    ensures { Wrote out.old at (field_bytes tag s.now) out.new result }
-{
-    let a = put_head(out, at, tag, s.len());
-    put_bytes(out, a, s)
-}
-
 fn put_boolean(out: &mut [u8], at: usize, b: bool) -> Held
     requires { at + 4 < 2 ^ 63 }
-    ensures { Holds (some (boolean b)) out.old at out.new result }
+    ensures { Holding (boolean b) out.old at out.new result }
 {
     let a = put_head(out, at, 0x72, 1);
     let e = put_byte(out, a, b as u8);
     Held {
-        read: true,
         fits: true,
         at: e,
         deep: 0,
@@ -239,11 +203,10 @@ fn put_boolean(out: &mut [u8], at: usize, b: bool) -> Held
 
 fn put_null(out: &mut [u8], at: usize) -> Held
     requires { at + 3 < 2 ^ 63 }
-    ensures { Holds (some null) out.old at out.new result }
+    ensures { Holding null out.old at out.new result }
 {
     let e = put_head(out, at, 0x73, 0);
     Held {
-        read: true,
         fits: true,
         at: e,
         deep: 0,
@@ -252,11 +215,10 @@ fn put_null(out: &mut [u8], at: usize) -> Held
 
 fn put_quoted(out: &mut [u8], at: usize, s: &[u8]) -> Held
     requires { (length s.now ≤ 32768) × (at + 3 + length s.now < 2 ^ 63) }
-    ensures { Holds (some (quoted s.now)) out.old at out.new result }
+    ensures { Holding (quoted s.now) out.old at out.new result }
 {
-    let e = put_leaf(out, at, 0x70, s);
+    let e = put_field(out, at, 0x70, s);
     Held {
-        read: true,
         fits: true,
         at: e,
         deep: 0,
@@ -266,12 +228,11 @@ fn put_quoted(out: &mut [u8], at: usize, s: &[u8]) -> Held
 // A 79 of one 20.
 fn put_other(out: &mut [u8], at: usize, s: &[u8]) -> Held
     requires { (length s.now ≤ 32768) × (at + 6 + length s.now < 2 ^ 63) }
-    ensures { Holds (some (other s.now)) out.old at out.new result }
+    ensures { Holding (other s.now) out.old at out.new result }
 {
     let a = put_head(out, at, 0x79, 3 + s.len());
-    let e = put_leaf(out, a, 0x20, s);
+    let e = put_field(out, a, 0x20, s);
     Held {
-        read: true,
         fits: true,
         at: e,
         deep: 1,
@@ -303,7 +264,6 @@ fn put_whole(out: &mut [u8], at: usize, minus: bool, v: u64) -> Held
     let a = put_head(out, at, whole_tag(minus), 8);
     let e = put_eight(out, a, v as usize);
     Held {
-        read: true,
         fits: v <= MAX_WHOLE,
         at: e,
         deep: 0,
@@ -318,7 +278,6 @@ fn put_scaled(out: &mut [u8], at: usize, minus: bool, v: u64, places: usize) -> 
     let b = put_eight(out, a, v as usize);
     let e = put_byte(out, b, (places % 256) as u8);
     Held {
-        read: true,
         fits: (v <= MAX_DIGITS) & (places <= MAX_PLACES),
         at: e,
         deep: 0,
@@ -326,56 +285,53 @@ fn put_scaled(out: &mut [u8], at: usize, minus: bool, v: u64, places: usize) -> 
 }
 
 // What is no string and no number; u is behind its minus.
-fn put_rest(s: &[u8], u: usize, out: &mut [u8], at: usize) -> Held
+fn put_rest(s: &[u8], u: usize, out: &mut [u8], at: usize) -> Option<Held>
     requires { Unsigned s.now u × (length s.now ≤ 32768) × (at + 6 + length s.now < 2 ^ 63) }
     ensures { Holds (rest_of s.now) out.old at out.new result }
 {
     if is_barred(s, u) {
-        return Held {
-            read: false,
-            fits: true,
-            at: at,
-            deep: 0,
-        };
+        return None;
     }
-    put_other(out, at, s)
+    Some(put_other(out, at, s))
 }
 
 // What is no string.
-fn put_unquoted(s: &[u8], out: &mut [u8], at: usize) -> Held
+fn put_unquoted(s: &[u8], out: &mut [u8], at: usize) -> Option<Held>
     requires { (length s.now ≤ 32768) × (at + 12 + length s.now < 2 ^ 63) }
     ensures { Holds (unquoted s.now) out.old at out.new result }
 {
     let u = unsigned_at(s);
     match read_number(&s[u..]) {
-        Numeral::Nothing => put_rest(s, u, out, at),
-        Numeral::Whole(v) => put_whole(out, at, 0 < u, v),
-        Numeral::Scaled { digits, places } => put_scaled(out, at, 0 < u, digits, places),
+        None => put_rest(s, u, out, at),
+        Some(Numeral::Whole(v)) => Some(put_whole(out, at, 0 < u, v)),
+        Some(Numeral::Scaled { digits, places }) => {
+            Some(put_scaled(out, at, 0 < u, digits, places))
+        }
     }
 }
 
 // Without white space around it.
-fn put_trimmed(s: &[u8], out: &mut [u8], at: usize) -> Held
+fn put_trimmed(s: &[u8], out: &mut [u8], at: usize) -> Option<Held>
     requires { (length s.now ≤ 32768) × (at + 12 + length s.now < 2 ^ 63) }
     ensures { Holds (known_trimmed s.now) out.old at out.new result }
 {
     if same_bytes(s, b"true") {
-        return put_boolean(out, at, true);
+        return Some(put_boolean(out, at, true));
     }
     if same_bytes(s, b"false") {
-        return put_boolean(out, at, false);
+        return Some(put_boolean(out, at, false));
     }
     if same_bytes(s, b"null") {
-        return put_null(out, at);
+        return Some(put_null(out, at));
     }
     if is_string(s) {
-        return put_quoted(out, at, &s[1..s.len() - 1]);
+        return Some(put_quoted(out, at, &s[1..s.len() - 1]));
     }
     put_unquoted(s, out, at)
 }
 
 // From i, where no white space stands, to the brace at e.
-pub fn put_known(text: &[u8], i: usize, e: usize, out: &mut [u8], at: usize) -> Held
+pub fn put_known(text: &[u8], i: usize, e: usize, out: &mut [u8], at: usize) -> Option<Held>
     requires { (i ≤ e) × (e ≤ length text.now) × (length text.now ≤ 32768) × (at + 65536 < 2 ^ 63) }
     ensures { Holds (known_of (take (e - i) (drop i text.now))) out.old at out.new result }
 {

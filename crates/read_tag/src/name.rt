@@ -8,15 +8,10 @@ ghost use Rattle.read_tag.specs.Shapes.{shape_tag};
 ghost use Rattle.read_tag.specs.Names.{PartAt, Scanned, NameAt, PartsPut, NamePut, NamesCompared};
 
 use crate::known::trim_end;
-use crate::signs::{ident_end, is_letter, skip_spaces};
-use field::writer::{put_bytes, put_head};
+use crate::signs::{NameBytes, is_letter, run_end, skip_spaces};
+use field::writer::{put_bytes, put_field, put_head};
 use names::same_bytes;
-
-// 01, Name: a 41 has two to eight 40s.
-const MAX_MEMBERS: usize = 8;
-
-// 01, Name: a 40 has 1 to 128 bytes.
-const MAX_NAME: usize = 128;
+use page::name::{MAX_MEMBERS, MAX_NAME};
 
 // A part of a name: where its bytes end; the sign that parts it from the next, 0 where it is the last; and where the next would begin, or what
 // follows the name.
@@ -27,12 +22,11 @@ pub struct NamePart {
     pub next: usize,
 }
 
+// A name that was read: the tag of its field, and the place behind it and the white space that follows.
 #[derive(Clone, Copy)]
-pub enum ScannedName {
-    // not read
-    Nothing,
-    // the tag of its field; behind it and the white space that follows
-    Found { tag: u8, end: usize },
+pub struct ScannedName {
+    pub tag: u8,
+    pub end: usize,
 }
 
 fn is_separator(c: u8) -> bool
@@ -46,7 +40,7 @@ fn part_at(text: &[u8], i: usize) -> NamePart
     requires { i < length text.now }
     ensures { PartAt text.now i result }
 {
-    let e = ident_end(text, i + 1);
+    let e = run_end(&NameBytes, text, i + 1);
     let k = skip_spaces(text, e);
     if text.len() <= k {
         return NamePart {
@@ -76,43 +70,37 @@ fn is_hyphen_free(text: &[u8], i: usize, e: usize) -> bool
     requires { (i ≤ e) × (e ≤ length text.now) }
     ensures { result ≡ no_hyphen (take (e - i) (drop i text.now)) }
 {
-    let mut k = i;
-    while k < e {
-        if text[k] == b'-' {
-            return false;
-        }
-        k += 1;
-    }
-    true
+    !text[i..e].contains(&b'-')
 }
 
-// By the count of parts, whether all have at most 128 bytes, none a hyphen, and points alone part them. 0: no name of 01.
-pub fn shape_of(parts: usize, short: bool, plain: bool, points: bool) -> u8
+// By the count of parts, whether all have at most 128 bytes, none a hyphen, and points alone part them. None: no name of 01.
+pub fn shape_of(parts: usize, short: bool, plain: bool, points: bool) -> Option<u8>
     ensures { result ≡ shape_tag parts short plain points }
 {
     if !short {
-        return 0;
+        return None;
     }
     if parts == 1 {
-        return 0x40;
+        return Some(0x40);
     }
     if points {
         if plain & (parts <= MAX_MEMBERS) {
-            return 0x41;
+            return Some(0x41);
         }
-        return 0;
+        return None;
     }
     if parts == 2 {
-        return 0x42;
+        return Some(0x42);
     }
-    0
+    None
 }
 
 // The name whose first letter stands at i, part by part.
-fn scan_parts(text: &[u8], i: usize) -> ScannedName
+fn scan_parts(text: &[u8], i: usize) -> Option<ScannedName>
     requires { (i < length text.now) × (letter (get_or text.now i 0) ≡ true) }
     ensures { Scanned text.now i result }
 {
+    // No `for`, here and below: where the next part begins only the one before it says.
     let mut k = i;
     let mut parts: usize = 1;
     let mut short = true;
@@ -126,17 +114,14 @@ fn scan_parts(text: &[u8], i: usize) -> ScannedName
         short = short & (e - k <= MAX_NAME);
         plain = plain & is_hyphen_free(text, k, e);
         if d == 0 {
-            let tag = shape_of(parts, short, plain, points);
-            if tag == 0 {
-                return ScannedName::Nothing;
-            }
-            return ScannedName::Found { tag, end: n };
+            let tag = shape_of(parts, short, plain, points)?;
+            return Some(ScannedName { tag, end: n });
         }
         if text.len() <= n {
-            return ScannedName::Nothing;
+            return None;
         }
         if !is_letter(text[n]) {
-            return ScannedName::Nothing;
+            return None;
         }
         points = points & (d == b'.');
         parts += 1;
@@ -145,7 +130,7 @@ fn scan_parts(text: &[u8], i: usize) -> ScannedName
 }
 
 // The same. Most names are one identifier, in which hyphens need not be looked for.
-pub fn scan_name(text: &[u8], i: usize) -> ScannedName
+pub fn scan_name(text: &[u8], i: usize) -> Option<ScannedName>
     requires { (i < length text.now) × (letter (get_or text.now i 0) ≡ true) }
     ensures { Scanned text.now i result }
 {
@@ -156,18 +141,9 @@ pub fn scan_name(text: &[u8], i: usize) -> ScannedName
         return scan_parts(text, i);
     }
     if MAX_NAME < e - i {
-        return ScannedName::Nothing;
+        return None;
     }
-    ScannedName::Found { tag: 0x40, end: n }
-}
-
-// A 40.
-fn put_ident(out: &mut [u8], at: usize, w: &[u8]) -> usize
-    requires { at + (length w.now + 3) < 2 ^ 63 }
-    ensures { Wrote out.old at (field_bytes 0x40 w.now) out.new result }
-{
-    let b = put_head(out, at, 0x40, w.len());
-    put_bytes(out, b, w)
+    Some(ScannedName { tag: 0x40, end: n })
 }
 
 // A 40 for each part of the name at i. A part of n bytes takes n + 3, so at most four for each byte of the text.
@@ -182,7 +158,7 @@ fn put_parts(text: &[u8], i: usize, out: &mut [u8], at: usize) -> usize
         let e = p.end;
         let d = p.sep;
         let n = p.next;
-        o = put_ident(out, o, &text[k..e]);
+        o = put_field(out, o, 0x40, &text[k..e]);
         if d == 0 {
             return o;
         }
@@ -198,7 +174,7 @@ pub fn put_name(text: &[u8], i: usize, tag: u8, end: usize, out: &mut [u8], at: 
 {
     if tag == 0x40 {
         let e = trim_end(text, i, end);
-        return put_ident(out, at, &text[i..e]);
+        return put_field(out, at, 0x40, &text[i..e]);
     }
     let o = put_parts(text, i, out, at + 3);
     put_head(out, at, tag, o - (at + 3));

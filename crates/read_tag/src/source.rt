@@ -2,20 +2,14 @@
 ghost use Rattle.std.specs.Prelude.{◌≤◌, length};
 ghost use Rattle.read_tag.specs.Sources.{Sourced};
 
-use crate::signs::{is_quote, is_source, quotes_end};
+use crate::signs::{QuotedSource, is_quote, is_source, run_end};
 
-#[derive(Clone, Copy)]
-pub enum Source {
-    // not read
-    Nothing,
-    // the place of the brace
-    Ends(usize),
-}
-
-pub fn source_end(text: &[u8], i: usize) -> Source
+// The place of the brace, if it is read up to there.
+pub fn source_end(text: &[u8], i: usize) -> Option<usize>
     requires { i ≤ length text.now }
     ensures { Sourced text.now i result }
 {
+    // No `for`: what is in quotes is passed in one step.
     let mut k = i;
     let mut depth: usize = 0;
     while k < text.len() {
@@ -26,7 +20,7 @@ pub fn source_end(text: &[u8], i: usize) -> Source
         }
         if c == b'}' {
             if depth == 0 {
-                return Source::Ends(k);
+                return Some(k);
             }
             depth -= 1;
             k += 1;
@@ -38,16 +32,16 @@ pub fn source_end(text: &[u8], i: usize) -> Source
             continue;
         }
         if !is_quote(c) {
-            return Source::Nothing;
+            return None;
         }
-        let e = quotes_end(text, k + 1, c);
+        let e = run_end(&QuotedSource { quote: c }, text, k + 1);
         if text.len() <= e {
-            return Source::Nothing;
+            return None;
         }
         if text[e] != c {
-            return Source::Nothing;
+            return None;
         }
         k = e + 1;
     }
-    Source::Nothing
+    None
 }

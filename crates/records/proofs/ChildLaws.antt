@@ -17,6 +17,8 @@ use Rattle.spec.specs.Merge.{Shape, string_shape, number_shape, boolean_shape, n
 use Rattle.spec.specs.Attributes as A
 use Rattle.spec.specs.Attributes.{Attribute, Value, is_serializable, listed_attr, dynamic_attr, container_attr, plain_attr, attr_parts, attrs_parts}
 use Rattle.spec.specs.Children.{merged_parts, children_to_string, serialize_jsx, stills, found_of, sole_mid, sole, flattened, spliced, entries, one_child, many_children, children_to_expr, entry_pass, entries_pass, found_pass, call_node, to_call_expr, open_close, element_to_string_vec}
+use Rattle.decisions.specs.declared.children.Count.{Count}
+use Rattle.decisions.specs.declared.children.Count.TheVariants.{Zero, One, More}
 use Rattle.decisions.specs.At.{identifier_bytes}
 use Rattle.records.specs.Keep.{Kept, at, keep, write, bumped}
 use Rattle.records.proofs.KeepLaws.{keep_pure, keep_map, keep_template, keep_gap, keep_entry, parts_append, entries_append}
@@ -215,51 +217,50 @@ found_one (fragment f) w = sym (ap (λ (es : List Entry). keep (entries_pass es)
 found_one (spread m) w = nothing_of w ∙ sym (called_none w)
 
 -- none, one, or more
-unfoldable pub few_of : List Child → ℕ
-few_of [] = 0
-few_of (c ∷ []) = 1
-few_of (c ∷ c' ∷ cs) = 2
+unfoldable pub few_of : List Child → Count
+few_of [] = Zero
+few_of (c ∷ []) = One
+few_of (c ∷ c' ∷ cs) = More
 
-pub few_two : (cs : List Child) → (few_of cs ≡ 0 → ⊥) → (few_of cs ≡ 1 → ⊥) → few_of cs ≡ 2
-unfolding few_of
-few_two [] a b = absurd (a refl)
-few_two (c ∷ []) a b = absurd (b refl)
-few_two (c ∷ c' ∷ cs) a b = refl
+abbrev pub how_many : Count → ℕ
+how_many Zero = 0
+how_many One = 1
+how_many More = 2
 
-pub found_none : (cs : List Child) → few_of cs ≡ 0 → (w : Kept) → keep (found_pass (children_to_expr cs)) w ≡ w
+pub found_none : (cs : List Child) → few_of cs ≡ Zero → (w : Kept) → keep (found_pass (children_to_expr cs)) w ≡ w
 unfolding few_of children_to_expr
 found_none [] h w = nothing_of w
-found_none (c ∷ []) h w = absurd (omega (arith, h))
-found_none (c ∷ c' ∷ cs) h w = absurd (omega (arith, h))
+found_none (c ∷ []) h w = absurd (omega (arith, ap how_many h))
+found_none (c ∷ c' ∷ cs) h w = absurd (omega (arith, ap how_many h))
 
 -- the only child, whatever it is, and one that records nothing
-pub found_only : (c : Child) (cs : List Child) → few_of (c ∷ cs) ≡ 1 → children_to_expr (c ∷ cs) ≡ one_child c
+pub found_only : (c : Child) (cs : List Child) → few_of (c ∷ cs) ≡ One → children_to_expr (c ∷ cs) ≡ one_child c
 unfolding few_of children_to_expr
 found_only c [] h = refl
-found_only c (c' ∷ cs) h = absurd (omega (arith, h))
+found_only c (c' ∷ cs) h = absurd (omega (arith, ap how_many h))
 
 pub found_silent : (c : Child) → called (c ∷ []) ≡ [] → (w : Kept) → keep (found_pass (one_child c)) w ≡ w
 found_silent c h w = found_one c w ∙ ap (λ (es : List Entry). keep (entries_pass es) w) h ∙ called_none w
 
 module _ (cs : List Child) (w : Kept) where
-  many : few_of cs ≡ 2 → children_to_expr cs ≡ many_children cs
+  many : few_of cs ≡ More → children_to_expr cs ≡ many_children cs
   unfolding few_of children_to_expr
   many = go cs
     where
-      go : (xs : List Child) → few_of xs ≡ 2 → children_to_expr xs ≡ many_children xs
-      go [] h = absurd (omega (arith, h))
-      go (c ∷ []) h = absurd (omega (arith, h))
+      go : (xs : List Child) → few_of xs ≡ More → children_to_expr xs ≡ many_children xs
+      go [] h = absurd (omega (arith, ap how_many h))
+      go (c ∷ []) h = absurd (omega (arith, ap how_many h))
       go (c ∷ c' ∷ xs) h = refl
 
   -- several children as an array
-  pub found_array : few_of cs ≡ 2 → becomes_template cs ≡ false → keep (found_pass (children_to_expr cs)) w ≡ keep (entries_pass (called cs)) w
+  pub found_array : few_of cs ≡ More → becomes_template cs ≡ false → keep (found_pass (children_to_expr cs)) w ≡ keep (entries_pass (called cs)) w
   unfolding many_children choose
   found_array n h =
       let e : many_children cs ≡ flattened (entries (merge false false [] cs)) = rw h in
       ap (λ (f : Found). keep (found_pass f) w) (many n ∙ e) ∙ flattened_found (entries (merge false false [] cs)) w ∙ merged_called false false [] cs w
 
   -- and as one template
-  pub found_template : few_of cs ≡ 2 → becomes_template cs ≡ true → keep (found_pass (children_to_expr cs)) w
+  pub found_template : few_of cs ≡ More → becomes_template cs ≡ true → keep (found_pass (children_to_expr cs)) w
       ≡ write w.st.next (long_run (merge false false [] cs)) (children_to_string false (short_runs (merge false false [] cs))) (keep (dynamic_exprs (children_to_string false cs)) (at w.out (bumped w.st)))
   unfolding many_children choose
   found_template n h =

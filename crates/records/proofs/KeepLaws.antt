@@ -13,6 +13,7 @@ use Rattle.spec.specs.Output.{strings_after, kinds_of, dynamic_exprs, template_r
 use Rattle.spec.specs.Merge.{Entry}
 use Rattle.spec.specs.Children.{entry_pass, entries_pass}
 use Rattle.spec.specs.Transform.{templates_row}
+use Rattle.strings.specs.declared.due.Due.{Due}
 use Rattle.strings.specs.Due.{graver, long_due, grave}
 use Rattle.strings.specs.Recorded.{recorded_one, recorded}
 use Rattle.strings.proofs.RecordedLaws.{size_append, long_append, recorded_append, recorded_length, recorded_one_is, recorded_kinds}
@@ -75,7 +76,7 @@ module _ (run : Bool) (ps : List Part) (w : Kept) where
       let l = long_body (templates_row d.templates) in
       let m = long_body (templates_row u) in
       let q : graver w.st.due (graver (grave (join (long_if run) (join (marks ps) d.flags))) (long_due (long_body (templates_row (d.templates ++ u))))) ≡ graver (graver w.st.due (graver (grave d.flags) (long_due l))) (graver (grave (marks ps)) (long_due (run || m))) =
-      ap₂ (λ (x : ℕ) (y : Bool). graver w.st.due (graver x (long_due y)))
+      ap₂ (λ (x : Due) (y : Bool). graver w.st.due (graver x (long_due y)))
       (grave_join (long_if run) (join (marks ps) d.flags) ∙ ap₂ graver (long_grave run) (grave_join (marks ps) d.flags)) (long_append d.templates u)
       ∙ due_template w.st.due (grave (marks ps)) (grave d.flags) run l m in
       λ i. at (o i) (record { next = n i; place = p i; due = q i })

@@ -1,29 +1,27 @@
 -- The kinds of a template's gaps: what the text leaves behind, read from the back; and the strings as they stand in a buffer, whose kinds are
 -- those of demand 3's places. Main statements: `sign_append`, `sign_inside`, `kinds_standing`, `after_field`, `all_written`. Assumes nothing.
 use mathlib.Core.Path.{◌≡◌, refl, sym, ap, ap₂, ◌∙◌, subst}
-use Prim.Native.Nat.{ℕ, suc, ◌+◌, ◌-◌, ◌≤◌, ◌<◌}
+use Prim.Native.Nat.{ℕ, zero, suc, ◌+◌, ◌-◌, ◌≤◌, ◌<◌}
 use native.Mathlib.Omega.{arith}
-use native.Mathlib.Nat.{le_refl}
 use mathlib.Core.Bool.{Bool, true, false, ◌&&◌, ◌||◌, not}
 use mathlib.Core.List.{List, [], ◌∷◌, ◌++◌, append-nil, append_assoc}
+use mathlib.Core.Logic.{◌⊎◌, inl, inr}
 use mathlib.Core.Option.{Option, none, some}
 use lib.Dec.{T, eqb}
-use lib.ListN.{length, set, take, drop, get_or, length-append, length-take, length-drop, length-set, take-append-drop, drop_of_length-le}
-use lib.Seq.{drop-cons, drop-length, drop-drop, drop-set-lt, take_all}
+use lib.ListN.{length, set, take, drop, get_or, length-append, length-drop, length-set, take-append-drop}
+use lib.Seq.{drop-cons, drop-length, drop-drop, length-take-le, take-append-le, drop-append-le, drop-append_seam}
 use borrow.Author.Tests.{eq-eqb, ne_eqb}
 use Rattle.field.specs.Bytes.{Bytes, pick}
 use Rattle.field.specs.Row.{bytes, field_bytes}
 use Rattle.field.specs.Front.{body_of, behind_of}
 use Rattle.field.specs.Put.{put}
-use Rattle.field.specs.Header.{header_of, Within}
-use Rattle.field.specs.declared.reader.Header.{Header}
-use Rattle.field.specs.declared.reader.Header.TheVariants as H
-use Rattle.field.proofs.PutLaws.{length_field_bytes, put_nil, put_one, put_put}
-use Rattle.field.proofs.HeaderLaws.{within_field, body_is, behind_is, no_body, nothing_behind}
+use Rattle.field.proofs.PutLaws.{length_field_bytes, put_nil, put_one, put_put, put_whole, put_fits}
 use Rattle.field.proofs.FrontLaws.{body_written, behind_written}
 use Rattle.spec.specs.Words.{free, behind_last, holds, starts_with, opening, inside_opening_tag, places_after}
 use Rattle.spec.specs.Output.{kind_byte, kind_bytes, strings_row}
-use Rattle.records.specs.Kinds.{sign, sign_after, kind_at, kinds_at}
+use Rattle.records.specs.declared.kinds.Sign.{Sign}
+use Rattle.records.specs.declared.kinds.Sign.TheVariants as Q
+use Rattle.records.specs.Kinds.{sign_of, sign, sign_after, kind_at, kinds_at}
 
 -- ---- one text behind the other
 
@@ -104,36 +102,28 @@ module _ (q : ℕ) (s : Bytes) (i j : ℕ) (step : i ≡ suc j) (h : i ≤ lengt
 
 -- ---- a text without a sign, as the code tests it
 
-module _ (q : ℕ) (s : Bytes) (i : ℕ) (f : T (free (drop i s))) where
-  pub unchanged : (q ≡ 2 → ⊥) → q ≡ sign_after q (drop i s)
-  unchanged n = sym (stays q (drop i s) (ne_eqb q 2 n) f)
+pub not_opened : {q : Sign} → (q ≡ Q.Outside) ⊎ (q ≡ Q.Inside) → eqb (sign_of q) 2 ≡ false
+not_opened (inl e) = ap (λ (x : Sign). eqb (sign_of x) 2) e
+not_opened (inr e) = ap (λ (x : Sign). eqb (sign_of x) 2) e
 
-  module _ (e : q ≡ 2) where
-    open_is : sign_after q (drop i s) ≡ first_by (drop i s)
-    open_is = ap (λ (x : ℕ). sign_after x (drop i s)) e ∙ behind_open (drop i s) f
+pub unchanged : (q : ℕ) (s : Bytes) → eqb q 2 ≡ false → T (free s) → q ≡ sign_after q s
+unchanged q s n f = sym (stays q s n f)
 
-    pub right_behind : length s ≤ i → 2 ≡ sign_after q (drop i s)
-    right_behind h = sym (open_is ∙ ap first_by (drop_of_length-le s h))
+pub right_behind : (s : Bytes) → T (free s) → length s < 1 → 2 ≡ sign_after 2 s
+right_behind [] f h = sym (behind_open [] f)
+right_behind (c ∷ cs) f h = absurd (omega (arith, h))
 
-    module _ (h : i < length s) where
-      first_is : sign_after q (drop i s) ≡ pick (eqb (get_or s i 0) 47) 0 1
-      first_is = open_is ∙ ap first_by (drop-cons s i 0 h)
+pub closing_tag : (s : Bytes) → T (free s) → 1 ≤ length s → get_or s 0 0 ≡ 47 → 0 ≡ sign_after 2 s
+closing_tag [] f h g = absurd (omega (arith, h))
+closing_tag (c ∷ cs) f h g = sym (behind_open (c ∷ cs) f ∙ ap (λ (b : Bool). pick b 0 1) (eq-eqb c 47 g))
 
-      pub closing_tag : get_or s i 0 ≡ 47 → 0 ≡ sign_after q (drop i s)
-      closing_tag g = sym (first_is ∙ ap (λ (b : Bool). pick b 0 1) (eq-eqb (get_or s i 0) 47 g))
-
-      pub opening_tag : (get_or s i 0 ≡ 47 → ⊥) → 1 ≡ sign_after q (drop i s)
-      opening_tag g = sym (first_is ∙ ap (λ (b : Bool). pick b 0 1) (ne_eqb (get_or s i 0) 47 g))
+pub opening_tag : (s : Bytes) → T (free s) → 1 ≤ length s → (get_or s 0 0 ≡ 47 → ⊥) → 1 ≡ sign_after 2 s
+opening_tag [] f h g = absurd (omega (arith, h))
+opening_tag (c ∷ cs) f h g = sym (behind_open (c ∷ cs) f ∙ ap (λ (b : Bool). pick b 0 1) (ne_eqb c 47 g))
 
 pub free_end : (s : Bytes) → T (free (drop (length s) s))
 unfolding free
 free_end s = subst (λ (x : Bytes). T (free x)) (sym (drop-length s)) tt
-
-pub no_kind : (q : ℕ) → q ≡ 0 → 2 ≡ kind_at q
-no_kind q e = sym (ap (λ (b : Bool). pick b 2 1) (eq-eqb q 0 e))
-
-pub a_kind : (q : ℕ) → (q ≡ 0 → ⊥) → 1 ≡ kind_at q
-a_kind q e = sym (ap (λ (b : Bool). pick b 2 1) (ne_eqb q 0 e))
 
 -- ---- the sign and demand 3's place
 
@@ -248,104 +238,53 @@ kinds_standing (s ∷ t ∷ ss) j r h =
     let k = length (places_after (j ++ s) (t ∷ ss)) in
     ap₂ (λ (x : ℕ) (y : Bytes). kind_at x ∷ kinds_at k x y) q d ∙ ap₂ (λ (x : ℕ) (y : Bytes). x ∷ y) (sign_inside (j ++ s)) (kinds_standing (t ∷ ss) (j ++ s) r less)
 
--- ---- one gap after the other: out is the buffer with i kinds written, o as it came
+-- ---- one gap after the other
 
--- what is still to be written, with the strings read up to p and their sign q
-abbrev pub to_come : Bytes → Bytes → ℕ → ℕ → ℕ → ℕ → ℕ → Bytes
-to_come o out at gaps p q i = put out (at + i) (kinds_at (gaps - i) q (drop p o))
+pub length_kinds : (n q : ℕ) (s : Bytes) → length (kinds_at n q s) ≡ n
+unfolding kinds_at
+length_kinds zero q s = refl
+length_kinds (suc n) q s = ap suc (length_kinds n (sign_after q (body_of s)) (behind_of s))
 
--- a kind, and then what remains
-kind_then : {x : Bytes} (o out : Bytes) (at gaps p p' q q' i : ℕ) → i < gaps → at + i < length out → kinds_at (suc (gaps - (i + 1))) q (drop p o) ≡ kind_at q' ∷ kinds_at (gaps - (i + 1)) q' (drop p' o) →
-    to_come o out at gaps p q i ≡ x → to_come o (set out (at + i) (kind_at q')) at gaps p' q' (i + 1) ≡ x
-kind_then {x} o out at gaps p p' q q' i h k e g =
-    let n : gaps - i ≡ suc (gaps - (i + 1)) = omega arith in
-    let b = kind_at q' in
-    let r = kinds_at (gaps - (i + 1)) q' (drop p' o) in
-    let m : at + (i + 1) ≡ at + i + length (b ∷ []) = omega arith in
-    ap₂ (λ (y : Bytes) (z : ℕ). put y z r) (sym (put_one out (at + i) b k)) m ∙ put_put out (at + i) (b ∷ []) r
-    ∙ ap (put out (at + i)) (sym (ap (λ (z : ℕ). kinds_at z q (drop p o)) n ∙ e)) ∙ g
+-- what is still to be written from i on, with the sign q and the strings s left
+abbrev pub to_come : Bytes → ℕ → ℕ → Bytes → Bytes
+to_come ks i q s = put ks i (kinds_at (length ks - i) q s)
 
--- i kinds are written, and the strings are read up to p
-pub record Written (o : Bytes) (at from gaps : ℕ) (out : Bytes) (p q i : ℕ) : Type 0 where
-  pub few : i ≤ gaps
-  pub past : from ≤ p
-  pub fits : p ≤ length out
-  pub size : length out ≡ length o
-  pub same : drop from out ≡ drop from o
-  pub coming : to_come o out at gaps p q i ≡ put o at (kinds_at gaps 0 (drop from o))
+pub none_written : (ks s : Bytes) → to_come ks 0 0 s ≡ kinds_at (length ks) 0 s
+none_written ks s = let z : length ks - 0 ≡ length ks = omega arith in ap (λ (n : ℕ). put ks 0 (kinds_at n 0 s)) z ∙ put_whole ks (kinds_at (length ks) 0 s) (length_kinds (length ks) 0 s)
 
-module _ (o out : Bytes) (at from gaps p q i : ℕ) (below : at + gaps ≤ from) (w : Written o at from gaps out p q i) (h : i < gaps) where
-  -- what stands there stands as it came
-  rest_same : (m : ℕ) → from ≤ m → drop m out ≡ drop m o
-  rest_same m l =
-      let d : from + (m - from) ≡ m = omega arith in
-      ap (λ (k : ℕ). drop k out) (sym d) ∙ sym (drop-drop (m - from) from out) ∙ ap (drop (m - from)) w.same ∙ drop-drop (m - from) from o ∙ ap (λ (k : ℕ). drop k o) d
+pub one_written : (ks : Bytes) (i q : ℕ) (s : Bytes) {b r : Bytes} {q' k : ℕ} → i < length ks → b ≡ body_of s → r ≡ behind_of s → q' ≡ sign_after q b → k ≡ kind_at q' → to_come (set ks i k) (i + 1) q' r ≡ to_come ks i q s
+unfolding kinds_at
+one_written ks i q s {b} {r} {q'} {k} h e f g d =
+    let n : length ks - i ≡ suc (length (set ks i k) - (i + 1)) = omega (arith, length-set ks i k) in
+    let m = length (set ks i k) - (i + 1) in
+    let z : q' ≡ sign_after q (body_of s) = g ∙ ap (sign_after q) e in
+    ap (λ (x : Bytes). put x (i + 1) (kinds_at m q' r)) (sym (put_one ks i k h))
+    ∙ put_put ks i (k ∷ []) (kinds_at m q' r)
+    ∙ ap₂ (λ (x : ℕ) (y : Bytes). put ks i (x ∷ y)) (d ∙ ap kind_at z) (ap₂ (kinds_at m) z f)
+    ∙ sym (ap (λ (x : ℕ). put ks i (kinds_at x q s)) n)
 
-  rest_is : take (length out - p) (drop p out) ≡ drop p o
-  rest_is = take_all (length out - p) (drop p out) (omega (arith, length-drop p out)) ∙ rest_same p w.past
+pub all_written : (ks : Bytes) (i q : ℕ) (s : Bytes) → length ks ≤ i → ks ≡ to_come ks i q s
+unfolding kinds_at
+all_written ks i q s h =
+    let z : length ks - i ≡ 0 = omega arith in
+    sym (ap (λ (n : ℕ). put ks i (kinds_at n q s)) z ∙ put_nil ks i)
 
-  one_more : (p' q' : ℕ) → p ≤ p' → p' ≤ length out → to_come o (set out (at + i) (kind_at q')) at gaps p' q' (i + 1) ≡ put o at (kinds_at gaps 0 (drop from o)) →
-      {b : ℕ} → b ≡ kind_at q' → Written o at from gaps (set out (at + i) b) p' q' (i + 1)
-  one_more p' q' k l e {b} g =
-      subst (λ (x : ℕ). Written o at from gaps (set out (at + i) x) p' q' (i + 1)) (sym g)
-      (record {
-        few = omega arith;
-        past = omega (arith, w.past);
-        fits = omega (arith, length-set out (at + i) (kind_at q'));
-        size = length-set out (at + i) (kind_at q') ∙ w.size;
-        same = drop-set-lt from out (at + i) (kind_at q') (omega arith) ∙ w.same;
-        coming = e;
-      })
-
-  module _ {v : Header} (r : v ≡ header_of (take (length out - p) (drop p out))) where
-    head_is : v ≡ header_of (drop p o)
-    head_is = r ∙ ap header_of rest_is
-
-    -- a string, and the gap behind it
-    module _ {t e : ℕ} (u : Within (length (take (length out - p) (drop p out))) v) (f : v ≡ H.Field t e) where
-      pub past_field : (3 ≤ e) × (p + e ≤ length out)
-      past_field = let y = within_field u f in (y.0, omega (arith, y.1, length-take (length out - p) (drop p out), length-drop p out, w.fits))
-
-      pub after_field : {q' : ℕ} → q' ≡ sign_after q (take (p + e - (p + 3)) (drop (p + 3) out)) → {b : ℕ} → b ≡ kind_at q' → Written o at from gaps (set out (at + i) b) (p + e) q' (i + 1)
-      unfolding kinds_at
-      after_field {q'} s =
-          let y = past_field in
-          let n : p + e - (p + 3) ≡ e - 3 = omega arith in
-          let b : take (p + e - (p + 3)) (drop (p + 3) out) ≡ body_of (drop p o) =
-          ap₂ (λ (k : ℕ) (z : Bytes). take k z) n (rest_same (p + 3) (omega (arith, w.past)) ∙ sym (drop-drop 3 p o)) ∙ body_is (drop p o) head_is f in
-          let d : behind_of (drop p o) ≡ drop (p + e) o =
-          sym (behind_is (drop p o) head_is f) ∙ take_all (length (drop p o) - e) (drop e (drop p o)) (omega (arith, length-drop e (drop p o))) ∙ drop-drop e p o in
-          let z : sign_after q (body_of (drop p o)) ≡ q' = sym (s ∙ ap (sign_after q) b) in
-          one_more (p + e) q' (omega arith) y.1
-          (kind_then o out at gaps p (p + e) q q' i h (omega (arith, w.past, w.fits)) (ap₂ (λ (k : ℕ) (x : Bytes). kind_at k ∷ kinds_at (gaps - (i + 1)) k x) z d) w.coming)
-
-    -- no string
-    pub after_none : v ≡ H.Absent → {b : ℕ} → b ≡ kind_at q → Written o at from gaps (set out (at + i) b) (length out) q (i + 1)
-    unfolding kinds_at sign_after
-    after_none f =
-        let b : sign_after q (body_of (drop p o)) ≡ q = ap (sign_after q) (sym (no_body (drop p o) head_is f)) in
-        let l : length o ≤ length out = omega (arith, w.size) in
-        let d : behind_of (drop p o) ≡ drop (length out) o = sym (nothing_behind (drop p o) head_is f) ∙ sym (drop_of_length-le o {i = length out} l) in
-        one_more (length out) q w.fits (le_refl (length out))
-        (kind_then o out at gaps p (length out) q q i h (omega (arith, w.past, w.fits)) (ap₂ (λ (k : ℕ) (x : Bytes). kind_at k ∷ kinds_at (gaps - (i + 1)) k x) b d) w.coming)
-
--- before the first, and behind the last
-module _ (o : Bytes) (at from gaps : ℕ) where
-  pub none_written : from ≤ length o → Written o at from gaps o from 0 0
-  none_written h =
-      let a : at + 0 ≡ at = omega arith in
-      let b : gaps - 0 ≡ gaps = omega arith in
-      record {
-        few = omega arith;
-        past = le_refl from;
-        fits = h;
-        size = refl;
-        same = refl;
-        coming = ap₂ (λ (m n : ℕ). put o m (kinds_at n 0 (drop from o))) a b;
-      }
-
-  pub all_written : {out : Bytes} {p q i : ℕ} → Written o at from gaps out p q i → gaps ≤ i → out ≡ put o at (kinds_at gaps 0 (drop from o))
-  unfolding kinds_at
-  all_written {out} {p} {q} {i} w h =
-      let z : gaps - i ≡ 0 = omega arith in
-      sym (ap (λ (n : ℕ). put out (at + i) (kinds_at n q (drop p o))) z ∙ put_nil out (at + i)) ∙ w.coming
+-- the kinds stand in the front of a buffer, the strings behind it
+pub kinds_put : (front back o : Bytes) (at from gaps : ℕ) {ks : Bytes} → o ≡ front ++ back → length front ≡ from → at + gaps ≤ from →
+    ks ≡ kinds_at (length (take (at + gaps - at) (drop at front))) 0 back →
+    (take at front ++ (ks ++ drop (at + gaps - at) (drop at front))) ++ back ≡ put o at (kinds_at gaps 0 (drop from o))
+kinds_put front back o at from gaps {ks} e l h k =
+    let g : at + gaps - at ≡ gaps = omega arith in
+    let n : length (take (at + gaps - at) (drop at front)) ≡ gaps = length-take-le (at + gaps - at) (drop at front) (omega (arith, length-drop at front)) ∙ g in
+    let d : drop from o ≡ back = ap₂ (λ (x : ℕ) (y : Bytes). drop x y) (sym l) e ∙ drop-append_seam front back in
+    let w : ks ≡ kinds_at gaps 0 (drop from o) = k ∙ ap₂ (λ (x : ℕ) (y : Bytes). kinds_at x 0 y) n (sym d) in
+    let m : length (kinds_at gaps 0 (drop from o)) ≡ gaps = length_kinds gaps 0 (drop from o) in
+    let v = kinds_at gaps 0 (drop from o) in
+    let end_is : at + (at + gaps - at) ≡ at + length v = omega (arith, m) in
+    let rest : drop (at + gaps - at) (drop at front) ++ back ≡ drop (at + length v) o =
+    ap (λ (x : Bytes). x ++ back) (drop-drop (at + gaps - at) at front)
+    ∙ sym (drop-append-le (at + (at + gaps - at)) front back (omega arith))
+    ∙ ap₂ (λ (x : ℕ) (y : Bytes). drop x y) end_is (sym e) in
+    append_assoc (take at front) (ks ++ drop (at + gaps - at) (drop at front)) back
+    ∙ ap₂ (λ (x y : Bytes). x ++ y) (sym (take-append-le at front back (omega arith)) ∙ ap (take at) (sym e)) (append_assoc ks (drop (at + gaps - at) (drop at front)) back ∙ ap₂ (λ (x y : Bytes). x ++ y) w rest)
+    ∙ sym (put_fits o at v (omega (arith, m, ap length e ∙ length-append front back)))

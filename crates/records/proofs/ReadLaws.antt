@@ -26,12 +26,14 @@ use Rattle.spec.specs.Merge.{Child, merge, long_run, short_runs, becomes_templat
 use Rattle.spec.specs.Attributes.{is_serializable}
 use Rattle.spec.specs.Children.{children_to_string, children_to_expr, entries, entries_pass, entry_pass, found_pass, one_child, to_call_expr, serialize_jsx, spliced}
 use Rattle.spec.specs.Transform.{element_of, fragment_of, shape_of, child, children, expr}
+use Rattle.decisions.specs.declared.children.Count.{Count}
+use Rattle.decisions.specs.declared.children.Count.TheVariants.{Zero, One, More}
 use Rattle.decisions.specs.At.{opts, element_name, behind_name, identifier_bytes, attributes_at, children_at, element_at, serializable, is_none, few, becomes, FirstChild}
 use Rattle.decisions.proofs.Laws.{child_element, child_fragment, element_serializable, becomes_is}
 use Rattle.decisions.proofs.Series.{tested, behind_name_at, children_none, children_60, children_52, children_30, children_31, children_61, children_other}
 use Rattle.records.specs.Keep.{Kept, at, keep, write, bumped}
 use Rattle.records.proofs.KeepLaws.{keep_pure, keep_map, keep_gen}
-use Rattle.records.proofs.ChildLaws.{within, called, parts_within, merged_called, few_of, few_two, found_none, found_only, found_silent, found_array, found_template, element_call, element_inner}
+use Rattle.records.proofs.ChildLaws.{within, called, parts_within, merged_called, few_of, how_many, found_none, found_only, found_silent, found_array, found_template, element_call, element_inner}
 
 -- what lies behind a field is no longer than what it stands in
 pub behind_shorter : (s : Bytes) {r : Bytes} → r ≡ behind_of s → length r ≤ length s
@@ -116,7 +118,7 @@ module _ (k p : Bytes) where
 
   -- ---- how many
 
-  few_first : (c : Child) (cs : P.Children) → pick (is_none cs) 1 2 ≡ few_of (c ∷ children o cs)
+  few_first : (c : Child) (cs : P.Children) → pick (is_none cs) One More ≡ few_of (c ∷ children o cs)
   unfolding is_none few_of child
   few_first c P.no_children = refl
   few_first c (P.text_child b cs) = refl
@@ -217,18 +219,18 @@ module _ (k p b : Bytes) {r : Bytes} (q : r ≡ behind_of b) where
 
 -- ---- children of a call
 
-module _ (k p s : Bytes) {n : ℕ} (d : n ≡ few (children_in (read s))) (w : Kept) where
+module _ (k p s : Bytes) {n : Count} (d : n ≡ few (children_in (read s))) (w : Kept) where
   abbrev cs : List Child
   cs = children_at k p (read s)
 
   count_is : few_of cs ≡ n
   count_is = sym (few_at k p (children_in (read s))) ∙ sym d
 
-  pub found_0 : n ≡ 0 → keep (found_pass (children_to_expr (children_at k p (read s)))) w ≡ w
+  pub found_0 : n ≡ Zero → keep (found_pass (children_to_expr (children_at k p (read s)))) w ≡ w
   found_0 h = found_none cs (count_is ∙ h) w
 
   -- the only child stands at a
-  module _ (h : n ≡ 1) {a : Bytes} (f : FirstChild s a) (t : ℕ) (e : t ≡ tag_of_front a) where
+  module _ (h : n ≡ One) {a : Bytes} (f : FirstChild s a) (t : ℕ) (e : t ≡ tag_of_front a) where
     only : (c : Child) (ds : List Child) → children_at k p (read a) ≡ c ∷ ds → keep (found_pass (children_to_expr (children_at k p (read s)))) w ≡ keep (found_pass (one_child c)) w
     only c ds q =
         let j : cs ≡ c ∷ ds = ap (children (opts k p)) (sym f.same_children) ∙ q in
@@ -252,7 +254,7 @@ module _ (k p s : Bytes) {n : ℕ} (d : n ≡ few (children_in (read s))) (w : K
 
     some : length a ≡ 0 → ⊥
     unfolding few
-    some z = let y : few (children_in (read s)) ≡ 0 = ap few (f.none_left z) in omega (arith, d, h, y)
+    some z = omega (arith, ap how_many (sym h ∙ d ∙ ap few (f.none_left z)))
 
     -- neither an element nor a fragment
     pub only_other : (t ≡ 0x30 → ⊥) → (t ≡ 0x31 → ⊥) → keep (found_pass (children_to_expr (children_at k p (read s)))) w ≡ w
@@ -265,9 +267,9 @@ module _ (k p s : Bytes) {n : ℕ} (d : n ≡ few (children_in (read s))) (w : K
         let u : is_child t ≡ false = rw (ne_eqb t 0x60 i, ne_eqb t 0x52 j, ne_eqb t 0x30 y, ne_eqb t 0x31 z, ne_eqb t 0x61 m) in
         absurd (subst T (ap is_child (sym e) ∙ u) (f.child_first some))
 
-  module _ (a : n ≡ 0 → ⊥) (b : n ≡ 1 → ⊥) {z : Bool} (u : z ≡ becomes k (children_in (read s))) where
-    count_2 : few_of cs ≡ 2
-    count_2 = few_two cs (λ h. a (sym count_is ∙ h)) λ h. b (sym count_is ∙ h)
+  module _ (a : n ≡ More) {z : Bool} (u : z ≡ becomes k (children_in (read s))) where
+    count_2 : few_of cs ≡ More
+    count_2 = count_is ∙ a
 
     becomes_z : becomes_template cs ≡ z
     becomes_z = becomes_is k p (children_in (read s)) ∙ sym u

@@ -17,6 +17,7 @@ use Rattle.field.proofs.PutLaws.{put_put, put_nil, put_back, put_then, put_fits,
 use Rattle.spec.specs.Pass.{join, Template, Part, chars, gap, mark, marks}
 use Rattle.spec.specs.Words.{places, places_after}
 use Rattle.spec.specs.Output.{kind_bytes, record_front, record_row, strings_after, strings_row, template_row}
+use Rattle.strings.specs.declared.due.Due.{Due}
 use Rattle.strings.specs.Due.{graver, long_due, grave}
 use Rattle.strings.specs.Carve as C
 use Rattle.strings.specs.Recorded.{gaps_of, body_size, unkinded, standing, recorded_one}
@@ -33,14 +34,14 @@ use Rattle.records.proofs.MoveLaws.{drop_put, put_over}
 -- ---- strings
 
 -- what closing does to an open string that holds `last`
-close_one : (o : Bytes) (p : ℕ) (last : Bytes) (g d : ℕ) →
+close_one : (o : Bytes) (p : ℕ) (last : Bytes) (g : ℕ) (d : Due) →
     C.close (C.at (put o (p + 3) last) (record { head = p; len = length last; gaps = g; due = d })) ≡ C.at (put o p (field_bytes 0x81 last)) (record { head = p + 3 + length last; len = 0; gaps = g + 1; due = graver d (long_due (ltb 65535 (length last))) })
 unfolding field_bytes big_endian
 close_one o p last g d =
     ap (λ (x : Bytes). C.at x (record { head = p + 3 + length last; len = 0; gaps = g + 1; due = graver d (long_due (ltb 65535 (length last))) })) (put_back o p (head 0x81 (length last)) last)
 
 -- the open string holds `last`; when all parts are carved and it is closed, the strings stand in the buffer
-strings_from : (ps : List Part) (o : Bytes) (p : ℕ) (last : Bytes) (g d : ℕ) →
+strings_from : (ps : List Part) (o : Bytes) (p : ℕ) (last : Bytes) (g : ℕ) (d : Due) →
     C.close (C.carve ps (C.at (put o (p + 3) last) (record { head = p; len = length last; gaps = g; due = d })))
     ≡ C.at (put o p (bytes (strings_row (strings_after last ps)))) (record { head = p + length (bytes (strings_row (strings_after last ps))); len = 0; gaps = g + length (strings_after last ps); due = graver d (graver (grave (marks ps)) (long_due (long_body (strings_row (strings_after last ps))))) })
 unfolding C.carve strings_after strings_row bytes long_body marks
@@ -76,7 +77,7 @@ strings_from (mark f ∷ ps) o p last g d =
     ∙ λ i. C.at (put o p (bytes (strings_row (strings_after last ps)))) (record { head = p + length (bytes (strings_row (strings_after last ps))); len = 0; gaps = g + length (strings_after last ps); due = b i })
 
 -- from an empty open string on
-pub strings_carved : (ps : List Part) (o : Bytes) (p : ℕ) (d : ℕ) →
+pub strings_carved : (ps : List Part) (o : Bytes) (p : ℕ) (d : Due) →
     C.close (C.carve ps (C.at o (record { head = p; len = 0; gaps = 0; due = d })))
     ≡ C.at (put o p (bytes (strings_row (strings_after [] ps)))) (record { head = p + length (bytes (strings_row (strings_after [] ps))); len = 0; gaps = length (strings_after [] ps); due = graver d (graver (grave (marks ps)) (long_due (long_body (strings_row (strings_after [] ps))))) })
 strings_carved ps o p d =
@@ -209,7 +210,7 @@ module _ (n : ℕ) (run : Bool) (ps : List Part) (o : Bytes) (st : Records) wher
   long_strings : Bool
   long_strings = long_body (strings_row (strings_after [] ps))
 
-  due_before : ℕ
+  due_before : Due
   due_before = graver (graver st.due (graver (grave (marks ps)) (long_due long_strings))) (long_due run)
 
   closed_is : C.close (C.flagged (long_due run) (C.carve ps (begin (at o st)))) ≡ C.at (carved t o st.place) (record { head = carved_end t o st.place; len = 0; gaps = length (strings_after [] ps); due = due_before })
@@ -222,7 +223,7 @@ module _ (n : ℕ) (run : Bool) (ps : List Part) (o : Bytes) (st : Records) wher
       let b = ltb 65535 (length (body t)) in
       let m = grave (marks ps) in
       ap (λ (x : ℕ). graver due_before (long_due (ltb 65535 x))) (sym (length_body t))
-      ∙ sym (due_more st.due m (long_strings || run) b ∙ ap (λ (x : ℕ). graver x (long_due b)) (due_more st.due m long_strings run))
+      ∙ sym (due_more st.due m (long_strings || run) b ∙ ap (λ (x : Due). graver x (long_due b)) (due_more st.due m long_strings run))
       ∙ ap (λ (x : Bool). graver st.due (graver m (long_due x))) (or_last long_strings run b)
 
   place_is : carved_end t o st.place + gaps_of t ≡ st.place + length (bytes (template_row t end))
@@ -349,10 +350,10 @@ module _ (n : ℕ) (st : Records) (o : Bytes) (s : Open) {o₁ o₂ o₃ o₄ o�
       (put_then o₂ st.place 3 (st.place + 3) h (big_endian 4 n []) e₃ refl refl e₄)
       refl refl e₅
 
-  pub end_is : {d₁ d₂ : ℕ} → d₁ ≡ graver s.due (long_due (ltb 65535 s.len)) → d₂ ≡ graver d₁ (long_due (ltb 65535 (size_at st.place (C.end s) s.gaps))) →
+  pub end_is : {d₁ d₂ : Due} → d₁ ≡ graver s.due (long_due (ltb 65535 s.len)) → d₂ ≡ graver d₁ (long_due (ltb 65535 (size_at st.place (C.end s) s.gaps))) →
       at o₅ (record { next = st.next; place = C.end s + s.gaps; due = d₂ }) ≡ end_at n st s.gaps (C.close (C.at o s))
   end_is {d₁} {d₂} q₁ q₂ =
       let z = size_at st.place (C.end s) s.gaps in
       let e = front_put ∙ ap (λ (x : Bytes). put x st.place (head 0x84 z ++ big_endian 4 n (big_endian 2 s.gaps []))) (e₂ ∙ ap (kinded_if st.place (C.end s) s.gaps) e₁) in
-      let q = q₂ ∙ ap (λ (x : ℕ). graver x (long_due (ltb 65535 z))) q₁ in
+      let q = q₂ ∙ ap (λ (x : Due). graver x (long_due (ltb 65535 z))) q₁ in
       λ i. at (e i) (record { next = st.next; place = C.end s + s.gaps; due = q i })

@@ -2,77 +2,81 @@
 ghost use Rattle.std.specs.Prelude.{◌≡◌, ◌+◌, ◌≤◌, T, length, drop};
 ghost use Rattle.field.specs.Put.{put};
 ghost use Rattle.spec.specs.Words.{free};
-ghost use Rattle.records.specs.Kinds.{sign_after, kind_at, kinds_at};
+ghost use Rattle.records.specs.Kinds.{sign_of, sign_after, kind_at, kinds_at};
 
-use field::reader::{Header, read_header};
+use field::reader::{behind, body};
 
-// Where the text leaves us: from the back, since the last sign decides and is mostly near. Letters come behind both signs, and are told first.
-fn sign_after(q: u8, s: &[u8]) -> u8
-    ensures { result ≡ sign_after q s.now }
+// Where the text so far leaves us.
+#[derive(Clone, Copy)]
+enum Sign {
+    // in no opening tag
+    Outside,
+    // right behind the `<` of one
+    Opened,
+    // further in
+    Inside,
+}
+
+// From the back, since the last sign decides and is mostly near. Letters come behind both signs, and are told first.
+fn sign_after(q: Sign, s: &[u8]) -> Sign
+    ensures { sign_of result ≡ sign_after (sign_of q) s.now }
 {
-    let mut i = s.len();
-    while 0 < i {
-        i -= 1;
+    for i in (0..s.len()).rev() {
         if b'>' < s[i] {
             continue;
         }
         if s[i] == b'>' {
-            return 0;
+            return Sign::Outside;
         }
         if s[i] == b'<' {
-            return behind_sign(2, s, i + 1);
+            return behind_sign(Sign::Opened, &s[i + 1..]);
         }
     }
-    behind_sign(q, s, 0)
+    behind_sign(q, s)
 }
 
-// The same from place i on, where no sign stands: only what follows a `<` matters.
-fn behind_sign(q: u8, s: &[u8], i: usize) -> u8
-    requires { (i ≤ length s.now) × T (free (drop i s.now)) }
-    ensures { result ≡ sign_after q (drop i s.now) }
+// The same of a text in which no sign stands: only what follows a `<` matters.
+fn behind_sign(q: Sign, s: &[u8]) -> Sign
+    requires { T (free s.now) }
+    ensures { sign_of result ≡ sign_after (sign_of q) s.now }
 {
-    if q != 2 {
-        return q;
+    match q {
+        Sign::Opened => match s {
+            [] => Sign::Opened,
+            [b'/', ..] => Sign::Outside,
+            [_, ..] => Sign::Inside,
+        },
+        Sign::Outside | Sign::Inside => q,
     }
-    if s.len() <= i {
-        return 2;
-    }
-    if s[i] == b'/' {
-        return 0;
-    }
-    1
 }
 
-fn kind_at(q: u8) -> u8
-    ensures { result ≡ kind_at q }
+fn kind_at(q: Sign) -> u8
+    ensures { result ≡ kind_at (sign_of q) }
 {
-    if q == 0 {
-        return 2;
+    match q {
+        Sign::Outside => 2,
+        Sign::Opened | Sign::Inside => 1,
     }
-    1
 }
 
-// For each gap its kind, from at on; the strings stand from there on, one behind the other, where the kinds do not reach.
+// For each gap the kind that the strings leave, which stand one behind the other.
+fn fill_kinds(kinds: &mut [u8], strings: &[u8])
+    ensures { kinds.new ≡ kinds_at (length kinds.old) 0 strings.now }
+{
+    let mut rest = strings;
+    let mut q = Sign::Outside;
+    for kind in kinds.iter_mut() {
+        q = sign_after(q, body(rest));
+        rest = behind(rest);
+        *kind = kind_at(q);
+    }
+}
+
+// The kinds from at on; the strings stand from there on, where the kinds do not reach.
 pub fn put_kinds(out: &mut [u8], at: usize, from: usize, gaps: usize)
     requires { (at + gaps ≤ from) × (from ≤ length out.old) }
     ensures { out.new ≡ put out.old at (kinds_at gaps 0 (drop from out.old)) }
 {
-    let mut p = from;
-    let mut q: u8 = 0;
-    let mut i: usize = 0;
-    while i < gaps {
-        match read_header(&out[p..]) {
-            Header::Field { tag: _, end } => {
-                q = sign_after(q, &out[p + 3..p + end]);
-                p += end;
-                out[at + i] = kind_at(q);
-                i += 1;
-            }
-            Header::Absent => {
-                p = out.len();
-                out[at + i] = kind_at(q);
-                i += 1;
-            }
-        }
-    }
+    let (front, strings) = out.split_at_mut(from);
+    fill_kinds(&mut front[at..at + gaps], strings);
 }

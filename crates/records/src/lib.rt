@@ -16,12 +16,12 @@ pub mod moves;
 
 use crate::kinds::put_kinds;
 use crate::moves::move_up;
-use decisions::children::{becomes_template, child_count, children_at};
+use decisions::children::{Count, becomes_template, child_count, children_at};
 use decisions::element::{identifier, is_serializable};
 use field::reader::{behind, body, tag_at};
 use field::writer::{put_four, put_head, put_two};
 use names::is_void_element;
-use strings::due::with_body;
+use strings::due::{Due, with_body};
 use strings::{Open, children_strings, merged_children_strings, tag_strings};
 
 // The next number, the place behind what was written, and what is due.
@@ -29,7 +29,7 @@ use strings::{Open, children_strings, merged_children_strings, tag_strings};
 pub struct Records {
     pub next: usize,
     pub place: usize,
-    pub due: u8,
+    pub due: Due,
 }
 
 // Behind the room for its head, its number and the count of its gaps.
@@ -68,22 +68,29 @@ fn closed(out: &mut [u8], n: usize, st: Records, open: Open) -> Records
     requires { (st.place + 9 ≤ C.end «open») × C.Low (C.at out.old «open») }
     ensures { at out.new result ≡ end_at n st «open».gaps (C.close (C.at out.old «open»)) }
 {
-    let place = st.place;
-    let gaps = open.gaps;
-    let len = open.len;
-    put_head(out, open.head, 0x81, len);
-    let end = open.head + 3 + len;
+    let Records { place, .. } = st;
+    let Open {
+        head,
+        len,
+        gaps,
+        due,
+    } = open;
+    put_head(out, head, 0x81, len);
+    let end = head + 3 + len;
     put_gaps(out, place, end, gaps);
     let size = end + gaps - (place + 3);
     put_head(out, place, 0x84, size);
     put_four(out, place + 3, n);
     put_two(out, place + 7, gaps);
     Records {
-        next: st.next,
         place: end + gaps,
-        due: with_body(with_body(open.due, len), size),
+        due: with_body(with_body(due, len), size),
+        ..st
     }
 }
+
+// These three differ in what writes the strings. One function over a closure would state by the closure's contract what each of them states
+// plainly.
 
 // Of an element that is HTML.
 fn write_element<'a>(
@@ -141,8 +148,7 @@ fn taken(st: Records) -> Records
 {
     Records {
         next: st.next + 1,
-        place: st.place,
-        due: st.due,
+        ..st
     }
 }
 
@@ -223,20 +229,17 @@ fn record_parts<'a>(
         match tag_at(t) {
             0x30 => {
                 cur = record_element(skip, props, body(t), scratch, out, cur);
-                let r = behind(t);
-                t = r;
+                t = behind(t);
             }
             0x31 => {
                 cur = record_parts(skip, props, body(t), scratch, out, cur);
-                let r = behind(t);
-                t = r;
+                t = behind(t);
             }
             256 => {
                 return cur;
             }
             _ => {
-                let r = behind(t);
-                t = r;
+                t = behind(t);
             }
         }
     }
@@ -256,30 +259,22 @@ pub fn record_found<'a>(
     ensures { at out.new result ≡ keep (found_pass (children_to_expr (children_at skip.now props.now (read s.now)))) (at out.old st) }
 {
     match child_count(s) {
-        0 => {
-            return st;
-        }
-        1 => {
+        Count::Zero => st,
+        Count::One => {
             let a = children_at(s);
             match tag_at(a) {
-                0x30 => {
-                    return record_serialize(skip, props, body(a), scratch, out, st);
-                }
-                0x31 => {
-                    return record_found(skip, props, body(a), scratch, out, st);
-                }
-                _ => {
-                    return st;
-                }
+                0x30 => record_serialize(skip, props, body(a), scratch, out, st),
+                0x31 => record_found(skip, props, body(a), scratch, out, st),
+                _ => st,
             }
         }
-        _ => {
+        Count::More => {
             if becomes_template(skip, s) {
                 let n = st.next;
                 let inner = record_parts(skip, props, s, scratch, out, taken(st));
                 return write_merged(skip, props, s, scratch, out, n, inner);
             }
-            return record_entries(skip, props, s, scratch, out, st);
+            record_entries(skip, props, s, scratch, out, st)
         }
     }
 }
@@ -302,20 +297,17 @@ fn record_entries<'a>(
         match tag_at(t) {
             0x30 => {
                 cur = record_serialize(skip, props, body(t), scratch, out, cur);
-                let r = behind(t);
-                t = r;
+                t = behind(t);
             }
             0x31 => {
                 cur = record_found(skip, props, body(t), scratch, out, cur);
-                let r = behind(t);
-                t = r;
+                t = behind(t);
             }
             256 => {
                 return cur;
             }
             _ => {
-                let r = behind(t);
-                t = r;
+                t = behind(t);
             }
         }
     }

@@ -13,10 +13,9 @@ use Rattle.field.specs.Number.{number_of, big_endian}
 use Rattle.field.specs.Row.{Row, end, loose, field, bytes, Inside, only_bytes}
 use Rattle.field.proofs.NumberLaws.{length_big_endian}
 use Rattle.field.proofs.Reading.{FrontFits, ShapedBy, length_bytes, shaped, written}
-use Rattle.page.specs.Refusal.{after, unless}
+use Rattle.page.specs.Refusal.{Fine, after, unless}
 use Rattle.page.specs.Tree.{choose}
 use Rattle.page.specs.declared.Refusal.TheVariants as R
-use Rattle.page.specs.declared.Verdict.TheVariants.{Fine}
 use Rattle.page.proofs.Verdicts.{after_fine, unless_fine}
 use Rattle.outs.specs.Held.{nests, held, read_out}
 use Rattle.outs.specs.PageOut.{allowed, left, within, front_right, check_leaf, good, check_page_out}

@@ -3,7 +3,7 @@
 use mathlib.Core.Path.{◌≡◌, refl, sym, ap, ap₂, ◌∙◌, subst}
 use mathlib.Core.Logic.{◌⊎◌, inl, inr}
 use mathlib.Core.Bool.{Bool, true, false, ◌&&◌, ◌||◌}
-use Prim.Native.Nat.{ℕ, zero, suc, ◌+◌, ◌-◌, ◌*◌, ◌%◌, ◌≤◌, ◌<◌, min}
+use Prim.Native.Nat.{ℕ, zero, suc, ◌+◌, ◌-◌, ◌*◌, ◌%◌, ◌^◌, ◌≤◌, ◌<◌, min}
 use native.Mathlib.Omega.{arith}
 use native.Mathlib.Decide.{dec_le}
 use native.Mathlib.Numerals.{add-one}
@@ -12,13 +12,13 @@ use lib.Dec.{ltb, eqb}
 use lib.ListN.{length, get_or, take, drop, set, length-set, length-take, length-drop}
 use lib.Seq.{take_all, take-take, drop-drop, get_or-set_same, get_or-set_other}
 use borrow.Author.Tests.{eq-eqb, ne_eqb, eqb-true, eqb-false}
+use Rattle.std.specs.Prelude.{Option, Some, None}
 use Rattle.field.specs.Bytes.{Bytes, AllBytes, pick}
 use Rattle.field.specs.Number.{number_of, number_from, big_endian}
 use Rattle.field.specs.Row.{Row, end, field, field_bytes, bytes, Inside, only_bytes, fields_after}
 use Rattle.field.specs.Header.{header_of, Within}
 use Rattle.field.specs.Put.{head, Wrote}
 use Rattle.field.specs.declared.reader.Header.{Header}
-use Rattle.field.specs.declared.reader.Header.TheVariants as H
 use Rattle.field.proofs.HeaderLaws.{within_field}
 use Rattle.field.proofs.NumberLaws.{all_take, all_drop, length_big_endian}
 use Rattle.field.proofs.PutLaws.{wrote_length, length_field_bytes}
@@ -29,12 +29,10 @@ use Rattle.loops.specs.Until.{until}
 use Rattle.loops.proofs.Turns as T
 use Rattle.outs.specs.Held.{nests, held, read_out}
 use Rattle.outs.specs.Renumber.{renumbered_front, renumbered, Renumbers}
-use Rattle.renumber.specs.Step.{Holding, numbered, base_for}
-use Rattle.renumber.specs.declared.Holds.{Holds}
-use Rattle.renumber.specs.declared.Holds.TheVariants as F
+use Rattle.renumber.specs.Step.{Holding, numbered}
 use Rattle.renumber.specs.declared.Frame.{Frame}
 use Rattle.renumber.proofs.Worlds.{World, over, does, writes, enters, leaves, does_end, does_loose, does_leaf, does_field, does_all}
-use Rattle.renumber.proofs.Spans.{outer, outer_low, outer_out, span_in, base_kept, base_first, head_in}
+use Rattle.renumber.proofs.Spans.{outer, outer_low, outer_out, span_in}
 
 abbrev pub world : Bytes → ℕ → Bool → Bool → World
 world o n l v = record { out = o; at = n; long = l; wide = v }
@@ -79,6 +77,17 @@ pub record Keeps (from to : ℕ) (s o : Bytes) (fs : List Frame) (h base at e : 
   pub same_size : length out ≡ length o
   pub heads : (i : ℕ) → i < h → base + (get_or fs i none).head + 3 ≤ n
   pub spans : (h ≡ 0 → ⊥) → n + 3 * outer (rests fs) h e ≤ base + 196614 + 3 * at
+
+-- the base where a field is entered: n, where none is open
+pub record Based (h base n b' : ℕ) : Type 0 where
+  pub kept : (h ≡ 0 → ⊥) → b' ≡ base
+  pub first : h ≡ 0 → b' ≡ n
+
+pub base_new : {h base n b' : ℕ} → h ≡ 0 → b' ≡ n → Based h base n b'
+base_new z e = record { kept = λ k. absurd (k z); first = λ u. e }
+
+pub base_same : {h base n b' : ℕ} → (h ≡ 0 → ⊥) → b' ≡ base → Based h base n b'
+base_same k e = record { kept = λ u. e; first = λ z. absurd (k z) }
 
 -- ---- what a body holds
 
@@ -268,34 +277,29 @@ module _ {from to : ℕ} {s o : Bytes} {fs : List Frame} {h base at e : ℕ} {ou
   pub on_done : length (part s at e) ≡ 0 → h ≡ 0 → Renumbers to (read_out from s) o out n l v
   on_done z x = does_all (T.on_done p.going (ended z) x)
 
-  -- the head of a field that is entered is found again from the base
-  head_found : (b' : ℕ) → ((h ≡ 0 → ⊥) → b' ≡ base) → (h ≡ 0 → b' ≡ n) → b' + (n - b') % 4294967296 ≡ n
-  head_found b' kept first = on (dec_le 1 h)
-    where
-      on : Dec (1 ≤ h) → b' + (n - b') % 4294967296 ≡ n
-      on (yes z) =
-          let no : h ≡ 0 → ⊥ = λ u. omega arith in
-          head_in b' n (omega (arith, kept no, p.heads 0 (omega arith))) (omega (arith, kept no, p.spans no, outer_low (rests fs) h e, p.going.ordered))
-      on (no z) =
-          let u : h ≡ 0 = omega arith in
-          head_in b' n (omega (arith, first u)) (omega (arith, first u))
+  -- the base, where a field is entered
+  module _ {b' : ℕ} (b : Based h base n b') where
+    pub base_low : b' ≤ n
+    base_low = on (dec_le 1 h)
+      where
+        on : Dec (1 ≤ h) → b' ≤ n
+        on (yes z) = omega (arith, b.kept (λ u. omega arith), p.heads 0 (omega arith))
+        on (no z) = omega (arith, b.first (omega arith))
 
-  pub base_low : {b' : ℕ} → b' ≡ base_for h base n → b' ≤ n
-  base_low {b'} eb = on (dec_le 1 h)
-    where
-      on : Dec (1 ≤ h) → b' ≤ n
-      on (yes z) =
-          let k : b' ≡ base = eb ∙ base_kept h base n (λ u. omega arith) in
-          omega (arith, p.heads 0 (omega arith))
-      on (no z) =
-          let u : h ≡ 0 = omega arith in
-          let k : b' ≡ n = eb ∙ base_first h base n u in
-          omega arith
+    -- so close that four bytes say where the head is
+    pub head_low : n - b' < 2 ^ 32
+    head_low = on (dec_le 1 h)
+      where
+        on : Dec (1 ≤ h) → n - b' < 2 ^ 32
+        on (yes z) =
+            let no : h ≡ 0 → ⊥ = λ u. omega arith in
+            omega (arith, b.kept no, p.spans no, outer_low (rests fs) h e, p.going.ordered)
+        on (no z) = omega (arith, b.first (omega arith))
 
   part_all : AllBytes (part s at e)
   part_all = all_take (e - at) (drop at s) (all_drop at s p.all)
 
-  module _ {hd : Header} (q : hd ≡ header_of (part s at e)) (x : hd ≡ H.Absent) (z : length (part s at e) ≡ 0 → ⊥) where
+  module _ {v0 : Option Header} (q : v0 ≡ header_of (part s at e)) (x : v0 ≡ None) (z : length (part s at e) ≡ 0 → ⊥) where
     pub fits_torn : n + length (part s at e) ≤ length (bytes (renumbered to (read_out from s)))
     unfolding read_out renumbered bytes
     fits_torn = fits (read_torn (held from) (part s at e) q x z)
@@ -318,46 +322,46 @@ module _ {from to : ℕ} {s o : Bytes} {fs : List Frame} {h base at e : ℕ} {ou
           spans = λ u. omega (arith, p.spans u, w.end_is);
         }
 
-  module _ {hd : Header} (q : hd ≡ header_of (part s at e)) (i : Within (length (part s at e)) hd) {t y : ℕ} (x : hd ≡ H.Field t y) where
+  module _ {v0 : Option Header} (q : v0 ≡ header_of (part s at e)) (i : Within (length (part s at e)) v0) {hd : Header} (x : v0 ≡ Some hd) where
     -- a length has two bytes
-    short : y ≤ 65538
+    short : hd.end ≤ 65538
     short =
         let c : Bytes = part s at e in
-        let a = all_parts c t (body c y) (drop y c) (next_is c q i x) part_all in
+        let a = all_parts c hd.tag (body c hd.end) (drop hd.end c) (next_is c q i x) part_all in
         omega (arith, length_body c q i x, (within_field i x).0, a.body_short)
 
-    module _ {r : Holds} (k : Holding (held from t) r) (k' : r ≡ F.Bytes) where
-      leaf_is : read_out from (part s at e) ≡ field t (body (part s at e) y) end (read_out from (drop y (part s at e)))
+    module _ {r : Option ℕ} (k : Holding (held from hd.tag) r) (k' : r ≡ None) where
+      leaf_is : read_out from (part s at e) ≡ field hd.tag (body (part s at e) hd.end) end (read_out from (drop hd.end (part s at e)))
       unfolding read_out
       leaf_is =
           let c : Bytes = part s at e in
-          let only : held from t ≡ only_bytes = subst (Holding (held from t)) k' k in
-          field_is c q i x (held from) ∙ ap (λ (j : Inside). field t (front_of j (body c y)) (inner_of (held from) j (body c y)) (read_out from (drop y c))) only
+          let only : held from hd.tag ≡ only_bytes = subst (Holding (held from hd.tag)) k' k in
+          field_is c q i x (held from) ∙ ap (λ (j : Inside). field hd.tag (front_of j (body c hd.end)) (inner_of (held from) j (body c hd.end)) (read_out from (drop hd.end c))) only
 
-      pub fits_leaf : n + y ≤ length (bytes (renumbered to (read_out from s)))
+      pub fits_leaf : n + hd.end ≤ length (bytes (renumbered to (read_out from s)))
       unfolding renumbered
       fits_leaf =
           let c : Bytes = part s at e in
-          let only : held from t ≡ only_bytes = subst (Holding (held from t)) k' k in
-          let no : renumbered_front to t (body c y) ≡ body c y = ap (λ (b : Bool). pick b (big_endian to (number_of (body c y)) []) (body c y)) (ne_eqb t 0x90 (not_call from t only)) in
-          omega (arith, fits leaf_is, length_bytes t (renumbered_front to t (body c y)) end (renumbered to (read_out from (drop y c))), ap length no, length_body c q i x, (within_field i x).0)
+          let only : held from hd.tag ≡ only_bytes = subst (Holding (held from hd.tag)) k' k in
+          let no : renumbered_front to hd.tag (body c hd.end) ≡ body c hd.end = ap (λ (b : Bool). pick b (big_endian to (number_of (body c hd.end)) []) (body c hd.end)) (ne_eqb hd.tag 0x90 (not_call from hd.tag only)) in
+          omega (arith, fits leaf_is, length_bytes hd.tag (renumbered_front to hd.tag (body c hd.end)) end (renumbered to (read_out from (drop hd.end c))), ap length no, length_body c q i x, (within_field i x).0)
 
-      pub on_leaf : {out' : Bytes} {n' : ℕ} → Wrote out n (field_bytes t (body (part s at e) y)) out' n' → Keeps from to s o fs h base (at + y) e out' n' l v
+      pub on_leaf : {out' : Bytes} {n' : ℕ} → Wrote out n (field_bytes hd.tag (body (part s at e) hd.end)) out' n' → Keeps from to s o fs h base (at + hd.end) e out' n' l v
       unfolding writes
       on_leaf {out'} {n'} w =
           let c : Bytes = part s at e in
-          let only : held from t ≡ only_bytes = subst (Holding (held from t)) k' k in
-          let g : Bytes = body c y in
+          let only : held from hd.tag ≡ only_bytes = subst (Holding (held from hd.tag)) k' k in
+          let g : Bytes = body c hd.end in
           let z = length_body c q i x in
-          let f = length_field_bytes t g in
+          let f = length_field_bytes hd.tag g in
           let u = within_field i x in
-          let rest : Row = read_out from (drop y c) in
+          let rest : Row = read_out from (drop hd.end c) in
           let d : does to (read_out from c) (world out n l v) ≡ does to rest (world out' n' l v) =
-          ap (λ (j : Row). does to j (world out n l v)) leaf_is ∙ does_leaf to t g rest (world out n l v) (not_call from t only) (omega (arith, short))
+          ap (λ (j : Row). does to j (world out n l v)) leaf_is ∙ does_leaf to hd.tag g rest (world out n l v) (not_call from hd.tag only) (omega (arith, short))
           ∙ rw (w.out_is, w.end_is) refl in
           record {
             all = p.all;
-            going = T.on_leaf p.going y u.1 d;
+            going = T.on_leaf p.going hd.end u.1 d;
             size = p.size;
             same_size = wrote_length w ∙ p.same_size;
             heads = λ i u. omega (arith, p.heads i u, w.end_is);
@@ -370,72 +374,70 @@ module _ {from to : ℕ} {s o : Bytes} {fs : List Frame} {h base at e : ℕ} {ou
         let u = within_field i x in
         T.deep p.going (omega (arith, u.0, u.1, p.going.ordered))
 
-    module _ {r : Holds} {m st : ℕ} (k : Holding (held from t) r) (k' : r ≡ F.Fields m) (g : st ≡ 3 + min m (y - 3)) where
-      after : held from t ≡ fields_after m
-      after = subst (Holding (held from t)) k' k
+    module _ {r : Option ℕ} {m st : ℕ} (k : Holding (held from hd.tag) r) (k' : r ≡ Some m) (g : st ≡ 3 + min m (hd.end - 3)) where
+      after : held from hd.tag ≡ fields_after m
+      after = subst (Holding (held from hd.tag)) k' k
 
       front_fits : length (take (st - 3) (drop 3 (part s at e))) ≤ m
-      front_fits = omega (arith, take_short (st - 3) (drop 3 (part s at e)), (start_is m y st (within_field i x).0 g).2)
+      front_fits = omega (arith, take_short (st - 3) (drop 3 (part s at e)), (start_is m hd.end st (within_field i x).0 g).2)
 
-      open_is : read_out from (part s at e) ≡ field t (take (st - 3) (drop 3 (part s at e))) (read_out from (take (y - st) (drop st (part s at e)))) (read_out from (drop y (part s at e)))
+      open_is : read_out from (part s at e) ≡ field hd.tag (take (st - 3) (drop 3 (part s at e))) (read_out from (take (hd.end - st) (drop st (part s at e)))) (read_out from (drop hd.end (part s at e)))
       unfolding read_out
       open_is =
           let c : Bytes = part s at e in
           let u = within_field i x in
-          field_is c q i x (held from) ∙ ap (λ (j : Inside). field t (front_of j (body c y)) (inner_of (held from) j (body c y)) (read_out from (drop y c))) after
-          ∙ ap₂ (λ (f j : Bytes). field t f (read_out from j) (read_out from (drop y c))) (front_is m y st c u.0 g) (inner_is m y st c u.0 g)
+          field_is c q i x (held from) ∙ ap (λ (j : Inside). field hd.tag (front_of j (body c hd.end)) (inner_of (held from) j (body c hd.end)) (read_out from (drop hd.end c))) after
+          ∙ ap₂ (λ (f j : Bytes). field hd.tag f (read_out from j) (read_out from (drop hd.end c))) (front_is m hd.end st c u.0 g) (inner_is m hd.end st c u.0 g)
 
-      pub starts : (3 ≤ st) × (st ≤ y) × (y ≤ length (part s at e))
+      pub starts : (3 ≤ st) × (st ≤ hd.end) × (hd.end ≤ length (part s at e))
       starts =
           let u = within_field i x in
-          let w = start_is m y st u.0 g in
+          let w = start_is m hd.end st u.0 g in
           (w.0, w.1, u.1)
 
       pub call_number : {u : ℕ} → from ≤ 4 → u ≡ number_of (take 8 (take (st - 3) (drop 3 (part s at e)))) → u ≡ number_of (take (st - 3) (drop 3 (part s at e)))
-      call_number a z = number_is (st - 3) (drop 3 (part s at e)) (omega (arith, front_low from t m after a, (start_is m y st (within_field i x).0 g).2)) z
+      call_number a z = number_is (st - 3) (drop 3 (part s at e)) (omega (arith, front_low from hd.tag m after a, (start_is m hd.end st (within_field i x).0 g).2)) z
 
       module _ {u : ℕ} (un : u ≡ number_of (take (st - 3) (drop 3 (part s at e)))) where
-        written : renumbered_front to t (take (st - 3) (drop 3 (part s at e))) ≡ numbered to t u
-        written = front_numbered from t m after (take (st - 3) (drop 3 (part s at e))) front_fits to ∙ ap (numbered to t) (sym un)
+        written : renumbered_front to hd.tag (take (st - 3) (drop 3 (part s at e))) ≡ numbered to hd.tag u
+        written = front_numbered from hd.tag m after (take (st - 3) (drop 3 (part s at e))) front_fits to ∙ ap (numbered to hd.tag) (sym un)
 
-        pub fits_open : n + 3 + length (numbered to t u) ≤ length (bytes (renumbered to (read_out from s)))
+        pub fits_open : n + 3 + length (numbered to hd.tag u) ≤ length (bytes (renumbered to (read_out from s)))
         unfolding renumbered
         fits_open =
             let c : Bytes = part s at e in
-            let f : Bytes = renumbered_front to t (take (st - 3) (drop 3 c)) in
-            omega (arith, fits open_is, length_bytes t f (renumbered to (read_out from (take (y - st) (drop st c)))) (renumbered to (read_out from (drop y c))), ap length written)
+            let f : Bytes = renumbered_front to hd.tag (take (st - 3) (drop 3 c)) in
+            omega (arith, fits open_is, length_bytes hd.tag f (renumbered to (read_out from (take (hd.end - st) (drop st c)))) (renumbered to (read_out from (drop hd.end c))), ap length written)
 
-        pub on_open : {b' : ℕ} {out' : Bytes} {n' : ℕ} → b' ≡ base_for h base n → to ≤ 4 → Wrote out (n + 3) (numbered to t u) out' n'
-            → Keeps from to s o (set fs h (record { head = (n - b') % 4294967296; rest = (e - at - y) % 65536; tag = t; spare = 0 })) (h + 1) b' (at + st) (at + y) out' n' l (v || ltb 65535 u)
+        pub on_open : {b' : ℕ} {out' : Bytes} {n' : ℕ} → Based h base n b' → to ≤ 4 → Wrote out (n + 3) (numbered to hd.tag u) out' n'
+            → Keeps from to s o (set fs h (record { head = n - b'; rest = (e - at - hd.end) % 65536; tag = hd.tag; spare = 0 })) (h + 1) b' (at + st) (at + hd.end) out' n' l (v || ltb 65535 u)
         unfolding enters
         on_open {b'} {out'} {n'} eb four w =
             let c : Bytes = part s at e in
             let f : Bytes = take (st - 3) (drop 3 c) in
-            let fr : Frame = record { head = (n - b') % 4294967296; rest = (e - at - y) % 65536; tag = t; spare = 0 } in
-            let up : Frame = record { head = n; rest = (e - at - y) % 65536; tag = t; spare = 0 } in
-            let inner : Row = read_out from (take (y - st) (drop st c)) in
-            let rest : Row = read_out from (drop y c) in
+            let fr : Frame = record { head = n - b'; rest = (e - at - hd.end) % 65536; tag = hd.tag; spare = 0 } in
+            let up : Frame = record { head = n; rest = (e - at - hd.end) % 65536; tag = hd.tag; spare = 0 } in
+            let inner : Row = read_out from (take (hd.end - st) (drop st c)) in
+            let rest : Row = read_out from (drop hd.end c) in
             let lo = starts in
             let room = deep in
             let fits : h < length fs = omega (arith, p.size) in
-            let kept : (h ≡ 0 → ⊥) → b' ≡ base = λ z. eb ∙ base_kept h base n z in
-            let first : h ≡ 0 → b' ≡ n = λ z. eb ∙ base_first h base n z in
-            let found : b' + (n - b') % 4294967296 ≡ n = head_found b' kept first in
+            let found : b' + (n - b') ≡ n = omega (arith, base_low eb) in
             let same : lifted b' (get_or (set fs h fr) h none) ≡ up =
-            ap (lifted b') (get_or-set_same fs h fr none fits) ∙ ap (λ (j : ℕ). record { head = j; rest = (e - at - y) % 65536; tag = t; spare = 0 }) found in
-            let below : (j : ℕ) → j < h → lifted b' (get_or (set fs h fr) j none) ≡ lifted base (get_or fs j none) = λ j z. ap₂ lifted (kept (λ o. omega arith)) (T.set_below fs h fr none j z) in
-            let again : (h ≡ 0 → ⊥) → at + y + (get_or (set fs h fr) h none).rest ≡ e =
+            ap (lifted b') (get_or-set_same fs h fr none fits) ∙ ap (λ (j : ℕ). record { head = j; rest = (e - at - hd.end) % 65536; tag = hd.tag; spare = 0 }) found in
+            let below : (j : ℕ) → j < h → lifted b' (get_or (set fs h fr) j none) ≡ lifted base (get_or fs j none) = λ j z. ap₂ lifted (eb.kept (λ o. omega arith)) (T.set_below fs h fr none j z) in
+            let again : (h ≡ 0 → ⊥) → at + hd.end + (get_or (set fs h fr) h none).rest ≡ e =
             λ z. omega (arith, ap (λ (j : Frame). j.rest) (get_or-set_same fs h fr none fits), room_low h at e p.going.room z, T.left_is p.going, lo.2, p.going.ordered) in
-            let is_over : over t f ≡ ltb 65535 u = front_over from t m after f front_fits ∙ ap (ltb 65535) (sym un) in
-            let d : does to (read_out from c) (world out n l v) ≡ does to rest (leaves t n (does to inner (world out' n' l (v || ltb 65535 u)))) =
-            ap (λ (j : Row). does to j (world out n l v)) open_is ∙ does_field to t f inner rest (world out n l v) ∙ rw (w.out_is, w.end_is, written, is_over) refl in
+            let is_over : over hd.tag f ≡ ltb 65535 u = front_over from hd.tag m after f front_fits ∙ ap (ltb 65535) (sym un) in
+            let d : does to (read_out from c) (world out n l v) ≡ does to rest (leaves hd.tag n (does to inner (world out' n' l (v || ltb 65535 u)))) =
+            ap (λ (j : Row). does to j (world out n l v)) open_is ∙ does_field to hd.tag f inner rest (world out n l v) ∙ rw (w.out_is, w.end_is, written, is_over) refl in
             record {
               all = p.all;
-              going = T.on_open p.going (record { base = b'; frames = set fs h fr }) up same below st y lo.0 lo.1 lo.2 short refl d;
+              going = T.on_open p.going (record { base = b'; frames = set fs h fr }) up same below st hd.end lo.0 lo.1 lo.2 short refl d;
               size = length-set fs h fr ∙ p.size;
               same_size = wrote_length w ∙ p.same_size;
-              heads = heads_more fs h base b' n n' (length (numbered to t u)) fr p.heads kept found fits w.end_is;
-              spans = λ z. rw (add-one h) (span_in (rests fs) (rests (set fs h fr)) h at e y st base b' n (length (numbered to t u)) n' p.spans (λ j z. ap (λ (x : Frame). x.rest) (T.set_below fs h fr none j z)) again kept first lo.0 short (length_numbered to t u four) w.end_is);
+              heads = heads_more fs h base b' n n' (length (numbered to hd.tag u)) fr p.heads eb.kept found fits w.end_is;
+              spans = λ z. rw (add-one h) (span_in (rests fs) (rests (set fs h fr)) h at e hd.end st base b' n (length (numbered to hd.tag u)) n' p.spans (λ j z. ap (λ (x : Frame). x.rest) (T.set_below fs h fr none j z)) again eb.kept eb.first lo.0 short (length_numbered to hd.tag u four) w.end_is);
             }
 
 pub on_close : {from to : ℕ} {s o : Bytes} {fs : List Frame} (h : ℕ) {base at e : ℕ} {out out' : Bytes} {n n' : ℕ} {l v : Bool} → Keeps from to s o fs h base at e out n l v → length (part s at e) ≡ 0 → (h ≡ 0 → ⊥)

@@ -1,10 +1,9 @@
 -- How far the outermost field that is open reaches, by the frames: what is written of it is so short that heads are found again from four bytes.
--- Main statements: `outer_low`, `outer_out`, `span_in`, `base_kept`, `base_first`, `head_in`. Assumes nothing.
+-- Main statements: `outer_low`, `outer_out`, `span_in`. Assumes nothing.
 use mathlib.Core.Path.{◌≡◌, refl, ap, ◌∙◌}
-use Prim.Native.Nat.{ℕ, zero, suc, ◌+◌, ◌-◌, ◌*◌, ◌%◌, ◌≤◌, ◌<◌}
+use Prim.Native.Nat.{ℕ, zero, suc, ◌+◌, ◌-◌, ◌*◌, ◌≤◌, ◌<◌}
 use native.Mathlib.Omega.{arith}
 use Rattle.loops.specs.Until.{until}
-use Rattle.renumber.specs.Step.{base_for}
 
 -- where it ends: rests are the bytes behind each field in its body, and the innermost ends at e
 abbrev pub outer : (ℕ → ℕ) → ℕ → ℕ → ℕ
@@ -43,17 +42,3 @@ span_in rests new (suc h) at e y st base base' n k n' p x r b c l u v q =
     let s = p no in
     let o : outer new (suc h) (at + y + new (suc h)) ≡ outer rests (suc h) e = ap (outer new (suc h)) (r no) ∙ outer_same rests new (suc h) e x in
     omega (arith, s, o)
-
--- ---- the base
-
-pub base_kept : (h base n : ℕ) → (h ≡ 0 → ⊥) → base_for h base n ≡ base
-base_kept zero base n z = absurd (z refl)
-base_kept (suc h) base n z = refl
-
-pub base_first : (h base n : ℕ) → h ≡ 0 → base_for h base n ≡ n
-base_first zero base n z = refl
-base_first (suc h) base n z = absurd (omega arith)
-
--- a head is found again from its four bytes
-pub head_in : (base n : ℕ) → base ≤ n → n ≤ base + 196614 → base + (n - base) % 4294967296 ≡ n
-head_in base n x y = omega arith

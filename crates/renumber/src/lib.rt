@@ -7,29 +7,23 @@ ghost use Rattle.field.specs.Row.{bytes, field_bytes};
 ghost use Rattle.field.specs.Put.{Wrote};
 ghost use Rattle.outs.specs.Held.{held, read_out};
 ghost use Rattle.outs.specs.Renumber.{renumbered, Renumbers};
-ghost use Rattle.renumber.specs.Step.{Holding, numbered, base_for};
+ghost use Rattle.renumber.specs.Step.{Holding, numbered};
 
-use field::reader::{Header, read_header};
-use field::writer::{put_bytes, put_four, put_head, put_two};
+use field::reader::read_header;
+use field::writer::{put_bytes, put_field, put_four, put_head, put_two};
 use loops::{DEPTH, waits_until};
 use outs::order::is_nest;
 use page::number::number_in;
 
 // A body that waits for a field in it to end: where that field's head is to be written, counted from the head of the outermost field that is
-// open, with its tag, and how many bytes of the body come behind it. Eight bytes without padding, so that the stack is cleared at once.
+// open, with its tag, and how many bytes of the body come behind it. Eight bytes without padding, so that the stack is cleared at once: spare is
+// nothing else.
 #[derive(Clone, Copy)]
 pub struct Frame {
     pub head: u32,
     pub rest: u16,
     pub tag: u8,
     pub spare: u8,
-}
-
-// What the body of a field holds: bytes alone, or so many bytes and then fields.
-#[derive(Clone, Copy)]
-pub enum Holds {
-    Bytes,
-    Fields(usize),
 }
 
 // How many bytes there are to write, whether some body of them is over 65,535 bytes, and whether some number is over 65,535.
@@ -40,46 +34,17 @@ pub struct Renumbered {
     pub wide: bool,
 }
 
-fn body_holds(tag: u8, from: usize) -> Holds
+// How many bytes stand in a body before its fields, by its tag, or none where it holds bytes alone.
+fn front_of(tag: u8, from: usize) -> Option<usize>
     ensures { Holding (held from tag) result }
 {
     if tag == 0x90 {
-        return Holds::Fields(from);
+        return Some(from);
     }
     if is_nest(tag) {
-        return Holds::Fields(0);
+        return Some(0);
     }
-    Holds::Bytes
-}
-
-// Where the fields begin in a field that ends at a place: behind the head and the front.
-fn fields_at(front: usize, end: usize) -> usize
-    requires { 3 ≤ end }
-    ensures { result ≡ 3 + min front (end - 3) }
-{
-    if front < end - 3 {
-        return 3 + front;
-    }
-    end
-}
-
-// The head from which the heads in the frames are counted: n, where a field is entered and none is open.
-fn counted_from(height: usize, base: usize, n: usize) -> usize
-    ensures { result ≡ base_for height base n }
-{
-    if height == 0 {
-        return n;
-    }
-    base
-}
-
-// A field of bytes alone. Most are short, so its head is not left to the copying loop.
-fn put_leaf(out: &mut [u8], at: usize, tag: u8, body: &[u8]) -> usize
-    requires { at + 3 + length body.now < 2 ^ 64 }
-    ensures { Wrote out.old at (field_bytes tag body.now) out.new result }
-{
-    let a = put_head(out, at, tag, body.len());
-    put_bytes(out, a, body)
+    None
 }
 
 fn put_number(out: &mut [u8], at: usize, tag: u8, width: usize, number: usize) -> usize
@@ -117,7 +82,7 @@ pub fn renumber(s: &[u8], from: usize, to: usize, out: &mut [u8]) -> Renumbered
     loop {
         let b = &s[at..end];
         match read_header(b) {
-            Header::Absent => {
+            None => {
                 if 0 < b.len() {
                     n = put_bytes(out, n, b);
                     at = end;
@@ -133,31 +98,30 @@ pub fn renumber(s: &[u8], from: usize, to: usize, out: &mut [u8]) -> Renumbered
                     let f = stack[height];
                     let head = base + f.head as usize;
                     let len = n - head - 3;
-                    long = long | (65535 < len);
+                    long |= 65535 < len;
                     put_head(out, head, f.tag, len);
                     end = waits_until(height, at, f.rest, s.len());
                 }
             }
-            Header::Field { tag, end: e } => match body_holds(tag, from) {
-                Holds::Bytes => {
-                    n = put_leaf(out, n, tag, &b[3..e]);
-                    at += e;
+            Some(h) => match front_of(h.tag, from) {
+                None => {
+                    n = put_field(out, n, h.tag, &b[3..h.end]);
+                    at += h.end;
                 }
-                Holds::Fields(front) => {
-                    let start = fields_at(front, e);
+                Some(front) => {
+                    let start = 3 + front.min(h.end - 3);
                     let number = number_in(&b[3..start]) as usize;
-                    base = counted_from(height, base, n);
-                    let f = Frame {
-                        head: ((n - base) % 4294967296) as u32,
-                        rest: ((end - at - e) % 65536) as u16,
-                        tag,
+                    base = if height == 0 { n } else { base };
+                    stack[height] = Frame {
+                        head: (n - base) as u32,
+                        rest: ((end - at - h.end) % 65536) as u16,
+                        tag: h.tag,
                         spare: 0,
                     };
-                    stack[height] = f;
                     height += 1;
-                    n = put_number(out, n + 3, tag, to, number);
-                    wide = wide | (65535 < number);
-                    end = at + e;
+                    n = put_number(out, n + 3, h.tag, to, number);
+                    wide |= 65535 < number;
+                    end = at + h.end;
                     at += start;
                 }
             },

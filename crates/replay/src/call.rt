@@ -1,12 +1,12 @@
 // One stored line: the call that it holds is made again, and the answer and every lent byte are compared with what is stored.
-use crate::words::{Read, is_decimal, number, spells, unhex, word};
+use crate::words::{is_decimal, number, spells, unhex, word};
 use jsx_precompile::jsx_precompile_transform;
+use std::fmt;
 use transform::Answer;
 
-// What is not as stored.
+// The first thing that is not as stored.
 #[derive(Clone, Copy)]
 pub enum Difference {
-    Nothing,
     Line,
     Number,
     TemplatesBytes,
@@ -15,6 +15,21 @@ pub enum Difference {
     TemplatesOut,
     PageOut,
     Scratch,
+}
+
+impl fmt::Display for Difference {
+    fn fmt<W: fmt::Write>(&self, f: &mut fmt::Formatter<W>) -> fmt::Result {
+        match self {
+            Difference::Line => write!(f, "the line cannot be read"),
+            Difference::Number => write!(f, "the number"),
+            Difference::TemplatesBytes => write!(f, "templates bytes"),
+            Difference::PageBytes => write!(f, "page bytes"),
+            Difference::Templates => write!(f, "templates"),
+            Difference::TemplatesOut => write!(f, "templates out"),
+            Difference::PageOut => write!(f, "page out"),
+            Difference::Scratch => write!(f, "scratch"),
+        }
+    }
 }
 
 // What the lent bytes hold before a call: no zeros, so that it is seen what was cleared.
@@ -30,12 +45,10 @@ fn fill(b: &mut [u8]) {
 
 // Whether b is as before the call, from that place on.
 fn is_kept(b: &[u8], from: usize) -> bool {
-    for i in from..b.len() {
-        if b[i] != before(i) {
-            return false;
-        }
-    }
-    true
+    b.iter()
+        .enumerate()
+        .skip(from)
+        .all(|(i, x)| *x == before(i))
 }
 
 fn is_zero(b: &[u8]) -> bool {
@@ -64,20 +77,30 @@ fn is_scratch(scratch: &[u8], answer: u32) -> bool {
     is_zero(scratch)
 }
 
-fn compare_answer(line: &[u8], a: Answer) -> Difference {
-    if !is_decimal(word(line, 5), a.number as u64) {
-        return Difference::Number;
+fn expect(holds: bool, d: Difference) -> Result<(), Difference> {
+    if holds {
+        return Ok(());
     }
-    if !is_decimal(word(line, 6), a.templates_bytes as u64) {
-        return Difference::TemplatesBytes;
-    }
-    if !is_decimal(word(line, 7), a.page_bytes as u64) {
-        return Difference::PageBytes;
-    }
-    if !is_decimal(word(line, 8), a.templates as u64) {
-        return Difference::Templates;
-    }
-    Difference::Nothing
+    Err(d)
+}
+
+fn compare_answer(line: &[u8], a: Answer) -> Result<(), Difference> {
+    expect(
+        is_decimal(word(line, 5), u64::from(a.number)),
+        Difference::Number,
+    )?;
+    expect(
+        is_decimal(word(line, 6), a.templates_bytes as u64),
+        Difference::TemplatesBytes,
+    )?;
+    expect(
+        is_decimal(word(line, 7), a.page_bytes as u64),
+        Difference::PageBytes,
+    )?;
+    expect(
+        is_decimal(word(line, 8), a.templates as u64),
+        Difference::Templates,
+    )
 }
 
 fn compare_lent(
@@ -86,17 +109,16 @@ fn compare_lent(
     scratch: &[u8],
     templates: &[u8],
     page: &[u8],
-) -> Difference {
-    if !is_out(word(line, 9), templates, a.templates_bytes, a.number) {
-        return Difference::TemplatesOut;
-    }
-    if !is_out(word(line, 10), page, a.page_bytes, a.number) {
-        return Difference::PageOut;
-    }
-    if !is_scratch(scratch, a.number) {
-        return Difference::Scratch;
-    }
-    Difference::Nothing
+) -> Result<(), Difference> {
+    expect(
+        is_out(word(line, 9), templates, a.templates_bytes, a.number),
+        Difference::TemplatesOut,
+    )?;
+    expect(
+        is_out(word(line, 10), page, a.page_bytes, a.number),
+        Difference::PageOut,
+    )?;
+    expect(is_scratch(scratch, a.number), Difference::Scratch)
 }
 
 fn call<'a>(
@@ -106,47 +128,17 @@ fn call<'a>(
     scratch: &mut [u8],
     templates: &mut [u8],
     page: &mut [u8],
-) -> Difference {
+) -> Result<(), Difference> {
     fill(scratch);
     fill(templates);
     fill(page);
     let a = jsx_precompile_transform(input, options, scratch, templates, page);
-    let d = compare_answer(line, a);
-    match d {
-        Difference::Nothing => compare_lent(line, a, scratch, templates, page),
-        _ => d,
-    }
+    compare_answer(line, a)?;
+    compare_lent(line, a, scratch, templates, page)
 }
 
-// The lent parts are as long as the line says.
-fn lend<'a>(
-    line: &'a [u8],
-    input: &'a [u8],
-    options: &'a [u8],
-    scratch: &mut [u8],
-    templates: &mut [u8],
-    page: &mut [u8],
-) -> Difference {
-    let Read::Number(s) = number(word(line, 2), scratch.len()) else {
-        return Difference::Line;
-    };
-    let Read::Number(t) = number(word(line, 3), templates.len()) else {
-        return Difference::Line;
-    };
-    let Read::Number(p) = number(word(line, 4), page.len()) else {
-        return Difference::Line;
-    };
-    call(
-        line,
-        input,
-        options,
-        &mut scratch[..s],
-        &mut templates[..t],
-        &mut page[..p],
-    )
-}
-
-// The first difference of a line. Page and options are put to the fronts of input and options.
+// The first difference of a line. Page and options are put to the fronts of input and options, and the lent parts are as long as the line
+// says. The five stay apart: the borrow checker has no proof yet for parts of a struct that are lent, two at once, from behind a reference.
 pub fn replay(
     line: &[u8],
     input: &mut [u8],
@@ -154,12 +146,18 @@ pub fn replay(
     scratch: &mut [u8],
     templates: &mut [u8],
     page: &mut [u8],
-) -> Difference {
-    let Read::Number(i) = unhex(word(line, 0), input) else {
-        return Difference::Line;
-    };
-    let Read::Number(o) = unhex(word(line, 1), options) else {
-        return Difference::Line;
-    };
-    lend(line, &input[..i], &options[..o], scratch, templates, page)
+) -> Result<(), Difference> {
+    let i = unhex(word(line, 0), input).ok_or(Difference::Line)?;
+    let o = unhex(word(line, 1), options).ok_or(Difference::Line)?;
+    let s = number(word(line, 2), scratch.len()).ok_or(Difference::Line)?;
+    let t = number(word(line, 3), templates.len()).ok_or(Difference::Line)?;
+    let p = number(word(line, 4), page.len()).ok_or(Difference::Line)?;
+    call(
+        line,
+        &input[..i],
+        &options[..o],
+        &mut scratch[..s],
+        &mut templates[..t],
+        &mut page[..p],
+    )
 }

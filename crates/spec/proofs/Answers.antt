@@ -12,8 +12,7 @@ use Rattle.page.specs.Page.{Options}
 use Rattle.page.specs.Tree.{options_in}
 use Rattle.page.specs.Check.{check_page, check_options}
 use Rattle.page.specs.declared.Refusal.TheVariants as R
-use Rattle.page.specs.declared.Verdict.{Verdict}
-use Rattle.page.specs.declared.Verdict.TheVariants.{Fine, Refused}
+use Rattle.page.specs.Refusal.{Verdict, Fine, Refused}
 use Rattle.page.proofs.Verdicts.{after_fine, unless_fine, fine_after, fine_unless, and_both, both_and}
 use Rattle.spec.specs.declared.Flags.{Flags}
 use Rattle.spec.specs.Pass.{Done}

@@ -8,8 +8,9 @@ use mathlib.Core.List.{[], ◌∷◌}
 use Rattle.page.specs.Page.{Tag, element, fragment, Attributes, no_attributes, attribute, spread_attribute, Value, absent, string_value, empty_value, container_value, tag_value, Children, no_children, text_child, empty_child, container_child, tag_child, spread_child, Expr, string_literal, number_literal, boolean_literal, null_literal, other_literal, minus_literal, array_literal, other_expr, tag_expr, Items, no_items, item, spread_item, hole_item, Pieces, no_pieces, source_piece, tag_piece, export_item, declaration_item, statement_item, empty_item, Page}
 use Rattle.page.specs.Limits.{ModuleItemsOk}
 use Rattle.sums.specs.Machine.{sum_of}
-use Rattle.sums.specs.declared.value.Worked.{Worked}
-use Rattle.sums.specs.declared.value.Worked.TheVariants.{Stays, Plus, Minus}
+use Rattle.sums.specs.Value.{Worked}
+use Rattle.sums.specs.declared.value.Sum.TheVariants.{Plus, Minus}
+use Rattle.std.specs.Prelude.{Some, None}
 use Rattle.worked.specs.Worked.{pieces_sum, literal_or, worked_tag, worked_attributes, worked_value, worked_children, worked_expr, worked_items, worked_pieces, worked_item, worked}
 use Rattle.worked.proofs.Limits.{worked_ok}
 use Rattle.spec.specs.Answer.{worked_if}
@@ -30,9 +31,9 @@ two x y = record { tags = ap₂ (λ (n k : ℕ). n + k) x.tags y.tags; fragments
 -- one 79: a number only where a source piece stood alone
 sum_same : (s : Worked) (ps : Pieces) → pieces_weight ps ≡ 0 → pieces_have_fragment ps ≡ false → Same (expr_weight (literal_or s (other_expr ps))) 0 (expr_has_fragment (literal_or s (other_expr ps))) false
 unfolding literal_or expr_weight expr_has_fragment
-sum_same Stays ps e f = record { tags = e; fragments = f }
-sum_same (Plus n) ps e f = same
-sum_same (Minus n) ps e f = same
+sum_same None ps e f = record { tags = e; fragments = f }
+sum_same (Some (Plus n)) ps e f = same
+sum_same (Some (Minus n)) ps e f = same
 
 other_same : (ps : Pieces) → Same (pieces_weight (worked_pieces ps)) (pieces_weight ps) (pieces_have_fragment (worked_pieces ps)) (pieces_have_fragment ps) →
     Same (expr_weight (literal_or (pieces_sum ps) (other_expr (worked_pieces ps)))) (pieces_weight ps) (expr_has_fragment (literal_or (pieces_sum ps) (other_expr (worked_pieces ps)))) (pieces_have_fragment ps)

@@ -6,11 +6,9 @@ use Rattle.field.specs.Put.{put}
 use Rattle.page.specs.Page.{Options, Page}
 use Rattle.page.specs.Tree.{page_in, works_sums, options_in}
 use Rattle.page.specs.Check.{check_page, check_options}
-use Rattle.page.specs.Refusal.{refusal_number, unless, after}
+use Rattle.page.specs.Refusal.{Verdict, Fine, Refused, refusal_number, unless, after}
 use Rattle.page.specs.declared.Refusal.{Refusal}
 use Rattle.page.specs.declared.Refusal.TheVariants as R
-use Rattle.page.specs.declared.Verdict.{Verdict}
-use Rattle.page.specs.declared.Verdict.TheVariants.{Fine, Refused}
 use Rattle.worked.specs.Worked.{worked}
 use Rattle.spec.specs.declared.Flags.{Flags}
 use Rattle.spec.specs.Pass.{Done}

@@ -14,6 +14,8 @@ use Rattle.field.proofs.Actions.{Action, Lows, Keeps, Steps, by_steps, place_ste
 use Rattle.text.specs.Escape.{escape_html}
 use Rattle.spec.specs.Pass.{Part, chars, gap, mark}
 use Rattle.strings.specs.declared.writer.Open.{Open}
+use Rattle.strings.specs.declared.due.Due.{Due}
+use Rattle.strings.specs.declared.due.Due.TheVariants.{Nothing}
 use Rattle.strings.specs.Due.{graver, long_due, grave}
 use Rattle.strings.specs.Carve.{Carved, at, end, put_on, close, carve, flagged, Low, ended_at, flags_at, opening}
 use Rattle.strings.proofs.DueLaws.{graver_none, graver_assoc, graver_swap}
@@ -89,18 +91,18 @@ module _ (o : Bytes) (st : Open) where
   put_low b l = omega (arith, l)
 
   -- they are written, and the string ends behind them
-  pub put_is : {b o' : Bytes} {e : ℕ} {r : Open} → r ≡ ended_at st e → Wrote o (end st) b o' e → at o' r ≡ carve (chars b ∷ []) (at o st)
+  pub put_is : {n : ℕ} → n ≡ end st → {b o' : Bytes} {e : ℕ} {r : Open} → r ≡ ended_at st e → Wrote o n b o' e → at o' r ≡ carve (chars b ∷ []) (at o st)
   unfolding carve
-  put_is {b} {o'} {e} {r} q w =
-      let l : e - (st.head + 3) ≡ st.len + length b = omega (arith, w.end_is) in
-      ap (at o') q ∙ (λ i. record { out = w.out_is i; st = record { head = st.head; len = l i; gaps = st.gaps; due = st.due } })
+  put_is n {b} {o'} {e} {r} q w =
+      let l : e - (st.head + 3) ≡ st.len + length b = omega (arith, n, w.end_is) in
+      ap (at o') q ∙ (λ i. record { out = (w.out_is ∙ ap (λ (k : ℕ). put o k b) n) i; st = record { head = st.head; len = l i; gaps = st.gaps; due = st.due } })
 
-  pub end_low : {b o' : Bytes} {e : ℕ} → Wrote o (end st) b o' e → st.head + 3 ≤ e
-  end_low {b} w = omega (arith, w.end_is)
+  pub end_low : {n : ℕ} → n ≡ end st → {b o' : Bytes} {e : ℕ} → Wrote o n b o' e → st.head + 3 ≤ e
+  end_low n {b} w = omega (arith, n, w.end_is)
 
   -- the string is closed
   module _ {o' : Bytes} {n : ℕ} (w : Wrote o st.head (head 0x81 st.len) o' n) where
-    pub cut_is : {d : ℕ} → d ≡ graver st.due (long_due (ltb 65535 st.len)) → at o' (record { head = end st; len = 0; gaps = st.gaps + 1; due = d }) ≡ close (at o st)
+    pub cut_is : {d : Due} → d ≡ graver st.due (long_due (ltb 65535 st.len)) → at o' (record { head = end st; len = 0; gaps = st.gaps + 1; due = d }) ≡ close (at o st)
     cut_is e = λ i. record { out = w.out_is i; st = record { head = end st; len = 0; gaps = st.gaps + 1; due = e i } }
 
 -- a space and a cut
@@ -122,22 +124,22 @@ module _ (o : Bytes) (st : Open) where
 
 -- ---- what is due
 
-due_is : (w : Carved) (d : ℕ) → w.st.due ≡ d → w ≡ record { out = w.out; st = record { head = w.st.head; len = w.st.len; gaps = w.st.gaps; due = d } }
+due_is : (w : Carved) (d : Due) → w.st.due ≡ d → w ≡ record { out = w.out; st = record { head = w.st.head; len = w.st.len; gaps = w.st.gaps; due = d } }
 due_is w d e = λ i. record { out = w.out; st = record { head = w.st.head; len = w.st.len; gaps = w.st.gaps; due = e i } }
 
-pub flagged_none : (w : Carved) → flagged 0 w ≡ w
-flagged_none w = sym (due_is w (graver w.st.due 0) (sym (graver_none w.st.due)))
+pub flagged_none : (w : Carved) → flagged Nothing w ≡ w
+flagged_none w = sym (due_is w (graver w.st.due Nothing) (sym (graver_none w.st.due)))
 
-pub flagged_twice : (a b : ℕ) (w : Carved) → flagged b (flagged a w) ≡ flagged (graver a b) w
+pub flagged_twice : (a b : Due) (w : Carved) → flagged b (flagged a w) ≡ flagged (graver a b) w
 flagged_twice a b w = due_is (flagged b (flagged a w)) (graver w.st.due (graver a b)) (graver_assoc w.st.due a b)
 
-pub flagged_swap : (a b : ℕ) (w : Carved) → flagged b (flagged a w) ≡ flagged a (flagged b w)
+pub flagged_swap : (a b : Due) (w : Carved) → flagged b (flagged a w) ≡ flagged a (flagged b w)
 flagged_swap a b w = due_is (flagged b (flagged a w)) (graver (graver w.st.due b) a) (graver_swap w.st.due a b)
 
-pub close_flagged : (d : ℕ) (w : Carved) → close (flagged d w) ≡ flagged d (close w)
+pub close_flagged : (d : Due) (w : Carved) → close (flagged d w) ≡ flagged d (close w)
 close_flagged d w = let l = long_due (ltb 65535 w.st.len) in due_is (close (flagged d w)) (graver (graver w.st.due l) d) (graver_swap w.st.due d l)
 
-pub carve_flagged : (d : ℕ) (ps : List Part) (w : Carved) → carve ps (flagged d w) ≡ flagged d (carve ps w)
+pub carve_flagged : (d : Due) (ps : List Part) (w : Carved) → carve ps (flagged d w) ≡ flagged d (carve ps w)
 unfolding carve
 carve_flagged d [] w = refl
 carve_flagged d (chars b ∷ ps) w = carve_flagged d ps (put_on b w)
@@ -151,7 +153,7 @@ module _ (n r : Bytes) where
   unfolding carve
   opening_low w l = l
 
-  pub opening_is : (w : Carved) {o : Bytes} {s : Open} → at o s ≡ carve (chars (60 ∷ escape_html n) ∷ []) w → {d : ℕ} → d ≡ graver s.due (grave (flags_at n r)) →
+  pub opening_is : (w : Carved) {o : Bytes} {s : Open} → at o s ≡ carve (chars (60 ∷ escape_html n) ∷ []) w → {d : Due} → d ≡ graver s.due (grave (flags_at n r)) →
       at o (record { head = s.head; len = s.len; gaps = s.gaps; due = d }) ≡ carve (opening n r) w
   unfolding carve
   opening_is w {o} {s} e q =

@@ -1,7 +1,6 @@
 -- Merging does not matter to the open string: a run is written whole or child by child. `direct` is what a walk writes as it goes.
 -- Main statements: `to_string_direct`, `twice_text` and the like. Assumes nothing.
 use mathlib.Core.Path.{◌≡◌, refl, sym, ap, ◌∙◌}
-use Prim.Native.Nat.{ℕ}
 use mathlib.Core.Bool.{Bool, true, false, ◌&&◌, ◌||◌}
 use mathlib.Core.List.{List, [], ◌∷◌, ◌++◌}
 use mathlib.Core.Option.{Option, none, some}
@@ -14,6 +13,8 @@ use Rattle.text.specs.Text.{jsx_text_to_str, joined, kept, trimmed_lines, escape
 use Rattle.spec.specs.Pass.{Part, chars, gap, pure, Mid}
 use Rattle.spec.specs.Merge.{Shape, Child, Element, Fragment, text, empty, container, element, fragment, spread, is_last, flush, joined_text, merge, long_run, short_runs}
 use Rattle.spec.specs.Children.{maybe_wrap, merged_parts, children_to_string}
+use Rattle.strings.specs.declared.due.Due.{Due}
+use Rattle.strings.specs.declared.due.Due.TheVariants.{Long}
 use Rattle.strings.specs.Due.{long_due}
 use Rattle.strings.specs.Carve.{Carved, put_on, close, carve, flagged, child_parts, put_again, Low}
 use Rattle.strings.proofs.DueLaws.{due_or}
@@ -100,7 +101,7 @@ unfolding again carve direct child_direct
 flush_by t cs w true =
     let v = carve (direct false (short_runs cs)) w in
     let l = long_due (long_run cs) in
-    sym (ap (flagged l) (carve_flagged (long_due true) (direct false (short_runs cs)) w) ∙ flagged_twice (long_due true) l v ∙ ap (λ (d : ℕ). flagged d v) (sym (due_or 1 true (long_run cs))))
+    sym (ap (flagged l) (carve_flagged (long_due true) (direct false (short_runs cs)) w) ∙ flagged_twice (long_due true) l v ∙ ap (λ (d : Due). flagged d v) (sym (due_or Long true (long_run cs))))
 flush_by t cs w false = refl
 
 again_flush : (buf : Bytes) (cs : List Child) (w : Carved) → again (flush buf cs) w ≡ again cs (run buf w)

@@ -27,6 +27,8 @@ use Rattle.spec.specs.Children.{children_to_string}
 use Rattle.spec.specs.Transform.{shape_of, fragment_of, expr}
 use Rattle.decisions.specs.At.{opts, element_at}
 use Rattle.strings.specs.declared.writer.Open.{Open}
+use Rattle.strings.specs.declared.due.Due.{Due}
+use Rattle.strings.specs.declared.due.Due.TheVariants.{Long}
 use Rattle.strings.specs.Due.{graver, long_due}
 use Rattle.strings.specs.Carve.{Carved, at, carve, close, flagged, put_again, is_some, option_bytes, is_joined, joined_by, Low}
 use Rattle.strings.proofs.CarveLaws.{lows, size, same_size}
@@ -38,7 +40,7 @@ use Rattle.strings.proofs.TreeLaws.{kids, held, kids_60, kids_52, kids_30, kids_
 -- ---- put_run
 
 module _ (o : Bytes) (st : Open) (n : ℕ) (t : Bytes) where
-  pub run_long : 65535 < n → {d : ℕ} → d ≡ graver st.due 1 → at o (record { head = st.head; len = st.len; gaps = st.gaps; due = d }) ≡ put_again n t (at o st)
+  pub run_long : 65535 < n → {d : Due} → d ≡ graver st.due Long → at o (record { head = st.head; len = st.len; gaps = st.gaps; due = d }) ≡ put_again n t (at o st)
   unfolding put_again
   run_long h e = rw (lt-ltb 65535 n h) (λ i. at o (record { head = st.head; len = st.len; gaps = st.gaps; due = e i }))
 

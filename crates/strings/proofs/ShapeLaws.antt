@@ -1,7 +1,10 @@
 -- What a container gives, by the shape that the code matches on and the body of its expression; an attribute by its value's tag.
 -- Main statements: `container_shape`, `container_string` and the like; `joins_shape`, `joined_shape`, `child_string` and the like; of an
 -- attribute `listed`, `absent_boolean`, `in_container`, `string_plain`, `no_text`. Assumes nothing.
-use mathlib.Core.Path.{◌≡◌, refl, sym, ap, ◌∙◌}
+use Rattle.std.specs.Prelude as Std
+use Rattle.std.specs.Prelude.{Some, None}
+use mathlib.Core.Path.{◌≡◌, refl, sym, ap, ◌∙◌, subst}
+use mathlib.Core.Logic.{◌⊎◌, inl, inr}
 use Prim.Native.Nat.{ℕ, ◌+◌, ◌*◌, ◌≤◌}
 use native.Mathlib.Omega.{arith}
 use mathlib.Core.Bool.{Bool, true, false, ◌||◌}
@@ -17,7 +20,7 @@ use Rattle.names.specs.Names.{get_attr_name, is_boolean_attr}
 use Rattle.page.proofs.NumberLaws.{render_length}
 use Rattle.page.specs.Page as P
 use Rattle.page.specs.Page.{Options}
-use Rattle.page.specs.Tree.{Contained, nothing_contained, contained, contained_value, contained_in, attr_name_in, value_in}
+use Rattle.page.specs.Tree.{Contained, nothing_contained, contained, contained_value, contained_in, attr_name_in, value_in, value_behind}
 use Rattle.spec.specs.Pass as M
 use Rattle.spec.specs.Pass.{Part, chars, gap, pure, Mid}
 use Rattle.spec.specs.Merge.{joined_text}
@@ -31,7 +34,7 @@ use Rattle.decisions.specs.declared.attribute.Value.TheVariants as Held
 use Rattle.decisions.specs.declared.expr.Shape.{Shape}
 use Rattle.decisions.specs.declared.expr.Shape.TheVariants as Form
 use Rattle.decisions.proofs.Series.{value_in_at}
-use Rattle.decisions.proofs.Laws.{ValueAt, is_absent, is_string, is_container, is_element, is_fragment, value_view, string_held, container_held, absent_held, ContainedAt, is_empty, is_text, is_number, is_boolean, is_null, is_literal, is_minus, is_other, contained_view}
+use Rattle.decisions.proofs.Laws.{ValueAt, is_string, is_container, is_element, is_fragment, value_view, string_held, container_held, absent_held, ContainedAt, is_empty, is_text, is_number, is_boolean, is_null, is_literal, is_minus, is_other, contained_view}
 use Rattle.strings.specs.Carve.{Carved, close, carve, name_at, option_bytes, is_some, joined_by, is_joined, child_parts, contained_parts}
 use Rattle.strings.proofs.CarveLaws.{spaced, put_on_nil}
 use Rattle.strings.proofs.FrontSizes.{body_le}
@@ -104,17 +107,12 @@ module _ (o : Options) (n c : Bytes) (w : Carved) where
   unfolding carve
   container_empty e = container_shape o n c w e
 
-  pub container_null : Form.Null ≡ shape_of_contained (contained_in (read c)) → carve (plain_attr n (value o (contained_value (contained_in (read c))))) w ≡ spaced w
+  pub container_gap : {r : Shape} → r ≡ shape_of_contained (contained_in (read c)) → (r ≡ Form.Null) ⊎ ((r ≡ Form.Literal) ⊎ (r ≡ Form.Other)) →
+      carve (plain_attr n (value o (contained_value (contained_in (read c))))) w ≡ spaced w
   unfolding carve
-  container_null e = container_shape o n c w e
-
-  pub container_literal : Form.Literal ≡ shape_of_contained (contained_in (read c)) → carve (plain_attr n (value o (contained_value (contained_in (read c))))) w ≡ spaced w
-  unfolding carve
-  container_literal e = container_shape o n c w e
-
-  pub container_other : Form.Other ≡ shape_of_contained (contained_in (read c)) → carve (plain_attr n (value o (contained_value (contained_in (read c))))) w ≡ spaced w
-  unfolding carve
-  container_other e = container_shape o n c w e
+  container_gap e (inl k) = container_shape o n c w (sym k ∙ e)
+  container_gap e (inr (inl k)) = container_shape o n c w (sym k ∙ e)
+  container_gap e (inr (inr k)) = container_shape o n c w (sym k ∙ e)
 
   module _ {v : Bool} (e : Form.Boolean v ≡ shape_of_contained (contained_in (read c))) {b : Bool} (t : b ≡ is_boolean_attr n) where
     pub boolean_other : b ≡ false → carve (plain_attr n (value o (contained_value (contained_in (read c))))) w ≡ spaced w
@@ -153,6 +151,28 @@ joined_at Form.Literal c = []
 joined_at Form.Minus c = []
 joined_at Form.Other c = []
 
+-- by the arms of the code
+pub joining : {r : Shape} → (r ≡ Form.Empty) ⊎ ((r ≡ Form.String) ⊎ ((r ≡ Form.Number) ⊎ ((v : Bool) × (r ≡ Form.Boolean v)))) → joins_by r ≡ true
+joining (inl k) = ap joins_by k
+joining (inr (inl k)) = ap joins_by k
+joining (inr (inr (inl k))) = ap joins_by k
+joining (inr (inr (inr k))) = ap joins_by k.1
+
+pub parting : {r : Shape} → (r ≡ Form.Null) ⊎ ((r ≡ Form.Literal) ⊎ ((r ≡ Form.Minus) ⊎ (r ≡ Form.Other))) → joins_by r ≡ false
+parting (inl k) = ap joins_by k
+parting (inr (inl k)) = ap joins_by k
+parting (inr (inr (inl k))) = ap joins_by k
+parting (inr (inr (inr k))) = ap joins_by k
+
+nothing_joined : (c : Bytes) {r : Shape} →
+    (r ≡ Form.Empty) ⊎ (((v : Bool) × (r ≡ Form.Boolean v)) ⊎ ((r ≡ Form.Null) ⊎ ((r ≡ Form.Literal) ⊎ ((r ≡ Form.Minus) ⊎ (r ≡ Form.Other))))) → joined_at r c ≡ []
+nothing_joined c (inl k) = ap (λ (r : Shape). joined_at r c) k
+nothing_joined c (inr (inl k)) = ap (λ (r : Shape). joined_at r c) k.1
+nothing_joined c (inr (inr (inl k))) = ap (λ (r : Shape). joined_at r c) k
+nothing_joined c (inr (inr (inr (inl k)))) = ap (λ (r : Shape). joined_at r c) k
+nothing_joined c (inr (inr (inr (inr (inl k))))) = ap (λ (r : Shape). joined_at r c) k
+nothing_joined c (inr (inr (inr (inr (inr k))))) = ap (λ (r : Shape). joined_at r c) k
+
 shape_joins : {c : Bytes} {x : Contained} {r : Shape} → ContainedAt c x r → is_joined x ≡ joins_by r
 unfolding is_joined joined_text shape_of
 shape_joins is_empty = refl
@@ -181,6 +201,10 @@ module _ (c : Bytes) {r : Shape} (e : r ≡ shape_of_contained (contained_in (re
 
   pub joined_shape : joined_by (contained_in (read c)) ≡ joined_at r c
   joined_shape = shape_joined (contained_view c) ∙ ap (λ (r : Shape). joined_at r c) (sym e)
+
+  pub joined_nothing : (r ≡ Form.Empty) ⊎ (((v : Bool) × (r ≡ Form.Boolean v)) ⊎ ((r ≡ Form.Null) ⊎ ((r ≡ Form.Literal) ⊎ ((r ≡ Form.Minus) ⊎ (r ≡ Form.Other))))) →
+      joined_by (contained_in (read c)) ≡ []
+  joined_nothing k = joined_shape ∙ nothing_joined c k
 
 module _ (c : Bytes) {v : Bytes} (b : v ≡ body_of c) where
   pub joined_string : Form.String ≡ shape_of_contained (contained_in (read c)) → joined_by (contained_in (read c)) ≡ escape_html v
@@ -224,29 +248,16 @@ module _ (o : Options) (c : Bytes) (w : Carved) where
       ∙ ap (λ (j : Bool). carve (pick j (chars (joined_by (contained_in (read c))) ∷ []) (gap (pure M.none) ∷ [])) w) (joins_shape c e)
       ∙ ap (λ (b : Bytes). carve (pick (joins_by r) (chars b ∷ []) (gap (pure M.none) ∷ [])) w) (joined_shape c e)
 
-  pub child_empty : Form.Empty ≡ shape_of_contained (contained_in (read c)) → carve (contained_parts o (contained_in (read c))) w ≡ w
+  pub child_nothing : {r : Shape} → r ≡ shape_of_contained (contained_in (read c)) → (r ≡ Form.Empty) ⊎ ((v : Bool) × (r ≡ Form.Boolean v)) →
+      carve (contained_parts o (contained_in (read c))) w ≡ w
   unfolding carve
-  child_empty e = child_shape Form.Empty e ∙ put_on_nil w
+  child_nothing e (inl k) = child_shape Form.Empty (sym k ∙ e) ∙ put_on_nil w
+  child_nothing e (inr k) = child_shape (Form.Boolean k.0) (sym k.1 ∙ e) ∙ put_on_nil w
 
-  pub child_boolean : {v : Bool} → Form.Boolean v ≡ shape_of_contained (contained_in (read c)) → carve (contained_parts o (contained_in (read c))) w ≡ w
+  pub child_gap : {r : Shape} → r ≡ shape_of_contained (contained_in (read c)) → (r ≡ Form.Null) ⊎ ((r ≡ Form.Literal) ⊎ ((r ≡ Form.Minus) ⊎ (r ≡ Form.Other))) →
+      carve (contained_parts o (contained_in (read c))) w ≡ close w
   unfolding carve
-  child_boolean {v} e = child_shape (Form.Boolean v) e ∙ put_on_nil w
-
-  pub child_null : Form.Null ≡ shape_of_contained (contained_in (read c)) → carve (contained_parts o (contained_in (read c))) w ≡ close w
-  unfolding carve
-  child_null e = child_shape Form.Null e
-
-  pub child_literal : Form.Literal ≡ shape_of_contained (contained_in (read c)) → carve (contained_parts o (contained_in (read c))) w ≡ close w
-  unfolding carve
-  child_literal e = child_shape Form.Literal e
-
-  pub child_minus : Form.Minus ≡ shape_of_contained (contained_in (read c)) → carve (contained_parts o (contained_in (read c))) w ≡ close w
-  unfolding carve
-  child_minus e = child_shape Form.Minus e
-
-  pub child_other : Form.Other ≡ shape_of_contained (contained_in (read c)) → carve (contained_parts o (contained_in (read c))) w ≡ close w
-  unfolding carve
-  child_other e = child_shape Form.Other e
+  child_gap {r} e k = child_shape r e ∙ ap (λ (b : Bool). carve (pick b (chars (joined_at r c) ∷ []) (gap (pure M.none) ∷ [])) w) (parting k)
 
   module _ {v : Bytes} (b : v ≡ body_of c) where
     pub child_string : Form.String ≡ shape_of_contained (contained_in (read c)) → carve (contained_parts o (contained_in (read c))) w ≡ carve (chars (escape_html v) ∷ []) w
@@ -259,14 +270,15 @@ module _ (o : Options) (c : Bytes) (w : Carved) where
 -- ---- an attribute by its value
 
 -- a tag as the value leaves nothing
-tag_carve : (o : Options) (n : Bytes) (w : Carved) (g : ℕ) {s : Bytes} {x : P.Value} {r : Value} → ValueAt s x r → r ≡ Held.Field g → (g ≡ 0x51 → ⊥) → (g ≡ 0x52 → ⊥) →
+tag_carve : (o : Options) (n : Bytes) (w : Carved) {s : Bytes} {x : P.Value} {g : Value} → ValueAt s x (Some g) → (g ≡ Held.Element) ⊎ (g ≡ Held.Fragment) →
     carve (plain_attr n (value o x)) w ≡ w
 unfolding plain_attr value carve
-tag_carve o n w g is_absent e p q = absurd (let z : ◌≡◌ {A = ℕ} 0 1 = cc e in omega arith)
-tag_carve o n w g is_string e p q = absurd (p (let z : g ≡ 0x51 = cc e in z))
-tag_carve o n w g is_container e p q = absurd (q (let z : g ≡ 0x52 = cc e in z))
-tag_carve o n w g is_element e p q = refl
-tag_carve o n w g is_fragment e p q = refl
+tag_carve o n w is_string (inl e) = absurd (let z : ◌≡◌ {A = ℕ} 0 1 = cc e in omega arith)
+tag_carve o n w is_string (inr e) = absurd (let z : ◌≡◌ {A = ℕ} 0 1 = cc e in omega arith)
+tag_carve o n w is_container (inl e) = absurd (let z : ◌≡◌ {A = ℕ} 0 1 = cc e in omega arith)
+tag_carve o n w is_container (inr e) = absurd (let z : ◌≡◌ {A = ℕ} 0 1 = cc e in omega arith)
+tag_carve o n w is_element k = refl
+tag_carve o n w is_fragment k = refl
 
 module _ (o : Options) (a : Bytes) (w : Carved) {l : Bool} (le : l ≡ among (get_attr_name (attr_name_in (read a)) false) o.skip_prop_serialize) where
   abbrev total : Carved
@@ -290,11 +302,11 @@ module _ (o : Options) (a : Bytes) (w : Carved) {l : Bool} (le : l ≡ among (ge
   listed h = by_list true h ∙ listed_carve (get_attr_name (attr_name_in (read a)) false) (value o (value_in (read a)))
 
   -- what stands there is h, and v is its body
-  module _ (ln : l ≡ false) {h : Value} (he : h ≡ value_of (value_in (read a))) where
+  module _ (ln : l ≡ false) {h : Std.Option Value} (he : h ≡ value_of (value_in (read a))) where
     plain : {x : P.Value} → value_in (read a) ≡ x → total ≡ carve (plain_attr (name_at a) (value o x)) w
     plain e = by_list false ln ∙ ap (λ (x : P.Value). carve (plain_attr (name_at a) (value o x)) w) e
 
-    module _ (e : h ≡ Held.Absent) {b : Bool} (t : b ≡ is_boolean_attr (name_at a)) where
+    module _ (e : h ≡ None) {b : Bool} (t : b ≡ is_boolean_attr (name_at a)) where
       absent_by : (x : Bool) → b ≡ x → total ≡ carve (pick x (chars (32 ∷ escape_html (name_at a)) ∷ []) space_gap) w
       unfolding plain_attr value carve
       absent_by x k =
@@ -308,20 +320,20 @@ module _ (o : Options) (a : Bytes) (w : Carved) {l : Bool} (le : l ≡ among (ge
       unfolding carve
       absent_other k = absent_by false k
 
-    module _ {g : ℕ} (e : h ≡ Held.Field g) {v : Bytes} (ve : v ≡ body_of (behind_of a)) where
-      field_is : {k : ℕ} → g ≡ k → value_of (value_in (read a)) ≡ Held.Field k
-      field_is q = sym he ∙ e ∙ ap Held.Field q
+    module _ {g : Value} (e : h ≡ Some g) {v : Bytes} (ve : v ≡ body_of (behind_of a)) where
+      field_is : {k : Value} → g ≡ k → value_of (value_in (read a)) ≡ Some k
+      field_is q = sym he ∙ e ∙ ap Some q
 
-      pub in_container : g ≡ 0x52 → total ≡ carve (plain_attr (name_at a) (value o (contained_value (contained_in (read v))))) w
+      pub in_container : g ≡ Held.Container → total ≡ carve (plain_attr (name_at a) (value o (contained_value (contained_in (read v))))) w
       in_container q =
           plain (container_held a (field_is q)) ∙ ap (λ (x : Bytes). carve (plain_attr (name_at a) (value o (contained_value (contained_in (read x))))) w) (sym ve)
 
-      pub no_text : (g ≡ 0x51 → ⊥) → (g ≡ 0x52 → ⊥) → total ≡ w
-      no_text p q =
+      pub no_text : (g ≡ Held.Element) ⊎ (g ≡ Held.Fragment) → total ≡ w
+      no_text k =
           plain (value_in_at a)
-          ∙ tag_carve o (name_at a) w g (value_view (behind_of a)) (ap value_of (sym (value_in_at a)) ∙ sym he ∙ e) p q
+          ∙ tag_carve o (name_at a) w (subst (ValueAt (behind_of a) (value_behind (read (behind_of a)))) (ap value_of (sym (value_in_at a)) ∙ sym he ∙ e) (value_view (behind_of a))) k
 
-      module _ (gs : g ≡ 0x51) {k : Bool} (ke : k ≡ same (name_at a) (ascii "key")) where
+      module _ (gs : g ≡ Held.String) {k : Bool} (ke : k ≡ same (name_at a) (ascii "key")) where
         string_by : {y : Bool} (x : Bool) → k ≡ x → same (name_at a) (ascii "ref") ≡ y → total ≡ carve (pick (x || y) space_gap (chars (serialize_attr (name_at a) v) ∷ [])) w
         unfolding plain_attr value carve
         string_by {y} x p q =

@@ -1,9 +1,12 @@
 -- What is found of an element that is serialized: the options do not matter to it, and the code raises the graver. Main statements:
 -- `flags_same`, `repeated_due`, `mixed_due`, `no_due`. Assumes nothing.
+use Rattle.std.specs.Prelude.{Option, Some, None}
+use Rattle.std.specs.Option.{option_eq}
+use Rattle.names.specs.declared.elements.Void.{Void}
+use Rattle.names.specs.declared.elements.Void.TheVariants.{AsWritten, InSmallLetters}
 use mathlib.Core.Path.{◌≡◌, refl, sym, ap, ◌∙◌}
-use mathlib.Core.Bool.{Bool, true, false, ◌&&◌, ◌||◌, not}
+use mathlib.Core.Bool.{Bool, true, false, ◌&&◌, ◌||◌, not, false≢true}
 use mathlib.Core.List.{List, [], ◌∷◌}
-use Prim.Native.Nat.{ℕ}
 use Rattle.field.specs.Bytes.{Bytes, pick, among}
 use Rattle.field.specs.Row.{read}
 use Rattle.names.specs.Names.{get_attr_name, is_void_element, small_letters}
@@ -15,6 +18,8 @@ use Rattle.spec.specs.Transform.{attributes}
 use Rattle.spec.specs.declared.Flags.{Flags}
 use Rattle.decisions.specs.At.{opts}
 use Rattle.decisions.specs.Repeats as R
+use Rattle.strings.specs.declared.due.Due.{Due}
+use Rattle.strings.specs.declared.due.Due.TheVariants.{Mixed, Repeated}
 use Rattle.strings.specs.Due.{graver, due_if, grave}
 use Rattle.strings.specs.Carve.{flags_at}
 use Rattle.strings.proofs.DueLaws.{graver_none, tag_grave}
@@ -40,13 +45,29 @@ pub flags_same : (o o' : Options) (n : Bytes) (as' : P.Attributes) → tag_flags
 unfolding tag_flags
 flags_same o o' n as' = ap (found n) (names_are o as' ∙ sym (names_are o' as'))
 
+-- ---- a kind as the code compares it, by an equality E that tells the two apart
+
+abbrev pub other : Void → Void
+other AsWritten = InSmallLetters
+other InSmallLetters = AsWritten
+
+pub kind_known : (E : Void → Void → Bool) (x : Void) → E (other x) x ≡ false → (k : Option Void) → option_eq E k (Some x) ≡ true → k ≡ Some x
+kind_known E x d None h = absurd (false≢true h)
+kind_known E AsWritten d (Some AsWritten) h = refl
+kind_known E AsWritten d (Some InSmallLetters) h = absurd (false≢true (sym d ∙ h))
+kind_known E InSmallLetters d (Some AsWritten) h = absurd (false≢true (sym d ∙ h))
+kind_known E InSmallLetters d (Some InSmallLetters) h = refl
+
+pub kind_not : (E : Void → Void → Bool) (x : Void) → E x x ≡ true → (k : Option Void) → option_eq E k (Some x) ≡ false → k ≡ Some x → ⊥
+kind_not E x d k h e = false≢true (sym h ∙ ap (λ (j : Option Void). option_eq E j (Some x)) e ∙ d)
+
 -- ---- what the code raises
 
-module _ (d : ℕ) (n r : Bytes) where
+module _ (d : Due) (n r : Bytes) where
   abbrev twice : Bool
   twice = repeats (html_names (attributes (opts [] []) (attributes_in (read r))))
 
-  due_by : graver d (grave (flags_at n r)) ≡ graver d (pick twice 3 (due_if 2 (void_when_lowered n)))
+  due_by : graver d (grave (flags_at n r)) ≡ graver d (pick twice Repeated (due_if Mixed (void_when_lowered n)))
   unfolding tag_flags
   due_by = ap (graver d) (tag_grave twice (void_when_lowered n))
 
@@ -54,15 +75,15 @@ module _ (d : ℕ) (n r : Bytes) where
     told : {y : Bool} → x ≡ y → twice ≡ y
     told h = ap repeats (names_are (opts [] []) (attributes_in (read r))) ∙ repeats_are (R.html_names (attributes_in (read r))) ∙ sym f ∙ h
 
-    pub repeated_due : x ≡ true → {z : ℕ} → z ≡ graver d 3 → z ≡ graver d (grave (flags_at n r))
-    repeated_due h q = q ∙ sym (due_by ∙ ap (λ (b : Bool). graver d (pick b 3 (due_if 2 (void_when_lowered n)))) (told h))
+    pub repeated_due : x ≡ true → {z : Due} → z ≡ graver d Repeated → z ≡ graver d (grave (flags_at n r))
+    repeated_due h q = q ∙ sym (due_by ∙ ap (λ (b : Bool). graver d (pick b Repeated (due_if Mixed (void_when_lowered n)))) (told h))
 
     module _ (h : x ≡ false) {m : Bool} (e : m ≡ (is_void_element (small_letters n) && not (is_void_element n))) where
-      once : {y : Bool} → m ≡ y → graver d (grave (flags_at n r)) ≡ graver d (due_if 2 y)
+      once : {y : Bool} → m ≡ y → graver d (grave (flags_at n r)) ≡ graver d (due_if Mixed y)
       unfolding void_when_lowered
-      once k = due_by ∙ ap (λ (b : Bool). graver d (pick b 3 (due_if 2 (void_when_lowered n)))) (told h) ∙ ap (λ (b : Bool). graver d (due_if 2 b)) (sym e ∙ k)
+      once k = due_by ∙ ap (λ (b : Bool). graver d (pick b Repeated (due_if Mixed (void_when_lowered n)))) (told h) ∙ ap (λ (b : Bool). graver d (due_if Mixed b)) (sym e ∙ k)
 
-      pub mixed_due : m ≡ true → {z : ℕ} → z ≡ graver d 2 → z ≡ graver d (grave (flags_at n r))
+      pub mixed_due : m ≡ true → {z : Due} → z ≡ graver d Mixed → z ≡ graver d (grave (flags_at n r))
       mixed_due k q = q ∙ sym (once k)
 
       pub no_due : m ≡ false → d ≡ graver d (grave (flags_at n r))

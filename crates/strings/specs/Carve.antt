@@ -18,6 +18,7 @@ use Rattle.spec.specs.Attributes.{tag_flags}
 use Rattle.spec.specs.Transform.{attributes, shape_of, expr}
 use Rattle.spec.specs.declared.Flags.{Flags}
 use Rattle.decisions.specs.At.{opts}
+use Rattle.strings.specs.declared.due.Due.{Due}
 use Rattle.strings.specs.Due.{graver, long_due, grave}
 use Rattle.strings.specs.declared.writer.Open.{Open}
 
@@ -40,7 +41,7 @@ abbrev pub close : Carved → Carved
 close w = record { out = put w.out w.st.head (head 0x81 w.st.len); st = record { head = end w.st; len = 0; gaps = w.st.gaps + 1; due = graver w.st.due (long_due (ltb 65535 w.st.len)) } }
 
 -- something more is due
-abbrev pub flagged : ℕ → Carved → Carved
+abbrev pub flagged : Due → Carved → Carved
 flagged d w = record { out = w.out; st = record { head = w.st.head; len = w.st.len; gaps = w.st.gaps; due = graver w.st.due d } }
 
 unfoldable pub carve : List Part → Carved → Carved

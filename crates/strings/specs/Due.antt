@@ -1,20 +1,30 @@
--- What a page is refused for behind its walk, as one number: 0 for nothing, 1 for 11, 2 for 19, 3 for 16, 4 for 10 (document 02, A4 and A10).
--- Of two the graver is answered. Assumes nothing: these are definitions.
+-- What a page is refused for behind its walk: Nothing, or a reason, Long for 11, Mixed for 19, Repeated for 16, Left for 10 (document 02, A4
+-- and A10). Of two the graver is answered. Assumes nothing: these are definitions.
 use Rattle.std.specs.Prelude.{ℕ, Bool, ltb}
 use Rattle.field.specs.Bytes.{pick}
 use Rattle.spec.specs.declared.Flags.{Flags}
+use Rattle.strings.specs.declared.due.Due.{Due}
+use Rattle.strings.specs.declared.due.Due.TheVariants.{Nothing, Long, Mixed, Repeated, Left}
 
-unfoldable pub graver : ℕ → ℕ → ℕ
-graver a b = pick (ltb a b) b a
+-- how grave a reason is
+abbrev pub gravity : Due → ℕ
+gravity Nothing = 0
+gravity Long = 1
+gravity Mixed = 2
+gravity Repeated = 3
+gravity Left = 4
+
+unfoldable pub graver : Due → Due → Due
+graver a b = pick (ltb (gravity a) (gravity b)) b a
 
 -- so much, where it is so
-abbrev pub due_if : ℕ → Bool → ℕ
-due_if k b = pick b k 0
+abbrev pub due_if : Due → Bool → Due
+due_if k b = pick b k Nothing
 
 -- a body, or a run, over 65,535 bytes
-abbrev pub long_due : Bool → ℕ
-long_due b = due_if 1 b
+abbrev pub long_due : Bool → Due
+long_due b = due_if Long b
 
 -- the gravest of a pass's flags
-abbrev pub grave : Flags → ℕ
-grave f = graver (due_if 4 f.left) (graver (due_if 3 f.repeated) (graver (due_if 2 f.mixed) (long_due f.long)))
+abbrev pub grave : Flags → Due
+grave f = graver (due_if Left f.left) (graver (due_if Repeated f.repeated) (graver (due_if Mixed f.mixed) (long_due f.long)))

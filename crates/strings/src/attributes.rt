@@ -11,7 +11,7 @@ ghost use Rattle.spec.specs.Transform.{value, attributes};
 ghost use Rattle.decisions.specs.At.{opts, number_text};
 ghost use Rattle.strings.specs.Carve.{at, carve, name_at, Low};
 
-use crate::writer::{Open, ended, space_and_cut};
+use crate::writer::{Open, space_and_cut};
 use decisions::attribute::{
     Value, first_name, is_boolean, is_key, is_listed, is_ref, second_name, value_at,
 };
@@ -66,10 +66,10 @@ fn put_serialized(out: &mut [u8], st: Open, a: &[u8], v: &[u8]) -> Open
     requires { Low (carve (chars (serialize_attr (name_at a.now) v.now) ∷ []) (at out.old st)) }
     ensures { at out.new result ≡ carve (chars (serialize_attr (name_at a.now) v.now) ∷ []) (at out.old st) }
 {
-    let p = put_attr_front(out, st.head + 3 + st.len, a);
+    let p = put_attr_front(out, st.end(), a);
     let e = put_escaped(out, p, v);
     let f = put_byte(out, e, b'"');
-    ended(st, f)
+    st.ended(f)
 }
 
 // The same of the number in front of c.
@@ -77,16 +77,16 @@ fn put_serialized_number(out: &mut [u8], st: Open, a: &[u8], minus: bool, c: &[u
     requires { Low (carve (chars (serialize_attr (name_at a.now) (pick minus (45 ∷ number_text c.now) (number_text c.now))) ∷ []) (at out.old st)) }
     ensures { at out.new result ≡ carve (chars (serialize_attr (name_at a.now) (pick minus (45 ∷ number_text c.now) (number_text c.now))) ∷ []) (at out.old st) }
 {
-    let p = put_attr_front(out, st.head + 3 + st.len, a);
+    let p = put_attr_front(out, st.end(), a);
     if minus {
         let m = put_byte(out, p, b'-');
         let e = put_number_at(out, m, c);
         let f = put_byte(out, e, b'"');
-        return ended(st, f);
+        return st.ended(f);
     }
     let e = put_number_at(out, p, c);
     let f = put_byte(out, e, b'"');
-    ended(st, f)
+    st.ended(f)
 }
 
 // `disabled={true}`
@@ -94,9 +94,9 @@ fn put_space_name(out: &mut [u8], st: Open, a: &[u8]) -> Open
     requires { Low (carve (chars (32 ∷ name_at a.now) ∷ []) (at out.old st)) }
     ensures { at out.new result ≡ carve (chars (32 ∷ name_at a.now) ∷ []) (at out.old st) }
 {
-    let p = put_byte(out, st.head + 3 + st.len, b' ');
+    let p = put_byte(out, st.end(), b' ');
     let q = put_name(out, p, a);
-    ended(st, q)
+    st.ended(q)
 }
 
 // `disabled`
@@ -104,9 +104,9 @@ fn put_space_escaped_name(out: &mut [u8], st: Open, a: &[u8]) -> Open
     requires { Low (carve (chars (32 ∷ escape_html (name_at a.now)) ∷ []) (at out.old st)) }
     ensures { at out.new result ≡ carve (chars (32 ∷ escape_html (name_at a.now)) ∷ []) (at out.old st) }
 {
-    let p = put_byte(out, st.head + 3 + st.len, b' ');
+    let p = put_byte(out, st.end(), b' ');
     let q = put_escaped_name(out, p, a);
-    ended(st, q)
+    st.ended(q)
 }
 
 // What the fields of a container give, c.
@@ -134,10 +134,8 @@ fn container_strings(
             }
             space_and_cut(out, st)
         }
-        Shape::Null => space_and_cut(out, st),
-        Shape::Literal => space_and_cut(out, st),
         Shape::Minus => put_serialized_number(out, st, a, true, c),
-        Shape::Other => space_and_cut(out, st),
+        Shape::Null | Shape::Literal | Shape::Other => space_and_cut(out, st),
     }
 }
 
@@ -154,26 +152,26 @@ fn attribute_strings<'a>(
     if is_listed(props, a) {
         return space_and_cut(out, st);
     }
-    let Value::Field(tag) = value_at(a) else {
+    let Some(value) = value_at(a) else {
         if is_boolean(a) {
             return put_space_escaped_name(out, st, a);
         }
         return space_and_cut(out, st);
     };
     let v = body(behind(a));
-    if tag == 0x51 {
-        if is_key(a, true) {
-            return space_and_cut(out, st);
+    match value {
+        Value::String => {
+            if is_key(a, true) {
+                return space_and_cut(out, st);
+            }
+            if is_ref(a) {
+                return space_and_cut(out, st);
+            }
+            put_serialized(out, st, a, v)
         }
-        if is_ref(a) {
-            return space_and_cut(out, st);
-        }
-        return put_serialized(out, st, a, v);
+        Value::Container => container_strings(skip, props, a, v, out, st),
+        Value::Element | Value::Fragment => st,
     }
-    if tag == 0x52 {
-        return container_strings(skip, props, a, v, out, st);
-    }
-    st
 }
 
 // Attributes stand before children: the first field that is none ends them.
@@ -193,12 +191,10 @@ pub fn attributes_strings<'a>(
         match tag_at(t) {
             0x50 => {
                 cur = attribute_strings(skip, props, body(t), out, cur);
-                let r = behind(t);
-                t = r;
+                t = behind(t);
             }
             0x53 => {
-                let r = behind(t);
-                t = r;
+                t = behind(t);
             }
             _ => {
                 return cur;

@@ -1,32 +1,35 @@
-// What is due behind the walk: the gravest reason so far to refuse the page, as one number that every state carries.
+// What is due behind the walk: the gravest reason so far to refuse the page, which every state carries.
 ghost use Rattle.std.specs.Prelude.{◌≡◌, ltb};
 ghost use Rattle.strings.specs.Due.{graver, long_due};
 
-// 11: a body, or a run that is merged a second time, is over 65,535 bytes
-pub const LONG: u8 = 1;
-// 19: an element that is serialized is void only in small letters (document 02, A10)
-pub const MIXED: u8 = 2;
-// 16: it has two attributes of one name (A4)
-pub const REPEATED: u8 = 3;
-// 10: a tag is left
-pub const LEFT: u8 = 4;
+// Of two reasons the later one here is answered.
+#[derive(Clone, Copy, PartialEq, Eq, PartialOrd, Ord)]
+pub enum Due {
+    Nothing,
+    // 11: a body, or a run that is merged a second time, is over 65,535 bytes
+    Long,
+    // 19: an element that is serialized is void only in small letters (document 02, A10)
+    Mixed,
+    // 16: it has two attributes of one name (A4)
+    Repeated,
+    // 10: a tag is left
+    Left,
+}
 
-pub fn graver(a: u8, b: u8) -> u8
+#[tactic(auto, unfolding(crate::specs::Due::graver))]
+pub fn graver(a: Due, b: Due) -> Due
     ensures { result ≡ graver a b }
 {
-    if a < b {
-        return b;
-    }
-    a
+    a.max(b)
 }
 
 // Behind a body of so many bytes.
 #[tactic(auto, using(crate::proofs::DueLaws::body_long, crate::proofs::DueLaws::body_short))]
-pub fn with_body(due: u8, len: usize) -> u8
+pub fn with_body(due: Due, len: usize) -> Due
     ensures { result ≡ graver due (long_due (ltb 65535 len)) }
 {
     if 65535 < len {
-        return graver(due, LONG);
+        return graver(due, Due::Long);
     }
     due
 }

@@ -14,15 +14,15 @@ ghost use Rattle.strings.specs.Due.{graver, grave};
 ghost use Rattle.strings.specs.Carve.{at, carve, contained_parts, flags_at, opening, Low};
 
 use crate::attributes::attributes_strings;
-use crate::due::{MIXED, REPEATED, graver};
-use crate::writer::{Open, cut, ended, put_chars, put_text};
+use crate::due::{Due, graver};
+use crate::writer::{Open, cut, put_chars, put_text};
 use decisions::children::children_at;
 use decisions::element::{identifier, is_serializable};
 use decisions::expr::{Shape, put_number_at, shape_at};
 use decisions::repeats::repeats;
 use field::reader::{behind, body, tag_at};
 use field::writer::{put_byte, put_bytes};
-use names::void_kind;
+use names::{Void, void_kind};
 use text::escape::{put_escaped, put_short_escaped};
 
 // `<name`
@@ -30,34 +30,32 @@ fn put_open(out: &mut [u8], st: Open, n: &[u8]) -> Open
     requires { Low (carve (chars (60 ∷ escape_html n.now) ∷ []) (at out.old st)) }
     ensures { at out.new result ≡ carve (chars (60 ∷ escape_html n.now) ∷ []) (at out.old st) }
 {
-    let p = put_byte(out, st.head + 3 + st.len, b'<');
+    let p = put_byte(out, st.end(), b'<');
     let q = put_short_escaped(out, p, n);
-    ended(st, q)
+    st.ended(q)
 }
 
 // What is found of an element that is serialized, by what its name is to `void_kind`.
-fn tag_due(due: u8, kind: u8, rest: &[u8]) -> u8
+fn tag_due(due: Due, kind: Option<Void>, rest: &[u8]) -> Due
     ensures { (n : Bytes) → kind ≡ void_kind n → result ≡ graver due (grave (flags_at n rest.now)) }
 {
     if repeats(rest) {
-        return graver(due, REPEATED);
+        return graver(due, Due::Repeated);
     }
-    if kind == 2 {
-        return graver(due, MIXED);
+    if kind == Some(Void::InSmallLetters) {
+        return graver(due, Due::Mixed);
     }
     due
 }
 
-fn open_tag<'a>(out: &mut [u8], st: Open, n: &'a [u8], kind: u8, rest: &'a [u8]) -> Open
+fn open_tag<'a>(out: &mut [u8], st: Open, n: &'a [u8], kind: Option<Void>, rest: &'a [u8]) -> Open
     requires { (kind ≡ void_kind n.now) × Low (carve (opening n.now rest.now) (at out.old st)) }
     ensures { at out.new result ≡ carve (opening n.now rest.now) (at out.old st) }
 {
     let p = put_open(out, st, n);
     Open {
-        head: p.head,
-        len: p.len,
-        gaps: p.gaps,
         due: tag_due(p.due, kind, rest),
+        ..p
     }
 }
 
@@ -69,13 +67,11 @@ fn put_short(out: &mut [u8], at: usize, s: &[u8]) -> usize
     if 8 <= s.len() {
         return put_bytes(out, at, s);
     }
-    let mut a = at;
-    let mut i: usize = 0;
-    while i < s.len() {
-        a = put_byte(out, a, s[i]);
-        i += 1;
+    let mut end = at;
+    for b in s {
+        end = put_byte(out, end, *b);
     }
-    a
+    end
 }
 
 // `</name>`
@@ -83,11 +79,11 @@ fn put_close(out: &mut [u8], st: Open, n: &[u8]) -> Open
     requires { Low (carve (chars (60 ∷ 47 ∷ (n.now ++ (62 ∷ []))) ∷ []) (at out.old st)) }
     ensures { at out.new result ≡ carve (chars (60 ∷ 47 ∷ (n.now ++ (62 ∷ []))) ∷ []) (at out.old st) }
 {
-    let p = put_byte(out, st.head + 3 + st.len, b'<');
+    let p = put_byte(out, st.end(), b'<');
     let q = put_byte(out, p, b'/');
     let r = put_short(out, q, n);
     let e = put_byte(out, r, b'>');
-    ended(st, e)
+    st.ended(e)
 }
 
 // A container among children, by its fields c.
@@ -96,20 +92,16 @@ fn container_child(skip: &[u8], props: &[u8], c: &[u8], out: &mut [u8], st: Open
     ensures { at out.new result ≡ carve (contained_parts (opts skip.now props.now) (contained_in (read c.now))) (at out.old st) }
 {
     match shape_at(c) {
-        Shape::Empty => st,
+        Shape::Empty | Shape::Boolean(_) => st,
         Shape::String => {
-            let end = put_escaped(out, st.head + 3 + st.len, body(c));
-            ended(st, end)
+            let end = put_escaped(out, st.end(), body(c));
+            st.ended(end)
         }
         Shape::Number => {
-            let end = put_number_at(out, st.head + 3 + st.len, c);
-            ended(st, end)
+            let end = put_number_at(out, st.end(), c);
+            st.ended(end)
         }
-        Shape::Boolean(_) => st,
-        Shape::Null => cut(out, st),
-        Shape::Literal => cut(out, st),
-        Shape::Minus => cut(out, st),
-        Shape::Other => cut(out, st),
+        Shape::Null | Shape::Literal | Shape::Minus | Shape::Other => cut(out, st),
     }
 }
 
@@ -153,7 +145,7 @@ pub fn tag_strings<'a>(skip: &[u8], props: &'a [u8], b: &'a [u8], out: &mut [u8]
     let p = open_tag(out, st, n, kind, rest);
     let a = attributes_strings(skip, props, rest, out, p);
     let c = put_chars(out, a, b">");
-    if kind == 1 {
+    if kind == Some(Void::AsWritten) {
         return c;
     }
     let d = children_strings(skip, props, rest, true, out, c);
@@ -185,25 +177,21 @@ pub fn children_strings<'a>(
             }
             0x52 => {
                 cur = container_child(skip, props, body(t), out, cur);
-                let r = behind(t);
-                t = r;
+                t = behind(t);
             }
             0x30 => {
                 cur = element_strings(skip, props, body(t), out, cur);
-                let r = behind(t);
-                t = r;
+                t = behind(t);
             }
             0x31 => {
                 cur = children_strings(skip, props, body(t), false, out, cur);
-                let r = behind(t);
-                t = r;
+                t = behind(t);
             }
             256 => {
                 return cur;
             }
             _ => {
-                let r = behind(t);
-                t = r;
+                t = behind(t);
             }
         }
     }

@@ -9,7 +9,7 @@ ghost use Rattle.decisions.specs.At.{opts, children_at};
 ghost use Rattle.strings.specs.Due.{long_due};
 ghost use Rattle.strings.specs.Carve.{at, carve, flagged, put_again, is_joined, joined_by, Low};
 
-use crate::due::{LONG, graver};
+use crate::due::{Due, graver};
 use crate::elements::{children_strings, element_strings};
 use crate::writer::{Open, cut, put_text};
 use decisions::expr::{Shape, put_number_at, shape_at};
@@ -25,10 +25,8 @@ fn put_run(out: &mut [u8], st: Open, scratch: &[u8], n: usize) -> Open
 {
     if 65535 < n {
         return Open {
-            head: st.head,
-            len: st.len,
-            gaps: st.gaps,
-            due: graver(st.due, LONG),
+            due: graver(st.due, Due::Long),
+            ..st
         };
     }
     put_text(out, st, &scratch[..n], false)
@@ -38,14 +36,8 @@ pub fn joins(c: &[u8]) -> bool
     ensures { result ≡ is_joined (contained_in (read c.now)) }
 {
     match shape_at(c) {
-        Shape::Empty => true,
-        Shape::String => true,
-        Shape::Number => true,
-        Shape::Boolean(_) => true,
-        Shape::Null => false,
-        Shape::Literal => false,
-        Shape::Minus => false,
-        Shape::Other => false,
+        Shape::Empty | Shape::String | Shape::Number | Shape::Boolean(_) => true,
+        Shape::Null | Shape::Literal | Shape::Minus | Shape::Other => false,
     }
 }
 
@@ -55,14 +47,14 @@ pub fn put_joined(out: &mut [u8], at: usize, c: &[u8]) -> usize
     ensures { Wrote out.old at (joined_by (contained_in (read c.now))) out.new result }
 {
     match shape_at(c) {
-        Shape::Empty => at,
         Shape::String => put_escaped(out, at, body(c)),
         Shape::Number => put_number_at(out, at, c),
-        Shape::Boolean(_) => at,
-        Shape::Null => at,
-        Shape::Literal => at,
-        Shape::Minus => at,
-        Shape::Other => at,
+        Shape::Empty
+        | Shape::Boolean(_)
+        | Shape::Null
+        | Shape::Literal
+        | Shape::Minus
+        | Shape::Other => at,
     }
 }
 
@@ -85,43 +77,37 @@ pub fn merged_children_strings<'a>(
         match tag_at(t) {
             0x60 => {
                 n = jsx_text_to_str(scratch, n, body(t), false, false);
-                let r = behind(t);
-                t = r;
+                t = behind(t);
             }
             0x52 => {
                 let c = body(t);
                 if joins(c) {
                     n = put_joined(scratch, n, c);
-                    let r = behind(t);
-                    t = r;
+                    t = behind(t);
                 } else {
                     let a = put_run(out, cur, scratch, n);
                     n = 0;
                     cur = cut(out, a);
-                    let r = behind(t);
-                    t = r;
+                    t = behind(t);
                 }
             }
             0x30 => {
                 let a = put_run(out, cur, scratch, n);
                 n = 0;
                 cur = element_strings(skip, props, body(t), out, a);
-                let r = behind(t);
-                t = r;
+                t = behind(t);
             }
             0x31 => {
                 let a = put_run(out, cur, scratch, n);
                 n = 0;
                 cur = children_strings(skip, props, body(t), false, out, a);
-                let r = behind(t);
-                t = r;
+                t = behind(t);
             }
             256 => {
                 return put_run(out, cur, scratch, n);
             }
             _ => {
-                let r = behind(t);
-                t = r;
+                t = behind(t);
             }
         }
     }

@@ -1,10 +1,10 @@
 // The open string, and what is put at its end. Its head is written when it is closed, since its length is known only then.
-ghost use Rattle.std.specs.Prelude.{◌≡◌, ◌+◌, ◌≤◌, true, ◌∷◌, []};
+ghost use Rattle.std.specs.Prelude.{◌≡◌, ◌+◌, ◌≤◌, ◌<◌, ◌^◌, true, ◌∷◌, []};
 ghost use Rattle.spec.specs.Pass.{chars};
 ghost use Rattle.text.specs.Text.{jsx_text_to_str};
-ghost use Rattle.strings.specs.Carve.{at, carve, close, put_on, ended_at, Low};
+ghost use Rattle.strings.specs.Carve.{at, end, carve, close, put_on, ended_at, Low};
 
-use crate::due::with_body;
+use crate::due::{Due, with_body};
 use field::writer::{put_bytes, put_head};
 use text::jsx_text::jsx_text_to_str;
 
@@ -14,19 +14,27 @@ pub struct Open {
     pub head: usize,
     pub len: usize,
     pub gaps: usize,
-    pub due: u8,
+    pub due: Due,
 }
 
-// The open string when its last byte stands before end.
-pub fn ended(st: Open, end: usize) -> Open
-    requires { st.head + 3 ≤ end }
-    ensures { result ≡ ended_at st end }
-{
-    Open {
-        head: st.head,
-        len: end - (st.head + 3),
-        gaps: st.gaps,
-        due: st.due,
+impl Open {
+    // The place behind it.
+    pub(crate) fn end(self) -> usize
+        requires { end self < 2 ^ 64 }
+        ensures { result ≡ end self }
+    {
+        self.head + 3 + self.len
+    }
+
+    // When its last byte stands before that place.
+    pub(crate) fn ended(self, end: usize) -> Open
+        requires { self.head + 3 ≤ end }
+        ensures { result ≡ ended_at self end }
+    {
+        Open {
+            len: end - (self.head + 3),
+            ..self
+        }
     }
 }
 
@@ -34,8 +42,8 @@ pub fn put_chars(out: &mut [u8], st: Open, b: &[u8]) -> Open
     requires { Low (carve (chars b.now ∷ []) (at out.old st)) }
     ensures { at out.new result ≡ carve (chars b.now ∷ []) (at out.old st) }
 {
-    let end = put_bytes(out, st.head + 3 + st.len, b);
-    ended(st, end)
+    let end = put_bytes(out, st.end(), b);
+    st.ended(end)
 }
 
 // The open string is closed, and another opened behind it, with a gap between.
@@ -67,6 +75,6 @@ pub fn put_text(out: &mut [u8], st: Open, s: &[u8], last: bool) -> Open
     requires { Low (carve (chars (jsx_text_to_str s.now true last) ∷ []) (at out.old st)) }
     ensures { at out.new result ≡ carve (chars (jsx_text_to_str s.now true last) ∷ []) (at out.old st) }
 {
-    let end = jsx_text_to_str(out, st.head + 3 + st.len, s, true, last);
-    ended(st, end)
+    let end = jsx_text_to_str(out, st.end(), s, true, last);
+    st.ended(end)
 }

@@ -6,8 +6,8 @@ use Rattle.sums.specs.Tree.{Tree}
 use Rattle.sums.specs.Grammar.{ReadsAs}
 use Rattle.sums.specs.Value.{value}
 use Rattle.sums.specs.Machine.{start, Outcome, read, no_reading, outcome, found, sum_of}
-use Rattle.sums.specs.declared.value.Worked.{Worked}
-use Rattle.sums.specs.declared.value.Worked.TheVariants as W
+use Rattle.sums.specs.Value.{Worked}
+use Rattle.std.specs.Prelude.{None}
 use Rattle.sums.proofs.Complete.{complete}
 use Rattle.sums.proofs.Sound.{sound}
 
@@ -28,7 +28,7 @@ unfolding sum_of found
 sum_answered s t p = ap found (complete p)
 
 -- a text comes to a number exactly where the grammar reads it as a tree with that value
-pub sum_exactly : (s : Bytes) (w : Worked) → (w ≡ W.Stays → ⊥) → (sum_of s ≡ w) ↔ ((t : Tree) × ReadsAs s t × (value t ≡ w))
+pub sum_exactly : (s : Bytes) (w : Worked) → (w ≡ None → ⊥) → (sum_of s ≡ w) ↔ ((t : Tree) × ReadsAs s t × (value t ≡ w))
 unfolding sum_of found
 sum_exactly s w n = (λ e. on (outcome start s) refl e, λ p. ap found (complete p.1) ∙ p.2)
   where
@@ -37,10 +37,10 @@ sum_exactly s w n = (λ e. on (outcome start s) refl e, λ p. ap found (complete
     on (read t) q e = (t, sound s t q, sym (ap found q) ∙ e)
 
 -- and it stays exactly where every reading, if there is one, has no number for its value
-pub stays_exactly : (s : Bytes) → (sum_of s ≡ W.Stays) ↔ ((t : Tree) → ReadsAs s t → value t ≡ W.Stays)
+pub stays_exactly : (s : Bytes) → (sum_of s ≡ None) ↔ ((t : Tree) → ReadsAs s t → value t ≡ None)
 unfolding sum_of found
 stays_exactly s = (λ e t p. ap found (sym (complete p)) ∙ e, λ n. on (outcome start s) refl n)
   where
-    on : (o : Outcome) → outcome start s ≡ o → ((t : Tree) → ReadsAs s t → value t ≡ W.Stays) → found (outcome start s) ≡ W.Stays
+    on : (o : Outcome) → outcome start s ≡ o → ((t : Tree) → ReadsAs s t → value t ≡ None) → found (outcome start s) ≡ None
     on no_reading q n = ap found q
     on (read t) q n = ap found q ∙ n t (sound s t q)

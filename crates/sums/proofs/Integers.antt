@@ -18,8 +18,9 @@ use Rattle.sums.proofs.Exact.{sum_exactly}
 use Rattle.sums.specs.Tree.{Tree, number, plus, minus, times}
 use Rattle.sums.specs.Integer.{integer, signed, zero_negative, Steps}
 use Rattle.sums.specs.Value.{most, upward, downward, difference, added, taken, multiplied, value}
-use Rattle.sums.specs.declared.value.Worked.{Worked}
-use Rattle.sums.specs.declared.value.Worked.TheVariants.{Stays, Plus, Minus}
+use Rattle.sums.specs.Value.{Worked}
+use Rattle.sums.specs.declared.value.Sum.TheVariants.{Plus, Minus}
+use Rattle.std.specs.Prelude.{Some, None}
 use Rattle.sums.proofs.Tests.{takes, leaves}
 use Rattle.sums.proofs.Steps.{difference_up, difference_down, added_stays, taken_stays, multiplied_stays}
 
@@ -38,7 +39,7 @@ sub_down a (suc b) h =
 -- ---- a step, held to the bound
 
 bounded : ℤ → Worked
-bounded z = choose (leb (nat_abs z) most) (signed z) Stays
+bounded z = choose (leb (nat_abs z) most) (signed z) None
 
 up_bounded : (n : ℕ) → upward n ≡ bounded (pos n)
 unfolding upward bounded signed
@@ -78,7 +79,7 @@ taken_bounded (negsuc a) (pos zero) =
 taken_bounded (negsuc a) (pos (suc b)) = both_down a b
 taken_bounded (negsuc a) (negsuc b) = difference_bounded (suc b) (suc a)
 
-mixed_bounded : (b : Bool) (n : ℕ) → (b ≡ false → 0 < n) → choose b Stays (downward n) ≡ choose b Stays (bounded (neg_ℤ (pos n)))
+mixed_bounded : (b : Bool) (n : ℕ) → (b ≡ false → 0 < n) → choose b None (downward n) ≡ choose b None (bounded (neg_ℤ (pos n)))
 unfolding choose
 mixed_bounded true n h = refl
 mixed_bounded false n h = down_bounded n (h refl)
@@ -86,7 +87,7 @@ mixed_bounded false n h = down_bounded n (h refl)
 some : (a : ℕ) → eqb a 0 ≡ false → 1 ≤ a
 some a e = let n = eqb-false a 0 e in omega arith
 
-multiplied_bounded : (y z : ℤ) → multiplied (signed y) (signed z) ≡ choose (zero_negative y z) Stays (bounded (y *ℤ z))
+multiplied_bounded : (y z : ℤ) → multiplied (signed y) (signed z) ≡ choose (zero_negative y z) None (bounded (y *ℤ z))
 unfolding multiplied signed zero_negative choose
 multiplied_bounded (pos a) (pos b) = up_bounded (a * b)
 multiplied_bounded (pos a) (negsuc b) = mixed_bounded (eqb a 0) (a * suc b) (λ e. one-le-mul (some a e) (omega arith))
@@ -97,17 +98,17 @@ multiplied_bounded (negsuc a) (negsuc b) = up_bounded (suc a * suc b)
 
 within : (z : ℤ) → nat_abs z ≤ most → bounded z ≡ signed z
 unfolding bounded
-within z h = sym (takes (leb (nat_abs z) most) (signed z) Stays (le-leb (nat_abs z) most h))
+within z h = sym (takes (leb (nat_abs z) most) (signed z) None (le-leb (nat_abs z) most h))
 
-inside : (z : ℤ) → (bounded z ≡ Stays → ⊥) → nat_abs z ≤ most
+inside : (z : ℤ) → (bounded z ≡ None → ⊥) → nat_abs z ≤ most
 unfolding bounded
 inside z n = on (leb (nat_abs z) most) refl
   where
     on : (b : Bool) → leb (nat_abs z) most ≡ b → nat_abs z ≤ most
     on true e = leb-true (nat_abs z) most e
-    on false e = absurd (n (sym (leaves (leb (nat_abs z) most) (signed z) Stays e)))
+    on false e = absurd (n (sym (leaves (leb (nat_abs z) most) (signed z) None e)))
 
-not_mixed : (b : Bool) (x : Worked) → (choose b Stays x ≡ Stays → ⊥) → b ≡ false
+not_mixed : (b : Bool) (x : Worked) → (choose b None x ≡ None → ⊥) → b ≡ false
 unfolding choose
 not_mixed true x n = absurd (n refl)
 not_mixed false x n = refl
@@ -119,29 +120,29 @@ steps_worked (plus x y) h = ap₂ added (steps_worked x h.0) (steps_worked y h.1
 steps_worked (minus x y) h = ap₂ taken (steps_worked x h.0) (steps_worked y h.1) ∙ taken_bounded (integer x) (integer y) ∙ within (integer x -ℤ integer y) h.2
 steps_worked (times x y) h =
     ap₂ multiplied (steps_worked x h.0) (steps_worked y h.1) ∙ multiplied_bounded (integer x) (integer y)
-    ∙ sym (leaves (zero_negative (integer x) (integer y)) Stays (bounded (integer x *ℤ integer y)) h.3) ∙ within (integer x *ℤ integer y) h.2
+    ∙ sym (leaves (zero_negative (integer x) (integer y)) None (bounded (integer x *ℤ integer y)) h.3) ∙ within (integer x *ℤ integer y) h.2
 
 -- a step on what stays stays
-module _ (f : Worked → Worked → Worked) (l : (y : Worked) → f Stays y ≡ Stays) (r : (x : Worked) → f x Stays ≡ Stays) (x y : Worked) (n : f x y ≡ Stays → ⊥) where
-  first_works : x ≡ Stays → ⊥
+module _ (f : Worked → Worked → Worked) (l : (y : Worked) → f None y ≡ None) (r : (x : Worked) → f x None ≡ None) (x y : Worked) (n : f x y ≡ None → ⊥) where
+  first_works : x ≡ None → ⊥
   first_works e = n (ap (λ (z : Worked). f z y) e ∙ l y)
 
-  second_works : y ≡ Stays → ⊥
+  second_works : y ≡ None → ⊥
   second_works e = n (ap (f x) e ∙ r x)
 
-stays_added : (y : Worked) → added Stays y ≡ Stays
+stays_added : (y : Worked) → added None y ≡ None
 unfolding added
 stays_added y = refl
 
-stays_taken : (y : Worked) → taken Stays y ≡ Stays
+stays_taken : (y : Worked) → taken None y ≡ None
 unfolding taken
 stays_taken y = refl
 
-stays_multiplied : (y : Worked) → multiplied Stays y ≡ Stays
+stays_multiplied : (y : Worked) → multiplied None y ≡ None
 unfolding multiplied
 stays_multiplied y = refl
 
-pub worked_steps : (t : Tree) → (value t ≡ Stays → ⊥) → Steps t
+pub worked_steps : (t : Tree) → (value t ≡ None → ⊥) → Steps t
 unfolding Steps value integer
 worked_steps (number n) h = inside (pos n) (λ e. h (up_bounded n ∙ e))
 worked_steps (plus x y) h =
@@ -159,34 +160,34 @@ worked_steps (times x y) h =
     let q = worked_steps y (second_works multiplied stays_multiplied multiplied_stays (value x) (value y) h) in
     let b : Bool = zero_negative (integer x) (integer y) in
     let z : ℤ = integer x *ℤ integer y in
-    let e : value (times x y) ≡ choose b Stays (bounded z) = ap₂ multiplied (steps_worked x p) (steps_worked y q) ∙ multiplied_bounded (integer x) (integer y) in
+    let e : value (times x y) ≡ choose b None (bounded z) = ap₂ multiplied (steps_worked x p) (steps_worked y q) ∙ multiplied_bounded (integer x) (integer y) in
     let m : b ≡ false = not_mixed b (bounded z) (λ k. h (e ∙ k)) in
-    (p, q, inside z (λ k. h (e ∙ sym (leaves b Stays (bounded z) m) ∙ k)), m)
+    (p, q, inside z (λ k. h (e ∙ sym (leaves b None (bounded z) m) ∙ k)), m)
 
 -- ---- exactly
 
-pub works_exactly : (t : Tree) (w : Worked) → (w ≡ Stays → ⊥) → (value t ≡ w) ↔ (Steps t × (signed (integer t) ≡ w))
+pub works_exactly : (t : Tree) (w : Worked) → (w ≡ None → ⊥) → (value t ≡ w) ↔ (Steps t × (signed (integer t) ≡ w))
 works_exactly t w n =
     (λ e. let s = worked_steps t (λ z. n (sym e ∙ z)) in (s, sym (steps_worked t s) ∙ e), λ p. steps_worked t p.0 ∙ p.1)
 
-signed_plus : (z : ℤ) (n : ℕ) → signed z ≡ Plus n → z ≡ pos n
+signed_plus : (z : ℤ) (n : ℕ) → signed z ≡ Some (Plus n) → z ≡ pos n
 unfolding signed
 signed_plus (pos m) n e = let k : m ≡ n = cc in ap pos k
 signed_plus (negsuc m) n e = let k : ◌≡◌ {A = ℕ} 0 1 = cc in absurd (omega arith)
 
-signed_minus : (z : ℤ) (n : ℕ) → signed z ≡ Minus n → z ≡ neg_ℤ (pos n)
+signed_minus : (z : ℤ) (n : ℕ) → signed z ≡ Some (Minus n) → z ≡ neg_ℤ (pos n)
 unfolding signed
 signed_minus (pos m) n e = let k : ◌≡◌ {A = ℕ} 0 1 = cc in absurd (omega arith)
 signed_minus (negsuc m) n e = let k : suc m ≡ n = cc in ap (λ (x : ℕ). neg_ℤ (pos x)) k
 
-pub plus_exact : (t : Tree) (n : ℕ) → value t ≡ Plus n → integer t ≡ pos n
-plus_exact t n e = signed_plus (integer t) n ((works_exactly t (Plus n) (λ z. let k : ◌≡◌ {A = ℕ} 0 1 = cc in omega arith)).0 e).1
+pub plus_exact : (t : Tree) (n : ℕ) → value t ≡ Some (Plus n) → integer t ≡ pos n
+plus_exact t n e = signed_plus (integer t) n ((works_exactly t (Some (Plus n)) (λ z. let k : ◌≡◌ {A = ℕ} 0 1 = cc in omega arith)).0 e).1
 
-pub minus_exact : (t : Tree) (n : ℕ) → value t ≡ Minus n → integer t ≡ neg_ℤ (pos n)
-minus_exact t n e = signed_minus (integer t) n ((works_exactly t (Minus n) (λ z. let k : ◌≡◌ {A = ℕ} 0 1 = cc in omega arith)).0 e).1
+pub minus_exact : (t : Tree) (n : ℕ) → value t ≡ Some (Minus n) → integer t ≡ neg_ℤ (pos n)
+minus_exact t n e = signed_minus (integer t) n ((works_exactly t (Some (Minus n)) (λ z. let k : ◌≡◌ {A = ℕ} 0 1 = cc in omega arith)).0 e).1
 
 -- the same of a text: it comes to a number exactly where it reads as a sum whose steps are within the bound, and to that sum's integer
-pub text_exactly : (s : Bytes) (w : Worked) → (w ≡ Stays → ⊥) → (sum_of s ≡ w) ↔ ((t : Tree) × ReadsAs s t × Steps t × (signed (integer t) ≡ w))
+pub text_exactly : (s : Bytes) (w : Worked) → (w ≡ None → ⊥) → (sum_of s ≡ w) ↔ ((t : Tree) × ReadsAs s t × Steps t × (signed (integer t) ≡ w))
 text_exactly s w n = (
   λ e. let p = (sum_exactly s w n).0 e in let q = (works_exactly p.0 w n).0 p.2 in (p.0, p.1, q.0, q.1),
   λ p. (sum_exactly s w n).1 (p.0, p.1, (works_exactly p.0 w n).1 (p.2, p.3)),

@@ -9,4 +9,3 @@ pub mod Samples
 pub mod Packs
 pub mod Sim
 pub mod Loop
-pub mod Turns

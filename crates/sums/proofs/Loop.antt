@@ -16,30 +16,35 @@ use Rattle.field.specs.Bytes.{Bytes}
 use Rattle.sums.specs.Value.{upward}
 use Rattle.sums.specs.Machine.{sum_of}
 use Rattle.sums.proofs.Tests.{either}
-use Rattle.sums.specs.declared.value.Worked.{Worked}
-use Rattle.sums.specs.declared.value.Worked.TheVariants as W
-use Rattle.sums.specs.Small.{Before, NoSum, SumPlus, SumMinus, Factor, NoProduct, ProductTimes, State, Awaits, Digits, Behind}
-use Rattle.sums.specs.Small.{Act, On, Open, Close, Refused}
+use Rattle.sums.specs.Value.{Worked}
+use Rattle.std.specs.Prelude.{Some, None}
+use Rattle.sums.specs.declared.reader.Before.{Before}
+use Rattle.sums.specs.declared.reader.Before.TheVariants.{NoSum, SumPlus, SumMinus}
+use Rattle.sums.specs.declared.reader.State.{State}
+use Rattle.sums.specs.declared.reader.State.TheVariants.{Awaits, Digits, Behind}
+use Rattle.sums.specs.declared.reader.Act.{Act}
+use Rattle.sums.specs.declared.reader.Act.TheVariants.{On, Open, Close, Refused}
+use Rattle.sums.specs.Small.{Factor}
 use Rattle.sums.specs.Small.{finished, times_by, act_behind, act_awaits, act_digits, act, frame, Stack, stands, stopped, moved, small_step, ended, small_end, result}
 use Rattle.sums.specs.Packed.{before_tag, before_of, factor_tag, factor_of, words}
-use Rattle.sums.proofs.Packs.{before_low, factor_low, words_low, before_none, factor_none}
+use Rattle.sums.proofs.Packs.{factor_low, words_low, before_none, factor_none}
 use Rattle.sums.proofs.Sim.{result_is}
 
 -- ---- nothing comes of what is refused, and of too few bytes
-none_stopped : (s : Bytes) → W.Stays ≡ result stopped s
+none_stopped : (s : Bytes) → None ≡ result stopped s
 unfolding result small_end small_step
 none_stopped [] = refl
 none_stopped (c ∷ s) = none_stopped s
 
-short_moved : (s : Bytes) → ((x : State) (K : Stack) → length s < length K → W.Stays ≡ result (stands x K) s) → (a : Act) (K : Stack) → suc (length s) < length K → W.Stays ≡ result (moved a K) s
+short_moved : (s : Bytes) → ((x : State) (K : Stack) → length s < length K → None ≡ result (stands x K) s) → (a : Act) (K : Stack) → suc (length s) < length K → None ≡ result (moved a K) s
 unfolding moved
 short_moved s ih (On x) K h = ih x K (omega arith)
-short_moved s ih (Open b f) K h = ih (Awaits NoSum NoProduct) (frame b f ∷ K) (omega arith)
+short_moved s ih (Open b f) K h = ih (Awaits NoSum None) (frame b f ∷ K) (omega arith)
 short_moved s ih (Close w) [] h = none_stopped s
 short_moved s ih (Close w) (frame b f ∷ K) h = ih (Behind b (times_by f w)) K (omega arith)
 short_moved s ih Refused K h = none_stopped s
 
-short : (s : Bytes) (x : State) (K : Stack) → length s < length K → W.Stays ≡ result (stands x K) s
+short : (s : Bytes) (x : State) (K : Stack) → length s < length K → None ≡ result (stands x K) s
 unfolding result small_end small_step
 short [] x [] h = absurd (omega arith)
 short [] x (g ∷ K) h = refl
@@ -62,8 +67,8 @@ unfolding act_behind Light weight
 light_behind n b y c h =
     let p = words_low (before_tag (SumPlus (finished b y))) in
     let m = words_low (before_tag (SumMinus (finished b y))) in
-    let q = words_low (factor_tag (ProductTimes y)) in
-    let z : words (factor_tag NoProduct) ≡ 0 = unfold words factor_tag choose in refl in
+    let q = words_low (factor_tag (Some y)) in
+    let z : words (factor_tag None) ≡ 0 = unfold words factor_tag choose in refl in
     either (Light n) (eqb c 32) _ _ (λ _. omega arith)
     (λ _. either (Light n) (eqb c 43) _ _ (λ _. omega arith)
     (λ _. either (Light n) (eqb c 45) _ _ (λ _. omega arith)
@@ -112,7 +117,7 @@ pub record Going (s : Bytes) (fs : List ℕ) (top i : ℕ) (x : State) : Type 0 
   pub paid : 2 * top + weight x ≤ i + length frames
   pub total : result (stands x frames) (drop i s) ≡ sum_of s
 
-pub begins : (s : Bytes) (fs : List ℕ) → Going s fs 0 0 (Awaits NoSum NoProduct)
+pub begins : (s : Bytes) (fs : List ℕ) → Going s fs 0 0 (Awaits NoSum None)
 unfolding weight words before_tag factor_tag choose
 begins s fs = record { within = omega arith; high = omega arith; frames = []; held = none refl; paid = omega arith; total = result_is s }
 
@@ -120,7 +125,7 @@ at_bottom : {fs : List ℕ} {n : ℕ} {K : Stack} → Frames fs n K → n ≡ 0 
 at_bottom (none z) e = refl
 at_bottom (more t b f h z p q r) e = absurd (omega arith)
 
-no_bottom : {fs : List ℕ} {n : ℕ} {K : Stack} → Frames fs n K → (n ≡ 0 → ⊥) → (x : State) → W.Stays ≡ small_end (stands x K)
+no_bottom : {fs : List ℕ} {n : ℕ} {K : Stack} → Frames fs n K → (n ≡ 0 → ⊥) → (x : State) → None ≡ small_end (stands x K)
 unfolding small_end
 no_bottom (none z) e x = absurd (e z)
 no_bottom (more t b f h z p q r) e x = refl
@@ -134,7 +139,7 @@ module _ {s : Bytes} {fs : List ℕ} {top i : ℕ} {x : State} (g : Going s fs t
   unfolding small_end
   finishes q e z = q ∙ ap (λ (K : Stack). small_end (stands x K)) (sym (at_bottom g.held z)) ∙ ends e
 
-  pub unfinished : i ≡ length s → (top ≡ 0 → ⊥) → W.Stays ≡ sum_of s
+  pub unfinished : i ≡ length s → (top ≡ 0 → ⊥) → None ≡ sum_of s
   unfinished e z = no_bottom g.held z x ∙ ends e
 
   module _ (l : i < length s) {a : Act} (q : a ≡ act x (get_or s i 0)) where
@@ -147,7 +152,7 @@ module _ {s : Bytes} {fs : List ℕ} {top i : ℕ} {x : State} (g : Going s fs t
     weighs : Light (weight x) a
     weighs = subst (Light (weight x)) (sym q) (light x (get_or s i 0))
 
-    pub refuses : a ≡ Refused → W.Stays ≡ sum_of s
+    pub refuses : a ≡ Refused → None ≡ sum_of s
     unfolding moved
     refuses h = none_stopped (drop (i + 1) s) ∙ ap (λ (z : Act). result (moved z g.frames) (drop (i + 1) s)) (sym h) ∙ turn
 
@@ -169,15 +174,15 @@ module _ {s : Bytes} {fs : List ℕ} {top i : ℕ} {x : State} (g : Going s fs t
       unfolding Light
       heavy = subst (Light (weight x)) h weighs
 
-      opened : result (stands (Awaits NoSum NoProduct) (frame b f ∷ g.frames)) (drop (i + 1) s) ≡ sum_of s
+      opened : result (stands (Awaits NoSum None) (frame b f ∷ g.frames)) (drop (i + 1) s) ≡ sum_of s
       unfolding moved
       opened = ap (λ (z : Act). result (moved z g.frames) (drop (i + 1) s)) (sym h) ∙ turn
 
-      pub too_deep : 16384 ≤ last_of top b f → length s ≤ 32768 → W.Stays ≡ sum_of s
-      too_deep d m = short (drop (i + 1) s) (Awaits NoSum NoProduct) (frame b f ∷ g.frames) (omega (arith, heavy, g.paid, length-drop (i + 1) s)) ∙ opened
+      pub too_deep : 16384 ≤ last_of top b f → length s ≤ 32768 → None ≡ sum_of s
+      too_deep d m = short (drop (i + 1) s) (Awaits NoSum None) (frame b f ∷ g.frames) (omega (arith, heavy, g.paid, length-drop (i + 1) s)) ∙ opened
 
       pub opens : (gs : List ℕ) → ((j : ℕ) → j < top → get_or gs j 0 ≡ get_or fs j 0) → before_of (before_tag b) (get_or gs top 0) ≡ b → factor_of (factor_tag f) (get_or gs (at_of top b) 0) ≡ f
-          → get_or gs (last_of top b f) 0 ≡ before_tag b * 4 + factor_tag f → last_of top b f < 16384 → Going s gs (last_of top b f + 1) (i + 1) (Awaits NoSum NoProduct)
+          → get_or gs (last_of top b f) 0 ≡ before_tag b * 4 + factor_tag f → last_of top b f < 16384 → Going s gs (last_of top b f + 1) (i + 1) (Awaits NoSum None)
       unfolding weight words before_tag factor_tag choose
       opens gs below p o r d =
           record {
@@ -189,7 +194,7 @@ module _ {s : Bytes} {fs : List ℕ} {top i : ℕ} {x : State} (g : Going s fs t
             total = opened;
           }
 
-    pub closes_nothing : {w : Worked} → a ≡ Close w → top ≡ 0 → W.Stays ≡ sum_of s
+    pub closes_nothing : {w : Worked} → a ≡ Close w → top ≡ 0 → None ≡ sum_of s
     unfolding moved
     closes_nothing {w} h z =
         none_stopped (drop (i + 1) s) ∙ ap (λ (K : Stack). result (moved (Close w) K) (drop (i + 1) s)) (sym (at_bottom g.held z))
@@ -254,19 +259,19 @@ module _ {s : Bytes} {fs : List ℕ} {top i : ℕ} {x : State} (p : Going s fs t
   two_words : w₂ ≡ words (factor_tag f)
   two_words = u₂ ∙ ap words e₂
 
-  pub too_high : 16384 ≤ top + w₁ + w₂ → length s ≤ 32768 → W.Stays ≡ sum_of s
+  pub too_high : 16384 ≤ top + w₁ + w₂ → length s ≤ 32768 → None ≡ sum_of s
   too_high d m = too_deep p l q h (omega (arith, one_word, two_words)) m
 
   pub pushes : (sb sf : ℕ) → before_of bt sb ≡ b → factor_of ft sf ≡ f → length fs ≡ 16384 → top + w₁ + w₂ < 16384
-      → Going s (set (set (set fs top sb) (top + w₁) sf) (top + w₁ + w₂) (bt * 4 + ft)) (top + w₁ + w₂ + 1) (i + 1) (Awaits NoSum NoProduct)
+      → Going s (set (set (set fs top sb) (top + w₁) sf) (top + w₁ + w₂) (bt * 4 + ft)) (top + w₁ + w₂ + 1) (i + 1) (Awaits NoSum None)
   unfolding stored
   pushes sb sf y z n d =
       let o : last_of top b f < 16384 = omega (arith, one_word, two_words) in
-      let c : Going s (stored fs top b f sb sf (bt * 4 + ft) n o) (last_of top b f + 1) (i + 1) (Awaits NoSum NoProduct) =
+      let c : Going s (stored fs top b f sb sf (bt * 4 + ft) n o) (last_of top b f + 1) (i + 1) (Awaits NoSum None) =
       opens p l q h (stored fs top b f sb sf (bt * 4 + ft) n o) (stored_below fs top b f sb sf (bt * 4 + ft) n o) (stored_before fs top b f sb sf (bt * 4 + ft) n o (ap (λ (k : ℕ). before_of k sb) (sym e₁) ∙ y))
       (stored_factor fs top b f sb sf (bt * 4 + ft) n o (ap (λ (k : ℕ). factor_of k sf) (sym e₂) ∙ z)) (stored_tag fs top b f sb sf (bt * 4 + ft) n o ∙ omega (arith, e₁, e₂)) o in
-      subst (λ (v : ℕ). Going s (set (set (set fs top sb) (top + w₁) sf) (top + w₁ + v) (bt * 4 + ft)) (top + w₁ + v + 1) (i + 1) (Awaits NoSum NoProduct)) (sym two_words)
-      (subst (λ (v : ℕ). Going s (set (set (set fs top sb) (top + v) sf) (top + v + words (factor_tag f)) (bt * 4 + ft)) (top + v + words (factor_tag f) + 1) (i + 1) (Awaits NoSum NoProduct)) (sym one_word) c)
+      subst (λ (v : ℕ). Going s (set (set (set fs top sb) (top + w₁) sf) (top + w₁ + v) (bt * 4 + ft)) (top + w₁ + v + 1) (i + 1) (Awaits NoSum None)) (sym two_words)
+      (subst (λ (v : ℕ). Going s (set (set (set fs top sb) (top + v) sf) (top + v + words (factor_tag f)) (bt * 4 + ft)) (top + v + words (factor_tag f) + 1) (i + 1) (Awaits NoSum None)) (sym one_word) c)
 
 -- ---- a frame is taken back
 record Popped (fs : List ℕ) (n : ℕ) (K : Stack) : Type 0 where
@@ -300,9 +305,6 @@ module _ {s : Bytes} {fs : List ℕ} {top i : ℕ} {x : State} (g : Going s fs t
 
   high_is : tag / 4 ≡ before_tag top_frame.b
   high_is = let h = factor_low top_frame.f in let k = tag_is in omega arith
-
-  pub closes_tag : tag / 4 ≤ 2
-  closes_tag = omega (arith, high_is, before_low top_frame.b)
 
   module _ {w₃ : ℕ} (u₃ : w₃ ≡ words (tag % 4)) where
     third : w₃ ≡ words (factor_tag top_frame.f)
@@ -345,24 +347,3 @@ module _ {s : Bytes} {fs : List ℕ} {top i : ℕ} {x : State} (g : Going s fs t
           } in
           subst (λ (n : ℕ). Going s fs n (i + 1) (Behind b' y)) (sym t_is)
           (subst (λ (j : Before). Going s fs k.t (i + 1) (Behind j y)) (sym bs) (subst (λ (j : Worked). Going s fs k.t (i + 1) (Behind k.b j)) (sym ys) c))
-
-pub inside : {s : Bytes} {fs : List ℕ} {top i : ℕ} {x : State} → Going s fs top i x → (i ≡ length s → ⊥) → i < length s
-inside g z = let w = g.within in omega arith
-
--- another state that does the same with the next byte
-pub again : {s : Bytes} {fs : List ℕ} {top i : ℕ} {x : State} → Going s fs top i x → i < length s → (y : State) → act y (get_or s i 0) ≡ act x (get_or s i 0) → weight y ≤ weight x → Going s fs top i y
-unfolding result small_step
-again {s} {fs} {top} {i} {x} g l y q w =
-    let e : drop i s ≡ get_or s i 0 ∷ drop (i + 1) s = rw (add-one, drop-cons s i 0) in
-    record {
-      within = g.within;
-      high = g.high;
-      frames = g.frames;
-      held = g.held;
-      paid = omega (arith, g.paid);
-      total = ap (result (stands y g.frames)) e ∙ ap (λ (z : Act). result (moved z g.frames) (drop (i + 1) s)) q ∙ ap (result (stands x g.frames)) (sym e) ∙ g.total;
-    }
-
-pub lighter : (n : ℕ) (b : Before) (f : Factor) (y : Worked) → weight (Behind b y) ≤ weight (Digits n b f)
-unfolding weight
-lighter n b f y = omega arith

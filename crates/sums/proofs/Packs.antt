@@ -1,46 +1,62 @@
--- Tags, digits, and what waits joined with a value. Assumes nothing.
-use Prim.Native.Nat.{ℕ, zero, suc, ◌+◌, ◌-◌, ◌*◌, ◌≤◌, ◌<◌}
-use mathlib.Core.Path.{◌≡◌, refl, ◌∙◌, ap}
-use mathlib.Core.Bool.{Bool, true, false, ◌&&◌}
+-- Words of open brackets and what they are read back as, and the growing number. Assumes nothing.
+use Prim.Native.Nat.{ℕ, ◌+◌, ◌-◌, ◌*◌, ◌≤◌, ◌<◌, min}
+use mathlib.Core.Path.{◌≡◌, refl, ◌∙◌, ap₂}
+use mathlib.Core.Bool.{Bool, true, false, not}
 use native.Mathlib.Omega.{arith}
+use native.Mathlib.Decide.{dec_le}
 use lib.Dec.{leb, eqb}
-use borrow.Author.Tests.{le-leb, lt-leb, leb-true}
+use borrow.Author.Tests.{le-leb, lt-leb}
+use Rattle.std.specs.Prelude.{Some, None}
+use mir.Val.{bool_byte}
+use Rattle.std.specs.Char.{is_ascii_digit}
 use Rattle.sums.specs.Choice.{choose, digit}
-use Rattle.sums.specs.Value.{most, upward, added, taken, multiplied}
+use Rattle.sums.specs.Value.{Worked, most}
+use Rattle.sums.specs.declared.value.Sum.TheVariants.{Plus, Minus}
+use Rattle.sums.specs.declared.reader.Before.{Before}
+use Rattle.sums.specs.declared.reader.Before.TheVariants.{NoSum, SumPlus, SumMinus}
+use Rattle.sums.specs.Small.{Factor, capped, grown}
+use Rattle.sums.specs.Packed.{worked_kind, worked_from, before_tag, before_size, before_of, factor_tag, factor_size, factor_of, words}
 use Rattle.sums.proofs.Tests.{takes, leaves}
-use Rattle.sums.specs.declared.value.Worked.{Worked}
-use Rattle.sums.specs.declared.value.Worked.TheVariants as W
-use borrow.Author.Tests.{eq-eqb, ne_eqb}
-use Rattle.sums.specs.Small.{capped, grown, finished, times_by, ended}
-use Rattle.sums.specs.Packed.{value_of, before_tag, before_of, factor_tag, factor_of, words, state_of}
-use Rattle.sums.specs.Small.{Before, NoSum, SumPlus, SumMinus, Factor, NoProduct, ProductTimes}
 
-pub digit_low : (c : ℕ) → digit c ≡ true → 48 ≤ c
-unfolding digit
-digit_low c e = on (leb 48 c) refl e
+pub grown_past : (n c : ℕ) → most < n → 9007199254740992 ≡ grown n c
+unfolding grown capped
+grown_past n c h = leaves _ _ _ (lt-leb (n * 10 + (c - 48)) most (omega arith))
+
+pub grown_fits : (n c : ℕ) → min (n * 10 + (c - 48)) 9007199254740992 ≡ grown n c
+unfolding grown capped
+grown_fits n c = on (dec_le (n * 10 + (c - 48)) most)
   where
-    on : (b : Bool) → leb 48 c ≡ b → (b && leb c 57) ≡ true → 48 ≤ c
-    on true q e' = leb-true 48 c q
-    on false q e' = let z : ◌≡◌ {A = ℕ} 0 1 = cc in absurd (omega arith)
+    on : Dec (n * 10 + (c - 48) ≤ most) → min (n * 10 + (c - 48)) 9007199254740992 ≡ choose (leb (n * 10 + (c - 48)) most) (n * 10 + (c - 48)) 9007199254740992
+    on (yes h) = let e : min (n * 10 + (c - 48)) 9007199254740992 ≡ n * 10 + (c - 48) = omega arith in e ∙ takes _ _ _ (le-leb (n * 10 + (c - 48)) most h)
+    on (no h) = let e : min (n * 10 + (c - 48)) 9007199254740992 ≡ 9007199254740992 = omega arith in e ∙ leaves _ _ _ (lt-leb (n * 10 + (c - 48)) most (omega arith))
 
-pub grown_past : (n c : ℕ) → most < n * 10 + (c - 48) → 9007199254740992 ≡ grown n c
-unfolding grown capped
-grown_past n c h = leaves _ _ _ (lt-leb (n * 10 + (c - 48)) most h)
+pub digit_is : (c : ℕ) → digit c ≡ is_ascii_digit c
+unfolding digit
+digit_is c = refl
 
-pub grown_fits : (n c : ℕ) {m : ℕ} → m ≡ n * 10 + (c - 48) → n * 10 + (c - 48) ≤ most → m ≡ grown n c
-unfolding grown capped
-grown_fits n c e h = e ∙ takes _ _ _ (le-leb (n * 10 + (c - 48)) most h)
+pub words_is : (t : ℕ) → bool_byte (not (eqb t 0)) ≡ words t
+unfolding words choose
+words_is t = on (eqb t 0)
+  where
+    on : (b : Bool) → bool_byte (not b) ≡ choose b 0 1
+    on true = refl
+    on false = refl
 
-pub before_low : (b : Before) → before_tag b ≤ 2
+pub kind_low : (w : Worked) → worked_kind w ≤ 2
+kind_low None = omega arith
+kind_low (Some (Plus n)) = omega arith
+kind_low (Some (Minus n)) = omega arith
+
+pub before_low : (b : Before) → before_tag b ≤ 6
 unfolding before_tag
 before_low NoSum = omega arith
-before_low (SumPlus w) = omega arith
-before_low (SumMinus w) = omega arith
+before_low (SumPlus w) = omega (arith, kind_low w)
+before_low (SumMinus w) = omega (arith, kind_low w)
 
-pub factor_low : (f : Factor) → factor_tag f ≤ 1
+pub factor_low : (f : Factor) → factor_tag f ≤ 3
 unfolding factor_tag
-factor_low NoProduct = omega arith
-factor_low (ProductTimes w) = omega arith
+factor_low None = omega arith
+factor_low (Some w) = omega (arith, kind_low w)
 
 pub words_low : (t : ℕ) → words t ≤ 1
 unfolding words choose
@@ -50,21 +66,25 @@ words_low t = on (eqb t 0)
     on true = omega arith
     on false = omega arith
 
--- a tag that the code holds is the tag of what waits
-pub tag_before : (t v : ℕ) → t ≤ 2 → t ≡ before_tag (before_of t v)
-unfolding before_of before_tag choose
-tag_before zero v h = refl
-tag_before (suc zero) v h = refl
-tag_before (suc (suc zero)) v h = refl
-tag_before (suc (suc (suc t))) v h = absurd (omega arith)
+-- what is stored is read back
+pub before_back : (b : Before) → before_of (before_tag b) (before_size b) ≡ b
+unfolding before_of before_tag before_size worked_from choose
+before_back NoSum = refl
+before_back (SumPlus None) = refl
+before_back (SumPlus (Some (Plus n))) = refl
+before_back (SumPlus (Some (Minus n))) = refl
+before_back (SumMinus None) = refl
+before_back (SumMinus (Some (Plus n))) = refl
+before_back (SumMinus (Some (Minus n))) = refl
 
-pub tag_factor : (t v : ℕ) → t ≤ 1 → t ≡ factor_tag (factor_of t v)
-unfolding factor_of factor_tag choose
-tag_factor zero v h = refl
-tag_factor (suc zero) v h = refl
-tag_factor (suc (suc t)) v h = absurd (omega arith)
+pub factor_back : (f : Factor) → factor_of (factor_tag f) (factor_size f) ≡ f
+unfolding factor_of factor_tag factor_size worked_from choose
+factor_back None = refl
+factor_back (Some None) = refl
+factor_back (Some (Some (Plus n))) = refl
+factor_back (Some (Some (Minus n))) = refl
 
--- of nothing no value is asked
+-- of nothing no size is asked
 pub before_none : (n m : ℕ) → before_of 0 n ≡ before_of 0 m
 unfolding before_of choose
 before_none n m = refl
@@ -73,40 +93,9 @@ pub factor_none : (n m : ℕ) → factor_of 0 n ≡ factor_of 0 m
 unfolding factor_of choose
 factor_none n m = refl
 
--- ---- what waits, joined with a value
+-- the same, as the code has its numbers
+pub before_read : {t v : ℕ} {b : Before} → t ≡ before_tag b → v ≡ before_size b → before_of t v ≡ b
+before_read {b = b} p q = ap₂ before_of p q ∙ before_back b
 
-pub finished_none : (t n : ℕ) (y : Worked) → t ≡ 0 → y ≡ finished (before_of t n) y
-unfolding before_of finished
-finished_none t n y e = ap (λ (b : Before). finished b y) (takes _ _ _ (eq-eqb t 0 e))
-
-pub finished_plus : (t n : ℕ) (y : Worked) → (t ≡ 0 → ⊥) → t ≡ 1 → added (value_of n) y ≡ finished (before_of t n) y
-unfolding before_of finished
-finished_plus t n y z e = ap (λ (b : Before). finished b y) (takes _ _ _ (eq-eqb t 1 e) ∙ leaves _ _ _ (ne_eqb t 0 z))
-
-pub finished_minus : (t n : ℕ) (y : Worked) → (t ≡ 0 → ⊥) → (t ≡ 1 → ⊥) → taken (value_of n) y ≡ finished (before_of t n) y
-unfolding before_of finished
-finished_minus t n y z e = ap (λ (b : Before). finished b y) (leaves _ _ _ (ne_eqb t 1 e) ∙ leaves _ _ _ (ne_eqb t 0 z))
-
-pub times_none : (t n : ℕ) (y : Worked) → t ≡ 0 → y ≡ times_by (factor_of t n) y
-unfolding factor_of times_by
-times_none t n y e = ap (λ (f : Factor). times_by f y) (takes _ _ _ (eq-eqb t 0 e))
-
-pub times_some : (t n : ℕ) (y : Worked) → (t ≡ 0 → ⊥) → multiplied (value_of n) y ≡ times_by (factor_of t n) y
-unfolding factor_of times_by
-times_some t n y z = ap (λ (f : Factor). times_by f y) (leaves _ _ _ (ne_eqb t 0 z))
-
--- ---- where the text ends
-
-module _ (mode n bt bs ft fs : ℕ) where
-  pub ended_awaits : mode ≡ 0 → W.Stays ≡ ended (state_of mode n bt bs ft fs)
-  unfolding state_of ended
-  ended_awaits m = ap ended (takes _ _ _ (eq-eqb mode 0 m))
-
-  pub ended_digits : (mode ≡ 0 → ⊥) → mode ≡ 1 → (u v w : ℕ) {r : Worked} → value_of u ≡ upward n → value_of v ≡ times_by (factor_of ft fs) (value_of u) → value_of w ≡ finished (before_of bt bs) (value_of v) → r ≡ value_of w → r ≡ ended (state_of mode n bt bs ft fs)
-  unfolding state_of ended
-  ended_digits z m u v w p q s e =
-      e ∙ s ∙ ap (finished (before_of bt bs)) (q ∙ ap (times_by (factor_of ft fs)) p) ∙ ap ended (takes _ _ _ (eq-eqb mode 1 m) ∙ leaves _ _ _ (ne_eqb mode 0 z))
-
-  pub ended_behind : (mode ≡ 0 → ⊥) → (mode ≡ 1 → ⊥) → (w : ℕ) {r : Worked} → value_of w ≡ finished (before_of bt bs) (value_of n) → r ≡ value_of w → r ≡ ended (state_of mode n bt bs ft fs)
-  unfolding state_of ended
-  ended_behind z m w s e = e ∙ s ∙ ap ended (leaves _ _ _ (ne_eqb mode 1 m) ∙ leaves _ _ _ (ne_eqb mode 0 z))
+pub factor_read : {t v : ℕ} {f : Factor} → t ≡ factor_tag f → v ≡ factor_size f → factor_of t v ≡ f
+factor_read {f = f} p q = ap₂ factor_of p q ∙ factor_back f

@@ -8,14 +8,15 @@ use Rattle.sums.specs.Tree.{Tree, number, plus, minus, times}
 use Rattle.field.specs.Bytes.{Bytes}
 use Rattle.sums.specs.Machine.{Outcome, read, no_reading, outcome, start, found, sum_of}
 use Rattle.sums.specs.Value.{most, upward, downward, difference, added, taken, multiplied, value}
-use Rattle.sums.specs.declared.value.Worked.{Worked}
-use Rattle.sums.specs.declared.value.Worked.TheVariants.{Stays, Plus, Minus}
+use Rattle.sums.specs.Value.{Worked}
+use Rattle.sums.specs.declared.value.Sum.TheVariants.{Plus, Minus}
+use Rattle.std.specs.Prelude.{Some, None}
 use Rattle.sums.proofs.Tests.{either, clash}
 
 unfoldable pub Proper : Worked → Type 0
-Proper Stays = Unit {0}
-Proper (Plus n) = n ≤ most
-Proper (Minus n) = (0 < n) × (n ≤ most)
+Proper None = Unit {0}
+Proper (Some (Plus n)) = n ≤ most
+Proper (Some (Minus n)) = (0 < n) × (n ≤ most)
 
 up_proper : (n : ℕ) → Proper (upward n)
 unfolding upward Proper
@@ -31,23 +32,23 @@ difference_proper a b = either Proper (leb b a) _ _ (λ _. up_proper (a - b)) (�
 
 added_proper : (x y : Worked) → Proper x → Proper y → Proper (added x y)
 unfolding added Proper
-added_proper Stays y p q = tt
-added_proper (Plus a) Stays p q = tt
-added_proper (Plus a) (Plus b) p q = up_proper (a + b)
-added_proper (Plus a) (Minus b) p q = difference_proper a b
-added_proper (Minus a) Stays p q = tt
-added_proper (Minus a) (Plus b) p q = difference_proper b a
-added_proper (Minus a) (Minus b) p q = down_proper (a + b) (omega arith)
+added_proper None y p q = tt
+added_proper (Some (Plus a)) None p q = tt
+added_proper (Some (Plus a)) (Some (Plus b)) p q = up_proper (a + b)
+added_proper (Some (Plus a)) (Some (Minus b)) p q = difference_proper a b
+added_proper (Some (Minus a)) None p q = tt
+added_proper (Some (Minus a)) (Some (Plus b)) p q = difference_proper b a
+added_proper (Some (Minus a)) (Some (Minus b)) p q = down_proper (a + b) (omega arith)
 
 taken_proper : (x y : Worked) → Proper x → Proper y → Proper (taken x y)
 unfolding taken Proper
-taken_proper Stays y p q = tt
-taken_proper (Plus a) Stays p q = tt
-taken_proper (Plus a) (Plus b) p q = difference_proper a b
-taken_proper (Plus a) (Minus b) p q = up_proper (a + b)
-taken_proper (Minus a) Stays p q = tt
-taken_proper (Minus a) (Plus b) p q = down_proper (a + b) (omega arith)
-taken_proper (Minus a) (Minus b) p q = difference_proper b a
+taken_proper None y p q = tt
+taken_proper (Some (Plus a)) None p q = tt
+taken_proper (Some (Plus a)) (Some (Plus b)) p q = difference_proper a b
+taken_proper (Some (Plus a)) (Some (Minus b)) p q = up_proper (a + b)
+taken_proper (Some (Minus a)) None p q = tt
+taken_proper (Some (Minus a)) (Some (Plus b)) p q = down_proper (a + b) (omega arith)
+taken_proper (Some (Minus a)) (Some (Minus b)) p q = difference_proper b a
 
 not_zero : (a : ℕ) → T (not (eqb a 0)) → 1 ≤ a
 not_zero zero u = clash (eqb 0 0) (eqb_refl 0) u
@@ -55,13 +56,13 @@ not_zero (suc a) u = omega arith
 
 multiplied_proper : (x y : Worked) → Proper x → Proper y → Proper (multiplied x y)
 unfolding multiplied Proper
-multiplied_proper Stays y p q = tt
-multiplied_proper (Plus a) Stays p q = tt
-multiplied_proper (Plus a) (Plus b) p q = up_proper (a * b)
-multiplied_proper (Plus a) (Minus b) p q = either Proper (eqb a 0) _ _ (λ _. tt) (λ u. down_proper (a * b) (one-le-mul (not_zero a u) q.0))
-multiplied_proper (Minus a) Stays p q = tt
-multiplied_proper (Minus a) (Plus b) p q = either Proper (eqb b 0) _ _ (λ _. tt) (λ u. down_proper (a * b) (one-le-mul p.0 (not_zero b u)))
-multiplied_proper (Minus a) (Minus b) p q = up_proper (a * b)
+multiplied_proper None y p q = tt
+multiplied_proper (Some (Plus a)) None p q = tt
+multiplied_proper (Some (Plus a)) (Some (Plus b)) p q = up_proper (a * b)
+multiplied_proper (Some (Plus a)) (Some (Minus b)) p q = either Proper (eqb a 0) _ _ (λ _. tt) (λ u. down_proper (a * b) (one-le-mul (not_zero a u) q.0))
+multiplied_proper (Some (Minus a)) None p q = tt
+multiplied_proper (Some (Minus a)) (Some (Plus b)) p q = either Proper (eqb b 0) _ _ (λ _. tt) (λ u. down_proper (a * b) (one-le-mul p.0 (not_zero b u)))
+multiplied_proper (Some (Minus a)) (Some (Minus b)) p q = up_proper (a * b)
 
 pub value_proper : (t : Tree) → Proper (value t)
 unfolding value

@@ -13,10 +13,16 @@ use Rattle.sums.specs.Value.{most, upward, value}
 use Rattle.sums.specs.Machine.{found, sum_of, outcome, at_end, whole, start, sum_with, product_with, closed, step_behind, step}
 use Rattle.sums.specs.Machine as M
 use Rattle.sums.proofs.Tests.{takes, leaves}
-use Rattle.sums.specs.declared.value.Worked.{Worked}
-use Rattle.sums.specs.declared.value.Worked.TheVariants as W
-use Rattle.sums.specs.Small.{Before, NoSum, SumPlus, SumMinus, Factor, NoProduct, ProductTimes, State, Awaits, Digits, Behind}
-use Rattle.sums.specs.Small.{Act, Close}
+use Rattle.sums.specs.Value.{Worked}
+use Rattle.sums.specs.declared.value.Sum.TheVariants as W
+use Rattle.std.specs.Prelude.{Some, None}
+use Rattle.sums.specs.declared.reader.Before.{Before}
+use Rattle.sums.specs.declared.reader.Before.TheVariants.{NoSum, SumPlus, SumMinus}
+use Rattle.sums.specs.declared.reader.State.{State}
+use Rattle.sums.specs.declared.reader.State.TheVariants.{Awaits, Digits, Behind}
+use Rattle.sums.specs.declared.reader.Act.{Act}
+use Rattle.sums.specs.declared.reader.Act.TheVariants.{Close}
+use Rattle.sums.specs.Small.{Factor}
 use Rattle.sums.specs.Small.{finished, times_by, capped, grown, act_behind, act_awaits, act_digits, act, frame, Stack, Small, stands, stopped, moved, small_step, ended, small_end, result}
 
 before_worked : M.Before → Before
@@ -25,8 +31,8 @@ before_worked (M.sum_plus x) = SumPlus (value x)
 before_worked (M.sum_minus x) = SumMinus (value x)
 
 factor_worked : M.Factor → Factor
-factor_worked M.no_product = NoProduct
-factor_worked (M.product_times x) = ProductTimes (value x)
+factor_worked M.no_product = None
+factor_worked (M.product_times x) = Some (value x)
 
 frames_worked : M.Stack → Stack
 frames_worked [] = []
@@ -84,7 +90,7 @@ upward_capped n = on (leb n most) refl
     on false e =
         let h : most < n = leb-false n most e in
         let k : capped n ≡ 9007199254740992 = capped_past n h in
-        sym (leaves (leb n most) (W.Plus n) W.Stays e) ∙ leaves (leb (capped n) most) (W.Plus (capped n)) W.Stays (lt-leb (capped n) most (omega arith))
+        sym (leaves (leb n most) (Some (W.Plus n)) None e) ∙ leaves (leb (capped n) most) (Some (W.Plus (capped n))) None (lt-leb (capped n) most (omega arith))
 
 digit_fits : (c : ℕ) → T (digit c) → capped (c - 48) ≡ c - 48
 unfolding digit
@@ -106,8 +112,8 @@ unfolding step_behind act_behind erase moved before_worked factor_worked
 behind_worked b y K c =
     let m : Act → Small = λ a. moved a (frames_worked K) in
     alike erase m (eqb c 32) _ _ _ _ (λ _. refl)
-    (alike erase m (eqb c 43) _ _ _ _ (λ _. ap (λ (w : Worked). stands (Awaits (SumPlus w) NoProduct) (frames_worked K)) (sum_worked b y))
-    (alike erase m (eqb c 45) _ _ _ _ (λ _. ap (λ (w : Worked). stands (Awaits (SumMinus w) NoProduct) (frames_worked K)) (sum_worked b y))
+    (alike erase m (eqb c 43) _ _ _ _ (λ _. ap (λ (w : Worked). stands (Awaits (SumPlus w) None) (frames_worked K)) (sum_worked b y))
+    (alike erase m (eqb c 45) _ _ _ _ (λ _. ap (λ (w : Worked). stands (Awaits (SumMinus w) None) (frames_worked K)) (sum_worked b y))
     (alike erase m (eqb c 42) _ _ _ _ (λ _. refl)
     (alike erase m (eqb c 41) _ _ _ _ (λ _. closed_worked (sum_with b y) K ∙ ap (λ (w : Worked). moved (Close w) (frames_worked K)) (sum_worked b y)) refl))))
 
@@ -136,7 +142,7 @@ unfolding found whole small_end frames_worked
 whole_worked x [] y e = e
 whole_worked x (M.frame b f ∷ K) y e = refl
 
-await_worked : (b : Before) (f : Factor) (K : Stack) → W.Stays ≡ small_end (stands (Awaits b f) K)
+await_worked : (b : Before) (f : Factor) (K : Stack) → None ≡ small_end (stands (Awaits b f) K)
 unfolding small_end ended
 await_worked b f [] = refl
 await_worked b f (g ∷ K) = refl
@@ -155,6 +161,6 @@ unfolding outcome result
 all_worked x [] = end_worked x
 all_worked x (c ∷ s) = all_worked (step x c) s ∙ ap (λ (z : Small). result z s) (step_worked x c)
 
-pub result_is : (s : Bytes) → result (stands (Awaits NoSum NoProduct) []) s ≡ sum_of s
+pub result_is : (s : Bytes) → result (stands (Awaits NoSum None) []) s ≡ sum_of s
 unfolding sum_of erase before_worked factor_worked frames_worked
 result_is s = sym (all_worked start s)

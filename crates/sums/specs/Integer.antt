@@ -2,8 +2,9 @@
 use Rattle.std.specs.Prelude.{suc, ◌≤◌, ◌≡◌, Bool, false, eqb, ℤ, pos, negsuc, nat_abs, ◌+ℤ◌, ◌-ℤ◌, ◌*ℤ◌}
 use Rattle.sums.specs.Tree.{Tree, number, plus, minus, times}
 use Rattle.sums.specs.Value.{most}
-use Rattle.sums.specs.declared.value.Worked.{Worked}
-use Rattle.sums.specs.declared.value.Worked.TheVariants.{Plus, Minus}
+use Rattle.sums.specs.Value.{Worked}
+use Rattle.sums.specs.declared.value.Sum.TheVariants.{Plus, Minus}
+use Rattle.std.specs.Prelude.{Some}
 
 unfoldable pub integer : Tree → ℤ
 integer (number n) = pos n
@@ -13,8 +14,8 @@ integer (times x y) = integer x *ℤ integer y
 
 -- an integer by sign and size
 unfoldable pub signed : ℤ → Worked
-signed (pos n) = Plus n
-signed (negsuc n) = Minus (suc n)
+signed (pos n) = Some (Plus n)
+signed (negsuc n) = Some (Minus (suc n))
 
 -- zero and a negative
 unfoldable pub zero_negative : ℤ → ℤ → Bool

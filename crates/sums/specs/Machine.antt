@@ -4,8 +4,8 @@ use Rattle.sums.specs.Choice.{choose, digit}
 use Rattle.field.specs.Bytes.{Bytes}
 use Rattle.sums.specs.Tree.{Tree, number, plus, minus, times}
 use Rattle.sums.specs.Value.{value}
-use Rattle.sums.specs.declared.value.Worked.{Worked}
-use Rattle.sums.specs.declared.value.Worked.TheVariants.{Stays}
+use Rattle.sums.specs.Value.{Worked}
+use Rattle.std.specs.Prelude.{None}
 
 -- what waits for a product: nothing, or a sum and `+` or `-`
 pub data Before : Type 0 where
@@ -87,7 +87,7 @@ start = awaits no_sum no_product []
 -- what a text comes to: one that is no sum stays too
 unfoldable pub found : Outcome → Worked
 found (read t) = value t
-found no_reading = Stays
+found no_reading = None
 
 unfoldable pub sum_of : Bytes → Worked
 sum_of s = found (outcome start s)

@@ -1,39 +1,49 @@
--- What waits as the code holds it: a tag, and a value as one number. Nothing here needs belief. Assumes nothing.
-use Rattle.std.specs.Prelude.{ℕ, ◌-◌, ◌*◌, leb, eqb}
+-- What waits for an open bracket as words: a number that tells what it is, and a size. Nothing here needs belief. Assumes nothing.
+use Rattle.std.specs.Prelude.{ℕ, ◌+◌, ◌-◌, leb, eqb, Some, None}
 use Rattle.sums.specs.Choice.{choose}
-use Rattle.sums.specs.Value.{most, downward}
-use Rattle.sums.specs.declared.value.Worked.{Worked}
-use Rattle.sums.specs.declared.value.Worked.TheVariants as W
-use Rattle.sums.specs.Small.{Before, NoSum, SumPlus, SumMinus, Factor, NoProduct, ProductTimes, State, Awaits, Digits, Behind}
+use Rattle.sums.specs.Value.{Worked}
+use Rattle.sums.specs.declared.value.Sum.TheVariants.{Plus, Minus}
+use Rattle.sums.specs.declared.reader.Before.{Before}
+use Rattle.sums.specs.declared.reader.Before.TheVariants.{NoSum, SumPlus, SumMinus}
+use Rattle.sums.specs.Small.{Factor}
 
--- the bound stands for zero; past twice the bound it stays
-unfoldable pub value_of : ℕ → Worked
-value_of v = choose (leb v 18014398509481982) (choose (leb most v) (W.Plus (v - most)) (W.Minus (most - v))) W.Stays
+abbrev pub worked_kind : Worked → ℕ
+worked_kind None = 0
+worked_kind (Some (Plus n)) = 1
+worked_kind (Some (Minus n)) = 2
 
--- x from zero up times one below zero of size y
-unfoldable pub mixed_product : ℕ → ℕ → Worked
-mixed_product x y = choose (eqb x 0) W.Stays (downward (x * y))
+abbrev pub worked_size : Worked → ℕ
+worked_size None = 0
+worked_size (Some (Plus n)) = n
+worked_size (Some (Minus n)) = n
+
+unfoldable pub worked_from : ℕ → ℕ → Worked
+worked_from k n = choose (eqb k 0) None (choose (eqb k 1) (Some (Plus n)) (Some (Minus n)))
 
 unfoldable pub before_tag : Before → ℕ
 before_tag NoSum = 0
-before_tag (SumPlus w) = 1
-before_tag (SumMinus w) = 2
+before_tag (SumPlus w) = 1 + worked_kind w
+before_tag (SumMinus w) = 4 + worked_kind w
+
+unfoldable pub before_size : Before → ℕ
+before_size NoSum = 0
+before_size (SumPlus w) = worked_size w
+before_size (SumMinus w) = worked_size w
 
 unfoldable pub before_of : ℕ → ℕ → Before
-before_of t v = choose (eqb t 0) NoSum (choose (eqb t 1) (SumPlus (value_of v)) (SumMinus (value_of v)))
+before_of t v = choose (eqb t 0) NoSum (choose (leb t 3) (SumPlus (worked_from (t - 1) v)) (SumMinus (worked_from (t - 4) v)))
 
 unfoldable pub factor_tag : Factor → ℕ
-factor_tag NoProduct = 0
-factor_tag (ProductTimes w) = 1
+factor_tag None = 0
+factor_tag (Some w) = 1 + worked_kind w
+
+unfoldable pub factor_size : Factor → ℕ
+factor_size None = 0
+factor_size (Some w) = worked_size w
 
 unfoldable pub factor_of : ℕ → ℕ → Factor
-factor_of t v = choose (eqb t 0) NoProduct (ProductTimes (value_of v))
+factor_of t v = choose (eqb t 0) None (Some (worked_from (t - 1) v))
 
 -- how many words the value of what waits takes
 unfoldable pub words : ℕ → ℕ
 words t = choose (eqb t 0) 0 1
-
--- the state in numbers
-unfoldable pub state_of : ℕ → ℕ → ℕ → ℕ → ℕ → ℕ → State
-state_of mode n bt bs ft fs =
-    choose (eqb mode 0) (Awaits (before_of bt bs) (factor_of ft fs)) (choose (eqb mode 1) (Digits n (before_of bt bs) (factor_of ft fs)) (Behind (before_of bt bs) (value_of n)))

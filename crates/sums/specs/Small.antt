@@ -2,32 +2,22 @@
 use Rattle.std.specs.Prelude.{ℕ, ◌+◌, ◌-◌, ◌*◌, List, [], ◌∷◌, leb, eqb}
 use Rattle.sums.specs.Choice.{choose, digit}
 use Rattle.field.specs.Bytes.{Bytes}
-use Rattle.sums.specs.Value.{most, upward, added, taken, multiplied}
-use Rattle.sums.specs.declared.value.Worked.{Worked}
-use Rattle.sums.specs.declared.value.Worked.TheVariants as W
-
--- what waits for a product: nothing, or a sum and `+` or `-`
-pub data Before : Type 0 where
-  NoSum : Before
-  SumPlus : Worked → Before
-  SumMinus : Worked → Before
+use Rattle.sums.specs.Value.{Worked, most, upward, downward, added, taken, multiplied}
+use Rattle.sums.specs.declared.reader.Before.{Before}
+use Rattle.sums.specs.declared.reader.Before.TheVariants.{NoSum, SumPlus, SumMinus}
+use Rattle.sums.specs.declared.reader.State.{State}
+use Rattle.sums.specs.declared.reader.State.TheVariants.{Awaits, Digits, Behind}
+use Rattle.sums.specs.declared.reader.Act.{Act}
+use Rattle.sums.specs.declared.reader.Act.TheVariants.{On, Open, Close, Refused}
+use Rattle.std.specs.Prelude.{Option, Some, None}
 
 -- what waits for an operand: nothing, or a product and `*`
-pub data Factor : Type 0 where
-  NoProduct : Factor
-  ProductTimes : Worked → Factor
+abbrev pub Factor : Type 0
+Factor = Option Worked
 
-pub data State : Type 0 where
-  Awaits : Before → Factor → State  -- an operand
-  Digits : ℕ → Before → Factor → State
-  Behind : Before → Worked → State  -- the product so far, behind an operand
-
--- what a byte does
-pub data Act : Type 0 where
-  On : State → Act
-  Open : Before → Factor → Act
-  Close : Worked → Act
-  Refused : Act
+-- x from zero up times one below zero of size y
+unfoldable pub mixed_product : ℕ → ℕ → Worked
+mixed_product x y = choose (eqb x 0) None (downward (x * y))
 
 unfoldable pub finished : Before → Worked → Worked
 finished NoSum y = y
@@ -35,8 +25,8 @@ finished (SumPlus x) y = added x y
 finished (SumMinus x) y = taken x y
 
 unfoldable pub times_by : Factor → Worked → Worked
-times_by NoProduct y = y
-times_by (ProductTimes x) y = multiplied x y
+times_by None y = y
+times_by (Some x) y = multiplied x y
 
 -- a size past the bound is as good as any other
 unfoldable pub capped : ℕ → ℕ
@@ -48,9 +38,9 @@ grown n c = capped (n * 10 + (c - 48))
 unfoldable pub act_behind : Before → Worked → ℕ → Act
 act_behind b y c =
     choose (eqb c 32) (On (Behind b y))
-    (choose (eqb c 43) (On (Awaits (SumPlus (finished b y)) NoProduct))
-    (choose (eqb c 45) (On (Awaits (SumMinus (finished b y)) NoProduct))
-    (choose (eqb c 42) (On (Awaits b (ProductTimes y)))
+    (choose (eqb c 43) (On (Awaits (SumPlus (finished b y)) None))
+    (choose (eqb c 45) (On (Awaits (SumMinus (finished b y)) None))
+    (choose (eqb c 42) (On (Awaits b (Some y)))
     (choose (eqb c 41) (Close (finished b y)) Refused))))
 
 unfoldable pub act_awaits : Before → Factor → ℕ → Act
@@ -80,7 +70,7 @@ pub data Small : Type 0 where
 
 unfoldable pub moved : Act → Stack → Small
 moved (On x) K = stands x K
-moved (Open b f) K = stands (Awaits NoSum NoProduct) (frame b f ∷ K)
+moved (Open b f) K = stands (Awaits NoSum None) (frame b f ∷ K)
 moved (Close w) [] = stopped
 moved (Close w) (frame b f ∷ K) = stands (Behind b (times_by f w)) K
 moved Refused K = stopped
@@ -90,14 +80,14 @@ small_step (stands x K) c = moved (act x c) K
 small_step stopped c = stopped
 
 unfoldable pub ended : State → Worked
-ended (Awaits b f) = W.Stays
+ended (Awaits b f) = None
 ended (Digits n b f) = finished b (times_by f (upward n))
 ended (Behind b y) = finished b y
 
 unfoldable pub small_end : Small → Worked
 small_end (stands x []) = ended x
-small_end (stands x (g ∷ K)) = W.Stays
-small_end stopped = W.Stays
+small_end (stands x (g ∷ K)) = None
+small_end stopped = None
 
 unfoldable pub result : Small → Bytes → Worked
 result x [] = small_end x

@@ -1,12 +1,16 @@
 -- What is printed of the reader's answer: of a refusal the number; a tag that is read stands in the out, and its page around it.
 -- Main statements: `tag_refused_printed`, `tag_stands`, `tag_card_is`. Assumes nothing.
-use Prim.Native.Nat.{ℕ, ◌+◌, ◌-◌, ◌≤◌}
+use Prim.Native.Nat.{ℕ, suc, ◌+◌, ◌-◌, ◌≤◌, ◌<◌}
 use native.Mathlib.Omega.{arith}
 use mathlib.Core.Path.{◌≡◌, refl, sym, ap, ap₂, ◌∙◌, subst}
 use mathlib.Core.List.{[], ◌∷◌, ◌++◌, append-nil}
-use lib.Dec.{leb→le}
-use lib.ListN.{length, take, get_or}
-use borrow.Author.Tests.{ne_eqb}
+use lib.Dec.{eqb, leb→le}
+use mathlib.Core.Bool.{Bool, true, false, ◌&&◌}
+use lib.ListN.{length, take, drop, get_or}
+use lib.Seq.{drop-cons, drop-length}
+use Rattle.std.proofs.Math.Bool.{and-true}
+use Rattle.std.specs.Prelude.{nat_eq}
+use lib.Pointwise.{pointwise}
 use Rattle.field.specs.Bytes.{Bytes}
 use Rattle.field.specs.Row.{field_bytes, bytes}
 use Rattle.field.specs.Put.{Wrote, head}
@@ -26,18 +30,23 @@ use Rattle.tag.specs.TagCard.{without_end, page_of, tag_text, tag_card}
 
 -- ---- the line end
 
-pub empty_kept : (s : Bytes) → length s ≡ 0 → s ≡ without_end s
-unfolding without_end
-empty_kept [] e = refl
-empty_kept (c ∷ s) e = absurd (omega (arith, e))
+-- the last byte, as a row of its own
+last : (s : Bytes) → 0 < length s → drop (length s - 1) s ≡ get_or s (length s - 1) 0 ∷ []
+last s h =
+    let k : suc (length s - 1) ≡ length s = omega arith in
+    drop-cons s (length s - 1) 0 (omega arith) ∙ ap (λ (n : ℕ). get_or s (length s - 1) 0 ∷ drop n s) k ∙ ap (λ (t : Bytes). get_or s (length s - 1) 0 ∷ t) (drop-length s)
 
-pub end_dropped : (s : Bytes) → get_or s (length s - 1) 0 ≡ 10 → take (length s - 1) s ≡ without_end s
-unfolding without_end
-end_dropped s e = rw e
+ends_by : (s : Bytes) → pointwise nat_eq (drop (length s - 1) s) (10 ∷ []) ≡ eqb (get_or s (length s - 1) 0) 10
+ends_by [] = refl
+ends_by (c ∷ s) = rw (last (c ∷ s) (omega arith)) (and-true (eqb (get_or (c ∷ s) (length (c ∷ s) - 1) 0) 10))
 
-pub other_kept : (s : Bytes) → (get_or s (length s - 1) 0 ≡ 10 → ⊥) → s ≡ without_end s
+pub end_dropped : (s : Bytes) → pointwise nat_eq (drop (length s - 1) s) (10 ∷ []) ≡ true → take (length s - 1) s ≡ without_end s
 unfolding without_end
-other_kept s h = rw (ne_eqb (get_or s (length s - 1) 0) 10 h)
+end_dropped s e = rw (sym (ends_by s) ∙ e)
+
+pub other_kept : (s : Bytes) → pointwise nat_eq (drop (length s - 1) s) (10 ∷ []) ≡ false → s ≡ without_end s
+unfolding without_end
+other_kept s e = rw (sym (ends_by s) ∙ e)
 
 -- ---- the page of a tag is its field in two heads
 

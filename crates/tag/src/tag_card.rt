@@ -11,18 +11,13 @@ use tag_pass::answer::read_tag;
 use text::decimal::put_decimal;
 
 // A text file ends with a line end, which is no part of the tag.
-#[tactic(auto, using(crate::proofs::TagCardLaws::empty_kept, crate::proofs::TagCardLaws::end_dropped, crate::proofs::TagCardLaws::other_kept))]
 fn without_end(s: &[u8]) -> &[u8]
     ensures { result.now ≡ without_end s.now }
 {
-    let n = s.len();
-    if n == 0 {
-        return s;
+    match s.strip_suffix(b"\n") {
+        Some(t) => t,
+        None => s,
     }
-    if s[n - 1] == 10 {
-        return &s[..n - 1];
-    }
-    s
 }
 
 // The page around a tag's field. Of a body over 65,535 bytes a head has the low half of the length: such a page is over 32,768 bytes, and
@@ -51,8 +46,8 @@ pub fn print_tag(
 {
     let a = read_tag(without_end(text), tag);
     if a.number != 0 {
-        let end = put_decimal(printed, 0, a.number as u64);
-        return put_byte(printed, end, 10);
+        let end = put_decimal(printed, 0, u64::from(a.number));
+        return put_byte(printed, end, b'\n');
     }
     let end = put_page(input, &tag[..a.tag_bytes]);
     print_card(&input[..end], scratch, templates, page, printed)

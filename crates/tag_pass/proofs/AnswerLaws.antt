@@ -6,7 +6,7 @@ use mathlib.Core.Bool.{Bool, true, false, ◌||◌, not, false≢true}
 use mathlib.Core.List.{[], ◌++◌}
 use native.Mathlib.Omega.{arith}
 use borrow.Author.Tests.{lt-ltb, le-ltb, le-leb, lt-leb, ltb-true, ltb-false}
-use lib.Dec.{leb, ltb, eqb}
+use lib.Dec.{leb, ltb}
 use lib.ListN.{length, replicate, length-append}
 use Rattle.field.specs.Bytes.{Bytes, pick}
 use Rattle.field.specs.Row.{Row, end, loose, field, field_bytes, bytes, long_body}
@@ -22,9 +22,11 @@ use Rattle.tag_tree.specs.PageTag.{page_tag}
 use Rattle.tag_tree.specs.TagAnswer as TA
 use Rattle.tag_tree.specs.TagAnswer.{TagOutcome, tag_refused, tag_accepted, numbers_in_range, shallow, tag_field, tag_encode, given, within, answered, tag_outcome, tag_number, tag_refusal_number, tag_left}
 use Rattle.read_tag.specs.Progress as R
+use Rattle.tag_pass.specs.declared.state.Mode.{Mode}
+use Rattle.tag_pass.specs.declared.state.Mode.TheVariants as M
 use Rattle.tag_pass.specs.Worlds.{ended_world, nothing_made, Made}
 use Rattle.tag_pass.specs.States.{Passed, passed_none, passed_tag}
-use Rattle.tag_pass.specs.Answers.{TagAnswers, reading_number}
+use Rattle.tag_pass.specs.Answers.{is_refused, TagAnswers, reading_number}
 use Rattle.tag_pass.specs.declared.state.Reading.{Reading}
 use Rattle.tag_pass.specs.declared.answer.TagAnswer.{TagAnswer}
 
@@ -181,15 +183,28 @@ not_not : (b : Bool) → not (not b) ≡ b
 not_not true = refl
 not_not false = refl
 
-number_of_tests : (st : Reading) (room : ℕ) → st.mode ≡ 5 → reading_number st room ≡ tests_number st room
-unfolding reading_number tests_number number_by
+pub refused_mode : (m : Mode) → m ≡ M.Refused → is_refused m ≡ true
+unfolding is_refused
+refused_mode m e = ap is_refused e
+
+pub not_refused : (m : Mode) → (m ≡ M.Refused → ⊥) → is_refused m ≡ false
+unfolding is_refused
+not_refused M.InTag n = refl
+not_refused M.InChildren n = refl
+not_refused M.Inner n = refl
+not_refused M.Ended n = refl
+not_refused M.Refused n = absurd (n refl)
+not_refused M.Done n = refl
+
+number_of_tests : (st : Reading) (room : ℕ) → st.mode ≡ M.Done → reading_number st room ≡ tests_number st room
+unfolding reading_number tests_number number_by is_refused
 number_of_tests st room e =
-    ap (λ (z : ℕ). pick (eqb z 4) 14 (pick (not st.names) 15 (pick (not st.numbers) 7 (pick (not st.shallow) 8 (pick (ltb 65538 st.at) 11 (pick (ltb room st.at) 13 0)))))) e ∙
+    ap (λ (z : Mode). pick (is_refused z) 14 (pick (not st.names) 15 (pick (not st.numbers) 7 (pick (not st.shallow) 8 (pick (ltb 65538 st.at) 11 (pick (ltb room st.at) 13 0)))))) e ∙
     ap (λ (z : Bool). pick (not st.names) 15 (pick (not st.numbers) 7 (pick (not st.shallow) 8 (pick (ltb 65538 st.at) 11 (pick z 13 0))))) (sym (not_not (ltb room st.at)))
 
-number_none : (st : Reading) (room : ℕ) → st.mode ≡ 4 → reading_number st room ≡ 14
-unfolding reading_number
-number_none st room e = ap (λ (z : ℕ). pick (eqb z 4) 14 (pick (not st.names) 15 (pick (not st.numbers) 7 (pick (not st.shallow) 8 (pick (ltb 65538 st.at) 11 (pick (ltb room st.at) 13 0)))))) e
+number_none : (st : Reading) (room : ℕ) → st.mode ≡ M.Refused → reading_number st room ≡ 14
+unfolding reading_number is_refused
+number_none st room e = ap (λ (z : Mode). pick (is_refused z) 14 (pick (not st.names) 15 (pick (not st.numbers) 7 (pick (not st.shallow) 8 (pick (ltb 65538 st.at) 11 (pick (ltb room st.at) 13 0)))))) e
 
 -- the laws of tests, for what the pass found
 tests_so : (st : Reading) (room : ℕ) (x : P.Tag) → tests_number st room ≡ tag_number (tests st room x)

@@ -7,6 +7,7 @@ use native.Mathlib.Omega.{arith}
 use borrow.Author.Tests.{eq-eqb, ne_eqb}
 use lib.Dec.{T, leb, eqb}
 use lib.ListN.{length, drop, get_or, length-drop}
+use Rattle.std.specs.Prelude.{Option, Some, None}
 use Rattle.field.specs.Bytes.{Bytes}
 use Rattle.field.specs.Row.{Row, end, field, field_bytes, bytes}
 use Rattle.field.specs.Put.{head, Wrote}
@@ -28,13 +29,12 @@ use Rattle.read_tag.specs.Shapes.{name_tag}
 use Rattle.read_tag.specs.Names.{named_if, NameAt, FoundName, Scanned, NamePut, name_depth}
 use Rattle.read_tag.specs.Texts.{StringRead, StringEnds}
 use Rattle.read_tag.specs.declared.name.ScannedName.{ScannedName}
-use Rattle.read_tag.specs.declared.name.ScannedName.TheVariants as SN
 use Rattle.read_tag.specs.declared.texts.Run.{Run}
-use Rattle.read_tag.specs.declared.texts.Run.TheVariants as R
 use Rattle.read_tag.proofs.FlagLaws.{and_true}
 use Rattle.read_tag.proofs.NameFieldLaws.{attr_name_same, member_tag}
 use Rattle.read_tag.proofs.NameLimitLaws.{shallow_attr_name}
 use Rattle.read_tag.proofs.ProgressLaws as L
+use Rattle.tag_pass.specs.declared.state.Mode.TheVariants as M
 use Rattle.tag_pass.specs.Worlds.{World, more, any_known, any_names, tag_world, value_world, before_world, frame_world, world_of, Made}
 use Rattle.tag_pass.specs.States.{Named, braces_kind, kind_of, braces_name, frame_name, PlainBraces, PlainFrame, BracesFifty, Fifty, Bounded, Stands, Next}
 use Rattle.tag_pass.specs.Turns.{at_more, at_inner, at_fifty, BracesTurn, PointTurn, AttributeTurn, NoValueTurn, StringTurn, ValueTurn, SpreadTurn, AttributeEnded}
@@ -58,10 +58,10 @@ value_done {K = K} {st = st} a n ps b x row g m fifty ended l =
 
 -- ---- strings
 
-pub string_none : {s out out₁ : Bytes} {st r : Reading} {i q : ℕ} (p : Run) → StringRead q s i out st.at out₁ p → p ≡ R.Nothing → r.mode ≡ 4 → StringTurn s st i q out r out₁
+pub string_none : {s out out₁ : Bytes} {st r : Reading} {i q : ℕ} (p : Option Run) → StringRead q s i out st.at out₁ p → p ≡ None → r.mode ≡ M.Refused → StringTurn s st i q out r out₁
 unfolding StringRead
 string_none {s} {out} {out₁} {st} {r} {i} {q} p t e m a n ps K nm fifty o h stands =
-    let unread : StringRead q s i out st.at out₁ R.Nothing = subst (StringRead q s i out st.at out₁) e t in
+    let unread : StringRead q s i out st.at out₁ None = subst (StringRead q s i out st.at out₁) e t in
     refuses stands (unread.1 a n ps K) m
 
 string_shallow : (d : ℕ) (w : Bytes) → leb (suc (suc d)) 48 ≡ shallow (suc (suc d)) (field 0x51 w end end)
@@ -76,7 +76,7 @@ string_world : (B : World) (d : ℕ) (a : Name) (w : Bytes) → more B (field_by
 unfolding every_tag
 string_world B d a w = ap₂ (λ (b : Bytes) (z : Bool). more B b true true z) (sym (L.leaf_alone 0x51 w)) (string_shallow d w)
 
-pub string_some : {s out out₁ out₂ : Bytes} {st w r : Reading} {i q e a' x : ℕ} (p : Run) → st.at ≤ 16 * i → StringRead q s i out st.at out₁ p → p ≡ R.Ends e a' → x ≡ st.depth + 2 → w ≡ at_more st a' true (leb x 48) → AttributeEnded out₁ w e r out₂ → StringTurn s st i q out r out₂
+pub string_some : {s out out₁ out₂ : Bytes} {st w r : Reading} {i q e a' x : ℕ} (p : Option Run) → st.at ≤ 16 * i → StringRead q s i out st.at out₁ p → p ≡ Some record { end = e; at = a' } → x ≡ st.depth + 2 → w ≡ at_more st a' true (leb x 48) → AttributeEnded out₁ w e r out₂ → StringTurn s st i q out r out₂
 unfolding StringRead
 string_some {s} {out} {out₁} {out₂} {st} {w} {r} {i} {q} {e} {a'} {x} p grown t eq xs ws ended a n ps K nm fifty o h stands =
     let u : StringEnds q s i e out st.at out₁ a' = subst (StringRead q s i out st.at out₁) eq t in
@@ -99,7 +99,7 @@ string_some {s} {out} {out₁} {out₂} {st} {w} {r} {i} {q} {e} {a'} {x} p grow
     })
     nm fifty ended' u.after
 
-pub string_small : {e a : ℕ} (s out out₁ : Bytes) (i q at : ℕ) (p : Run) → StringRead q s i out at out₁ p → p ≡ R.Ends e a → a ≤ at + 3 + length s
+pub string_small : {e a : ℕ} (s out out₁ : Bytes) (i q at : ℕ) (p : Option Run) → StringRead q s i out at out₁ p → p ≡ Some record { end = e; at = a } → a ≤ at + 3 + length s
 unfolding StringRead
 string_small {e} {a} s out out₁ i q at p t eq =
     let u : StringEnds q s i e out at out₁ a = subst (StringRead q s i out at out₁) eq t in
@@ -107,7 +107,7 @@ string_small {e} {a} s out out₁ i q at p t eq =
 
 -- ---- behind `=`
 
-pub value_out : {s out out' : Bytes} {st r : Reading} {i j : ℕ} → Ran space s i j → length s ≤ j → r.mode ≡ 4 → ValueTurn s st i out r out'
+pub value_out : {s out out' : Bytes} {st r : Reading} {i j : ℕ} → Ran space s i j → length s ≤ j → r.mode ≡ M.Refused → ValueTurn s st i out r out'
 unfolding at_end
 value_out {s} {i = i} {j} ran hi m a n ps K nm fifty o h stands = refuses stands (skip_equals a n ps K (spaces ran) ∙ out_of (equals a n ps K) s j hi refl) m
 
@@ -133,7 +133,7 @@ value_tag {s} {i = i} {j} ran lo sign rs a n ps K nm fifty o h stands =
     to_inner {f = value_of a n ps}
     (move stands (skip_equals a n ps K (spaces ran) ∙ steps (equals a n ps K) (opened (value_of a n ps ∷ K)) s j lo (ap (step (equals a n ps K)) sign)) (omega (arith, ran.after)) (omega arith)) refl nm fifty (omega (arith, ran.after)) rs
 
-pub value_barred : {s out out' : Bytes} {st r : Reading} {i j : ℕ} {b : Bool} → Ran space s i j → j < length s → b ≡ quote (get_or s j 0) → b ≡ false → (get_or s j 0 ≡ 123 → ⊥) → (get_or s j 0 ≡ 60 → ⊥) → r.mode ≡ 4 → ValueTurn s st i out r out'
+pub value_barred : {s out out' : Bytes} {st r : Reading} {i j : ℕ} {b : Bool} → Ran space s i j → j < length s → b ≡ quote (get_or s j 0) → b ≡ false → (get_or s j 0 ≡ 123 → ⊥) → (get_or s j 0 ≡ 60 → ⊥) → r.mode ≡ M.Refused → ValueTurn s st i out r out'
 unfolding step choose
 value_barred {s} {i = i} {j} {b} ran lo is b_is p q m a n ps K nm fifty o h stands =
     let no_quote : quote (get_or s j 0) ≡ false = sym is ∙ b_is in
@@ -141,7 +141,7 @@ value_barred {s} {i = i} {j} {b} ran lo is b_is p q m a n ps K nm fifty o h stan
 
 -- ---- behind the name
 
-pub named_out : {s out out' : Bytes} {st r : Reading} {e : ℕ} → length s ≤ e → r.mode ≡ 4 → NoValueTurn s st e out r out'
+pub named_out : {s out out' : Bytes} {st r : Reading} {e : ℕ} → length s ≤ e → r.mode ≡ M.Refused → NoValueTurn s st e out r out'
 unfolding at_end
 named_out {s} {e = e} hi m a n ps K nm fifty o h i l stands = refuses stands (out_of (attribute_named a n ps K) s e hi refl) m
 
@@ -170,17 +170,17 @@ named_alone {s} {st = st} {e = e} lo sign ended a n ps K nm fifty o h i l stands
 
 -- ---- the name
 
-pub attribute_none : {s out out' : Bytes} {st r : Reading} {i : ℕ} (p : ScannedName) → Scanned s i p → p ≡ SN.Nothing → r.mode ≡ 4 → AttributeTurn s st i out r out'
+pub attribute_none : {s out out' : Bytes} {st r : Reading} {i : ℕ} (p : Option ScannedName) → Scanned s i p → p ≡ None → r.mode ≡ M.Refused → AttributeTurn s st i out r out'
 unfolding Scanned
 attribute_none {s} {i = i} p t e m n ps K nm o h stands =
-    let unread : Scanned s i SN.Nothing = subst (Scanned s i) e t in
+    let unread : Scanned s i None = subst (Scanned s i) e t in
     refuses stands (unread (for_attribute n ps K)) m
 
-pub found : {s : Bytes} {i tag e : ℕ} (p : ScannedName) → Scanned s i p → p ≡ SN.Found tag e → FoundName s i tag e
+pub found : {s : Bytes} {i tag e : ℕ} (p : Option ScannedName) → Scanned s i p → p ≡ Some record { tag = tag; end = e } → FoundName s i tag e
 unfolding Scanned
 found {s} {i} p t eq = subst (Scanned s i) eq t
 
-pub attribute_member : {s out out' : Bytes} {st r : Reading} {i tag e : ℕ} (p : ScannedName) → Scanned s i p → p ≡ SN.Found tag e → tag ≡ 0x41 → r.mode ≡ 4 → AttributeTurn s st i out r out'
+pub attribute_member : {s out out' : Bytes} {st r : Reading} {i tag e : ℕ} (p : Option ScannedName) → Scanned s i p → p ≡ Some record { tag = tag; end = e } → tag ≡ 0x41 → r.mode ≡ M.Refused → AttributeTurn s st i out r out'
 unfolding named_if fits choose
 attribute_member {s} {i = i} {tag} {e} p t eq is_member m n ps K nm o h stands =
     let f : FoundName s i tag e = found p t eq in
@@ -195,7 +195,7 @@ deep_enough t d = on (eqb t 0x40)
     on true = omega arith
     on false = omega arith
 
-pub attribute_found : {s out out₁ out₂ out₃ : Bytes} {st w v r : Reading} {i tag e a b d y : ℕ} (p : ScannedName) → st.at ≤ 16 * i → Scanned s i p → p ≡ SN.Found tag e → (tag ≡ 0x41 → ⊥) → Wrote out st.at (head 0x50 0) out₁ a → NamePut s i tag e out₁ a out₂ b → y ≡ st.depth + 2 → d ≡ name_depth tag y → w ≡ at_more st b true (leb d 48) → v ≡ at_fifty w st.at → NoValueTurn s v e out₂ r out₃ → AttributeTurn s st i out r out₃
+pub attribute_found : {s out out₁ out₂ out₃ : Bytes} {st w v r : Reading} {i tag e a b d y : ℕ} (p : Option ScannedName) → st.at ≤ 16 * i → Scanned s i p → p ≡ Some record { tag = tag; end = e } → (tag ≡ 0x41 → ⊥) → Wrote out st.at (head 0x50 0) out₁ a → NamePut s i tag e out₁ a out₂ b → y ≡ st.depth + 2 → d ≡ name_depth tag y → w ≡ at_more st b true (leb d 48) → v ≡ at_fifty w st.at → NoValueTurn s v e out₂ r out₃ → AttributeTurn s st i out r out₃
 unfolding NamePut named_if fits named choose attribute_begun value_world tag_world
 attribute_found {s} {out} {out₁} {out₂} {out₃} {st} {w} {v} {r} {i} {tag} {e} {a} {b} {d} {y} p grown t eq no_member wr put_name ys ds ws vs turn n ps K nm o h stands =
     let f : FoundName s i tag e = found p t eq in
@@ -226,17 +226,17 @@ attribute_found {s} {out} {out₁} {out₂} {out₃} {st} {w} {v} {r} {i} {tag} 
       made = made_as m₁ refl refl (ap (λ (z : Bool). st.shallow && z) flag);
     })
 
-pub name_found : {tag e : ℕ} (s : Bytes) (i : ℕ) (p : ScannedName) → Scanned s i p → p ≡ SN.Found tag e → NameAt s i
+pub name_found : {tag e : ℕ} (s : Bytes) (i : ℕ) (p : Option ScannedName) → Scanned s i p → p ≡ Some record { tag = tag; end = e } → NameAt s i
 name_found {tag} {e} s i p t eq =
     let f : FoundName s i tag e = found p t eq in
     record { name = f.name; rest = drop e s; is = f.is }
 
-pub name_span : {tag e : ℕ} (s : Bytes) (i : ℕ) (p : ScannedName) → Scanned s i p → p ≡ SN.Found tag e → (i ≤ e) × (e ≤ length s)
+pub name_span : {tag e : ℕ} (s : Bytes) (i : ℕ) (p : Option ScannedName) → Scanned s i p → p ≡ Some record { tag = tag; end = e } → (i ≤ e) × (e ≤ length s)
 name_span {tag} {e} s i p t eq =
     let f : FoundName s i tag e = found p t eq in
     (omega (arith, f.after), f.inside)
 
-pub attribute_bounded : {out out₁ : Bytes} {st w v : Reading} {i tag e a b c : ℕ} (s out₂ : Bytes) (z : Bool) (p : ScannedName) → Bounded (length s) st i → Scanned s i p → p ≡ SN.Found tag e → Wrote out st.at (head c 0) out₁ a → NamePut s i tag e out₁ a out₂ b → w ≡ at_more st b true z → v ≡ at_fifty w st.at → Bounded (length s) v e
+pub attribute_bounded : {out out₁ : Bytes} {st w v : Reading} {i tag e a b c : ℕ} (s out₂ : Bytes) (z : Bool) (p : Option ScannedName) → Bounded (length s) st i → Scanned s i p → p ≡ Some record { tag = tag; end = e } → Wrote out st.at (head c 0) out₁ a → NamePut s i tag e out₁ a out₂ b → w ≡ at_more st b true z → v ≡ at_fifty w st.at → Bounded (length s) v e
 unfolding NamePut
 attribute_bounded {out} {out₁} {st} {w} {v} {i} {tag} {e} {a} {b} {c} s out₂ z p k t eq wr put_name ws vs =
     let f : FoundName s i tag e = found p t eq in
@@ -253,11 +253,11 @@ attribute_bounded {out} {out₁} {st} {w} {v} {i} {tag} {e} {a} {b} {c} s out₂
 
 -- ---- spreads
 
-pub spread_out : {s out out' : Bytes} {st r : Reading} {i j : ℕ} → Ran space s i j → length s ≤ j → r.mode ≡ 4 → SpreadTurn s st i out r out'
+pub spread_out : {s out out' : Bytes} {st r : Reading} {i j : ℕ} → Ran space s i j → length s ≤ j → r.mode ≡ M.Refused → SpreadTurn s st i out r out'
 unfolding at_end
 spread_out {s} {i = i} {j} ran hi m n ps K nm o h stands = refuses stands (skip_spread n ps K (spaces ran) ∙ out_of (spread_opened n ps K) s j hi refl) m
 
-pub spread_barred : {s out out' : Bytes} {st r : Reading} {i j : ℕ} → Ran space s i j → j < length s → (get_or s j 0 ≡ 46 → ⊥) → r.mode ≡ 4 → SpreadTurn s st i out r out'
+pub spread_barred : {s out out' : Bytes} {st r : Reading} {i j : ℕ} → Ran space s i j → j < length s → (get_or s j 0 ≡ 46 → ⊥) → r.mode ≡ M.Refused → SpreadTurn s st i out r out'
 unfolding step choose
 spread_barred {s} {i = i} {j} ran lo p m n ps K nm o h stands = refuses stands (skip_spread n ps K (spaces ran) ∙ stuck (spread_opened n ps K) s j lo (simp (not_space ran lo, ne_eqb (get_or s j 0) 46 p))) m
 

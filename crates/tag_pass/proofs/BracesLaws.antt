@@ -2,18 +2,19 @@
 -- Assumes nothing.
 use Prim.Native.Nat.{ℕ, zero, suc, ◌+◌, ◌-◌, ◌*◌, ◌≤◌, ◌<◌}
 use mathlib.Core.Path.{◌≡◌, refl, sym, ◌∙◌, ap, ap₂, subst}
-use mathlib.Core.Bool.{Bool, true, false, ◌&&◌, not, false≢true}
+use mathlib.Core.Bool.{Bool, true, false, ◌&&◌}
 use mathlib.Core.List.{[], ◌∷◌, ◌++◌}
 use native.Mathlib.Omega.{arith}
 use lib.Dec.{leb, eqb}
 use lib.ListN.{length, drop, take, get_or, length-append, length-take}
 use borrow.Author.Tests.{ne_eqb, leb-true}
+use Rattle.std.specs.Prelude.{Option, None, Some}
 use Rattle.field.specs.Bytes.{Bytes, pick}
 use Rattle.field.specs.Row.{end, field, bytes}
 use Rattle.field.specs.Put.{put, head, Wrote}
 use Rattle.field.proofs.PutLaws.{length_head}
 use Rattle.page.specs.Encode.{tag_row, expr_row}
-use Rattle.grammar.specs.Known.{Known, whole, minus_whole, decimal, minus_decimal, quoted, boolean, null, other, Found, none, some, known_of}
+use Rattle.grammar.specs.Known.{Known, whole, minus_whole, decimal, minus_decimal, quoted, boolean, null, other, known_of}
 use Rattle.grammar.specs.Syntax as S
 use Rattle.grammar.specs.Syntax.{Name, Attributes, Expr, same_name, every_tag, every_expr}
 use Rattle.grammar.specs.Reader.{Braces, child_braces, spread_child_braces, value_braces, spread_braces, in_braces, Stack, filled, filled_if, opened, in_source, one_point, two_points, braces_opened, refused, emptied, pointed, step, at_end, outcome}
@@ -24,15 +25,14 @@ use Rattle.tag_tree.specs.TagAnswer.{shallow, known_in_range}
 use Rattle.read_tag.specs.Progress.{begun, expr_bytes, child_bytes, attribute_bytes, attribute_begun, attr_name_bytes, braces_code}
 use Rattle.read_tag.specs.Flags.{depth_of}
 use Rattle.read_tag.proofs.FlagLaws.{and_assoc}
-use Rattle.read_tag.specs.Knowns.{Holds}
+use Rattle.read_tag.specs.Knowns.{Holding, Holds}
 use Rattle.read_tag.specs.declared.known.Held.{Held}
+use Rattle.tag_pass.specs.declared.state.Mode.TheVariants as M
 use Rattle.tag_pass.specs.Worlds.{World, more, any_known, any_names, tag_world, value_world, before_world, braces_at, braces_world, frame_world, world_of, Made}
 use Rattle.tag_pass.specs.States.{braces_kind, kind_of, braces_name, frame_name, PlainBraces, PlainFrame, BracesFifty, Fifty, Bounded, Stands, Next}
 use Rattle.tag_pass.specs.Turns.{at_mode, at_more, at_inner, kind_code, kind_depth, Patched, AttributeEnded, FilledTurn, KnownTurn, BracesTurn, PointTurn}
 use Rattle.read_tag.specs.Runs.{Ran}
 use Rattle.read_tag.specs.Sources.{Sourced}
-use Rattle.read_tag.specs.declared.source.Source.{Source}
-use Rattle.read_tag.specs.declared.source.Source.TheVariants as SV
 use Rattle.tag_pass.proofs.Machine.{spaces, steps, stuck, out_of}
 use Rattle.tag_pass.specs.declared.state.Reading.{Reading}
 use Rattle.tag_pass.proofs.WorldLaws.{child_more, attribute_more, attribute_ended, braces_ended}
@@ -84,26 +84,29 @@ shallow_known (boolean b) = refl
 shallow_known null = refl
 shallow_known (other w) = refl
 
-pub held_deep : (f : Found Known) (o : Bytes) (a : ℕ) (o' : Bytes) (q : Held) → Holds f o a o' q → not q.read ≡ false → q.deep ≤ 48
+held_known : (f : Option Known) (o : Bytes) (a : ℕ) (o' : Bytes) (u : Option Held) {q : Held} → Holds f o a o' u → u ≡ Some q → (k : Known) × (f ≡ Some k) × Holding k o a o' q
 unfolding Holds
-held_deep none o a o' q held e = absurd (false≢true (sym (ap not (sym held.0) ∙ e)))
-held_deep (some k) o a o' q held e =
-    let l = leb-true (0 + q.deep) 48 (sym (held.depth 0) ∙ shallow_known k) in
+held_known f o a o' u {q} held e = on f (subst (Holds f o a o') e held)
+  where
+    on : (f : Option Known) → Holds f o a o' (Some q) → (k : Known) × (f ≡ Some k) × Holding k o a o' q
+    on None h = absurd h
+    on (Some k) h = (k, refl, h)
+
+pub held_deep : (f : Option Known) (o : Bytes) (a : ℕ) (o' : Bytes) (u : Option Held) {q : Held} → Holds f o a o' u → u ≡ Some q → q.deep ≤ 48
+held_deep f o a o' u {q} held e =
+    let h = held_known f o a o' u held e in
+    let l = leb-true (0 + q.deep) 48 (sym (h.2.depth 0) ∙ shallow_known h.0) in
     omega arith
 
-held_found : (f : Found Known) (w o : Bytes) (a : ℕ) (o' : Bytes) (q : Held) → known_of w ≡ f → Holds f o a o' q → not q.read ≡ false → q.at ≤ a + 12 + length w
-unfolding Holds
-held_found none w o a o' q eq held e = absurd (false≢true (sym (ap not (sym held.0) ∙ e)))
-held_found (some k) w o a o' q eq held e = omega (arith, held.place, known_size w k eq)
+pub held_small : (s : Bytes) (j e : ℕ) (o : Bytes) (a : ℕ) (o' : Bytes) (u : Option Held) {q : Held} → Holds (known_of (take (e - j) (drop j s))) o a o' u → u ≡ Some q → q.at ≤ a + 12 + (e - j)
+held_small s j e o a o' u held is =
+    let h = held_known (known_of (take (e - j) (drop j s))) o a o' u held is in
+    omega (arith, h.2.place, known_size (take (e - j) (drop j s)) h.0 h.1, length-take (e - j) (drop j s))
 
-pub held_small : (s : Bytes) (j e : ℕ) (o : Bytes) (a : ℕ) (o' : Bytes) (q : Held) → Holds (known_of (take (e - j) (drop j s))) o a o' q → not q.read ≡ false → q.at ≤ a + 12 + (e - j)
-held_small s j e o a o' q held r =
-    omega (arith, held_found (known_of (take (e - j) (drop j s))) (take (e - j) (drop j s)) o a o' q refl held r, length-take (e - j) (drop j s))
-
-pub source_bounds : {e : ℕ} (s : Bytes) (j : ℕ) (q : Source) → Sourced s j q → q ≡ SV.Ends e → (j ≤ e) × (e < length s)
+pub source_bounds : {e : ℕ} (s : Bytes) (j : ℕ) (q : Option ℕ) → Sourced s j q → q ≡ Some e → (j ≤ e) × (e < length s)
 unfolding Sourced
 source_bounds {e} s j q src eq =
-    let ends : Sourced s j (SV.Ends e) = subst (Sourced s j) eq src in (
+    let ends : Sourced s j (Some e) = subst (Sourced s j) eq src in (
       ends.0,
       ends.1,
     )
@@ -148,7 +151,7 @@ filled_value p c five a s o e (spread_child_braces n ps ks) K h j l q len plain 
 filled_value p c five a s o e (spread_braces n ps) K h j l q len plain fifty g = absurd (omega arith)
 
 -- a spread in a tag
-pub filled_spread : {out out₁ : Bytes} {st r : Reading} {k b i t : ℕ} → Patched out b t st.at out₁ → t ≡ kind_code k → k ≡ 3 → r ≡ at_mode st 0 i → FilledTurn st k b i out r out₁
+pub filled_spread : {out out₁ : Bytes} {st r : Reading} {k b i t : ℕ} → Patched out b t st.at out₁ → t ≡ kind_code k → k ≡ 3 → r ≡ at_mode st M.InTag i → FilledTurn st k b i out r out₁
 unfolding braces_kind braces_code filled PlainBraces BracesFifty braces_name before_world braces_at every_tag page_tag tag_row attribute_bytes
 filled_spread {out} {out₁} {st} {r} {k} {b} {i} {t} p c three a s o e (spread_braces n ps) K h j l q len plain fifty g =
     let W : World = world_of K in
@@ -160,7 +163,7 @@ filled_spread p c three a s o e (spread_child_braces n ps ks) K h j l q len plai
 filled_spread p c three a s o e (value_braces x n ps) K h j l q len plain fifty g = absurd (omega arith)
 
 -- a child
-pub filled_child : {out out₁ : Bytes} {st r : Reading} {k b i t : ℕ} → Patched out b t st.at out₁ → t ≡ kind_code k → (k ≡ 5 → ⊥) → (k ≡ 3 → ⊥) → r ≡ at_mode st 1 i → FilledTurn st k b i out r out₁
+pub filled_child : {out out₁ : Bytes} {st r : Reading} {k b i t : ℕ} → Patched out b t st.at out₁ → t ≡ kind_code k → (k ≡ 5 → ⊥) → (k ≡ 3 → ⊥) → r ≡ at_mode st M.InChildren i → FilledTurn st k b i out r out₁
 unfolding braces_kind braces_code filled PlainBraces BracesFifty braces_name before_world braces_at every_tag page_tag tag_row child_bytes
 filled_child {out} {out₁} {st} {r} {k} {b} {i} {t} p c five three a s o e (child_braces n ps ks) K h j l q len plain fifty g =
     let W : World = world_of K in
@@ -181,13 +184,13 @@ braces_made W D g w x y z m = m
 
 -- ---- what they hold is no tag
 
-pub known_none : {s out out' : Bytes} {st r : Reading} {k j : ℕ} (e : ℕ) (q : Held) (o₁ o₂ : Bytes) (a : ℕ) → Holds (known_of (take (e - j) (drop j s))) o₁ a o₂ q → not q.read ≡ true → r.mode ≡ 4 → KnownTurn s st k j e out r out'
+pub known_none : {s out out' : Bytes} {st r : Reading} {k j : ℕ} (e : ℕ) (u : Option Held) (o₁ o₂ : Bytes) (a : ℕ) → Holds (known_of (take (e - j) (drop j s))) o₁ a o₂ u → u ≡ None → r.mode ≡ M.Refused → KnownTurn s st k j e out r out'
 unfolding Holds filled_if
-known_none {s} {out} {out'} {st} {r} {k} {j} e q o₁ o₂ a held unread m g K kind plain fifty o h = on (known_of (take (e - j) (drop j s))) held
+known_none {s} {out} {out'} {st} {r} {k} {j} e u o₁ o₂ a held unread m g K kind plain fifty o h = on (known_of (take (e - j) (drop j s))) (subst (Holds (known_of (take (e - j) (drop j s))) o₁ a o₂) unread held)
   where
-    on : (f : Found Known) → Holds f o₁ a o₂ q → Stands s o (filled_if f g K) (before_world (world_of K) (depth_of K) g) (braces_name g) K h st (e + 1) out → Next s o K h j r out'
-    on none held stands = refuses stands (refused_never (drop (e + 1) s)) m
-    on (some x) held stands = absurd (false≢true (ap not (sym held.is_read) ∙ unread))
+    on : (f : Option Known) → Holds f o₁ a o₂ None → Stands s o (filled_if f g K) (before_world (world_of K) (depth_of K) g) (braces_name g) K h st (e + 1) out → Next s o K h j r out'
+    on None held stands = refuses stands (refused_never (drop (e + 1) s)) m
+    on (Some x) held stands = absurd held
 
 -- the number of the world, and the depth, as the pass counts them
 known_flags : (a y : Bool) → a && y ≡ (a && true) && y
@@ -197,19 +200,19 @@ known_flags false y = refl
 known_depths : (a b c : Bool) → b && c ≡ c → a && c ≡ (a && b) && c
 known_depths a b c e = ap (λ (z : Bool). a && z) (sym e) ∙ sym (and_assoc a b c)
 
-pub known_bound : {out out₁ : Bytes} {st w : Reading} {j e a t : ℕ} (s out₂ : Bytes) (x : Bool) (q : Held) → Bounded (length s) st j → j ≤ e → e < length s → Wrote out st.at (head t 0) out₁ a → Holds (known_of (take (e - j) (drop j s))) out₁ a out₂ q → not q.read ≡ false → w ≡ at_more st q.at q.fits x → w.at < 4611686018427387904
-known_bound {out} {out₁} {st} {w} {j} {e} {a} {t} s out₂ x q k lo hi wr held was_read ws =
+pub known_bound : {out out₁ : Bytes} {st w : Reading} {j e a t : ℕ} (s out₂ : Bytes) (x : Bool) (u : Option Held) {q : Held} → Bounded (length s) st j → j ≤ e → e < length s → Wrote out st.at (head t 0) out₁ a → Holds (known_of (take (e - j) (drop j s))) out₁ a out₂ u → u ≡ Some q → w ≡ at_more st q.at q.fits x → w.at < 4611686018427387904
+known_bound {out} {out₁} {st} {w} {j} {e} {a} {t} s out₂ x u {q} k lo hi wr held was_read ws =
     let at : w.at ≡ q.at = ap (λ (z : Reading). z.at) ws in
-    omega (arith, k.small, k.grown, wr.end_is, length_head t 0, held_small s j e out₁ a out₂ q held was_read)
+    omega (arith, k.small, k.grown, wr.end_is, length_head t 0, held_small s j e out₁ a out₂ u held was_read)
 
-pub known_some : {s out out₁ out₂ out₃ : Bytes} {st w r : Reading} {k j e a t d x : ℕ} (q : Held) → j ≤ e → e < length s → st.at ≤ 16 * j → Wrote out st.at (head t 0) out₁ a → t ≡ kind_code k → Holds (known_of (take (e - j) (drop j s))) out₁ a out₂ q → not q.read ≡ false → d ≡ kind_depth k → x ≡ st.depth + d + 1 + q.deep → w ≡ at_more st q.at q.fits (leb x 48) → FilledTurn w k st.at (e + 1) out₂ r out₃ → KnownTurn s st k j e out r out₃
+pub known_some : {s out out₁ out₂ out₃ : Bytes} {st w r : Reading} {k j e a t d x : ℕ} (u : Option Held) {q : Held} → j ≤ e → e < length s → st.at ≤ 16 * j → Wrote out st.at (head t 0) out₁ a → t ≡ kind_code k → Holds (known_of (take (e - j) (drop j s))) out₁ a out₂ u → u ≡ Some q → d ≡ kind_depth k → x ≡ st.depth + d + 1 + q.deep → w ≡ at_more st q.at q.fits (leb x 48) → FilledTurn w k st.at (e + 1) out₂ r out₃ → KnownTurn s st k j e out r out₃
 unfolding Holds filled_if every_tag
-known_some {s} {out} {out₁} {out₂} {out₃} {st} {w} {r} {k} {j} {e} {a} {t} {d} {x} q lo hi grown wr code held was_read dep xs ws f g K kind plain fifty o h =
-    on (known_of (take (e - j) (drop j s))) refl held
+known_some {s} {out} {out₁} {out₂} {out₃} {st} {w} {r} {k} {j} {e} {a} {t} {d} {x} u {q} lo hi grown wr code held was_read dep xs ws f g K kind plain fifty o h =
+    on (known_of (take (e - j) (drop j s))) refl (subst (Holds (known_of (take (e - j) (drop j s))) out₁ a out₂) was_read held)
   where
-    on : (y : Found Known) → known_of (take (e - j) (drop j s)) ≡ y → Holds y out₁ a out₂ q → Stands s o (filled_if y g K) (before_world (world_of K) (depth_of K) g) (braces_name g) K h st (e + 1) out → Next s o K h j r out₃
-    on none eq held stands = absurd (false≢true (sym (ap not (sym held.0) ∙ was_read)))
-    on (some y) eq held stands =
+    on : (y : Option Known) → known_of (take (e - j) (drop j s)) ≡ y → Holds y out₁ a out₂ (Some q) → Stands s o (filled_if y g K) (before_world (world_of K) (depth_of K) g) (braces_name g) K h st (e + 1) out → Next s o K h j r out₃
+    on None eq held stands = absurd held
+    on (Some y) eq held stands =
         let W : World = world_of K in
         let B : World = before_world W (depth_of K) g in
         let E : ℕ = braces_at g (depth_of K) in
@@ -250,7 +253,7 @@ braces_tag {s} {out} {out₁} {st} {w} {r} {k} {j} {a} {t} {d} {x} lo sign grown
 
 -- ---- signs that they do not begin with
 
-pub bracket_barred : {s out out' : Bytes} {st r : Reading} {k j : ℕ} → j < length s → get_or s j 0 ≡ 91 → r.mode ≡ 4 → BracesTurn s st k j out r out'
+pub bracket_barred : {s out out' : Bytes} {st r : Reading} {k j : ℕ} → j < length s → get_or s j 0 ≡ 91 → r.mode ≡ M.Refused → BracesTurn s st k j out r out'
 unfolding step choose space source_start
 bracket_barred {s} {out} {out'} {st} {r} {k} {j} lo sign m g K kind plain fifty o h stands = refuses stands (stuck (braces_opened g K) s j lo (ap (step (braces_opened g K)) sign)) m
 
@@ -264,26 +267,26 @@ takes_over s j g K lo a b d e f =
     steps (braces_opened g K) (step (in_source zero [] g K) (get_or s j 0)) s j lo (source_takes (get_or s j 0) g K a b d e f) ∙
     sym (steps (in_source zero [] g K) (step (in_source zero [] g K) (get_or s j 0)) s j lo refl)
 
-pub source_none : {s out out' : Bytes} {st r : Reading} {k j : ℕ} → j < length s → space (get_or s j 0) ≡ false → (get_or s j 0 ≡ 60 → ⊥) → (get_or s j 0 ≡ 125 → ⊥) → (get_or s j 0 ≡ 46 → ⊥) → (get_or s j 0 ≡ 91 → ⊥) → (q : Source) → Sourced s j q → q ≡ SV.Nothing → r.mode ≡ 4 → BracesTurn s st k j out r out'
+pub source_none : {s out out' : Bytes} {st r : Reading} {k j : ℕ} → j < length s → space (get_or s j 0) ≡ false → (get_or s j 0 ≡ 60 → ⊥) → (get_or s j 0 ≡ 125 → ⊥) → (get_or s j 0 ≡ 46 → ⊥) → (get_or s j 0 ≡ 91 → ⊥) → (q : Option ℕ) → Sourced s j q → q ≡ None → r.mode ≡ M.Refused → BracesTurn s st k j out r out'
 unfolding Sourced
 source_none {s} {out} {out'} {st} {r} {k} {j} lo a b d e f q src eq m g K kind plain fifty o h stands =
-    let unread : Sourced s j SV.Nothing = subst (Sourced s j) eq src in
+    let unread : Sourced s j None = subst (Sourced s j) eq src in
     refuses stands (takes_over s j g K lo a b d e f ∙ unread g K) m
 
-pub source_some : {s out out' : Bytes} {st r : Reading} {k j e : ℕ} → j < length s → space (get_or s j 0) ≡ false → (get_or s j 0 ≡ 60 → ⊥) → (get_or s j 0 ≡ 125 → ⊥) → (get_or s j 0 ≡ 46 → ⊥) → (get_or s j 0 ≡ 91 → ⊥) → (q : Source) → Sourced s j q → q ≡ SV.Ends e → KnownTurn s st k j e out r out' → BracesTurn s st k j out r out'
+pub source_some : {s out out' : Bytes} {st r : Reading} {k j e : ℕ} → j < length s → space (get_or s j 0) ≡ false → (get_or s j 0 ≡ 60 → ⊥) → (get_or s j 0 ≡ 125 → ⊥) → (get_or s j 0 ≡ 46 → ⊥) → (get_or s j 0 ≡ 91 → ⊥) → (q : Option ℕ) → Sourced s j q → q ≡ Some e → KnownTurn s st k j e out r out' → BracesTurn s st k j out r out'
 unfolding Sourced
 source_some {s} {out} {out'} {st} {r} {k} {j} {e} lo a b d p f q src eq turn g K kind plain fifty o h stands =
-    let ends : Sourced s j (SV.Ends e) = subst (Sourced s j) eq src in
+    let ends : Sourced s j (Some e) = subst (Sourced s j) eq src in
     turn g K kind plain fifty o h (move stands (takes_over s j g K lo a b d p f ∙ ends.2 g K) (omega (arith, ends.0)) (omega (arith, ends.1)))
 
 -- ---- white space first
 
-pub braces_out : {s out out' : Bytes} {st r : Reading} {k i j : ℕ} → Ran space s i j → length s ≤ j → r.mode ≡ 4 → BracesTurn s st k i out r out'
+pub braces_out : {s out out' : Bytes} {st r : Reading} {k i j : ℕ} → Ran space s i j → length s ≤ j → r.mode ≡ M.Refused → BracesTurn s st k i out r out'
 unfolding at_end
 braces_out {s} {out} {out'} {st} {r} {k} {i} {j} ran hi m g K kind plain fifty o h stands = refuses stands (skip_braces g K (spaces ran) ∙ out_of (braces_opened g K) s j hi refl) m
 
 -- braces that are not a child's are not empty, and begin with no point
-pub braces_empty : {s out out' : Bytes} {st r : Reading} {k i j : ℕ} → 1 < k → Ran space s i j → j < length s → get_or s j 0 ≡ 125 → r.mode ≡ 4 → BracesTurn s st k i out r out'
+pub braces_empty : {s out out' : Bytes} {st r : Reading} {k i j : ℕ} → 1 < k → Ran space s i j → j < length s → get_or s j 0 ≡ 125 → r.mode ≡ M.Refused → BracesTurn s st k i out r out'
 unfolding step choose space braces_kind emptied
 braces_empty {s} {out} {out'} {st} {r} {k} {i} {j} two ran lo sign m g K kind plain fifty o h stands =
     refuses stands (skip_braces g K (spaces ran) ∙ stuck (braces_opened g K) s j lo (ap (step (braces_opened g K)) sign ∙ on g kind)) m
@@ -294,7 +297,7 @@ braces_empty {s} {out} {out'} {st} {r} {k} {i} {j} two ran lo sign m g K kind pl
     on (value_braces a n ps) e = refl
     on (spread_braces n ps) e = refl
 
-pub braces_pointed : {s out out' : Bytes} {st r : Reading} {k i j : ℕ} → 1 < k → Ran space s i j → j < length s → get_or s j 0 ≡ 46 → r.mode ≡ 4 → BracesTurn s st k i out r out'
+pub braces_pointed : {s out out' : Bytes} {st r : Reading} {k i j : ℕ} → 1 < k → Ran space s i j → j < length s → get_or s j 0 ≡ 46 → r.mode ≡ M.Refused → BracesTurn s st k i out r out'
 unfolding step choose space braces_kind pointed
 braces_pointed {s} {out} {out'} {st} {r} {k} {i} {j} two ran lo sign m g K kind plain fifty o h stands =
     refuses stands (skip_braces g K (spaces ran) ∙ stuck (braces_opened g K) s j lo (ap (step (braces_opened g K)) sign ∙ on g kind)) m
@@ -310,11 +313,11 @@ braces_behind ran turn g K kind plain fifty o h stands = later ran.after (turn g
 
 -- ---- points
 
-pub points_out : {s out out' : Bytes} {st r : Reading} {k i : ℕ} → length s ≤ i → r.mode ≡ 4 → PointTurn s st k i out r out'
+pub points_out : {s out out' : Bytes} {st r : Reading} {k i : ℕ} → length s ≤ i → r.mode ≡ M.Refused → PointTurn s st k i out r out'
 unfolding at_end
 points_out {s} {i = i} hi m g K kind plain fifty o h stands = refuses stands (out_of (one_point g K) s i hi refl) m
 
-pub points_other : {s out out' : Bytes} {st r : Reading} {k i : ℕ} → i < length s → (get_or s i 0 ≡ 46 → ⊥) → r.mode ≡ 4 → PointTurn s st k i out r out'
+pub points_other : {s out out' : Bytes} {st r : Reading} {k i : ℕ} → i < length s → (get_or s i 0 ≡ 46 → ⊥) → r.mode ≡ M.Refused → PointTurn s st k i out r out'
 unfolding step choose
 points_other {s} {i = i} lo unlike m g K kind plain fifty o h stands = refuses stands (stuck (one_point g K) s i lo (rw (ne_eqb (get_or s i 0) 46 unlike))) m
 
@@ -322,11 +325,11 @@ two : (s : Bytes) (i : ℕ) (g : Braces) (K : Stack) → i < length s → get_or
 unfolding step choose
 two s i g K lo p = steps (one_point g K) (two_points g K) s i lo (ap (step (one_point g K)) p)
 
-pub points_one : {s out out' : Bytes} {st r : Reading} {k i : ℕ} → i < length s → get_or s i 0 ≡ 46 → length s ≤ i + 1 → r.mode ≡ 4 → PointTurn s st k i out r out'
+pub points_one : {s out out' : Bytes} {st r : Reading} {k i : ℕ} → i < length s → get_or s i 0 ≡ 46 → length s ≤ i + 1 → r.mode ≡ M.Refused → PointTurn s st k i out r out'
 unfolding at_end
 points_one {s} {i = i} lo p hi m g K kind plain fifty o h stands = refuses stands (two s i g K lo p ∙ out_of (two_points g K) s (i + 1) hi refl) m
 
-pub points_two : {s out out' : Bytes} {st r : Reading} {k i : ℕ} → i < length s → get_or s i 0 ≡ 46 → i + 1 < length s → (get_or s (i + 1) 0 ≡ 46 → ⊥) → r.mode ≡ 4 → PointTurn s st k i out r out'
+pub points_two : {s out out' : Bytes} {st r : Reading} {k i : ℕ} → i < length s → get_or s i 0 ≡ 46 → i + 1 < length s → (get_or s (i + 1) 0 ≡ 46 → ⊥) → r.mode ≡ M.Refused → PointTurn s st k i out r out'
 unfolding step choose
 points_two {s} {i = i} lo p hi unlike m g K kind plain fifty o h stands = refuses stands (two s i g K lo p ∙ stuck (two_points g K) s (i + 1) hi (rw (ne_eqb (get_or s (i + 1) 0) 46 unlike))) m
 

@@ -7,6 +7,7 @@ use native.Mathlib.Omega.{arith}
 use borrow.Author.Tests.{ne_eqb}
 use lib.Dec.{leb}
 use lib.ListN.{length, get_or}
+use Rattle.std.specs.Prelude.{Option, Some, None}
 use Rattle.field.specs.Bytes.{Bytes}
 use Rattle.field.specs.Number.{big_endian}
 use Rattle.field.specs.Row.{field_bytes}
@@ -26,9 +27,9 @@ use Rattle.read_tag.specs.Flags.{depth_of}
 use Rattle.read_tag.specs.Runs.{Ran}
 use Rattle.read_tag.specs.Texts.{TextRead, TextEnds}
 use Rattle.read_tag.specs.declared.texts.Run.{Run}
-use Rattle.read_tag.specs.declared.texts.Run.TheVariants as R
 use Rattle.read_tag.proofs.FlagLaws.{and_true}
 use Rattle.read_tag.proofs.ProgressLaws as L
+use Rattle.tag_pass.specs.declared.state.Mode.TheVariants as M
 use Rattle.tag_pass.specs.Worlds.{World, more, children_world, before_world, frame_world, world_of, Made}
 use Rattle.tag_pass.specs.States.{braces_kind, kind_of, braces_name, frame_name, PlainBraces, PlainFrame, BracesFifty, Fifty}
 use Rattle.tag_pass.specs.Turns.{at_mode, at_more, at_inner, BracesTurn, PointTurn, ChildBracesTurn, ChildrenTurn}
@@ -39,7 +40,7 @@ use Rattle.tag_pass.proofs.Standing.{made_as, made_wrote, made_is, move, refuses
 
 -- ---- braces
 
-pub child_out : {s out out' : Bytes} {st r : Reading} {i j : ℕ} → Ran space s i j → length s ≤ j → r.mode ≡ 4 → ChildBracesTurn s st i out r out'
+pub child_out : {s out out' : Bytes} {st r : Reading} {i j : ℕ} → Ran space s i j → length s ≤ j → r.mode ≡ M.Refused → ChildBracesTurn s st i out r out'
 unfolding at_end
 child_out {s} {i = i} {j} ran hi m n ps ks K plain o h stands = refuses stands (skip_braces (child_braces n ps ks) K (spaces ran) ∙ out_of (braces_opened (child_braces n ps ks) K) s j hi refl) m
 
@@ -56,7 +57,7 @@ unfolding every_tag
 empty_more W d n ps ks =
     ap₂ (λ (b : Bytes) (z : Bool). more (children_world W d n ps ks) b true true z) empty_bytes (empty_shallow d) ∙ child_more W d n ps ks S.empty_child
 
-pub child_empty : {s out out₁ : Bytes} {st w r : Reading} {i j a x : ℕ} → st.at ≤ 16 * i → Ran space s i j → j < length s → get_or s j 0 ≡ 125 → Wrote out st.at (head 0x52 0) out₁ a → x ≡ st.depth + 1 → w ≡ at_more st a true (leb x 48) → r ≡ at_mode w 1 (j + 1) → ChildBracesTurn s st i out r out₁
+pub child_empty : {s out out₁ : Bytes} {st w r : Reading} {i j a x : ℕ} → st.at ≤ 16 * i → Ran space s i j → j < length s → get_or s j 0 ≡ 125 → Wrote out st.at (head 0x52 0) out₁ a → x ≡ st.depth + 1 → w ≡ at_more st a true (leb x 48) → r ≡ at_mode w M.InChildren (j + 1) → ChildBracesTurn s st i out r out₁
 unfolding step choose space emptied
 child_empty {s} {out} {out₁} {st} {w} {r} {i} {j} {a} {x} grown ran lo sign wr xs ws rs n ps ks K plain o h stands =
     let d : ℕ = depth_of K in
@@ -74,7 +75,7 @@ child_empty {s} {out} {out₁} {st} {w} {r} {i} {j} {a} {x} grown ran lo sign wr
       height_is = stands.height_is;
       made = m₂;
     })
-    plain (omega (arith, ran.after)) (rs ∙ ap (λ (z : Reading). at_mode z 1 (j + 1)) ws)
+    plain (omega (arith, ran.after)) (rs ∙ ap (λ (z : Reading). at_mode z M.InChildren (j + 1)) ws)
 
 pub child_pointed : {s out out' : Bytes} {st r : Reading} {i j : ℕ} → Ran space s i j → j < length s → get_or s j 0 ≡ 46 → PointTurn s st 2 (j + 1) out r out' → ChildBracesTurn s st i out r out'
 unfolding step choose space pointed braces_kind PlainBraces BracesFifty before_world braces_name
@@ -91,10 +92,10 @@ child_filled ran turn n ps ks K plain o h stands =
 
 -- ---- text
 
-pub text_none : {s out out₁ : Bytes} {st r : Reading} {i : ℕ} (q : Run) → TextRead s i out st.at out₁ q → q ≡ R.Nothing → r.mode ≡ 4 → ChildrenTurn s st i out r out₁
+pub text_none : {s out out₁ : Bytes} {st r : Reading} {i : ℕ} (q : Option Run) → TextRead s i out st.at out₁ q → q ≡ None → r.mode ≡ M.Refused → ChildrenTurn s st i out r out₁
 unfolding TextRead
 text_none {s} {out} {out₁} {st} {r} {i} q t e m n ps ks K plain o h stands =
-    let unread : TextRead s i out st.at out₁ R.Nothing = subst (TextRead s i out st.at out₁) e t in
+    let unread : TextRead s i out st.at out₁ None = subst (TextRead s i out st.at out₁) e t in
     refuses stands (unread.1 n ps ks K) m
 
 text_shallow : (d : ℕ) (w : Bytes) → leb (suc d) 48 ≡ shallow (suc d) (children_row (page_child (S.text_child w) P.no_children))
@@ -106,7 +107,7 @@ unfolding every_tag
 text_more W d n ps ks w =
     ap₂ (λ (b : Bytes) (z : Bool). more (children_world W d n ps ks) b true true z) (sym (L.text_child_bytes w)) (text_shallow d w) ∙ child_more W d n ps ks (S.text_child w)
 
-pub text_some : {s out out₁ : Bytes} {st w r : Reading} {i e a x : ℕ} (q : Run) → st.at ≤ 16 * i → TextRead s i out st.at out₁ q → q ≡ R.Ends e a → x ≡ st.depth + 1 → w ≡ at_more st a true (leb x 48) → r ≡ at_mode w 1 e → ChildrenTurn s st i out r out₁
+pub text_some : {s out out₁ : Bytes} {st w r : Reading} {i e a x : ℕ} (q : Option Run) → st.at ≤ 16 * i → TextRead s i out st.at out₁ q → q ≡ Some record { end = e; at = a } → x ≡ st.depth + 1 → w ≡ at_more st a true (leb x 48) → r ≡ at_mode w M.InChildren e → ChildrenTurn s st i out r out₁
 unfolding TextRead
 text_some {s} {out} {out₁} {st} {w} {r} {i} {e} {a} {x} q grown t eq xs ws rs n ps ks K plain o h stands =
     let u : TextEnds s i e out st.at out₁ a = subst (TextRead s i out st.at out₁) eq t in
@@ -126,11 +127,11 @@ text_some {s} {out} {out₁} {st} {w} {r} {i} {e} {a} {x} q grown t eq xs ws rs 
       height_is = stands.height_is;
       made = m₂;
     })
-    plain u.after (rs ∙ ap (λ (z : Reading). at_mode z 1 e) ws)
+    plain u.after (rs ∙ ap (λ (z : Reading). at_mode z M.InChildren e) ws)
 
 -- ---- any child
 
-pub children_out : {s out out' : Bytes} {st r : Reading} {i : ℕ} → length s ≤ i → r.mode ≡ 4 → ChildrenTurn s st i out r out'
+pub children_out : {s out out' : Bytes} {st r : Reading} {i : ℕ} → length s ≤ i → r.mode ≡ M.Refused → ChildrenTurn s st i out r out'
 unfolding at_end
 children_out {s} {i = i} hi m n ps ks K plain o h stands = refuses stands (out_of (in_children n ps ks K) s i hi refl) m
 
@@ -156,7 +157,7 @@ pub brace_barred : step_barred 125
 unfolding step_barred step_children choose text_byte
 brace_barred n ps ks K = refl
 
-pub children_barred : {s out out' : Bytes} {st r : Reading} {i : ℕ} (c : ℕ) → i < length s → get_or s i 0 ≡ c → step_barred c → r.mode ≡ 4 → ChildrenTurn s st i out r out'
+pub children_barred : {s out out' : Bytes} {st r : Reading} {i : ℕ} (c : ℕ) → i < length s → get_or s i 0 ≡ c → step_barred c → r.mode ≡ M.Refused → ChildrenTurn s st i out r out'
 unfolding step step_barred
 children_barred {s} {i = i} c lo sign no_child m n ps ks K plain o h stands = refuses stands (stuck (in_children n ps ks K) s i lo (ap (step (in_children n ps ks K)) sign ∙ no_child n ps ks K)) m
 

@@ -2,11 +2,11 @@
 -- `behind_filled`. Assumes nothing.
 use Prim.Native.Nat.{ℕ, suc, ◌+◌, ◌-◌, ◌*◌, ◌%◌, ◌≤◌, ◌<◌}
 use mathlib.Core.Path.{◌≡◌, refl, sym, ◌∙◌, ap, subst}
-use mathlib.Core.Bool.{Bool, true, false}
+use mathlib.Core.Bool.{Bool, true, false, false≢true}
 use mathlib.Core.List.{List, [], ◌∷◌, ◌++◌, append-nil}
 use native.Mathlib.Omega.{arith}
-use borrow.Author.Tests.{ne_eqb, lt-ltb, ltb-true}
-use lib.Dec.{ltb, eqb}
+use borrow.Author.Tests.{ne_eqb}
+use lib.Dec.{eqb}
 use lib.ListN.{length, drop, get_or, length-append, drop_of_length-le}
 use Rattle.field.specs.Bytes.{Bytes, pick}
 use Rattle.field.specs.Row.{end}
@@ -25,8 +25,10 @@ use Rattle.read_tag.specs.Flags.{depth_of, braces_depth}
 use Rattle.read_tag.specs.Names.{NameAt}
 use Rattle.read_tag.specs.Runs.{Ran}
 use Rattle.read_tag.proofs.NameWalkLaws.{name_inside}
+use Rattle.tag_pass.specs.declared.state.Mode.{Mode}
+use Rattle.tag_pass.specs.declared.state.Mode.TheVariants as M
 use Rattle.tag_pass.specs.Worlds.{World, more, any_known, any_names, tag_world, children_world, value_world, before_world, braces_at, braces_world, frame_world, world_of, ended_world, nothing_made, Made}
-use Rattle.tag_pass.specs.States.{TagName, no_name, name_at, braces_kind, kind_of, frame_name, PlainFrame, BracesFifty, Fifty, Framed, Stacked, empty, frame, Bounded, Stands, OpensIn, Next, next_tag, next_children, next_inner, next_ended, next_refused, next_done, Going, Lent, Passed, passed_none, passed_tag, Settled}
+use Rattle.tag_pass.specs.States.{goes_on, TagName, no_name, name_at, braces_kind, kind_of, frame_name, PlainFrame, BracesFifty, Fifty, Framed, Stacked, empty, frame, Bounded, Stands, OpensIn, Next, next_tag, next_children, next_inner, next_ended, next_refused, next_done, Going, Lent, Passed, passed_none, passed_tag, Settled}
 use Rattle.tag_pass.specs.Turns.{at_mode, pushed, popped, kind_added, Stored, AttributeEnded, FilledTurn, TagTurn, ChildrenTurn, ClosingTurn, NamedTurn, FragmentTurn, InnerTurn, EndedTurn, BehindTurn, StepTurn, OuterTurn, fresh_reading, NamePlace, Front, Onward}
 use Rattle.tag_pass.specs.declared.state.Reading.{Reading}
 use Rattle.tag_pass.proofs.Machine.{spaces, not_space, steps, stuck, out_of}
@@ -54,10 +56,10 @@ longer w n ps = omega (arith, length-append w (head (tag_code n) 0 ++ (name_byte
 
 -- ---- behind the `<` of an inner tag
 
-going_refused : {s o : Bytes} {fs : List ℕ} {h i : ℕ} {K : Stack} {r : Reading} {out : Bytes} → Stacked s fs h K → h + 6 ≤ 2 * i → r.mode ≡ 4 → outcome start s ≡ no_reading → Going s o fs i r out
+going_refused : {s o : Bytes} {fs : List ℕ} {h i : ℕ} {K : Stack} {r : Reading} {out : Bytes} → Stacked s fs h K → h + 6 ≤ 2 * i → r.mode ≡ M.Refused → outcome start s ≡ no_reading → Going s o fs i r out
 going_refused {h = h} {K = K} st l m e = record { K = K; h = h; stacked = st; room = omega arith; inner_room = λ z. omega arith; next = next_refused m e }
 
-pub inner_out : {s out out' : Bytes} {fs : List ℕ} {st r : Reading} {i : ℕ} → Ran space s st.place i → length s ≤ i → r.mode ≡ 4 → InnerTurn s fs st out r fs out'
+pub inner_out : {s out out' : Bytes} {fs : List ℕ} {st r : Reading} {i : ℕ} → Ran space s st.place i → length s ≤ i → r.mode ≡ M.Refused → InnerTurn s fs st out r fs out'
 unfolding at_end
 inner_out {s} {i = i} ran hi m o f K h small stacked room kind plain fifty stands =
     going_refused stacked room m (stands.reads ∙ (skip_opened (f ∷ K) (spaces ran) ∙ out_of (opened (f ∷ K)) s i hi refl))
@@ -168,7 +170,7 @@ inner_fragment {s} {out} {out'} {fs} {fs'} {st} {w} {r} {i} ran lo sign put_in t
       next = turn' s (f ∷ K) o (h + 4) st.place (omega (arith, ran.after)) (omega (arith, ran.after, stands.grown)) (opens_in f (in_children [] no_attributes no_children (f ∷ K)) kind stands e (omega (arith, ran.after)) (omega arith));
     }
 
-pub inner_barred : {s out out' : Bytes} {fs : List ℕ} {st r : Reading} {i : ℕ} {b : Bool} → Ran space s st.place i → i < length s → b ≡ letter (get_or s i 0) → b ≡ false → (get_or s i 0 ≡ 62 → ⊥) → (get_or s i 0 ≡ 47 → ⊥) → r.mode ≡ 4 → InnerTurn s fs st out r fs out'
+pub inner_barred : {s out out' : Bytes} {fs : List ℕ} {st r : Reading} {i : ℕ} {b : Bool} → Ran space s st.place i → i < length s → b ≡ letter (get_or s i 0) → b ≡ false → (get_or s i 0 ≡ 62 → ⊥) → (get_or s i 0 ≡ 47 → ⊥) → r.mode ≡ M.Refused → InnerTurn s fs st out r fs out'
 unfolding step choose
 inner_barred {s} {i = i} ran lo is b_is p q m o f K h small stacked room kind plain fifty stands =
     let no_letter : letter (get_or s i 0) ≡ false = sym is ∙ b_is in
@@ -201,18 +203,18 @@ closes_nothing (within n ps ks) K l = absurd (l refl)
 closes_nothing (value_of a n ps) K l = refl
 closes_nothing (in_braces g) K l = refl
 
-pub inner_unclosed : {s out out' : Bytes} {fs : List ℕ} {st r : Reading} {i : ℕ} → Ran space s st.place i → i < length s → get_or s i 0 ≡ 47 → (st.kind ≡ 0 → ⊥) → r.mode ≡ 4 → InnerTurn s fs st out r fs out'
+pub inner_unclosed : {s out out' : Bytes} {fs : List ℕ} {st r : Reading} {i : ℕ} → Ran space s st.place i → i < length s → get_or s i 0 ≡ 47 → (st.kind ≡ 0 → ⊥) → r.mode ≡ M.Refused → InnerTurn s fs st out r fs out'
 inner_unclosed {s} {st = st} {i = i} ran lo sign other_kind m o f K h small stacked room kind plain fifty stands =
     going_refused stacked room m
     (stands.reads ∙ (slash s st.place i (f ∷ K) ran lo sign ∙ (ap (λ (x : State). outcome x (drop (i + 1) s)) (closes_nothing f K (λ z. other_kind (kind ∙ z))) ∙ refused_never (drop (i + 1) s))))
 
 -- ---- behind a tag in braces
 
-pub behind_out : {s out out' : Bytes} {st r : Reading} {p j : ℕ} → Ran space s st.place j → length s ≤ j → r.mode ≡ 4 → BehindTurn s st p out r out'
+pub behind_out : {s out out' : Bytes} {st r : Reading} {p j : ℕ} → Ran space s st.place j → length s ≤ j → r.mode ≡ M.Refused → BehindTurn s st p out r out'
 unfolding at_end
 behind_out {s} {j = j} ran hi m o t g K h i l kind len plain fifty stands = refuses stands (skip_behind_tag t g K (spaces ran) ∙ out_of (behind_tag t g K) s j hi refl) m
 
-pub behind_barred : {s out out' : Bytes} {st r : Reading} {p j : ℕ} → Ran space s st.place j → j < length s → (get_or s j 0 ≡ 125 → ⊥) → r.mode ≡ 4 → BehindTurn s st p out r out'
+pub behind_barred : {s out out' : Bytes} {st r : Reading} {p j : ℕ} → Ran space s st.place j → j < length s → (get_or s j 0 ≡ 125 → ⊥) → r.mode ≡ M.Refused → BehindTurn s st p out r out'
 unfolding step choose
 behind_barred {s} {j = j} ran lo q m o t g K h i l kind len plain fifty stands = refuses stands (skip_behind_tag t g K (spaces ran) ∙ stuck (behind_tag t g K) s j lo (simp (not_space ran lo, ne_eqb (get_or s j 0) 125 q))) m
 
@@ -240,13 +242,13 @@ behind_filled {s} {st = st} {p = p} {j} {q} ran lo sign qs turn o t g K h i l ki
 
 -- ---- a tag has ended
 
-pub ended_more : {s out out' : Bytes} {fs : List ℕ} {st r : Reading} → st.height ≡ 0 → st.place < length s → r.mode ≡ 4 → EndedTurn s fs st out r out'
+pub ended_more : {s out out' : Bytes} {fs : List ℕ} {st r : Reading} → st.height ≡ 0 → st.place < length s → r.mode ≡ M.Refused → EndedTurn s fs st out r out'
 unfolding closed step
 ended_more {s} {st = st} z lo m o n t K h i empty room l stands =
-    record { K = []; h = 0; stacked = empty; room = room; inner_room = λ y. absurd (omega arith); next = next_refused m (stands.reads ∙ stuck (done t) s st.place lo refl) }
+    record { K = []; h = 0; stacked = empty; room = room; inner_room = λ y. cc; next = next_refused m (stands.reads ∙ stuck (done t) s st.place lo refl) }
 ended_more z lo m o n t K h i (frame u below) room l stands = absurd (omega (arith, stands.height_is))
 
-pub ended_all : {s out : Bytes} {fs : List ℕ} {st r : Reading} → st.height ≡ 0 → length s ≤ st.place → r ≡ at_mode st 5 st.place → EndedTurn s fs st out r out
+pub ended_all : {s out : Bytes} {fs : List ℕ} {st r : Reading} → st.height ≡ 0 → length s ≤ st.place → r ≡ at_mode st M.Done st.place → EndedTurn s fs st out r out
 unfolding closed outcome at_end world_of depth_of
 ended_all {s} {out} {fs} {st} {r} z hi rs o n t K h i empty room l stands =
     record {
@@ -254,7 +256,7 @@ ended_all {s} {out} {fs} {st} {r} z hi rs o n t K h i empty room l stands =
       h = 0;
       stacked = empty;
       room = room;
-      inner_room = λ y. absurd (let e = ap (λ (x : Reading). x.mode) rs in omega arith);
+      inner_room = λ y. (let e = ap (λ (x : Reading). x.mode) rs in cc);
       next = subst (λ (x : Reading). Next s o [] 0 i x out) (sym rs) (next_done refl (stands.reads ∙ ap (outcome (done t)) (drop_of_length-le s hi)) stands.made);
     }
 ended_all z hi rs o n t K h i (frame u below) room l stands = absurd (omega (arith, stands.height_is))
@@ -285,11 +287,11 @@ popped_fifty {fs = fs} {K} {h} st f u e =
     let z : st.height - 4 ≡ h = omega arith in
     subst (λ (y : ℕ). Fifty (world_of K).bytes f (get_or fs (y + 3) 0)) (sym z) u.fifty_is
 
-goes_on : {s o : Bytes} {fs : List ℕ} {K : Stack} {h i : ℕ} {r : Reading} {out : Bytes} → Stacked s fs h K → h + 4 + 2 ≤ 2 * i → Next s o K h i r out → Going s o fs i r out
-goes_on {K = K} {h} st l n = record { K = K; h = h; stacked = st; room = omega arith; inner_room = λ z. omega arith; next = n }
+then_goes : {s o : Bytes} {fs : List ℕ} {K : Stack} {h i : ℕ} {r : Reading} {out : Bytes} → Stacked s fs h K → h + 4 + 2 ≤ 2 * i → Next s o K h i r out → Going s o fs i r out
+then_goes {K = K} {h} st l n = record { K = K; h = h; stacked = st; room = omega arith; inner_room = λ z. omega arith; next = n }
 
 -- the kind tells the frame
-within_next : {s o out : Bytes} {n : Name} {fs : List ℕ} {K : Stack} {h i : ℕ} {st r : Reading} (t : Tag) (f : Frame) → Framed s fs h f K → Stands s o (closed t (f ∷ K)) (ended_world (world_of (f ∷ K)) (depth_of (f ∷ K)) t) n (f ∷ K) (h + 4) st st.place out → kind_of f ≡ 0 → i < st.place → r ≡ at_mode (popped fs (st.height - 4) st) 1 st.place → Next s o K h i r out
+within_next : {s o out : Bytes} {n : Name} {fs : List ℕ} {K : Stack} {h i : ℕ} {st r : Reading} (t : Tag) (f : Frame) → Framed s fs h f K → Stands s o (closed t (f ∷ K)) (ended_world (world_of (f ∷ K)) (depth_of (f ∷ K)) t) n (f ∷ K) (h + 4) st st.place out → kind_of f ≡ 0 → i < st.place → r ≡ at_mode (popped fs (st.height - 4) st) M.InChildren st.place → Next s o K h i r out
 unfolding closed kind_of braces_kind PlainFrame ended_world world_of frame_world depth_of child_bytes bytes_of_tag every_tag page_tag tag_row frame_name
 within_next {K = K} t (within n ps ks) u g k l rs =
     let v = pops (within n ps ks) u g in
@@ -300,11 +302,11 @@ within_next t (in_braces (spread_child_braces n ps ks)) u g k l rs = absurd (ome
 within_next t (in_braces (value_braces a n ps)) u g k l rs = absurd (omega arith)
 within_next t (in_braces (spread_braces n ps)) u g k l rs = absurd (omega arith)
 
-pub ended_within : {s out : Bytes} {fs : List ℕ} {st w r : Reading} → (st.height ≡ 0 → ⊥) → w ≡ popped fs (st.height - 4) st → w.kind ≡ 0 → r ≡ at_mode w 1 w.place → EndedTurn s fs st out r out
+pub ended_within : {s out : Bytes} {fs : List ℕ} {st w r : Reading} → (st.height ≡ 0 → ⊥) → w ≡ popped fs (st.height - 4) st → w.kind ≡ 0 → r ≡ at_mode w M.InChildren w.place → EndedTurn s fs st out r out
 ended_within hz ws k rs o n t K h i empty room l stands = absurd (hz stands.height_is)
 ended_within {s} {out} {fs} {st} {w} {r} hz ws k rs o n t K h i (frame {h = h'} {f = f} {K = K'} u below) room l stands =
-    goes_on below room
-    (within_next t f u stands (sym (popped_kind st f u stands.height_is) ∙ (sym (ap (λ (y : Reading). y.kind) ws) ∙ k)) l (rs ∙ ap (λ (y : Reading). at_mode y 1 y.place) ws))
+    then_goes below room
+    (within_next t f u stands (sym (popped_kind st f u stands.height_is) ∙ (sym (ap (λ (y : Reading). y.kind) ws) ∙ k)) l (rs ∙ ap (λ (y : Reading). at_mode y M.InChildren y.place) ws))
 
 value_next : {s o out out' : Bytes} {n : Name} {fs : List ℕ} {K : Stack} {h i : ℕ} {st r : Reading} (t : Tag) (f : Frame) → Framed s fs h f K → Stands s o (closed t (f ∷ K)) (ended_world (world_of (f ∷ K)) (depth_of (f ∷ K)) t) n (f ∷ K) (h + 4) st st.place out → kind_of f ≡ 4 → i < st.place → AttributeEnded out (popped fs (st.height - 4) st) st.place r out' → Next s o K h i r out'
 unfolding closed kind_of braces_kind PlainFrame Fifty ended_world world_of frame_world depth_of bytes_of_tag every_tag page_tag tag_row frame_name
@@ -319,7 +321,7 @@ value_next t (in_braces (spread_braces n ps)) u g k l ended = absurd (omega arit
 pub ended_value : {s out out' : Bytes} {fs : List ℕ} {st w r : Reading} → (st.height ≡ 0 → ⊥) → w ≡ popped fs (st.height - 4) st → w.kind ≡ 4 → AttributeEnded out w w.place r out' → EndedTurn s fs st out r out'
 ended_value hz ws k ended o n t K h i empty room l stands = absurd (hz stands.height_is)
 ended_value {s} {out} {out'} {fs} {st} {w} {r} hz ws k ended o n t K h i (frame {h = h'} {f = f} {K = K'} u below) room l stands =
-    goes_on below room
+    then_goes below room
     (value_next t f u stands (sym (popped_kind st f u stands.height_is) ∙ (sym (ap (λ (y : Reading). y.kind) ws) ∙ k)) l (subst (λ (y : Reading). AttributeEnded out y y.place r out') ws ended))
 
 braces_next : {s o out out' : Bytes} {n : Name} {fs : List ℕ} {K : Stack} {h i : ℕ} {st r : Reading} (t : Tag) (f : Frame) → Framed s fs h f K → Stands s o (closed t (f ∷ K)) (ended_world (world_of (f ∷ K)) (depth_of (f ∷ K)) t) n (f ∷ K) (h + 4) st st.place out → (kind_of f ≡ 0 → ⊥) → (kind_of f ≡ 4 → ⊥) → i < st.place → BehindTurn s (popped fs (st.height - 4) st) st.head out r out' → Next s o K h i r out'
@@ -333,7 +335,7 @@ pub ended_braces : {s out out' : Bytes} {fs : List ℕ} {st w r : Reading} → (
 ended_braces hz ws k q turn o n t K h i empty room l stands = absurd (hz stands.height_is)
 ended_braces {s} {out} {out'} {fs} {st} {w} {r} hz ws k q turn o n t K h i (frame {h = h'} {f = f} {K = K'} u below) room l stands =
     let e : w.kind ≡ kind_of f = ap (λ (y : Reading). y.kind) ws ∙ popped_kind st f u stands.height_is in
-    goes_on below room (braces_next t f u stands (λ z. k (e ∙ z)) (λ z. q (e ∙ z)) l (subst (λ (y : Reading). BehindTurn s y st.head out r out') ws turn))
+    then_goes below room (braces_next t f u stands (λ z. k (e ∙ z)) (λ z. q (e ∙ z)) l (subst (λ (y : Reading). BehindTurn s y st.head out r out') ws turn))
 
 -- ---- any turn
 
@@ -345,67 +347,101 @@ pub record Somewhere (s o : Bytes) (K : Stack) (h i : ℕ) (r : Reading) (out : 
   pub after : i < r.place
   pub stands : Stands s o x W n K h r r.place out
 
-pub somewhere : {s o : Bytes} {K : Stack} {h i : ℕ} {r : Reading} {out : Bytes} → Next s o K h i r out → r.mode < 4 → Somewhere s o K h i r out
+unfoldable pub stands_at : Mode → Bool
+stands_at M.InTag = true
+stands_at M.InChildren = true
+stands_at M.Inner = true
+stands_at M.Ended = true
+stands_at M.Refused = false
+stands_at M.Done = false
+
+pub on_stands : (m : Mode) → goes_on m ≡ true → stands_at m ≡ true
+unfolding goes_on stands_at
+on_stands M.InTag e = refl
+on_stands M.InChildren e = refl
+on_stands M.Inner e = refl
+on_stands M.Ended e = cc
+on_stands M.Refused e = cc
+on_stands M.Done e = cc
+
+pub inner_left : (m : Mode) → goes_on m ≡ true → (m ≡ M.InTag → ⊥) → (m ≡ M.InChildren → ⊥) → m ≡ M.Inner
+unfolding goes_on
+inner_left M.InTag e x y = absurd (x refl)
+inner_left M.InChildren e x y = absurd (y refl)
+inner_left M.Inner e x y = refl
+inner_left M.Ended e x y = cc
+inner_left M.Refused e x y = cc
+inner_left M.Done e x y = cc
+
+-- a mode by its name
+stands_in : {m n : Mode} → m ≡ n → stands_at n ≡ true → stands_at m ≡ true
+stands_in e s = ap stands_at e ∙ s
+
+pub somewhere : {s o : Bytes} {K : Stack} {h i : ℕ} {r : Reading} {out : Bytes} → Next s o K h i r out → stands_at r.mode ≡ true → Somewhere s o K h i r out
+unfolding stands_at
 somewhere (next_tag {n} {ps} m l nm g) lt = record { x = _; W = _; n = _; after = l; stands = g }
 somewhere (next_children m l p g) lt = record { x = _; W = _; n = _; after = l; stands = g }
 somewhere (next_inner m l k p f g) lt = record { x = _; W = _; n = _; after = l; stands = g }
 somewhere (next_ended t m l g) lt = record { x = _; W = _; n = _; after = l; stands = g }
-somewhere (next_refused m e) lt = absurd (omega arith)
-somewhere (next_done m e g) lt = absurd (omega arith)
+somewhere (next_refused m e) lt = absurd (false≢true (ap stands_at (sym m) ∙ lt))
+somewhere (next_done m e g) lt = absurd (false≢true (ap stands_at (sym m) ∙ lt))
 
-pub going_bounded : {s o : Bytes} {fs : List ℕ} {i : ℕ} {r : Reading} {out : Bytes} → length s ≤ 32768 → Going s o fs i r out → r.mode < 4 → Bounded (length s) r r.place
+pub going_bounded : {s o : Bytes} {fs : List ℕ} {i : ℕ} {r : Reading} {out : Bytes} → length s ≤ 32768 → Going s o fs i r out → stands_at r.mode ≡ true → Bounded (length s) r r.place
 going_bounded small g lt =
     let w = somewhere g.next lt in
     record { small = small; inside = w.stands.inside; grown = w.stands.grown; deep = omega (arith, w.stands.depth_is, stacked_depth g.stacked, g.room, w.after, w.stands.inside) }
 
-pub step_in_tag : {s out out' : Bytes} {fs : List ℕ} {st r : Reading} → st.mode ≡ 0 → TagTurn s st st.place out r out' → (o : Bytes) (i : ℕ) → Going s o fs i st out → Going s o fs st.place r out'
+pub step_in_tag : {s out out' : Bytes} {fs : List ℕ} {st r : Reading} → st.mode ≡ M.InTag → TagTurn s st st.place out r out' → (o : Bytes) (i : ℕ) → Going s o fs i st out → Going s o fs st.place r out'
 step_in_tag {s} {out} {out'} {fs} {st} {r} m turn o i g = on g.next
   where
     on : Next s o g.K g.h i st out → Going s o fs st.place r out'
     on (next_tag {n} {ps} k l nm v) = record { K = g.K; h = g.h; stacked = g.stacked; room = omega (arith, g.room); inner_room = λ z. omega (arith, g.room); next = turn n ps g.K nm o g.h v }
-    on (next_children k l p v) = absurd (omega arith)
-    on (next_inner k l q p f v) = absurd (omega arith)
-    on (next_ended t k l v) = absurd (omega arith)
-    on (next_refused k e) = absurd (omega arith)
-    on (next_done k e v) = absurd (omega arith)
+    on (next_children k l p v) = cc
+    on (next_inner k l q p f v) = cc
+    on (next_ended t k l v) = cc
+    on (next_refused k e) = cc
+    on (next_done k e v) = cc
 
-pub step_in_children : {s out out' : Bytes} {fs : List ℕ} {st r : Reading} → st.mode ≡ 1 → ChildrenTurn s st st.place out r out' → (o : Bytes) (i : ℕ) → Going s o fs i st out → Going s o fs st.place r out'
+pub step_in_children : {s out out' : Bytes} {fs : List ℕ} {st r : Reading} → st.mode ≡ M.InChildren → ChildrenTurn s st st.place out r out' → (o : Bytes) (i : ℕ) → Going s o fs i st out → Going s o fs st.place r out'
 step_in_children {s} {out} {out'} {fs} {st} {r} m turn o i g = on g.next
   where
     on : Next s o g.K g.h i st out → Going s o fs st.place r out'
-    on (next_tag k l nm v) = absurd (omega arith)
+    on (next_tag k l nm v) = cc
     on (next_children {n} {ps} {ks} k l p v) = record { K = g.K; h = g.h; stacked = g.stacked; room = omega (arith, g.room); inner_room = λ z. omega (arith, g.room); next = turn n ps ks g.K p o g.h v }
-    on (next_inner k l q p f v) = absurd (omega arith)
-    on (next_ended t k l v) = absurd (omega arith)
-    on (next_refused k e) = absurd (omega arith)
-    on (next_done k e v) = absurd (omega arith)
+    on (next_inner k l q p f v) = cc
+    on (next_ended t k l v) = cc
+    on (next_refused k e) = cc
+    on (next_done k e v) = cc
 
-pub step_inner : {s out out' : Bytes} {fs fs' : List ℕ} {st r : Reading} → length s ≤ 32768 → st.mode ≡ 2 → InnerTurn s fs st out r fs' out' → (o : Bytes) (i : ℕ) → Going s o fs i st out → Going s o fs' st.place r out'
+pub step_inner : {s out out' : Bytes} {fs fs' : List ℕ} {st r : Reading} → length s ≤ 32768 → st.mode ≡ M.Inner → InnerTurn s fs st out r fs' out' → (o : Bytes) (i : ℕ) → Going s o fs i st out → Going s o fs' st.place r out'
 step_inner {s} {out} {out'} {fs} {fs'} {st} {r} small m turn o i g = on g.next
   where
     on : Next s o g.K g.h i st out → Going s o fs' st.place r out'
-    on (next_tag k l nm v) = absurd (omega arith)
-    on (next_children k l p v) = absurd (omega arith)
+    on (next_tag k l nm v) = cc
+    on (next_children k l p v) = cc
     on (next_inner {f} k l q p y v) = turn o f g.K g.h small g.stacked (omega (arith, g.inner_room m)) q p y v
-    on (next_ended t k l v) = absurd (omega arith)
-    on (next_refused k e) = absurd (omega arith)
-    on (next_done k e v) = absurd (omega arith)
+    on (next_ended t k l v) = cc
+    on (next_refused k e) = cc
+    on (next_done k e v) = cc
 
 -- a turn that goes on
 pub front_on : {s o : Bytes} {fs : List ℕ} {st r : Reading} {out : Bytes} → Going s o fs st.place r out → Front s o fs st r out
-front_on {st = st} g = record { from = st.place; going = g; passed = λ z. omega arith; reached = λ m. omega (arith, (somewhere g.next (omega arith)).after) }
+unfolding stands_at
+front_on {st = st} g = record { from = st.place; going = g; passed = λ z. omega arith; reached = λ m. omega (arith, (somewhere g.next (ap stands_at m)).after) }
 
 -- and none before an inner tag
-pub front_inner : {s o : Bytes} {fs : List ℕ} {i : ℕ} {st : Reading} {out : Bytes} → st.mode ≡ 2 → Going s o fs i st out → Front s o fs st st out
+pub front_inner : {s o : Bytes} {fs : List ℕ} {i : ℕ} {st : Reading} {out : Bytes} → st.mode ≡ M.Inner → Going s o fs i st out → Front s o fs st st out
 front_inner {i = i} m g = record { from = i; going = g; passed = λ z. absurd (z m); reached = λ z. omega arith }
 
 -- what the stack is asked for
-pub inner_needs : {s o : Bytes} {fs : List ℕ} {i : ℕ} {st : Reading} {out : Bytes} → length s ≤ 32768 → 2 * length s ≤ length fs → Going s o fs i st out → st.mode ≡ 2 → Bounded (length s) st st.place × NamePlace s st.name × (st.height + 4 ≤ length fs) × (st.depth ≤ 65550) × (st.height ≤ 65536)
-inner_needs small words g m =
+pub inner_needs : {s o : Bytes} {fs : List ℕ} {i : ℕ} {st : Reading} {out : Bytes} → length s ≤ 32768 → 2 * length s ≤ length fs → Going s o fs i st out → st.mode ≡ M.Inner → Bounded (length s) st st.place × NamePlace s st.name × (st.height + 4 ≤ length fs) × (st.depth ≤ 65550) × (st.height ≤ 65536)
+unfolding stands_at
+inner_needs {st = st} small words g m =
     let lt = g.inner_room m in
-    let w = somewhere g.next (omega arith) in
+    let at : stands_at st.mode ≡ true = ap stands_at m in
+    let w = somewhere g.next at in
     let v = w.stands in (
-      going_bounded small g (omega arith),
+      going_bounded small g at,
       name_place v.name_is,
       omega (arith, v.height_is, w.after, v.inside),
       omega (arith, v.depth_is, stacked_depth g.stacked, w.after, v.inside),
@@ -416,30 +452,32 @@ four : {s : Bytes} {fs : List ℕ} {h : ℕ} {K : Stack} → Stacked s fs h K �
 four empty l = absurd (l refl)
 four (frame u below) l = omega arith
 
-pub ended_needs : {s o : Bytes} {fs : List ℕ} {i : ℕ} {st : Reading} {out : Bytes} → length s ≤ 32768 → 2 * length s ≤ length fs → Going s o fs i st out → st.mode ≡ 3 → Bounded (length s) st st.place × ((st.height ≡ 0 → ⊥) → 4 ≤ st.height) × (st.height ≤ length fs)
-ended_needs small words g m =
-    let w = somewhere g.next (omega arith) in
+pub ended_needs : {s o : Bytes} {fs : List ℕ} {i : ℕ} {st : Reading} {out : Bytes} → length s ≤ 32768 → 2 * length s ≤ length fs → Going s o fs i st out → st.mode ≡ M.Ended → Bounded (length s) st st.place × ((st.height ≡ 0 → ⊥) → 4 ≤ st.height) × (st.height ≤ length fs)
+unfolding stands_at
+ended_needs {st = st} small words g m =
+    let at : stands_at st.mode ≡ true = ap stands_at m in
+    let w = somewhere g.next at in
     let v = w.stands in (
-      going_bounded small g (omega arith),
+      going_bounded small g at,
       λ l. omega (arith, v.height_is, four g.stacked (λ z. l (v.height_is ∙ z))),
       omega (arith, v.height_is, g.room, w.after, v.inside),
     )
 
-pub turn_ended : {s o : Bytes} {fs : List ℕ} {i : ℕ} {st r : Reading} {out out' : Bytes} → st.mode ≡ 3 → EndedTurn s fs st out r out' → Going s o fs i st out → Going s o fs i r out'
+pub turn_ended : {s o : Bytes} {fs : List ℕ} {i : ℕ} {st r : Reading} {out out' : Bytes} → st.mode ≡ M.Ended → EndedTurn s fs st out r out' → Going s o fs i st out → Going s o fs i r out'
 turn_ended {s} {o} {fs} {i} {st} {r} {out} {out'} m turn g = on g.next
   where
     on : Next s o g.K g.h i st out → Going s o fs i r out'
-    on (next_tag k l nm v) = absurd (omega arith)
-    on (next_children k l p v) = absurd (omega arith)
-    on (next_inner k l q p y v) = absurd (omega arith)
+    on (next_tag k l nm v) = cc
+    on (next_children k l p v) = cc
+    on (next_inner k l q p y v) = cc
     on (next_ended {n} t k l v) = turn o n t g.K g.h i g.stacked g.room l v
-    on (next_refused k e) = absurd (omega arith)
-    on (next_done k e v) = absurd (omega arith)
+    on (next_refused k e) = cc
+    on (next_done k e v) = cc
 
 -- ---- the outermost tag
 
-pub outer_refused : {s o : Bytes} {r : Reading} {out : Bytes} → r.mode ≡ 4 → outcome start s ≡ no_reading → OuterTurn s o r out × (r.mode ≡ 3 → ⊥)
-outer_refused m e = ((λ fs. record { K = []; h = 0; stacked = empty; room = omega arith; inner_room = λ z. absurd (omega arith); next = next_refused m e }), λ z. omega arith)
+pub outer_refused : {s o : Bytes} {r : Reading} {out : Bytes} → r.mode ≡ M.Refused → outcome start s ≡ no_reading → OuterTurn s o r out × (r.mode ≡ M.Ended → ⊥)
+outer_refused m e = ((λ fs. record { K = []; h = 0; stacked = empty; room = omega arith; inner_room = λ z. cc; next = next_refused m e }), λ z. cc)
 
 pub outer_empty : (s : Bytes) → length s ≡ 0 → outcome start s ≡ no_reading
 unfolding at_end
@@ -481,7 +519,7 @@ unfolding world_of depth_of
 opens_outer {s} {out} {i} {st} x e r l =
     subst (λ (z : Reading). OpensIn s out x nothing_made [] 0 z i out) (sym e) (record { reads = r; inside = l; grown = omega arith; depth_is = refl; height_is = refl; made = nothing_yet out })
 
-pub outer_letter : {s out out' : Bytes} {i : ℕ} {b : Bool} {st r : Reading} → st ≡ fresh_reading → (length s ≡ 0 → ⊥) → get_or s 0 0 ≡ 60 → Ran space s 1 i → i < length s → b ≡ letter (get_or s i 0) → b ≡ true → NamedTurn s st i out r out' × Settled r → OuterTurn s out r out' × (r.mode ≡ 3 → ⊥)
+pub outer_letter : {s out out' : Bytes} {i : ℕ} {b : Bool} {st r : Reading} → st ≡ fresh_reading → (length s ≡ 0 → ⊥) → get_or s 0 0 ≡ 60 → Ran space s 1 i → i < length s → b ≡ letter (get_or s i 0) → b ≡ true → NamedTurn s st i out r out' × Settled r → OuterTurn s out r out' × (r.mode ≡ M.Ended → ⊥)
 unfolding step choose
 outer_letter {s} {out} {out'} {i} {b} {st} {r} e l p ran lo is b_is turn =
     let yes_letter : letter (get_or s i 0) ≡ true = sym is ∙ b_is in
@@ -499,7 +537,7 @@ outer_letter {s} {out} {out'} {i} {b} {st} {r} e l p ran lo is b_is turn =
       turn.1.not_ended,
     )
 
-pub outer_fragment : {s out out' : Bytes} {i : ℕ} {st r : Reading} → st ≡ fresh_reading → (length s ≡ 0 → ⊥) → get_or s 0 0 ≡ 60 → Ran space s 1 i → i < length s → get_or s i 0 ≡ 62 → FragmentTurn st (i + 1) out r out' × Settled r → OuterTurn s out r out' × (r.mode ≡ 3 → ⊥)
+pub outer_fragment : {s out out' : Bytes} {i : ℕ} {st r : Reading} → st ≡ fresh_reading → (length s ≡ 0 → ⊥) → get_or s 0 0 ≡ 60 → Ran space s 1 i → i < length s → get_or s i 0 ≡ 62 → FragmentTurn st (i + 1) out r out' × Settled r → OuterTurn s out r out' × (r.mode ≡ M.Ended → ⊥)
 unfolding step choose space letter
 outer_fragment {s} {out} {out'} {i} {st} {r} e l p ran lo sign turn =
     let x : State = in_children [] no_attributes no_children [] in
@@ -527,17 +565,17 @@ fresh_bounded {n} {i} {st} e l m =
 
 -- what is still to read
 unfoldable pub still : ℕ → Reading → ℕ
-still n r = pick (ltb r.mode 4) (1 + (n - r.place)) 0
+still n r = pick (stands_at r.mode) (1 + (n - r.place)) 0
 
-pub turn_less : {s o : Bytes} {fs fs' : List ℕ} {i : ℕ} {st r : Reading} {out out' : Bytes} → st.mode < 3 → Going s o fs i st out → Onward s o fs' st.place r out' → still (length s) r < still (length s) st
+pub turn_less : {s o : Bytes} {fs fs' : List ℕ} {i : ℕ} {st r : Reading} {out out' : Bytes} → goes_on st.mode ≡ true → Going s o fs i st out → Onward s o fs' st.place r out' → still (length s) r < still (length s) st
 unfolding still
 turn_less {s} {o} {fs} {fs'} {i} {st} {r} {out} {out'} lt g v =
-    let w = somewhere g.next (omega arith) in
-    subst (λ (b : Bool). pick (ltb r.mode 4) (1 + (length s - r.place)) 0 < pick b (1 + (length s - st.place)) 0) (sym (lt-ltb st.mode 4 (omega arith))) (on (ltb r.mode 4) refl)
+    let w = somewhere g.next (on_stands st.mode lt) in
+    subst (λ (b : Bool). pick (stands_at r.mode) (1 + (length s - r.place)) 0 < pick b (1 + (length s - st.place)) 0) (sym (on_stands st.mode lt)) (on (stands_at r.mode) refl)
   where
-    on : (b : Bool) → ltb r.mode 4 ≡ b → pick b (1 + (length s - r.place)) 0 < 1 + (length s - st.place)
+    on : (b : Bool) → stands_at r.mode ≡ b → pick b (1 + (length s - r.place)) 0 < 1 + (length s - st.place)
     on true e =
-        let u = somewhere v.going.next (ltb-true r.mode 4 e) in
+        let u = somewhere v.going.next e in
         omega (arith, v.after, u.after, u.stands.inside)
     on false e = omega arith
 
@@ -548,15 +586,15 @@ pub record Anywhere (s o : Bytes) (fs : List ℕ) (r : Reading) (out : Bytes) : 
 -- what the loop knows: a turn may be asked for, and whatever was lent, the pass is on its way
 pub record Passing (s o₀ : Bytes) (fs₀ : List ℕ) (st₀ : Reading) (o : Bytes) (fs : List ℕ) (st : Reading) : Type 0 where
   pub lent : Lent s fs st o
-  pub not_ended : st.mode ≡ 3 → ⊥
+  pub not_ended : st.mode ≡ M.Ended → ⊥
   pub out_size : length o ≡ length o₀
   pub frames_size : length fs ≡ length fs₀
   pub tracks : (b : Bytes) (i : ℕ) → Going s b fs₀ i st₀ o₀ → Anywhere s b fs st o
 
-pub passing_first : {s o : Bytes} {fs : List ℕ} {st : Reading} → Lent s fs st o × (st.mode ≡ 3 → ⊥) → Passing s o fs st o fs st
+pub passing_first : {s o : Bytes} {fs : List ℕ} {st : Reading} → Lent s fs st o × (st.mode ≡ M.Ended → ⊥) → Passing s o fs st o fs st
 passing_first p = record { lent = p.0; not_ended = p.1; out_size = refl; frames_size = refl; tracks = λ b i g. record { i = i; going = g } }
 
-pub passing_more : {s o₀ o o' : Bytes} {fs₀ fs fs' : List ℕ} {st₀ st r : Reading} → Passing s o₀ fs₀ st₀ o fs st → StepTurn s fs st o r fs' o' × (r.mode ≡ 3 → ⊥) → length o' ≡ length o → Passing s o₀ fs₀ st₀ o' fs' r
+pub passing_more : {s o₀ o o' : Bytes} {fs₀ fs fs' : List ℕ} {st₀ st r : Reading} → Passing s o₀ fs₀ st₀ o fs st → StepTurn s fs st o r fs' o' × (r.mode ≡ M.Ended → ⊥) → length o' ≡ length o → Passing s o₀ fs₀ st₀ o' fs' r
 passing_more p turn size =
     let l = p.lent in
     let next = turn.0.1 l.o l.i l.going in
@@ -571,16 +609,17 @@ passing_more p turn size =
           record { i = next.from; going = next.going };
     }
 
-pub passes : {s o : Bytes} {fs : List ℕ} {r : Reading} {out : Bytes} → Anywhere s o fs r out → 3 ≤ r.mode → (r.mode ≡ 3 → ⊥) → Passed s o r out
+pub passes : {s o : Bytes} {fs : List ℕ} {r : Reading} {out : Bytes} → Anywhere s o fs r out → goes_on r.mode ≡ false → (r.mode ≡ M.Ended → ⊥) → Passed s o r out
+unfolding goes_on
 passes {s} {o} {fs} {r} {out} a l m = on a.going.next
   where
     on : Next s o a.going.K a.going.h a.i r out → Passed s o r out
-    on (next_tag k x nm v) = absurd (omega arith)
-    on (next_children k x p v) = absurd (omega arith)
-    on (next_inner k x q p y v) = absurd (omega arith)
+    on (next_tag k x nm v) = absurd (false≢true (sym l ∙ ap goes_on k))
+    on (next_children k x p v) = absurd (false≢true (sym l ∙ ap goes_on k))
+    on (next_inner k x q p y v) = absurd (false≢true (sym l ∙ ap goes_on k))
     on (next_ended t k x v) = absurd (m k)
     on (next_refused k e) = passed_none k e
     on (next_done k e v) = passed_tag k e v
 
-pub outer_lent : {s out out' : Bytes} {r : Reading} (fs : List ℕ) → length s ≤ 32768 → 2 * length s ≤ length fs → OuterTurn s out r out' × (r.mode ≡ 3 → ⊥) → Lent s fs r out' × (r.mode ≡ 3 → ⊥)
+pub outer_lent : {s out out' : Bytes} {r : Reading} (fs : List ℕ) → length s ≤ 32768 → 2 * length s ≤ length fs → OuterTurn s out r out' × (r.mode ≡ M.Ended → ⊥) → Lent s fs r out' × (r.mode ≡ M.Ended → ⊥)
 outer_lent {out = out} fs small words turn = (record { o = out; i = 1; small = small; words = words; going = turn.0 fs }, turn.1)

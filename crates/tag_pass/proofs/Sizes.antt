@@ -6,6 +6,7 @@ use mathlib.Core.List.{List, [], ◌∷◌, ◌++◌}
 use native.Mathlib.Omega.{arith}
 use lib.Dec.{eqb}
 use lib.ListN.{length, length-append}
+use Rattle.std.specs.Prelude.{Option, None, Some}
 use Rattle.field.specs.Bytes.{Bytes, ascii, same, pick}
 use Rattle.field.specs.Number.{big_endian}
 use Rattle.field.specs.Row.{Row, end, field, bytes}
@@ -14,7 +15,7 @@ use Rattle.page.specs.Number.{number_bytes, number_tag, minus_tag}
 use Rattle.page.specs.Page as P
 use Rattle.page.specs.Encode.{texts_row, name_row, tag_row, boolean_byte}
 use Rattle.grammar.specs.Signs.{choose, space, quote}
-use Rattle.grammar.specs.Known.{Known, whole, minus_whole, decimal, minus_decimal, quoted, boolean, null, other, Found, none, some, kept, trimmed_end, is_whole, is_decimal, before_point, after_point, value_from, number_of, unsigned, has_minus, string_from, string_of, rest_of, or_else, known_trimmed, known_of}
+use Rattle.grammar.specs.Known.{Known, whole, minus_whole, decimal, minus_decimal, quoted, boolean, null, other, kept, trimmed_end, is_whole, is_decimal, before_point, after_point, value_from, number_of, unsigned, has_minus, string_from, string_of, rest_of, or_else, known_trimmed, known_of}
 use Rattle.grammar.specs.Syntax.{Part, part, Name, known_expr}
 use Rattle.grammar.specs.Grammar.{Run, run_ends, run_on, Spaces, no_space, space_on, IsIdent, ident, IsParts, no_parts, one_part, IsName, is_name}
 use Rattle.tag_tree.specs.PageTag.{idents, page_name, page_known, page_tag}
@@ -30,28 +31,28 @@ leaf_size : (t : ℕ) (w : Bytes) → length (bytes (field t w end end)) ≡ 3 +
 leaf_size t w = ap length (L.leaf_alone t w) ∙ length_field_bytes t w
 
 -- no more than twelve bytes and the text
-Small : ℕ → Found Known → Type 0
-Small n f = (k : Known) → f ≡ some k → size k ≤ 12 + n
+Small : ℕ → Option Known → Type 0
+Small n f = (k : Known) → f ≡ Some k → size k ≤ 12 + n
 
-small_none : (n : ℕ) → Small n none
+small_none : (n : ℕ) → Small n None
 unfolding Small
 small_none n k e = absurd (let z : ◌≡◌ {A = ℕ} 0 1 = cc in omega arith)
 
-small_some : (n : ℕ) (k : Known) → size k ≤ 12 + n → Small n (some k)
+small_some : (n : ℕ) (k : Known) → size k ≤ 12 + n → Small n (Some k)
 unfolding Small
 small_some n k l j e =
     let z : k ≡ j = cc in
     subst (λ (x : Known). size x ≤ 12 + n) z l
 
-small_choose : (n : ℕ) (b : Bool) (f g : Found Known) → Small n f → Small n g → Small n (choose b f g)
+small_choose : (n : ℕ) (b : Bool) (f g : Option Known) → Small n f → Small n g → Small n (choose b f g)
 unfolding choose
 small_choose n true f g p q = p
 small_choose n false f g p q = q
 
-small_or : (n : ℕ) (f g : Found Known) → Small n f → Small n g → Small n (or_else f g)
+small_or : (n : ℕ) (f g : Option Known) → Small n f → Small n g → Small n (or_else f g)
 unfolding or_else
-small_or n none g p q = q
-small_or n (some k) g p q = p
+small_or n None g p q = q
+small_or n (Some k) g p q = p
 
 size_quoted : (w : Bytes) → size (quoted w) ≡ 3 + length w
 unfolding size expr_bytes page_tag page_known tag_row
@@ -91,30 +92,30 @@ size_minus_decimal n p = omega (arith, leaf_size 0x7b (big_endian 8 n (big_endia
 small_number : (n : ℕ) (w : Bytes) (f : ℕ → Known) (g : ℕ → ℕ → Known) → ((x : ℕ) → size (f x) ≤ 12) → ((x p : ℕ) → size (g x p) ≤ 12) → Small n (number_of w f g)
 unfolding number_of
 small_number n w f g a b =
-    small_choose n (is_whole w) (some (f (value_from 0 w))) (choose (is_decimal w) (some (g (value_from 0 (before_point w ++ after_point w)) (length (after_point w)))) none) (small_some n (f (value_from 0 w)) (omega (arith, a (value_from 0 w))))
-    (small_choose n (is_decimal w) (some (g (value_from 0 (before_point w ++ after_point w)) (length (after_point w)))) none (small_some n (g (value_from 0 (before_point w ++ after_point w)) (length (after_point w))) (omega (arith, b (value_from 0 (before_point w ++ after_point w)) (length (after_point w))))) (small_none n))
+    small_choose n (is_whole w) (Some (f (value_from 0 w))) (choose (is_decimal w) (Some (g (value_from 0 (before_point w ++ after_point w)) (length (after_point w)))) None) (small_some n (f (value_from 0 w)) (omega (arith, a (value_from 0 w))))
+    (small_choose n (is_decimal w) (Some (g (value_from 0 (before_point w ++ after_point w)) (length (after_point w)))) None (small_some n (g (value_from 0 (before_point w ++ after_point w)) (length (after_point w))) (omega (arith, b (value_from 0 (before_point w ++ after_point w)) (length (after_point w))))) (small_none n))
 
 small_string : (n q : ℕ) (v w : Bytes) → length v + length w ≤ n → Small n (string_from q v w)
 unfolding string_from
 small_string n q v [] l = small_none n
-small_string n q v (c ∷ []) l = small_choose n (eqb c q) (some (quoted v)) none (small_some n (quoted v) (omega (arith, size_quoted v))) (small_none n)
-small_string n q v (c ∷ d ∷ w) l = small_choose n (eqb c q) none (string_from q (v ++ (c ∷ [])) (d ∷ w)) (small_none n) (small_string n q (v ++ (c ∷ [])) (d ∷ w) (omega (arith, length-append v (c ∷ []))))
+small_string n q v (c ∷ []) l = small_choose n (eqb c q) (Some (quoted v)) None (small_some n (quoted v) (omega (arith, size_quoted v))) (small_none n)
+small_string n q v (c ∷ d ∷ w) l = small_choose n (eqb c q) None (string_from q (v ++ (c ∷ [])) (d ∷ w)) (small_none n) (small_string n q (v ++ (c ∷ [])) (d ∷ w) (omega (arith, length-append v (c ∷ []))))
 
 small_string_of : (n : ℕ) (w : Bytes) → length w ≤ n → Small n (string_of w)
 unfolding string_of
 small_string_of n [] l = small_none n
-small_string_of n (c ∷ w) l = small_choose n (quote c) (string_from c [] w) none (small_string n c [] w (omega arith)) (small_none n)
+small_string_of n (c ∷ w) l = small_choose n (quote c) (string_from c [] w) None (small_string n c [] w (omega arith)) (small_none n)
 
 small_trimmed : (n : ℕ) (w : Bytes) → length w ≤ n → Small n (known_trimmed w)
 unfolding known_trimmed rest_of
 small_trimmed n w l =
-    small_choose n (same w (ascii "true")) (some (boolean true)) _ (small_some n (boolean true) (omega (arith, size_boolean true)))
-    (small_choose n (same w (ascii "false")) (some (boolean false)) _ (small_some n (boolean false) (omega (arith, size_boolean false)))
-    (small_choose n (same w (ascii "null")) (some null) _ (small_some n null (omega (arith, size_null)))
+    small_choose n (same w (ascii "true")) (Some (boolean true)) _ (small_some n (boolean true) (omega (arith, size_boolean true)))
+    (small_choose n (same w (ascii "false")) (Some (boolean false)) _ (small_some n (boolean false) (omega (arith, size_boolean false)))
+    (small_choose n (same w (ascii "null")) (Some null) _ (small_some n null (omega (arith, size_null)))
     (small_or n (string_of w) _ (small_string_of n w l)
     (small_or n (choose (has_minus w) (number_of (unsigned w) minus_whole minus_decimal) (number_of w whole decimal)) _
     (small_choose n (has_minus w) (number_of (unsigned w) minus_whole minus_decimal) (number_of w whole decimal) (small_number n (unsigned w) minus_whole minus_decimal size_minus_whole size_minus_decimal) (small_number n w whole decimal size_whole size_decimal))
-    (small_choose n _ none (some (other w)) (small_none n) (small_some n (other w) (omega (arith, size_other w))))))))
+    (small_choose n _ None (Some (other w)) (small_none n) (small_some n (other w) (omega (arith, size_other w))))))))
 
 kept_length : (c : ℕ) (w : Bytes) → length (kept c w) ≤ suc (length w)
 unfolding kept choose
@@ -130,7 +131,7 @@ unfolding trimmed_end
 trimmed_length [] = omega arith
 trimmed_length (c ∷ w) = omega (arith, kept_length c (trimmed_end w), trimmed_length w)
 
-pub known_size : (w : Bytes) (k : Known) → known_of w ≡ some k → length (expr_bytes (known_expr k)) ≤ 12 + length w
+pub known_size : (w : Bytes) (k : Known) → known_of w ≡ Some k → length (expr_bytes (known_expr k)) ≤ 12 + length w
 unfolding known_of Small size
 known_size w k e = small_trimmed (length w) (trimmed_end w) (trimmed_length w) k e
 

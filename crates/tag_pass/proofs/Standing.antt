@@ -15,6 +15,8 @@ use Rattle.grammar.specs.Reader.{Frame, Stack, State, opened, in_tag, in_childre
 use Rattle.read_tag.specs.Progress.{Plain}
 use Rattle.read_tag.specs.Flags.{depth_of}
 use Rattle.read_tag.proofs.FlagLaws.{and_true}
+use Rattle.tag_pass.specs.declared.state.Mode.{Mode}
+use Rattle.tag_pass.specs.declared.state.Mode.TheVariants as M
 use Rattle.tag_pass.specs.Worlds.{World, more, tag_world, children_world, world_of, Made}
 use Rattle.tag_pass.specs.States.{Named, kind_of, frame_name, PlainFrame, Fifty, Stands, Next, next_tag, next_children, next_inner, next_ended, next_refused, next_done, Settled}
 use Rattle.tag_pass.specs.Turns.{at_mode, at_inner}
@@ -53,7 +55,7 @@ made_is {o} {out} {W} {W'} {at} {a} {b} {d} e m = subst (λ (z : World). Made o 
 pub move : {s o : Bytes} {x y : State} {W : World} {n : Name} {K : Stack} {h i j : ℕ} {st : Reading} {out : Bytes} → Stands s o x W n K h st i out → outcome x (drop i s) ≡ outcome y (drop j s) → i ≤ j → j ≤ length s → Stands s o y W n K h st j out
 move g e l m = record { reads = g.reads ∙ e; inside = m; grown = omega (arith, g.grown); head_is = g.head_is; name_is = g.name_is; depth_is = g.depth_is; height_is = g.height_is; made = g.made }
 
-pub refuses : {s o : Bytes} {x : State} {W : World} {n : Name} {K : Stack} {h i j : ℕ} {st r : Reading} {out out' : Bytes} → Stands s o x W n K h st i out → outcome x (drop i s) ≡ no_reading → r.mode ≡ 4 → Next s o K h j r out'
+pub refuses : {s o : Bytes} {x : State} {W : World} {n : Name} {K : Stack} {h i j : ℕ} {st r : Reading} {out out' : Bytes} → Stands s o x W n K h st i out → outcome x (drop i s) ≡ no_reading → r.mode ≡ M.Refused → Next s o K h j r out'
 refuses g e m = next_refused m (g.reads ∙ e)
 
 pub later : {s o : Bytes} {K : Stack} {h i j : ℕ} {r : Reading} {out : Bytes} → i ≤ j → Next s o K h j r out → Next s o K h i r out
@@ -68,13 +70,13 @@ later l (next_done m e g) = next_done m e g
 pub remade : {s o : Bytes} {x : State} {W W' : World} {n : Name} {K : Stack} {h i : ℕ} {st : Reading} {out out' : Bytes} → Stands s o x W n K h st i out → Made o W' out' st.at st.names st.numbers st.shallow → Stands s o x W' n K h st i out'
 remade g m = record { reads = g.reads; inside = g.inside; grown = g.grown; head_is = g.head_is; name_is = g.name_is; depth_is = g.depth_is; height_is = g.height_is; made = m }
 
-pub to_tag : {s o : Bytes} {n : Name} {ps : Attributes} {K : Stack} {h i j : ℕ} {st r : Reading} {out : Bytes} → Stands s o (in_tag n ps K) (tag_world (world_of K) (depth_of K) n ps) n K h st i out → Named n → j < i → r ≡ at_mode st 0 i → Next s o K h j r out
+pub to_tag : {s o : Bytes} {n : Name} {ps : Attributes} {K : Stack} {h i j : ℕ} {st r : Reading} {out : Bytes} → Stands s o (in_tag n ps K) (tag_world (world_of K) (depth_of K) n ps) n K h st i out → Named n → j < i → r ≡ at_mode st M.InTag i → Next s o K h j r out
 to_tag {s} {o} {n} {ps} {K} {h} {i} {j} {st} {r} {out} g m l e =
     subst (λ (z : Reading). Next s o K h j z out) (sym e)
     (next_tag refl l m
     (record { reads = g.reads; inside = g.inside; grown = g.grown; head_is = g.head_is; name_is = g.name_is; depth_is = g.depth_is; height_is = g.height_is; made = g.made }))
 
-pub to_children : {s o : Bytes} {n : Name} {ps : Attributes} {ks : Children} {K : Stack} {h i j : ℕ} {st r : Reading} {out : Bytes} → Stands s o (in_children n ps ks K) (children_world (world_of K) (depth_of K) n ps ks) n K h st i out → Plain n ps → j < i → r ≡ at_mode st 1 i → Next s o K h j r out
+pub to_children : {s o : Bytes} {n : Name} {ps : Attributes} {ks : Children} {K : Stack} {h i j : ℕ} {st r : Reading} {out : Bytes} → Stands s o (in_children n ps ks K) (children_world (world_of K) (depth_of K) n ps ks) n K h st i out → Plain n ps → j < i → r ≡ at_mode st M.InChildren i → Next s o K h j r out
 to_children {s} {o} {n} {ps} {ks} {K} {h} {i} {j} {st} {r} {out} g m l e =
     subst (λ (z : Reading). Next s o K h j z out) (sym e)
     (next_children refl l m
@@ -86,8 +88,8 @@ to_inner {s} {o} {f} {K} {h} {i} {j} {k} {st} {r} {out} g q m p l e =
     (next_inner refl l q m p
     (record { reads = g.reads; inside = g.inside; grown = g.grown; head_is = g.head_is; name_is = g.name_is; depth_is = g.depth_is; height_is = g.height_is; made = g.made }))
 
-pub not_mode : {x : ℕ} (m k : ℕ) → x ≡ m → (m ≡ k → ⊥) → x ≡ k → ⊥
+pub not_mode : {x : Mode} (m k : Mode) → x ≡ m → (m ≡ k → ⊥) → x ≡ k → ⊥
 not_mode m k e l z = l (sym e ∙ z)
 
-pub settled : {r : Reading} (m : ℕ) → r.mode ≡ m → (m ≡ 2 → ⊥) → (m ≡ 3 → ⊥) → Settled r
+pub settled : {r : Reading} (m : Mode) → r.mode ≡ m → (m ≡ M.Inner → ⊥) → (m ≡ M.Ended → ⊥) → Settled r
 settled m e p q = record { not_inner = λ z. p (sym e ∙ z); not_ended = λ z. q (sym e ∙ z) }

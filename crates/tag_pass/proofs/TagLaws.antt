@@ -7,6 +7,7 @@ use native.Mathlib.Omega.{arith}
 use borrow.Author.Tests.{eq-eqb, ne_eqb}
 use lib.Dec.{T, leb, eqb}
 use lib.ListN.{length, drop, get_or, length-drop, length-append}
+use Rattle.std.specs.Prelude.{Option, Some, None}
 use Rattle.field.specs.Bytes.{Bytes, pick, same}
 use Rattle.field.specs.Row.{bytes}
 use Rattle.field.specs.Put.{put, head, Wrote}
@@ -28,9 +29,9 @@ use Rattle.read_tag.specs.Runs.{Ran}
 use Rattle.read_tag.specs.Shapes.{name_tag}
 use Rattle.read_tag.specs.Names.{named_if, FoundName, Scanned, NamePut, NamesCompared, name_depth}
 use Rattle.read_tag.specs.declared.name.ScannedName.{ScannedName}
-use Rattle.read_tag.specs.declared.name.ScannedName.TheVariants as SN
 use Rattle.read_tag.proofs.FlagLaws.{and_true}
 use Rattle.read_tag.proofs.NameLimitLaws as NL
+use Rattle.tag_pass.specs.declared.state.Mode.TheVariants as M
 use Rattle.tag_pass.specs.Worlds.{World, more, shallow_name, tag_world, children_world, world_of, Made}
 use Rattle.tag_pass.specs.States.{TagName, no_name, name_at, Named, Stands, Next, next_ended, next_refused}
 use Rattle.tag_pass.specs.Turns.{at_mode, at_more, at_begin, at_end_of, name_code, AttributeTurn, SlashedTurn, SpreadTurn, TagTurn, ClosingTurn, NamedTurn, FragmentTurn, Patched, TagEnded, ClosingCompared}
@@ -140,11 +141,11 @@ tag_done {s} {o} {out} {out'} {n} {K} {h} {i} {j} {b} {st} {r} m ps ks g plain s
 
 -- ---- behind `/`
 
-pub slashed_out : {s out out' : Bytes} {st r : Reading} {i j : ℕ} → Ran space s i j → length s ≤ j → r.mode ≡ 4 → SlashedTurn s st i out r out'
+pub slashed_out : {s out out' : Bytes} {st r : Reading} {i j : ℕ} → Ran space s i j → length s ≤ j → r.mode ≡ M.Refused → SlashedTurn s st i out r out'
 unfolding at_end
 slashed_out {s} {i = i} {j} ran hi m n ps K nm o h stands = refuses stands (skip_slashed n ps K (spaces ran) ∙ out_of (slashed n ps K) s j hi refl) m
 
-pub slashed_barred : {s out out' : Bytes} {st r : Reading} {i j : ℕ} → Ran space s i j → j < length s → (get_or s j 0 ≡ 62 → ⊥) → r.mode ≡ 4 → SlashedTurn s st i out r out'
+pub slashed_barred : {s out out' : Bytes} {st r : Reading} {i j : ℕ} → Ran space s i j → j < length s → (get_or s j 0 ≡ 62 → ⊥) → r.mode ≡ M.Refused → SlashedTurn s st i out r out'
 unfolding step choose
 slashed_barred {s} {i = i} {j} ran lo p m n ps K nm o h stands = refuses stands (skip_slashed n ps K (spaces ran) ∙ stuck (slashed n ps K) s j lo (simp (not_space ran lo, ne_eqb (get_or s j 0) 62 p))) m
 
@@ -157,7 +158,7 @@ slashed_ends {s} {i = i} {j} ran lo sign ended n ps K nm o h stands =
 
 -- ---- in a tag
 
-pub tag_out : {s out out' : Bytes} {st r : Reading} {i j : ℕ} → Ran space s i j → length s ≤ j → r.mode ≡ 4 → TagTurn s st i out r out'
+pub tag_out : {s out out' : Bytes} {st r : Reading} {i j : ℕ} → Ran space s i j → length s ≤ j → r.mode ≡ M.Refused → TagTurn s st i out r out'
 unfolding at_end
 tag_out {s} {i = i} {j} ran hi m n ps K nm o h stands = refuses stands (skip_tag n ps K (spaces ran) ∙ out_of (in_tag n ps K) s j hi refl) m
 
@@ -169,7 +170,7 @@ tag_letter {s} {i = i} {j} {b} ran lo is b_is turn n ps K nm o h stands =
     (turn n ps K nm o h
     (move stands (skip_tag n ps K (spaces ran) ∙ steps (in_tag n ps K) (in_ident [] 0 (get_or s j 0 ∷ []) (for_attribute n ps K)) s j lo (simp (not_space ran lo, yes_letter))) (omega (arith, ran.after)) (omega arith)))
 
-pub tag_children : {s out : Bytes} {st r : Reading} {i j : ℕ} → Ran space s i j → j < length s → get_or s j 0 ≡ 62 → r ≡ at_mode st 1 (j + 1) → TagTurn s st i out r out
+pub tag_children : {s out : Bytes} {st r : Reading} {i j : ℕ} → Ran space s i j → j < length s → get_or s j 0 ≡ 62 → r ≡ at_mode st M.InChildren (j + 1) → TagTurn s st i out r out
 unfolding step step_tag choose space letter
 tag_children {s} {i = i} {j} ran lo sign rs n ps K nm o h stands =
     to_children {ks = no_children}
@@ -188,7 +189,7 @@ tag_spread {s} {i = i} {j} ran lo sign turn n ps K nm o h stands =
     later (omega (arith, ran.after))
     (turn n ps K nm o h (move stands (skip_tag n ps K (spaces ran) ∙ steps (in_tag n ps K) (spread_opened n ps K) s j lo (ap (step (in_tag n ps K)) sign)) (omega (arith, ran.after)) (omega arith)))
 
-pub tag_barred : {s out out' : Bytes} {st r : Reading} {i j : ℕ} {b : Bool} → Ran space s i j → j < length s → b ≡ letter (get_or s j 0) → b ≡ false → (get_or s j 0 ≡ 62 → ⊥) → (get_or s j 0 ≡ 47 → ⊥) → (get_or s j 0 ≡ 123 → ⊥) → r.mode ≡ 4 → TagTurn s st i out r out'
+pub tag_barred : {s out out' : Bytes} {st r : Reading} {i j : ℕ} {b : Bool} → Ran space s i j → j < length s → b ≡ letter (get_or s j 0) → b ≡ false → (get_or s j 0 ≡ 62 → ⊥) → (get_or s j 0 ≡ 47 → ⊥) → (get_or s j 0 ≡ 123 → ⊥) → r.mode ≡ M.Refused → TagTurn s st i out r out'
 unfolding step step_tag choose
 tag_barred {s} {i = i} {j} {b} ran lo is b_is p q x m n ps K nm o h stands =
     let no_letter : letter (get_or s j 0) ≡ false = sym is ∙ b_is in
@@ -196,7 +197,7 @@ tag_barred {s} {i = i} {j} {b} ran lo is b_is p q x m n ps K nm o h stands =
 
 -- ---- closing tags
 
-pub closing_out : {s out out' : Bytes} {st r : Reading} {i j : ℕ} → Ran space s i j → length s ≤ j → r.mode ≡ 4 → ClosingTurn s st i out r out'
+pub closing_out : {s out out' : Bytes} {st r : Reading} {i j : ℕ} → Ran space s i j → length s ≤ j → r.mode ≡ M.Refused → ClosingTurn s st i out r out'
 unfolding at_end
 closing_out {s} {i = i} {j} ran hi m n ps ks K plain o h stands = refuses stands (skip_closing n ps ks K (spaces ran) ∙ out_of (closing n ps ks K) s j hi refl) m
 
@@ -207,7 +208,7 @@ closing_fragment {s} {i = i} {j} ran lo sign ended n ps ks K plain o h stands =
     (move stands (skip_closing n ps ks K (spaces ran) ∙ steps (closing n ps ks K) (closed (tag n ps ks []) K) s j lo (ap (step (closing n ps ks K)) sign)) (omega (arith, ran.after)) (omega arith))
     plain (empty_at stands.name_is) ended (omega (arith, ran.after))
 
-pub closing_barred : {s out out' : Bytes} {st r : Reading} {i j : ℕ} {b : Bool} → Ran space s i j → j < length s → (get_or s j 0 ≡ 62 → ⊥) → b ≡ letter (get_or s j 0) → not b ≡ true → r.mode ≡ 4 → ClosingTurn s st i out r out'
+pub closing_barred : {s out out' : Bytes} {st r : Reading} {i j : ℕ} {b : Bool} → Ran space s i j → j < length s → (get_or s j 0 ≡ 62 → ⊥) → b ≡ letter (get_or s j 0) → not b ≡ true → r.mode ≡ M.Refused → ClosingTurn s st i out r out'
 unfolding step choose
 closing_barred {s} {i = i} {j} {b} ran lo p is b_is m n ps ks K plain o h stands =
     let no_letter : letter (get_or s j 0) ≡ false = not_letter (letter (get_or s j 0)) (ap not (sym is) ∙ b_is) in
@@ -220,10 +221,10 @@ to_name {s} {i} {j} {b} n ps ks K ran lo is b_is =
     let yes_letter : letter (get_or s j 0) ≡ true = is_letter (letter (get_or s j 0)) (ap not (sym is) ∙ b_is) in
     skip_closing n ps ks K (spaces ran) ∙ steps (closing n ps ks K) (in_ident [] 0 (get_or s j 0 ∷ []) (for_closing n ps ks K)) s j lo (simp (not_space ran lo, yes_letter))
 
-pub closing_none : {s out out' : Bytes} {st r : Reading} {i j : ℕ} {b : Bool} (q : ScannedName) → Ran space s i j → j < length s → b ≡ letter (get_or s j 0) → not b ≡ false → Scanned s j q → q ≡ SN.Nothing → r.mode ≡ 4 → ClosingTurn s st i out r out'
+pub closing_none : {s out out' : Bytes} {st r : Reading} {i j : ℕ} {b : Bool} (q : Option ScannedName) → Ran space s i j → j < length s → b ≡ letter (get_or s j 0) → not b ≡ false → Scanned s j q → q ≡ None → r.mode ≡ M.Refused → ClosingTurn s st i out r out'
 unfolding Scanned
 closing_none {s} {i = i} {j} q ran lo is b_is t e m n ps ks K plain o h stands =
-    let unread : Scanned s j SN.Nothing = subst (Scanned s j) e t in
+    let unread : Scanned s j None = subst (Scanned s j) e t in
     refuses stands (to_name n ps ks K ran lo is b_is ∙ unread (for_closing n ps ks K)) m
 
 behind : {s : Bytes} {i j tag e : ℕ} {b : Bool} (n : Name) (ps : Attributes) (ks : Children) (K : Stack) → Ran space s i j → j < length s → b ≡ letter (get_or s j 0) → not b ≡ false → (f : FoundName s j tag e) → outcome (closing n ps ks K) (drop i s) ≡ outcome (close_named f.name n ps ks K) (drop e s)
@@ -231,7 +232,7 @@ unfolding named_if fits named
 behind {s} {e = e} n ps ks K ran lo is b_is f =
     to_name n ps ks K ran lo is b_is ∙ f.leads (for_closing n ps ks K) ∙ ap (λ (x : State). outcome x (drop e s)) (chose (tag_name_fits f.name) (close_named f.name n ps ks K) refused f.fits_tag)
 
-pub closing_named_out : {s out out' : Bytes} {st r : Reading} {i j tag e : ℕ} {b : Bool} (q : ScannedName) → Ran space s i j → j < length s → b ≡ letter (get_or s j 0) → not b ≡ false → Scanned s j q → q ≡ SN.Found tag e → length s ≤ e → r.mode ≡ 4 → ClosingTurn s st i out r out'
+pub closing_named_out : {s out out' : Bytes} {st r : Reading} {i j tag e : ℕ} {b : Bool} (q : Option ScannedName) → Ran space s i j → j < length s → b ≡ letter (get_or s j 0) → not b ≡ false → Scanned s j q → q ≡ Some record { tag = tag; end = e } → length s ≤ e → r.mode ≡ M.Refused → ClosingTurn s st i out r out'
 unfolding at_end
 closing_named_out {s} {i = i} {j} {tag} {e} q ran lo is b_is t eq hi m n ps ks K plain o h stands =
     let f : FoundName s j tag e = found q t eq in
@@ -249,13 +250,13 @@ behind_no_space : {s : Bytes} {j tag e : ℕ} → FoundName s j tag e → e < le
 unfolding Ends name_goes_on
 behind_no_space {s} {j} {tag} {e} f lo = first (space (get_or s e 0)) _ (subst (Ends name_goes_on) (next s e lo) (name_end f.is))
 
-pub closing_named_barred : {s out out' : Bytes} {st r : Reading} {i j tag e : ℕ} {b : Bool} (q : ScannedName) → Ran space s i j → j < length s → b ≡ letter (get_or s j 0) → not b ≡ false → Scanned s j q → q ≡ SN.Found tag e → e < length s → (get_or s e 0 ≡ 62 → ⊥) → r.mode ≡ 4 → ClosingTurn s st i out r out'
+pub closing_named_barred : {s out out' : Bytes} {st r : Reading} {i j tag e : ℕ} {b : Bool} (q : Option ScannedName) → Ran space s i j → j < length s → b ≡ letter (get_or s j 0) → not b ≡ false → Scanned s j q → q ≡ Some record { tag = tag; end = e } → e < length s → (get_or s e 0 ≡ 62 → ⊥) → r.mode ≡ M.Refused → ClosingTurn s st i out r out'
 unfolding step step_close_named choose
 closing_named_barred {s} {i = i} {j} {tag} {e} q ran lo is b_is t eq hi p m n ps ks K plain o h stands =
     let f : FoundName s j tag e = found q t eq in
     refuses stands (behind n ps ks K ran lo is b_is f ∙ stuck (close_named f.name n ps ks K) s e hi (simp (behind_no_space f hi, ne_eqb (get_or s e 0) 62 p))) m
 
-pub closing_named : {s out out' : Bytes} {st r : Reading} {i j tag e : ℕ} {b c : Bool} (q : ScannedName) → Ran space s i j → j < length s → b ≡ letter (get_or s j 0) → not b ≡ false → Scanned s j q → q ≡ SN.Found tag e → e < length s → get_or s e 0 ≡ 62 → ClosingCompared s st.name j c → TagEnded out st c (e + 1) r out' → ClosingTurn s st i out r out'
+pub closing_named : {s out out' : Bytes} {st r : Reading} {i j tag e : ℕ} {b c : Bool} (q : Option ScannedName) → Ran space s i j → j < length s → b ≡ letter (get_or s j 0) → not b ≡ false → Scanned s j q → q ≡ Some record { tag = tag; end = e } → e < length s → get_or s e 0 ≡ 62 → ClosingCompared s st.name j c → TagEnded out st c (e + 1) r out' → ClosingTurn s st i out r out'
 unfolding step step_close_named choose space
 closing_named {s} {i = i} {j} {tag} {e} q ran lo is b_is t eq hi sign compared ended n ps ks K plain o h stands =
     let f : FoundName s j tag e = found q t eq in
@@ -265,10 +266,10 @@ closing_named {s} {i = i} {j} {tag} {e} q ran lo is b_is t eq hi sign compared e
 
 -- ---- a tag opens
 
-pub named_none : {s out out' : Bytes} {st r : Reading} {i : ℕ} (p : ScannedName) → Scanned s i p → p ≡ SN.Nothing → r.mode ≡ 4 → NamedTurn s st i out r out'
+pub named_none : {s out out' : Bytes} {st r : Reading} {i : ℕ} (p : Option ScannedName) → Scanned s i p → p ≡ None → r.mode ≡ M.Refused → NamedTurn s st i out r out'
 unfolding Scanned
 named_none {s} {i = i} p t e m K o h l opens =
-    let unread : Scanned s i SN.Nothing = subst (Scanned s i) e t in
+    let unread : Scanned s i None = subst (Scanned s i) e t in
     next_refused m (opens.reads ∙ unread (for_tag K))
 
 name_world : (W : World) (d : ℕ) (n : Name) → Named n → more W (head 0x30 0 ++ name_bytes n) true true (leb d 48 && shallow_name (suc d) n) ≡ tag_world W d n no_attributes
@@ -278,7 +279,7 @@ name_world W d (p ∷ n) m =
     world_is (ap (λ (z : Bytes). W.bytes ++ (head 0x30 0 ++ z)) (sym (append-nil (name_bytes (p ∷ n))))) refl refl
     (ap (λ (z : Bool). W.shallow && (leb d 48 && z)) (sym (and_true (shallow_name (suc d) (p ∷ n)))))
 
-pub named_found : {s out out₁ out₂ : Bytes} {st w v r : Reading} {i tag e a b d y : ℕ} (p : ScannedName) → st.at ≤ 16 * i → Scanned s i p → p ≡ SN.Found tag e → Wrote out st.at (head 0x30 0) out₁ a → NamePut s i tag e out₁ a out₂ b → y ≡ st.depth + 1 → d ≡ name_depth tag y → w ≡ at_more st b true (leb d 48) → v ≡ at_begin w st.at i → r ≡ at_mode v 0 e → NamedTurn s st i out r out₂
+pub named_found : {s out out₁ out₂ : Bytes} {st w v r : Reading} {i tag e a b d y : ℕ} (p : Option ScannedName) → st.at ≤ 16 * i → Scanned s i p → p ≡ Some record { tag = tag; end = e } → Wrote out st.at (head 0x30 0) out₁ a → NamePut s i tag e out₁ a out₂ b → y ≡ st.depth + 1 → d ≡ name_depth tag y → w ≡ at_more st b true (leb d 48) → v ≡ at_begin w st.at i → r ≡ at_mode v M.InTag e → NamedTurn s st i out r out₂
 unfolding NamePut named_if fits named
 named_found {s} {out} {out₁} {out₂} {st} {w} {v} {r} {i} {tag} {e} {a} {b} {d} {y} p grown t eq wr put_name ys ds ws vs rs K o h l opens =
     let f : FoundName s i tag e = found p t eq in
@@ -304,13 +305,13 @@ named_found {s} {out} {out₁} {out₂} {st} {w} {v} {r} {i} {tag} {e} {a} {b} {
       height_is = opens.height_is;
       made = made_is (name_world (world_of K) D N (fits_named N f.fits_tag)) (made_as m₁ refl refl (ap (λ (z : Bool). st.shallow && z) flag));
     })
-    (fits_named N f.fits_tag) f.after (rs ∙ ap (λ (z : Reading). at_mode z 0 e) (vs ∙ ap (λ (z : Reading). at_begin z st.at i) ws))
+    (fits_named N f.fits_tag) f.after (rs ∙ ap (λ (z : Reading). at_mode z M.InTag e) (vs ∙ ap (λ (z : Reading). at_begin z st.at i) ws))
 
 fragment_world : (W : World) (d : ℕ) → more W (head 0x31 0) true true (leb d 48) ≡ children_world W d [] no_attributes no_children
 unfolding tag_world begun tag_code name_bytes attributes_bytes every_tag page_tag tag_row bytes shallow shallow_name
 fragment_world W d = world_is (ap (λ (z : Bytes). W.bytes ++ z) (sym (append-nil (head 0x31 0)))) refl refl (ap (λ (z : Bool). W.shallow && z) (sym (and_true (leb d 48)))) ∙ sym (no_children_yet W d [] no_attributes)
 
-pub fragment_opens : {out out₁ : Bytes} {st w v r : Reading} {i a : ℕ} → Wrote out st.at (head 0x31 0) out₁ a → w ≡ at_more st a true (leb st.depth 48) → v ≡ at_begin w st.at 0 → r ≡ at_mode v 1 i → FragmentTurn st i out r out₁
+pub fragment_opens : {out out₁ : Bytes} {st w v r : Reading} {i a : ℕ} → Wrote out st.at (head 0x31 0) out₁ a → w ≡ at_more st a true (leb st.depth 48) → v ≡ at_begin w st.at 0 → r ≡ at_mode v M.InChildren i → FragmentTurn st i out r out₁
 unfolding Plain
 fragment_opens {out} {out₁} {st} {w} {v} {r} {i} {a} wr ws vs rs s K o h j l grown opens =
     let D : ℕ = depth_of K in
@@ -326,4 +327,4 @@ fragment_opens {out} {out₁} {st} {w} {v} {r} {i} {a} wr ws vs rs s K o h j l g
       height_is = opens.height_is;
       made = made_is (fragment_world (world_of K) D) (made_as m₁ refl refl (ap (λ (z : ℕ). st.shallow && leb z 48) opens.depth_is));
     })
-    refl l (rs ∙ ap (λ (z : Reading). at_mode z 1 i) (vs ∙ ap (λ (z : Reading). at_begin z st.at 0) ws))
+    refl l (rs ∙ ap (λ (z : Reading). at_mode z M.InChildren i) (vs ∙ ap (λ (z : Reading). at_begin z st.at 0) ws))

@@ -1,12 +1,14 @@
 -- What holds of the pass between its parts: where the grammar's reader is, what was made, and what the pass's numbers and its stack say of it.
 -- Main definitions: `Stands`, `Next`, `Stacked`. Assumes nothing: these are definitions.
-use Rattle.std.specs.Prelude.{ℕ, ◌+◌, ◌*◌, ◌≤◌, ◌<◌, ◌≡◌, List, [], ◌∷◌, T, length, drop, get_or}
+use Rattle.std.specs.Prelude.{ℕ, ◌+◌, ◌*◌, ◌≤◌, ◌<◌, ◌≡◌, Bool, true, false, List, [], ◌∷◌, T, length, drop, get_or}
 use Rattle.field.specs.Bytes.{Bytes}
 use Rattle.grammar.specs.Syntax.{Name, tag_name_fits, Tag, Attributes, Children}
 use Rattle.grammar.specs.Grammar.{IsName}
 use Rattle.grammar.specs.Reader.{Braces, child_braces, spread_child_braces, value_braces, spread_braces, Frame, within, value_of, in_braces, Stack, State, start, in_tag, in_children, opened, closed, outcome, read, no_reading}
 use Rattle.read_tag.specs.Progress.{begun, Plain}
 use Rattle.read_tag.specs.Flags.{depth_of}
+use Rattle.tag_pass.specs.declared.state.Mode.{Mode}
+use Rattle.tag_pass.specs.declared.state.Mode.TheVariants as M
 use Rattle.tag_pass.specs.Worlds.{World, nothing_made, tag_world, children_world, world_of, ended_world, Made}
 use Rattle.tag_pass.specs.declared.state.Reading.{Reading}
 
@@ -85,6 +87,15 @@ pub data Stacked (s : Bytes) (fs : List ℕ) : ℕ → Stack → Type 0 where
 
 -- ---- the pass at a place
 
+-- there is more to read of a tag
+unfoldable pub goes_on : Mode → Bool
+goes_on M.InTag = true
+goes_on M.InChildren = true
+goes_on M.Inner = true
+goes_on M.Ended = false
+goes_on M.Refused = false
+goes_on M.Done = false
+
 -- numbers that need no reader: so that sums do not wrap
 pub record Bounded (n : ℕ) (st : Reading) (i : ℕ) : Type 0 where
   pub small : n ≤ 32768
@@ -114,12 +125,12 @@ pub record OpensIn (s o : Bytes) (x : State) (W : World) (K : Stack) (h : ℕ) (
 
 -- what a turn leaves, by its mode; it has read something, or it was the last
 pub data Next (s o : Bytes) (K : Stack) (h i : ℕ) (r : Reading) (out : Bytes) : Type 0 where
-  next_tag : {n : Name} {ps : Attributes} → r.mode ≡ 0 → i < r.place → Named n → Stands s o (in_tag n ps K) (tag_world (world_of K) (depth_of K) n ps) n K h r r.place out → Next s o K h i r out
-  next_children : {n : Name} {ps : Attributes} {ks : Children} → r.mode ≡ 1 → i < r.place → Plain n ps → Stands s o (in_children n ps ks K) (children_world (world_of K) (depth_of K) n ps ks) n K h r r.place out → Next s o K h i r out
-  next_inner : {f : Frame} → r.mode ≡ 2 → i < r.place → r.kind ≡ kind_of f → PlainFrame f → Fifty (world_of K).bytes f r.fifty → Stands s o (opened (f ∷ K)) (world_of (f ∷ K)) (frame_name f) K h r r.place out → Next s o K h i r out
-  next_ended : {n : Name} (t : Tag) → r.mode ≡ 3 → i < r.place → Stands s o (closed t K) (ended_world (world_of K) (depth_of K) t) n K h r r.place out → Next s o K h i r out
-  next_refused : r.mode ≡ 4 → outcome start s ≡ no_reading → Next s o K h i r out
-  next_done : {t : Tag} → r.mode ≡ 5 → outcome start s ≡ read t → Made o (ended_world nothing_made 3 t) out r.at r.names r.numbers r.shallow → Next s o K h i r out
+  next_tag : {n : Name} {ps : Attributes} → r.mode ≡ M.InTag → i < r.place → Named n → Stands s o (in_tag n ps K) (tag_world (world_of K) (depth_of K) n ps) n K h r r.place out → Next s o K h i r out
+  next_children : {n : Name} {ps : Attributes} {ks : Children} → r.mode ≡ M.InChildren → i < r.place → Plain n ps → Stands s o (in_children n ps ks K) (children_world (world_of K) (depth_of K) n ps ks) n K h r r.place out → Next s o K h i r out
+  next_inner : {f : Frame} → r.mode ≡ M.Inner → i < r.place → r.kind ≡ kind_of f → PlainFrame f → Fifty (world_of K).bytes f r.fifty → Stands s o (opened (f ∷ K)) (world_of (f ∷ K)) (frame_name f) K h r r.place out → Next s o K h i r out
+  next_ended : {n : Name} (t : Tag) → r.mode ≡ M.Ended → i < r.place → Stands s o (closed t K) (ended_world (world_of K) (depth_of K) t) n K h r r.place out → Next s o K h i r out
+  next_refused : r.mode ≡ M.Refused → outcome start s ≡ no_reading → Next s o K h i r out
+  next_done : {t : Tag} → r.mode ≡ M.Done → outcome start s ≡ read t → Made o (ended_world nothing_made 3 t) out r.at r.names r.numbers r.shallow → Next s o K h i r out
 
 -- the stack and the pass together; a turn began at i. Four words of the stack cost two bytes of text
 pub record Going (s o : Bytes) (fs : List ℕ) (i : ℕ) (r : Reading) (out : Bytes) : Type 0 where
@@ -127,7 +138,7 @@ pub record Going (s o : Bytes) (fs : List ℕ) (i : ℕ) (r : Reading) (out : By
   pub h : ℕ
   pub stacked : Stacked s fs h K
   pub room : h + 2 ≤ 2 * i
-  pub inner_room : r.mode ≡ 2 → h + 4 ≤ 2 * i
+  pub inner_room : r.mode ≡ M.Inner → h + 4 ≤ 2 * i
   pub next : Next s o K h i r out
 
 -- whatever was lent
@@ -140,10 +151,10 @@ pub record Lent (s : Bytes) (fs : List ℕ) (r : Reading) (out : Bytes) : Type 0
 
 -- the whole text was read, or has no reading
 pub data Passed (s o : Bytes) (r : Reading) (out : Bytes) : Type 0 where
-  passed_none : r.mode ≡ 4 → outcome start s ≡ no_reading → Passed s o r out
-  passed_tag : {t : Tag} → r.mode ≡ 5 → outcome start s ≡ read t → Made o (ended_world nothing_made 3 t) out r.at r.names r.numbers r.shallow → Passed s o r out
+  passed_none : r.mode ≡ M.Refused → outcome start s ≡ no_reading → Passed s o r out
+  passed_tag : {t : Tag} → r.mode ≡ M.Done → outcome start s ≡ read t → Made o (ended_world nothing_made 3 t) out r.at r.names r.numbers r.shallow → Passed s o r out
 
 -- a tag that was opened is neither behind another `<` nor at its end
 pub record Settled (r : Reading) : Type 0 where
-  pub not_inner : r.mode ≡ 2 → ⊥
-  pub not_ended : r.mode ≡ 3 → ⊥
+  pub not_inner : r.mode ≡ M.Inner → ⊥
+  pub not_ended : r.mode ≡ M.Ended → ⊥

@@ -14,17 +14,19 @@ use Rattle.tag_tree.specs.TagAnswer.{shallow, known_in_range}
 use Rattle.read_tag.specs.Progress.{begun, expr_bytes, Plain}
 use Rattle.read_tag.specs.Flags.{depth_of}
 use Rattle.read_tag.specs.Names.{NameAt}
+use Rattle.tag_pass.specs.declared.state.Mode.{Mode}
+use Rattle.tag_pass.specs.declared.state.Mode.TheVariants as M
 use Rattle.tag_pass.specs.Worlds.{World, more, any_known, any_names, tag_world, children_world, value_world, before_world, braces_at, braces_world, world_of, ended_world}
 use Rattle.tag_pass.specs.States.{Named, braces_kind, kind_of, braces_name, frame_name, PlainBraces, PlainFrame, BracesFifty, Fifty, TagName, Stacked, Stands, OpensIn, Next, Going, Passed}
 use Rattle.tag_pass.specs.declared.state.Reading.{Reading}
 
 -- ---- the numbers of the pass, some of them changed
 
-abbrev pub at_mode : Reading → ℕ → ℕ → Reading
+abbrev pub at_mode : Reading → Mode → ℕ → Reading
 at_mode st m i = record { mode = m; place = i; at = st.at; height = st.height; head = st.head; name = st.name; depth = st.depth; kind = st.kind; fifty = st.fifty; names = st.names; numbers = st.numbers; shallow = st.shallow }
 
 abbrev pub at_inner : Reading → ℕ → ℕ → Reading
-at_inner st k i = record { mode = 2; place = i; at = st.at; height = st.height; head = st.head; name = st.name; depth = st.depth; kind = k; fifty = st.fifty; names = st.names; numbers = st.numbers; shallow = st.shallow }
+at_inner st k i = record { mode = M.Inner; place = i; at = st.at; height = st.height; head = st.head; name = st.name; depth = st.depth; kind = k; fifty = st.fifty; names = st.names; numbers = st.numbers; shallow = st.shallow }
 
 abbrev pub with_numbers : Reading → Bool → Reading
 with_numbers st b = record { mode = st.mode; place = st.place; at = st.at; height = st.height; head = st.head; name = st.name; depth = st.depth; kind = st.kind; fifty = st.fifty; names = st.names; numbers = b; shallow = st.shallow }
@@ -37,7 +39,7 @@ abbrev pub at_more : Reading → ℕ → Bool → Bool → Reading
 at_more st a y z = record { mode = st.mode; place = st.place; at = a; height = st.height; head = st.head; name = st.name; depth = st.depth; kind = st.kind; fifty = st.fifty; names = st.names; numbers = st.numbers && y; shallow = st.shallow && z }
 
 abbrev pub fresh_reading : Reading
-fresh_reading = record { mode = 0; place = 0; at = 0; height = 0; head = 0; name = 0; depth = 3; kind = 0; fifty = 0; names = true; numbers = true; shallow = true }
+fresh_reading = record { mode = M.InTag; place = 0; at = 0; height = 0; head = 0; name = 0; depth = 3; kind = 0; fifty = 0; names = true; numbers = true; shallow = true }
 
 abbrev pub at_fifty : Reading → ℕ → Reading
 at_fifty st f = record { mode = st.mode; place = st.place; at = st.at; height = st.height; head = st.head; name = st.name; depth = st.depth; kind = st.kind; fifty = f; names = st.names; numbers = st.numbers; shallow = st.shallow }
@@ -48,7 +50,7 @@ at_begin st h p = record { mode = st.mode; place = st.place; at = st.at; height 
 
 -- a tag has ended
 abbrev pub at_end_of : Reading → Bool → ℕ → Reading
-at_end_of st b i = record { mode = 3; place = i; at = st.at; height = st.height; head = st.head; name = st.name; depth = st.depth; kind = st.kind; fifty = st.fifty; names = st.names && b; numbers = st.numbers; shallow = st.shallow }
+at_end_of st b i = record { mode = M.Ended; place = i; at = st.at; height = st.height; head = st.head; name = st.name; depth = st.depth; kind = st.kind; fifty = st.fifty; names = st.names && b; numbers = st.numbers; shallow = st.shallow }
 
 -- ---- kinds of braces
 
@@ -133,7 +135,7 @@ Patched o p t at o' = p + 3 ≤ at → o' ≡ put o p (head t (at - p - 3))
 
 -- a 50 got its length
 pub record AttributeEnded (o : Bytes) (st : Reading) (i : ℕ) (r : Reading) (o' : Bytes) : Type 0 where
-  pub is : r ≡ at_mode st 0 i
+  pub is : r ≡ at_mode st M.InTag i
   pub patched : Patched o st.fifty 0x50 st.at o'
 
 -- 30, or 31 where there is no name
@@ -191,8 +193,8 @@ BehindTurn s st p out r out' = (o : Bytes) (t : Tag) (g : Braces) (K : Stack) (h
 pub record Front (s o : Bytes) (fs : List ℕ) (st r : Reading) (out : Bytes) : Type 0 where
   pub from : ℕ
   pub going : Going s o fs from r out
-  pub passed : (r.mode ≡ 2 → ⊥) → st.place ≤ from
-  pub reached : r.mode ≡ 2 → st.place ≤ r.place
+  pub passed : (r.mode ≡ M.Inner → ⊥) → st.place ≤ from
+  pub reached : r.mode ≡ M.Inner → st.place ≤ r.place
 
 abbrev pub FrontTurn : Bytes → Reading → Bytes → Reading → Bytes → Type 0
 FrontTurn s st out r out' = (fs : List ℕ) (o : Bytes) (i : ℕ) → Going s o fs i st out → Front s o fs st r out'

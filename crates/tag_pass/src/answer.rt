@@ -1,9 +1,9 @@
 // The whole answer: what is refused before the text is read, the pass, and what is refused behind it (document 02, A3).
-ghost use Rattle.std.specs.Prelude.{◌≡◌, length, replicate};
+ghost use Rattle.std.specs.Prelude.{◌≡◌};
 ghost use Rattle.tag_pass.specs.Answers.{TagAnswers, reading_number};
 
 use crate::pass::read;
-use crate::state::{REFUSED, Reading};
+use crate::state::{Mode, Reading};
 use utf8::is_utf8;
 
 #[repr(C)]
@@ -17,21 +17,11 @@ const MAX_TEXT: usize = 32768;
 // 01: a body has at most 65,535 bytes.
 const MAX_FIELD: usize = 65538;
 
-fn clear(b: &mut [u8])
-    ensures { b.new ≡ replicate (length b.old) 0 }
-{
-    let mut i: usize = 0;
-    while i < b.len() {
-        b[i] = 0;
-        i += 1;
-    }
-}
-
 // The fields of a tag are in its own field, so that a body is too long exactly where the tag's is.
 fn number_of(st: Reading, room: usize) -> u32
     ensures { result ≡ reading_number st room }
 {
-    if st.mode == REFUSED {
+    if let Mode::Refused = st.mode {
         return 14;
     }
     if !st.names {
@@ -56,14 +46,14 @@ pub fn read_tag(text: &[u8], out: &mut [u8]) -> TagAnswer
     ensures { TagAnswers text.now out.old result out.new }
 {
     if MAX_TEXT < text.len() {
-        clear(out);
+        out.fill(0);
         return TagAnswer {
             number: 2,
             tag_bytes: 0,
         };
     }
     if !is_utf8(text) {
-        clear(out);
+        out.fill(0);
         return TagAnswer {
             number: 6,
             tag_bytes: 0,
@@ -77,7 +67,7 @@ pub fn read_tag(text: &[u8], out: &mut [u8]) -> TagAnswer
             tag_bytes: st.at,
         };
     }
-    clear(out);
+    out.fill(0);
     TagAnswer {
         number,
         tag_bytes: 0,

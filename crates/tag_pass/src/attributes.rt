@@ -6,13 +6,12 @@ ghost use Rattle.read_tag.specs.Names.{name_depth};
 ghost use Rattle.tag_pass.specs.Turns.{AttributeTurn, NoValueTurn, ValueTurn, StringTurn, SpreadTurn};
 
 use crate::braces::{braces, end_attribute, points};
-use crate::state::{
-    MAX_DEPTH, Reading, SPREAD, VALUE, VALUE_BRACES, at_fifty, at_inner, refuse, wrote,
-};
+use crate::state::{Reading, SPREAD, VALUE, VALUE_BRACES, at_fifty, at_inner, refuse, wrote};
 use field::writer::put_head;
+use page::MAX_DEPTH;
 use read_tag::name::{ScannedName, put_name, scan_name};
 use read_tag::signs::{is_quote, skip_spaces};
-use read_tag::texts::{Run, read_string};
+use read_tag::texts::read_string;
 
 // How deep a name goes whose field has that tag and stands at d.
 pub fn name_depth(tag: u8, d: usize) -> usize
@@ -30,13 +29,11 @@ fn string_value(text: &[u8], out: &mut [u8], st: Reading, i: usize, q: u8) -> Re
     requires { Bounded (length text.now) st i × (quote q ≡ true) }
     ensures { StringTurn text.now st i q out.old result out.new }
 {
-    match read_string(text, i, q, out, st.at) {
-        Run::Nothing => refuse(st),
-        Run::Ends { end, at } => {
-            let w = wrote(st, at, true, st.depth + 2 <= MAX_DEPTH);
-            end_attribute(out, w, end)
-        }
-    }
+    let Some(run) = read_string(text, i, q, out, st.at) else {
+        return refuse(st);
+    };
+    let w = wrote(st, run.at, true, st.depth + 2 <= MAX_DEPTH);
+    end_attribute(out, w, run.end)
 }
 
 // Behind `=`.
@@ -80,20 +77,18 @@ pub fn attribute(text: &[u8], out: &mut [u8], st: Reading, i: usize) -> Reading
     requires { Bounded (length text.now) st i × (i < length text.now) × (letter (get_or text.now i 0) ≡ true) }
     ensures { AttributeTurn text.now st i out.old result out.new }
 {
-    match scan_name(text, i) {
-        ScannedName::Nothing => refuse(st),
-        ScannedName::Found { tag, end } => {
-            if tag == 0x41 {
-                return refuse(st);
-            }
-            let f = st.at;
-            let a = put_head(out, f, 0x50, 0);
-            let b = put_name(text, i, tag, end, out, a);
-            let d = name_depth(tag, st.depth + 2);
-            let w = wrote(st, b, true, d <= MAX_DEPTH);
-            behind_name(text, out, at_fifty(w, f), end)
-        }
+    let Some(ScannedName { tag, end }) = scan_name(text, i) else {
+        return refuse(st);
+    };
+    if tag == 0x41 {
+        return refuse(st);
     }
+    let f = st.at;
+    let a = put_head(out, f, 0x50, 0);
+    let b = put_name(text, i, tag, end, out, a);
+    let d = name_depth(tag, st.depth + 2);
+    let w = wrote(st, b, true, d <= MAX_DEPTH);
+    behind_name(text, out, at_fifty(w, f), end)
 }
 
 // Behind the `{` of a spread.

@@ -1,17 +1,19 @@
 // Braces: of a child, a spread and a value.
 ghost use Rattle.std.specs.Prelude.{◌≡◌, false, ◌≤◌, ◌<◌, ◌^◌, length, get_or};
 ghost use Rattle.grammar.specs.Signs.{space};
+ghost use Rattle.tag_pass.specs.declared.state.Mode.TheVariants.{Ended};
 ghost use Rattle.tag_pass.specs.States.{Bounded};
 ghost use Rattle.tag_pass.specs.Turns.{kind_code, kind_depth, AttributeEnded, FilledTurn, KnownTurn, BracesTurn, PointTurn, ChildBracesTurn};
 
 use crate::state::{
-    CHILD, CHILDREN, MAX_DEPTH, Reading, SPREAD, SPREAD_CHILD, TAG, VALUE_BRACES, at_inner,
-    in_mode, patch, refuse, wrote,
+    CHILD, Mode, Reading, SPREAD, SPREAD_CHILD, VALUE_BRACES, at_inner, in_mode, patch, refuse,
+    wrote,
 };
 use field::writer::put_head;
+use page::MAX_DEPTH;
 use read_tag::known::put_known;
 use read_tag::signs::skip_spaces;
-use read_tag::source::{Source, source_end};
+use read_tag::source::source_end;
 
 fn braces_code(kind: usize) -> u8
     ensures { result ≡ kind_code kind }
@@ -41,22 +43,22 @@ pub fn end_attribute(out: &mut [u8], st: Reading, i: usize) -> Reading
     ensures { AttributeEnded out.old st i result out.new }
 {
     patch(out, st.fifty, 0x50, st.at);
-    in_mode(st, TAG, i)
+    in_mode(st, Mode::InTag, i)
 }
 
 // Braces have ended at i: their field, whose head is at b, gets its length.
 pub fn end_braces(out: &mut [u8], st: Reading, kind: usize, b: usize, i: usize) -> Reading
     requires { st.at < 2 ^ 62 }
-    ensures { FilledTurn st kind b i out.old result out.new × (result.mode ≡ 3 → ⊥) }
+    ensures { FilledTurn st kind b i out.old result out.new × (result.mode ≡ Ended → ⊥) }
 {
     patch(out, b, braces_code(kind), st.at);
     if kind == VALUE_BRACES {
         return end_attribute(out, st, i);
     }
     if kind == SPREAD {
-        return in_mode(st, TAG, i);
+        return in_mode(st, Mode::InTag, i);
     }
-    in_mode(st, CHILDREN, i)
+    in_mode(st, Mode::InChildren, i)
 }
 
 // What stands in braces from j to e.
@@ -66,10 +68,9 @@ fn known(text: &[u8], out: &mut [u8], st: Reading, kind: usize, j: usize, e: usi
 {
     let b = st.at;
     let a = put_head(out, b, braces_code(kind), 0);
-    let held = put_known(text, j, e, out, a);
-    if !held.read {
+    let Some(held) = put_known(text, j, e, out, a) else {
         return refuse(st);
-    }
+    };
     let d = st.depth + braces_depth(kind) + 1 + held.deep;
     let w = wrote(st, held.at, held.fits, d <= MAX_DEPTH);
     end_braces(out, w, kind, b, e + 1)
@@ -90,10 +91,10 @@ fn expression(text: &[u8], out: &mut [u8], st: Reading, kind: usize, j: usize) -
     if c == b'[' {
         return refuse(st);
     }
-    match source_end(text, j) {
-        Source::Nothing => refuse(st),
-        Source::Ends(e) => known(text, out, st, kind, j, e),
-    }
+    let Some(e) = source_end(text, j) else {
+        return refuse(st);
+    };
+    known(text, out, st, kind, j, e)
 }
 
 // What stands in braces that may not be empty.
@@ -148,7 +149,7 @@ pub fn child_braces(text: &[u8], out: &mut [u8], st: Reading, i: usize) -> Readi
     if c == b'}' {
         let a = put_head(out, st.at, 0x52, 0);
         let w = wrote(st, a, true, st.depth + 1 <= MAX_DEPTH);
-        return in_mode(w, CHILDREN, j + 1);
+        return in_mode(w, Mode::InChildren, j + 1);
     }
     if c == b'.' {
         return points(text, out, st, SPREAD_CHILD, j + 1);

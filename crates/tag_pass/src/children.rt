@@ -5,20 +5,19 @@ ghost use Rattle.tag_pass.specs.States.{Bounded};
 ghost use Rattle.tag_pass.specs.Turns.{ChildrenTurn};
 
 use crate::braces::child_braces;
-use crate::state::{CHILDREN, MAX_DEPTH, Reading, WITHIN, at_inner, in_mode, refuse, wrote};
-use read_tag::texts::{Run, read_text};
+use crate::state::{Mode, Reading, WITHIN, at_inner, in_mode, refuse, wrote};
+use page::MAX_DEPTH;
+use read_tag::texts::read_text;
 
 fn text_child(text: &[u8], out: &mut [u8], st: Reading, i: usize) -> Reading
     requires { Bounded (length text.now) st i × (i < length text.now) × (text_byte (get_or text.now i 0) ≡ true) }
     ensures { ChildrenTurn text.now st i out.old result out.new }
 {
-    match read_text(text, i, out, st.at) {
-        Run::Nothing => refuse(st),
-        Run::Ends { end, at } => {
-            let w = wrote(st, at, true, st.depth + 1 <= MAX_DEPTH);
-            in_mode(w, CHILDREN, end)
-        }
-    }
+    let Some(run) = read_text(text, i, out, st.at) else {
+        return refuse(st);
+    };
+    let w = wrote(st, run.at, true, st.depth + 1 <= MAX_DEPTH);
+    in_mode(w, Mode::InChildren, run.end)
 }
 
 pub fn step_children(text: &[u8], out: &mut [u8], st: Reading) -> Reading

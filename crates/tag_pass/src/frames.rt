@@ -2,7 +2,7 @@
 ghost use Rattle.std.specs.Prelude.{◌≡◌, ◌+◌, ◌-◌, ◌%◌, ◌^◌, ◌≤◌, ◌<◌, length};
 ghost use Rattle.tag_pass.specs.Turns.{kind_added, Stored, pushed, popped};
 
-use crate::state::{Reading, VALUE_BRACES, WITHIN, less};
+use crate::state::{Reading, VALUE_BRACES, WITHIN};
 
 // How much deeper an inner tag is.
 fn depth_added(kind: usize) -> usize
@@ -79,6 +79,6 @@ pub fn pop(frames: &[u32], st: Reading) -> Reading
     w.name = name;
     w.kind = kind;
     w.fifty = fifty;
-    w.depth = less(st.depth, depth_added(kind));
+    w.depth = st.depth.saturating_sub(depth_added(kind));
     w
 }

@@ -1,35 +1,15 @@
 // The loop over the text, and what it does with the stack.
-ghost use Rattle.std.specs.Prelude.{◌≡◌, ◌+◌, ◌*◌, ◌≤◌, ◌<◌, length};
-ghost use Rattle.tag_pass.specs.States.{Bounded, Lent, Passed};
+ghost use Rattle.std.specs.Prelude.{◌≡◌, true, ◌+◌, ◌*◌, ◌≤◌, ◌<◌, length};
+ghost use Rattle.tag_pass.specs.declared.state.Mode.TheVariants.{Ended};
+ghost use Rattle.tag_pass.specs.States.{goes_on, Bounded, Lent, Passed};
 ghost use Rattle.tag_pass.specs.Turns.{fresh_reading, InnerTurn, EndedTurn, BehindTurn, FrontTurn, StepTurn, PassTurn, OuterTurn, NamePlace};
 
 use crate::braces::{end_attribute, end_braces};
 use crate::children::step_children;
 use crate::frames::{pop, push};
-use crate::state::{
-    CHILDREN, DONE, ENDED, INNER, Reading, TAG, VALUE, WITHIN, in_mode, less, refuse,
-};
+use crate::state::{Mode, Reading, VALUE, WITHIN, in_mode, refuse};
 use crate::tags::{closing, open_fragment, open_named, step_tag};
 use read_tag::signs::{is_letter, skip_spaces};
-
-// Four words of the stack for two bytes of text.
-const TINY: usize = 64;
-
-const TINY_WORDS: usize = 128;
-
-const SHORT: usize = 512;
-
-const SHORT_WORDS: usize = 1024;
-
-const MIDDLE: usize = 2048;
-
-const MIDDLE_WORDS: usize = 4096;
-
-const LONG: usize = 8192;
-
-const LONG_WORDS: usize = 16384;
-
-const WORDS: usize = 65536;
 
 // Behind the `<` of a tag in another one, whose numbers are still those of the pass.
 fn open_inner(text: &[u8], out: &mut [u8], frames: &mut [u32], st: Reading) -> Reading
@@ -61,7 +41,7 @@ fn open_inner(text: &[u8], out: &mut [u8], frames: &mut [u32], st: Reading) -> R
 // Behind a tag in braces, whose head stands at p.
 fn behind(text: &[u8], out: &mut [u8], st: Reading, p: usize) -> Reading
     requires { Bounded (length text.now) st st.place }
-    ensures { BehindTurn text.now st p out.old result out.new × (result.mode ≡ 3 → ⊥) }
+    ensures { BehindTurn text.now st p out.old result out.new × (result.mode ≡ Ended → ⊥) }
 {
     let j = skip_spaces(text, st.place);
     if text.len() <= j {
@@ -70,24 +50,24 @@ fn behind(text: &[u8], out: &mut [u8], st: Reading, p: usize) -> Reading
     if text[j] != b'}' {
         return refuse(st);
     }
-    end_braces(out, st, st.kind, less(p, 3), j + 1)
+    end_braces(out, st, st.kind, p.saturating_sub(3), j + 1)
 }
 
 // A tag has ended: what it stands in goes on.
 fn ended(text: &[u8], out: &mut [u8], frames: &[u32], st: Reading) -> Reading
     requires { Bounded (length text.now) st st.place × ((st.height ≡ 0 → ⊥) → 4 ≤ st.height) × (st.height ≤ length frames.now) }
-    ensures { EndedTurn text.now frames.now st out.old result out.new × (result.mode ≡ 3 → ⊥) }
+    ensures { EndedTurn text.now frames.now st out.old result out.new × (result.mode ≡ Ended → ⊥) }
 {
     if st.height == 0 {
         if st.place < text.len() {
             return refuse(st);
         }
-        return in_mode(st, DONE, st.place);
+        return in_mode(st, Mode::Done, st.place);
     }
     let p = st.head;
     let w = pop(frames, st);
     if w.kind == WITHIN {
-        return in_mode(w, CHILDREN, w.place);
+        return in_mode(w, Mode::InChildren, w.place);
     }
     if w.kind == VALUE {
         return end_attribute(out, w, w.place);
@@ -97,47 +77,51 @@ fn ended(text: &[u8], out: &mut [u8], frames: &[u32], st: Reading) -> Reading
 
 // A turn that leaves the stack as it is. Behind the `<` of an inner tag there is none.
 fn step(text: &[u8], out: &mut [u8], st: Reading) -> Reading
-    requires { Bounded (length text.now) st st.place × (st.mode < 3) }
+    requires { Bounded (length text.now) st st.place × (goes_on st.mode ≡ true) }
     ensures { FrontTurn text.now st out.old result out.new }
 {
-    if st.mode == TAG {
-        return step_tag(text, out, st);
+    match st.mode {
+        Mode::InTag => step_tag(text, out, st),
+        Mode::InChildren => step_children(text, out, st),
+        _ => st,
     }
-    if st.mode == CHILDREN {
-        return step_children(text, out, st);
-    }
-    st
 }
 
 // Then the inner tag, where the pass stands before one: it is not worth a turn of its own.
 fn opened(text: &[u8], out: &mut [u8], frames: &mut [u32], st: Reading) -> Reading
-    requires { Lent text.now frames.old st out.old × (st.mode < 3) }
+    requires { Lent text.now frames.old st out.old × (goes_on st.mode ≡ true) }
     ensures { StepTurn text.now frames.old st out.old result frames.new out.new }
 {
     let w = step(text, out, st);
-    if w.mode == INNER {
-        return open_inner(text, out, frames, w);
+    match w.mode {
+        Mode::Inner => open_inner(text, out, frames, w),
+        _ => w,
     }
-    w
 }
 
 fn turn(text: &[u8], out: &mut [u8], frames: &mut [u32], st: Reading) -> Reading
-    requires { Lent text.now frames.old st out.old × (st.mode < 3) }
-    ensures { StepTurn text.now frames.old st out.old result frames.new out.new × (result.mode ≡ 3 → ⊥) }
+    requires { Lent text.now frames.old st out.old × (goes_on st.mode ≡ true) }
+    ensures { StepTurn text.now frames.old st out.old result frames.new out.new × (result.mode ≡ Ended → ⊥) }
 {
     let w = opened(text, out, frames, st);
-    if w.mode == ENDED {
-        return ended(text, out, frames, w);
+    match w.mode {
+        Mode::Ended => ended(text, out, frames, w),
+        _ => w,
     }
-    w
+}
+
+fn goes_on(mode: Mode) -> bool
+    ensures { result ≡ goes_on mode }
+{
+    matches!(mode, Mode::InTag | Mode::InChildren | Mode::Inner)
 }
 
 fn pass(text: &[u8], out: &mut [u8], frames: &mut [u32], first: Reading) -> Reading
-    requires { Lent text.now frames.old first out.old × (first.mode ≡ 3 → ⊥) }
+    requires { Lent text.now frames.old first out.old × (first.mode ≡ Ended → ⊥) }
     ensures { PassTurn text.now frames.old first out.old result out.new }
 {
     let mut st = first;
-    while st.mode < ENDED {
+    while goes_on(st.mode) {
         st = turn(text, out, frames, st);
     }
     st
@@ -147,7 +131,7 @@ fn fresh() -> Reading
     ensures { result ≡ fresh_reading }
 {
     Reading {
-        mode: TAG,
+        mode: Mode::InTag,
         place: 0,
         at: 0,
         height: 0,
@@ -165,7 +149,7 @@ fn fresh() -> Reading
 // The outermost tag, up to its name.
 fn open_outer(text: &[u8], out: &mut [u8]) -> Reading
     requires { length text.now ≤ 32768 }
-    ensures { OuterTurn text.now out.old result out.new × (result.mode ≡ 3 → ⊥) }
+    ensures { OuterTurn text.now out.old result out.new × (result.mode ≡ Ended → ⊥) }
 {
     let st = fresh();
     if text.len() == 0 {
@@ -197,40 +181,9 @@ fn pass_with(text: &[u8], out: &mut [u8], frames: &mut [u32]) -> Reading
     pass(text, out, frames, st)
 }
 
-fn tiny_pass(text: &[u8], out: &mut [u8]) -> Reading
-    requires { length text.now ≤ 64 }
-    ensures { Passed text.now out.old result out.new }
-{
-    let mut frames = [0u32; TINY_WORDS];
-    pass_with(text, out, &mut frames)
-}
-
-fn short_pass(text: &[u8], out: &mut [u8]) -> Reading
-    requires { length text.now ≤ 512 }
-    ensures { Passed text.now out.old result out.new }
-{
-    let mut frames = [0u32; SHORT_WORDS];
-    pass_with(text, out, &mut frames)
-}
-
-fn middle_pass(text: &[u8], out: &mut [u8]) -> Reading
-    requires { length text.now ≤ 2048 }
-    ensures { Passed text.now out.old result out.new }
-{
-    let mut frames = [0u32; MIDDLE_WORDS];
-    pass_with(text, out, &mut frames)
-}
-
-fn long_pass(text: &[u8], out: &mut [u8]) -> Reading
-    requires { length text.now ≤ 8192 }
-    ensures { Passed text.now out.old result out.new }
-{
-    let mut frames = [0u32; LONG_WORDS];
-    pass_with(text, out, &mut frames)
-}
-
-fn full_pass(text: &[u8], out: &mut [u8]) -> Reading
-    requires { length text.now ≤ 32768 }
+// With a stack of its own: four words for two bytes of text.
+fn pass_in<const WORDS: usize>(text: &[u8], out: &mut [u8]) -> Reading
+    requires { (length text.now ≤ 32768) × (2 * length text.now ≤ WORDS) × (WORDS ≤ 65536) }
     ensures { Passed text.now out.old result out.new }
 {
     let mut frames = [0u32; WORDS];
@@ -242,17 +195,17 @@ pub fn read(text: &[u8], out: &mut [u8]) -> Reading
     requires { length text.now ≤ 32768 }
     ensures { Passed text.now out.old result out.new }
 {
-    if text.len() <= TINY {
-        return tiny_pass(text, out);
+    if text.len() <= 64 {
+        return pass_in::<128>(text, out);
     }
-    if text.len() <= SHORT {
-        return short_pass(text, out);
+    if text.len() <= 512 {
+        return pass_in::<1024>(text, out);
     }
-    if text.len() <= MIDDLE {
-        return middle_pass(text, out);
+    if text.len() <= 2048 {
+        return pass_in::<4096>(text, out);
     }
-    if text.len() <= LONG {
-        return long_pass(text, out);
+    if text.len() <= 8192 {
+        return pass_in::<16384>(text, out);
     }
-    full_pass(text, out)
+    pass_in::<65536>(text, out)
 }

@@ -1,12 +1,28 @@
 // Where the pass stands. Behind a mode stands a state of the grammar's reader (specs/States.antt).
-ghost use Rattle.std.specs.Prelude.{◌≡◌, ◌&&◌, ◌-◌, ◌<◌, ◌^◌};
+ghost use Rattle.std.specs.Prelude.{◌≡◌, ◌&&◌, ◌<◌, ◌^◌};
+ghost use Rattle.tag_pass.specs.declared.state.Mode.TheVariants.{Refused};
 ghost use Rattle.tag_pass.specs.Turns.{at_mode, at_inner, with_numbers, with_shallow, at_more, at_fifty, at_begin, Patched};
 
 use field::writer::put_head;
 
+#[derive(Clone, Copy, Debug, PartialEq, Eq)]
+pub enum Mode {
+    // in a tag, behind its name or an attribute
+    InTag,
+    // among the children of a tag
+    InChildren,
+    // behind the `<` of an inner tag
+    Inner,
+    // a tag has ended
+    Ended,
+    // no reading
+    Refused,
+    // the outermost tag has ended, and the text with it
+    Done,
+}
+
 #[derive(Clone, Copy)]
 pub struct Reading {
-    pub mode: usize,
     // in the text
     pub place: usize,
     // in what is written
@@ -24,20 +40,8 @@ pub struct Reading {
     pub names: bool,
     pub numbers: bool,
     pub shallow: bool,
+    pub mode: Mode,
 }
-
-// in a tag, behind its name or an attribute
-pub const TAG: usize = 0;
-// among the children of a tag
-pub const CHILDREN: usize = 1;
-// behind the `<` of an inner tag
-pub const INNER: usize = 2;
-// a tag has ended
-pub const ENDED: usize = 3;
-// no reading
-pub const REFUSED: usize = 4;
-// the outermost tag has ended, and the text with it
-pub const DONE: usize = 5;
 
 // What an inner tag stands in: a tag's children; braces there, with three points or without; a spread in a tag; the value of an attribute, and
 // braces there.
@@ -53,17 +57,15 @@ pub const VALUE: usize = 4;
 
 pub const VALUE_BRACES: usize = 5;
 
-pub const MAX_DEPTH: usize = 48;
-
 pub fn refuse(st: Reading) -> Reading
-    ensures { result.mode ≡ 4 }
+    ensures { result.mode ≡ Refused }
 {
     let mut w = st;
-    w.mode = REFUSED;
+    w.mode = Mode::Refused;
     w
 }
 
-pub fn in_mode(st: Reading, mode: usize, i: usize) -> Reading
+pub fn in_mode(st: Reading, mode: Mode, i: usize) -> Reading
     ensures { result ≡ at_mode st mode i }
 {
     let mut w = st;
@@ -77,7 +79,7 @@ pub fn at_inner(st: Reading, kind: usize, i: usize) -> Reading
     ensures { result ≡ at_inner st kind i }
 {
     let mut w = st;
-    w.mode = INNER;
+    w.mode = Mode::Inner;
     w.kind = kind;
     w.place = i;
     w
@@ -133,16 +135,6 @@ pub fn at_begin(st: Reading, h: usize, p: usize) -> Reading
     w.head = h;
     w.name = p;
     w
-}
-
-// 0 where b is more.
-pub fn less(a: usize, b: usize) -> usize
-    ensures { result ≡ a - b }
-{
-    if b <= a {
-        return a - b;
-    }
-    0
 }
 
 // A field whose head stands at p has ended: it gets its length.

@@ -6,10 +6,9 @@ ghost use Rattle.tag_pass.specs.States.{Bounded, Settled};
 ghost use Rattle.tag_pass.specs.Turns.{name_code, at_end_of, NamedTurn, FragmentTurn, TagTurn, SlashedTurn, ClosingTurn, TagEnded, NamePlace, ClosingCompared};
 
 use crate::attributes::{attribute, name_depth, spread};
-use crate::state::{
-    CHILDREN, ENDED, MAX_DEPTH, Reading, TAG, at_begin, in_mode, patch, refuse, wrote,
-};
+use crate::state::{Mode, Reading, at_begin, in_mode, patch, refuse, wrote};
 use field::writer::put_head;
+use page::MAX_DEPTH;
 use read_tag::name::{ScannedName, put_name, same_names, scan_name};
 use read_tag::signs::{is_letter, skip_spaces};
 
@@ -18,17 +17,15 @@ pub fn open_named(text: &[u8], out: &mut [u8], st: Reading, i: usize) -> Reading
     requires { Bounded (length text.now) st i × (i < length text.now) × (letter (get_or text.now i 0) ≡ true) }
     ensures { NamedTurn text.now st i out.old result out.new × Settled result }
 {
-    match scan_name(text, i) {
-        ScannedName::Nothing => refuse(st),
-        ScannedName::Found { tag, end } => {
-            let h = st.at;
-            let a = put_head(out, h, 0x30, 0);
-            let b = put_name(text, i, tag, end, out, a);
-            let d = name_depth(tag, st.depth + 1);
-            let w = wrote(st, b, true, d <= MAX_DEPTH);
-            in_mode(at_begin(w, h, i), TAG, end)
-        }
-    }
+    let Some(ScannedName { tag, end }) = scan_name(text, i) else {
+        return refuse(st);
+    };
+    let h = st.at;
+    let a = put_head(out, h, 0x30, 0);
+    let b = put_name(text, i, tag, end, out, a);
+    let d = name_depth(tag, st.depth + 1);
+    let w = wrote(st, b, true, d <= MAX_DEPTH);
+    in_mode(at_begin(w, h, i), Mode::InTag, end)
 }
 
 // A fragment, behind its `>`.
@@ -39,7 +36,7 @@ pub fn open_fragment(out: &mut [u8], st: Reading, i: usize) -> Reading
     let h = st.at;
     let a = put_head(out, h, 0x31, 0);
     let w = wrote(st, a, true, st.depth <= MAX_DEPTH);
-    in_mode(at_begin(w, h, 0), CHILDREN, i)
+    in_mode(at_begin(w, h, 0), Mode::InChildren, i)
 }
 
 fn tag_code(name: usize) -> u8
@@ -56,7 +53,7 @@ fn at_ended(st: Reading, same: bool, i: usize) -> Reading
 {
     let mut w = st;
     w.names = st.names & same;
-    w.mode = ENDED;
+    w.mode = Mode::Ended;
     w.place = i;
     w
 }
@@ -111,19 +108,17 @@ pub fn closing(text: &[u8], out: &mut [u8], st: Reading, i: usize) -> Reading
     if !is_letter(c) {
         return refuse(st);
     }
-    match scan_name(text, j) {
-        ScannedName::Nothing => refuse(st),
-        ScannedName::Found { tag: _, end } => {
-            if text.len() <= end {
-                return refuse(st);
-            }
-            if text[end] != b'>' {
-                return refuse(st);
-            }
-            let same = same_closing(text, st.name, j);
-            end_tag(out, st, same, end + 1)
-        }
+    let Some(ScannedName { tag: _, end }) = scan_name(text, j) else {
+        return refuse(st);
+    };
+    if text.len() <= end {
+        return refuse(st);
     }
+    if text[end] != b'>' {
+        return refuse(st);
+    }
+    let same = same_closing(text, st.name, j);
+    end_tag(out, st, same, end + 1)
 }
 
 // In a tag, behind its name or an attribute.
@@ -140,7 +135,7 @@ pub fn step_tag(text: &[u8], out: &mut [u8], st: Reading) -> Reading
         return attribute(text, out, st, i);
     }
     if c == b'>' {
-        return in_mode(st, CHILDREN, i + 1);
+        return in_mode(st, Mode::InChildren, i + 1);
     }
     if c == b'/' {
         return slashed(text, out, st, i + 1);

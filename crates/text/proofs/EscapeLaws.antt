@@ -16,7 +16,7 @@ use borrow.Author.Tests.{eq-eqb, eqb-true, ltb-true}
 use Rattle.field.specs.Bytes.{Bytes, AllBytes, ascii, pick, null?, same}
 use Rattle.text.specs.Escape.{escape_byte, escape_html, replace}
 use Rattle.text.specs.Runs.{run, all, plain}
-use Rattle.text.proofs.RunLaws.{run_all, all_append}
+use Rattle.text.proofs.RunLaws.{run_all, all_append, run_is_all}
 
 -- ---- byte by byte: the five signs, and any other byte
 
@@ -151,6 +151,9 @@ is_escaped_by_run (c ∷ cs) = on (plain c) refl (is_escaped_by_run cs)
     on false e ih =
         let l : length (c ∷ cs) < length (escape_byte c ++ escape_html cs) = omega (arith, length-append (escape_byte c) (escape_html cs), longer_byte c e, escape_longer cs) in
         eqb-zero-suc (length cs) ∙ sym (same_longer (c ∷ cs) (escape_byte c ++ escape_html cs) l)
+
+pub is_escaped_by_all : (s : Bytes) → all plain s ≡ same s (escape_html s)
+is_escaped_by_all s = sym (run_is_all plain s) ∙ is_escaped_by_run s
 
 -- ---- neither `<` nor `>` is written
 

@@ -1,19 +1,23 @@
 -- Laws of lines: where the first line ends by a search for LF, and how a walk from line to line goes through `lines`.
 -- Main statements: `line_none`, `line_last`, `line_cr`, `line_no_cr` for `line_at`; `lines_cons`, `line_cut` for its callers.
 -- Assumes nothing.
-use mathlib.Core.Path.{◌≡◌, refl, sym, ap, ◌∙◌}
+use mathlib.Core.Path.{◌≡◌, refl, sym, ap, subst, ◌∙◌}
 use mathlib.Core.Bool.{Bool, true, false, ◌&&◌, ◌||◌, not, false≢true, and-false}
 use Prim.Native.Nat.{ℕ, zero, suc, ◌+◌, ◌-◌, ◌≤◌, ◌<◌}
 use native.Mathlib.Nat.{le_of_suc-le-suc, not-suc-le-zero}
 use native.Mathlib.Omega.{arith}
 use mathlib.Core.List.{List, [], ◌∷◌}
-use lib.Dec.{eqb}
+use lib.Dec.{eqb, ltb}
 use lib.ListN.{length, get_or, take, drop, length-drop, drop_of_length-le}
-use lib.Seq.{drop-cons, drop-drop, get_or-drop}
+use lib.Seq.{drop-cons, drop-drop, get_or-drop, length-take-le}
 use borrow.Author.Tests.{eq-eqb, ne_eqb, not-true, not-false}
 use Rattle.field.specs.Bytes.{Bytes, pick}
-use Rattle.text.specs.Lines.{starts_with_lf, onto_first, lines, line_length, line_width, line_at}
+use Rattle.text.specs.Lines.{starts_with_lf, onto_first, lines, line_length, line_width, line_at, ReadsLine}
 use Rattle.text.specs.declared.lines.Line.{Line}
+use Rattle.text.specs.declared.lines.TextLine.{TextLine}
+use Rattle.std.specs.Prelude.{Some, None}
+use Rattle.text.specs.Text.{trimmed}
+use Rattle.text.specs.Trim.{trim_start}
 use Rattle.text.specs.Runs.{run, not_lf}
 use Rattle.text.proofs.RunLaws.{run_zero, run_suc, scan_le, scan_on}
 
@@ -222,3 +226,37 @@ line_cut {r} s at h e =
       within = omega (arith, width_le t);
       cut = rw (d, en) (lines_cons t (omega arith) ∙ rw drop-drop);
     }
+
+-- ---- a line that a reader gives
+
+pub record Read (s : Bytes) (at next : ℕ) (l : TextLine) : Type 0 where
+  pub end : ℕ
+  pub cut : Cut s at end next
+  pub text_is : l.text.now ≡ take (end - at) (drop at s)
+  pub before_is : l.has_before ≡ ltb 0 at
+  pub behind_is : l.has_behind ≡ ltb next (length s)
+
+-- t is what the reader holds
+pub line_read : {l : TextLine} {t : Bytes} (s : Bytes) (at next : ℕ) → t ≡ s → ReadsLine t at (Some l) next → Read s at next l
+line_read {l} s at next e h = let k = subst (λ (x : Bytes). ReadsLine x at (Some l) next) e h in
+    record {
+      end = (line_at s at).end;
+      cut = subst (λ (n : ℕ). Cut s at (line_at s at).end n) (sym k.4) (line_cut s at k.0 refl);
+      text_is = k.1;
+      before_is = k.2;
+      behind_is = k.3;
+    }
+
+pub none_read : {t : Bytes} (s : Bytes) (at next : ℕ) → t ≡ s → ReadsLine t at None next → length s ≤ at
+none_read s at next e h = omega (arith, ap (λ (x : Bytes). length x) e, h.0)
+
+pub read_trimmed : {s : Bytes} {at next : ℕ} {l : TextLine} {t : Bytes} (last : Bool) (k : Read s at next l) → t ≡ trimmed l.has_before (l.has_behind || last) l.text.now → t ≡ trimmed (ltb 0 at) (ltb next (length s) || last) (take (k.end - at) (drop at s))
+read_trimmed last k e = rw (k.before_is, k.behind_is, k.text_is) at e
+
+pub read_front : {s : Bytes} {at next : ℕ} {l : TextLine} {t : Bytes} (k : Read s at next l) → t ≡ trim_start l.text.now → t ≡ trim_start (take (k.end - at) (drop at s))
+read_front k e = rw k.text_is at e
+
+pub read_empty : {s : Bytes} {at next : ℕ} {l : TextLine} (k : Read s at next l) → length l.text.now ≡ 0 → k.end ≡ at
+read_empty {s} {at} k h =
+    let n : k.end - at ≤ length (drop at s) = omega (arith, length-drop at s, k.cut) in
+    omega (arith, h, ap (λ (x : Bytes). length x) k.text_is, length-take-le (k.end - at) (drop at s) n, k.cut)

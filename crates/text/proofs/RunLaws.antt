@@ -8,6 +8,7 @@ use native.Mathlib.Nat.{le_of_suc-le-suc, not-suc-le-zero}
 use native.Mathlib.Numerals.{add-one}
 use native.Mathlib.Omega.{arith}
 use mathlib.Core.List.{[], ◌∷◌, ◌++◌}
+use lib.Dec.{eqb, eqb-suc-suc, eqb-zero-suc}
 use lib.ListN.{length, get_or, take, drop, length-drop, take-append-drop, drop_of_length-le}
 use lib.Seq.{take-suc, take_all, take-length, drop-cons, drop-drop, get_or-drop}
 use Rattle.field.specs.Bytes.{Bytes, pick}
@@ -185,3 +186,20 @@ all_last p s i k h l w q =
     both true b ea eb f = sym (f ea) ∙ eb
     both false false ea eb f = refl
     both false true ea eb f = sym ea ∙ all_drop p (length s - k) s eb
+
+-- all bytes pass where the run is the whole text
+pub run_is_all : (p : ℕ → Bool) (t : Bytes) → eqb (run p t) (length t) ≡ all p t
+unfolding run all
+run_is_all p [] = refl
+run_is_all p (c ∷ cs) = on (p c) (run_is_all p cs)
+  where
+    on : (b : Bool) → eqb (run p cs) (length cs) ≡ all p cs → eqb (pick b (suc (run p cs)) 0) (suc (length cs)) ≡ (b && all p cs)
+    on true e = rw (eqb-suc-suc, e)
+    on false e = eqb-zero-suc (length cs)
+
+-- a block of k bytes, and the last k, as slices
+pub block_is : {r : Bool} (p : ℕ → Bool) (s : Bytes) (i k : ℕ) → r ≡ all p (take (i + k - i) (drop i s)) → r ≡ all p (take k (drop i s))
+block_is p s i k e = let h : i + k - i ≡ k = omega arith in rw h at e
+
+pub last_is : {r : Bool} (p : ℕ → Bool) (s : Bytes) (k : ℕ) → k ≤ length s → r ≡ all p (take (length s - (length s - k)) (drop (length s - k) s)) → r ≡ all p (take k (drop (length s - k) s))
+last_is p s k l e = let h : length s - (length s - k) ≡ k = omega arith in rw h at e

@@ -1,7 +1,10 @@
 -- Laws of a text that is written piece by piece: each piece has room where the whole has; and of bytes stored one by one.
 -- Main statements: `room_for`, `wrote_more`; `store_four`, `store_five`, `store_six`.
 -- Assumes nothing.
-use mathlib.Core.Path.{◌≡◌, ap, ◌∙◌}
+use mathlib.Core.Path.{◌≡◌, sym, ap, ◌∙◌}
+use mathlib.Core.Bool.{Bool, true, false, false≢true}
+use lib.Dec.{eqb}
+use borrow.Author.Tests.{eqb-true, eq-eqb}
 use Prim.Native.Nat.{ℕ, ◌+◌, ◌≤◌, ◌<◌}
 use native.Mathlib.Omega.{arith}
 use mathlib.Core.List.{[], ◌∷◌, ◌++◌}
@@ -28,3 +31,10 @@ store_five o at a b c d e h = ap {B = Bytes} (λ x. set x (at + 4) e) (store_fou
 
 pub store_six : (o : Bytes) (at a b c d e f : ℕ) → at + 6 ≤ length o → set (set (set (set (set (set o at a) (at + 1) b) (at + 2) c) (at + 3) d) (at + 4) e) (at + 5) f ≡ put o at (a ∷ b ∷ c ∷ d ∷ e ∷ f ∷ [])
 store_six o at a b c d e f h = ap {B = Bytes} (λ x. set x (at + 5) f) (store_five o at a b c d e (omega arith)) ∙ store_more o at (a ∷ b ∷ c ∷ d ∷ e ∷ []) f (omega arith)
+
+-- what `is_empty` says of a length
+pub empty_is : {b : Bool} (n : ℕ) → b ≡ eqb n 0 → b ≡ true → n ≡ 0
+empty_is n e h = eqb-true n 0 (sym e ∙ h)
+
+pub filled_is : {b : Bool} (n : ℕ) → b ≡ eqb n 0 → b ≡ false → n ≡ 0 → ⊥
+filled_is n e h z = false≢true (sym (sym e ∙ h) ∙ eq-eqb n 0 z)

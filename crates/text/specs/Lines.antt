@@ -1,7 +1,8 @@
 -- str::lines, and the line at a place of a text. Assumes nothing: these are definitions.
-use Rattle.std.specs.Prelude.{ℕ, suc, ◌+◌, Bool, false, ◌&&◌, ◌||◌, List, [], ◌∷◌, eqb, drop}
+use Rattle.std.specs.Prelude.{◌≡◌, ℕ, suc, ◌+◌, ◌-◌, ◌≤◌, ◌<◌, Bool, false, ◌&&◌, ◌||◌, List, [], ◌∷◌, eqb, ltb, length, take, drop, Option, Some, None}
 use Rattle.field.specs.Bytes.{Bytes, pick}
 use Rattle.text.specs.declared.lines.Line.{Line}
+use Rattle.text.specs.declared.lines.TextLine.{TextLine}
 
 abbrev pub starts_with_lf : Bytes → Bool
 starts_with_lf [] = false
@@ -34,3 +35,9 @@ line_width (c ∷ cs) = pick (eqb c 10) 1 (suc (line_width cs))
 -- where the line that begins at a place of s ends, and where the next one begins
 unfoldable pub line_at : Bytes → ℕ → Line
 line_at s at = record { end = at + line_length (drop at s); next = at + line_width (drop at s) }
+
+-- what a reader at a place of s gives: the line there, whether others stand before and behind it, and the place of the next one
+abbrev pub ReadsLine : Bytes → ℕ → Option TextLine → ℕ → Type 0
+ReadsLine s at None next = (length s ≤ at) × (next ≡ at)
+ReadsLine s at (Some l) next =
+    (at < length s) × (l.text.now ≡ take ((line_at s at).end - at) (drop at s)) × (l.has_before ≡ ltb 0 at) × (l.has_behind ≡ ltb next (length s)) × (next ≡ (line_at s at).next)

@@ -1,4 +1,4 @@
-// The text of a JSX text child (jsx_text_to_str) and an attribute string of a call (normalize_lit_str). Both walk the lines by read_line
+// The text of a JSX text child (jsx_text_to_str) and an attribute string of a call (normalize_lit_str). Both walk the lines
 // and write each line as it comes, so that no text is held in between.
 ghost use Rattle.std.specs.Prelude.{◌≡◌, false, ◌+◌, ◌<◌, ◌≤◌, ◌^◌, length, take, drop};
 ghost use Rattle.field.specs.Bytes.{null?};
@@ -8,7 +8,8 @@ ghost use Rattle.text.specs.Lines.{starts_with_lf};
 ghost use Rattle.text.specs.Runs.{all, indent, kept_line, spaced_line};
 
 use crate::escape::put_escaped;
-use crate::lines::read_line;
+use crate::lines::Lines;
+use crate::runs::{Class, is_run};
 use crate::trim::{trim_end, trim_start};
 use field::writer::{put_byte, put_bytes};
 
@@ -43,7 +44,7 @@ fn put_kept_line(out: &mut [u8], at: usize, s: &[u8], escape: bool, later: bool)
     requires { at + length (escape_if escape (kept_line later s.now)) < 2 ^ 63 }
     ensures { Wrote out.old at (escape_if escape (kept_line later s.now)) out.new result }
 {
-    if s.len() == 0 {
+    if s.is_empty() {
         return at;
     }
     if later {
@@ -53,58 +54,28 @@ fn put_kept_line(out: &mut [u8], at: usize, s: &[u8], escape: bool, later: bool)
     put_text(out, at, s, escape)
 }
 
-// No short-circuit, as in is_plain.
-fn is_indent_byte(b: u8) -> bool
-    ensures { result ≡ indent b }
-{
-    (b == b' ') | (b == b'\n')
-}
+// A space, or an LF.
+struct Indent;
 
-fn is_indent_block(s: &[u8], at: usize) -> bool
-    requires { at + 8 ≤ length s.now }
-    ensures { result ≡ all indent (take 8 (drop at s.now)) }
-{
-    let mut is = true;
-    let mut k: usize = 0;
-    while k < 8 {
-        is = is & is_indent_byte(s[at + k]);
-        k += 1;
+impl Class for Indent {
+    ghost holds = { indent };
+
+    fn has(b: u8) -> bool {
+        (b == b' ') | (b == b'\n')
     }
-    is
 }
 
 // Whether s is spaces and LFs alone, as most texts between tags are.
 fn is_indent(s: &[u8]) -> bool
     ensures { result ≡ all indent s.now }
 {
-    let n = s.len();
-    let mut i: usize = 0;
-    while 8 <= n - i {
-        if !is_indent_block(s, i) {
-            return false;
-        }
-        i += 8;
-    }
-    // fewer than eight are left: the last eight, some of them anew
-    if 8 <= n {
-        return is_indent_block(s, n - 8);
-    }
-    while i < n {
-        if !is_indent_byte(s[i]) {
-            return false;
-        }
-        i += 1;
-    }
-    true
+    is_run::<Indent, 8>(s)
 }
 
 fn starts_with_lf(s: &[u8]) -> bool
     ensures { result ≡ starts_with_lf s.now }
 {
-    if s.len() == 0 {
-        return false;
-    }
-    s[0] == b'\n'
+    matches!(s, [b'\n', ..])
 }
 
 pub fn jsx_text_to_str(out: &mut [u8], at: usize, s: &[u8], escape: bool, last: bool) -> usize
@@ -117,19 +88,12 @@ pub fn jsx_text_to_str(out: &mut [u8], at: usize, s: &[u8], escape: bool, last: 
             return at;
         }
     }
-    let n = s.len();
+    let mut lines = Lines::new(s);
     let mut a = at;
-    let mut i: usize = 0;
-    while i < n {
-        let line = read_line(s, i);
-        let end = line.end;
-        let next = line.next;
-        if end == i {
-            i = next;
-        } else {
-            let t = trim_line(&s[i..end], 0 < i, (next < n) | last);
+    while let Some(line) = lines.next_line() {
+        if !line.text.is_empty() {
+            let t = trim_line(line.text, line.has_before, line.has_behind | last);
             a = put_kept_line(out, a, t, escape, at < a);
-            i = next;
         }
     }
     a
@@ -138,20 +102,14 @@ pub fn jsx_text_to_str(out: &mut [u8], at: usize, s: &[u8], escape: bool, last: 
 fn is_blank_by_lines(s: &[u8], last: bool) -> bool
     ensures { result ≡ null? (jsx_text_to_str s.now false last) }
 {
-    let n = s.len();
-    let mut i: usize = 0;
-    while i < n {
-        let line = read_line(s, i);
-        let end = line.end;
-        let next = line.next;
-        if end == i {
-            i = next;
-        } else {
-            let left = trim_line(&s[i..end], 0 < i, (next < n) | last);
-            if 0 < left.len() {
-                return false;
-            }
-            i = next;
+    let mut lines = Lines::new(s);
+    while let Some(line) = lines.next_line() {
+        if line.text.is_empty() {
+            continue;
+        }
+        let t = trim_line(line.text, line.has_before, line.has_behind | last);
+        if !t.is_empty() {
+            return false;
         }
     }
     true
@@ -161,18 +119,15 @@ fn is_blank_by_lines(s: &[u8], last: bool) -> bool
 pub fn is_blank(s: &[u8], last: bool) -> bool
     ensures { result ≡ null? (jsx_text_to_str s.now false last) }
 {
-    if s.len() == 0 {
+    let [c, ..] = s else {
         return true;
-    }
-    let c = s[0];
+    };
     // the first line keeps its front, so that a letter there stays
-    if (b' ' < c) & (c < 0x80) {
+    if (b' ' < *c) & (*c < 0x80) {
         return false;
     }
-    if c == b'\n' {
-        if is_indent(s) {
-            return true;
-        }
+    if *c == b'\n' && is_indent(s) {
+        return true;
     }
     is_blank_by_lines(s, last)
 }
@@ -193,16 +148,11 @@ pub fn normalize_lit_str(out: &mut [u8], at: usize, s: &[u8]) -> usize
     requires { at + length (normalize_lit_str s.now) < 2 ^ 63 }
     ensures { Wrote out.old at (normalize_lit_str s.now) out.new result }
 {
-    let n = s.len();
+    let mut lines = Lines::new(s);
     let mut a = at;
-    let mut i: usize = 0;
-    while i < n {
-        let line = read_line(s, i);
-        let end = line.end;
-        let next = line.next;
-        let t = trim_line(&s[i..end], true, false);
-        a = put_spaced_line(out, a, t, 0 < i);
-        i = next;
+    while let Some(line) = lines.next_line() {
+        let t = trim_line(line.text, true, false);
+        a = put_spaced_line(out, a, t, line.has_before);
     }
     a
 }

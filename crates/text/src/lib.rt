@@ -7,4 +7,5 @@ pub mod decimal;
 pub mod escape;
 pub mod jsx_text;
 pub mod lines;
+pub mod runs;
 pub mod trim;

@@ -94,14 +94,12 @@ fn skip_spaces(s: &[u8], at: usize) -> usize
     requires { at ≤ length s.now }
     ensures { result ≡ at + run is_space (drop at s.now) }
 {
-    let mut i = at;
-    while i < s.len() {
+    for i in at..s.len() {
         if s[i] != b' ' {
             return i;
         }
-        i += 1;
     }
-    i
+    s.len()
 }
 
 pub fn trim_start(s: &[u8]) -> &[u8]

@@ -12,11 +12,9 @@ use Rattle.field.specs.Row.{Row, read, bytes, long_body}
 use Rattle.field.specs.Put.{put}
 use Rattle.page.specs.Page.{Options}
 use Rattle.page.specs.Tree.{options_in, source_in}
-use Rattle.page.specs.Refusal.{after, unless}
+use Rattle.page.specs.Refusal.{Verdict, Fine, Refused, after, unless}
 use Rattle.page.specs.declared.Refusal.{Refusal}
 use Rattle.page.specs.declared.Refusal.TheVariants as R
-use Rattle.page.specs.declared.Verdict.{Verdict}
-use Rattle.page.specs.declared.Verdict.TheVariants.{Fine, Refused}
 use Rattle.spec.specs.Pass.{Done}
 use Rattle.spec.specs.Transform.{transform, templates_row, page_out_row}
 use Rattle.spec.specs.Answer.{Written, Outcome, refused, accepted, check_outputs, decided, transformed, check_inputs, page_given, outcome, number, bytes_of_templates, bytes_of_page, templates, zeros, templates_left, page_left, scratch_left}
@@ -26,7 +24,9 @@ use Rattle.strings.proofs.RecordedLaws.{recorded_fits}
 use Rattle.walk.specs.declared.state.Walk.{Walk}
 use Rattle.walk.specs.See.{World, at}
 use Rattle.transform.specs.declared.Answer.{Answer}
-use Rattle.transform.specs.Run.{Answers, written_page, verdict_of}
+use Rattle.strings.specs.declared.due.Due.{Due}
+use Rattle.strings.specs.declared.due.Due.TheVariants as D
+use Rattle.transform.specs.Run.{due_verdict, Answers, written_page, verdict_of}
 use Rattle.transform.proofs.WrittenLaws.{verdict_is}
 use Rattle.transform.proofs.PageLaws.{source_short}
 
@@ -67,14 +67,19 @@ module _ (w : Walk) (tr pr : ℕ) (b : Bytes) where
   checked : (c : Bool) (q : Refusal) → Cleared q → (n : Refusal) → unless c q ≡ Refused n → Cleared n
   checked c q x n h = unless_one Cleared c q x h
 
+  due_cleared : (x : Due) (n : Refusal) → due_verdict x ≡ Refused n → Cleared n
+  unfolding scratch_left
+  due_cleared D.Nothing n h = absurd (let z : ◌≡◌ {A = ℕ} 0 1 = cc in omega arith)
+  due_cleared D.Long n h = let e : R.OutputTooLong ≡ n = cc in subst Cleared e refl
+  due_cleared D.Mixed n h = let e : R.MixedCaseVoid ≡ n = cc in subst Cleared e refl
+  due_cleared D.Repeated n h = let e : R.RepeatedAttribute ≡ n = cc in subst Cleared e refl
+  due_cleared D.Left n h = let e : R.TagLeft ≡ n = cc in subst Cleared e refl
+
   cleared : {r : Refusal} → verdict_of w tr pr ≡ Refused r → Cleared r
   unfolding scratch_left
   cleared {r} h =
-      after_one Cleared _ _ (checked (not (eqb w.seen.due 4)) R.TagLeft refl)
-      (after_one Cleared _ _ (checked (not (eqb w.seen.due 3)) R.RepeatedAttribute refl)
-      (after_one Cleared _ _ (checked (not (eqb w.seen.due 2)) R.MixedCaseVoid refl)
-      (after_one Cleared _ _ (checked (not (eqb w.seen.due 1)) R.OutputTooLong refl)
-      (after_one Cleared _ _ (checked (leb w.templates tr) R.TemplatesTooSmall refl) (unless_one Cleared (leb w.page pr) R.PageTooSmall refl)))))
+      after_one Cleared _ _ (due_cleared w.seen.due)
+      (after_one Cleared _ _ (checked (leb w.templates tr) R.TemplatesTooSmall refl) (unless_one Cleared (leb w.page pr) R.PageTooSmall refl))
       h
 
 holds : (b : Bool) → T b → b ≡ true

@@ -17,19 +17,17 @@ use Rattle.field.proofs.FrontLaws.{read_nest, leaf_at, nest_at}
 use Rattle.page.specs.Page as P
 use Rattle.page.specs.Tree.{choose, texts_in, element_in, attributes_in, children_in, pieces_in, module_item_by, module_items_in, listed_in, source_in, works_sums}
 use Rattle.page.specs.Check.{check_page, check_options}
-use Rattle.page.specs.Refusal.{unless, after}
+use Rattle.page.specs.Refusal.{Verdict, Fine, Refused, unless, after}
 use Rattle.page.specs.declared.Refusal.{Refusal}
 use Rattle.page.specs.declared.Refusal.TheVariants as R
 use Rattle.page.specs.contracts.Refusal.{the_type}
-use Rattle.page.specs.declared.Verdict.{Verdict}
-use Rattle.page.specs.declared.Verdict.TheVariants.{Fine, Refused}
 use Rattle.spec.specs.Transform as T
 use Rattle.spec.specs.Answer.{refused, zeros, scratch_left, check_inputs}
 use Rattle.decisions.specs.At.{opts, element_name, behind_name, element_at, serializable}
 use Rattle.decisions.proofs.Series.{ended, any_field, pieces_none, pieces_30, pieces_31, pieces_20, pieces_other, fragment_is, tested}
 use Rattle.decisions.proofs.Laws.{element_serializable}
 use Rattle.walk.specs.declared.state.Walk.{Walk}
-use Rattle.transform.specs.Run.{has_statement, items_from, has_html, piece_html, tag_html, verdict_of}
+use Rattle.transform.specs.Run.{has_statement, items_from, has_html, piece_html, tag_html, due_verdict, verdict_of}
 
 -- ---- 1 to 8
 
@@ -60,42 +58,27 @@ module _ (page options : Bytes) (n : ℕ) where
 -- ---- 10 to 13
 
 module _ (w : Walk) (tr pr : ℕ) where
-  pub outputs_left : w.seen.due ≡ 4 → Refused R.TagLeft ≡ verdict_of w tr pr
+  pub outputs_due : {r : Refusal} → due_verdict w.seen.due ≡ Refused r → Refused r ≡ verdict_of w tr pr
   unfolding after
-  outputs_left b = rw (eq-eqb w.seen.due 4 b)
+  outputs_due b = rw b
 
-  module _ (b : w.seen.due ≡ 4 → ⊥) where
-    pub outputs_repeated : w.seen.due ≡ 3 → Refused R.RepeatedAttribute ≡ verdict_of w tr pr
+  module _ (b : due_verdict w.seen.due ≡ Fine) where
+    room_left : after (unless (leb w.templates tr) R.TemplatesTooSmall) (λ _. unless (leb w.page pr) R.PageTooSmall) ≡ verdict_of w tr pr
     unfolding after
-    outputs_repeated c = rw (ne_eqb w.seen.due 4 b, eq-eqb w.seen.due 3 c)
+    room_left = rw b
 
-    module _ (c : w.seen.due ≡ 3 → ⊥) where
-      pub outputs_mixed : w.seen.due ≡ 2 → Refused R.MixedCaseVoid ≡ verdict_of w tr pr
+    pub outputs_templates : tr < w.templates → Refused R.TemplatesTooSmall ≡ verdict_of w tr pr
+    unfolding after
+    outputs_templates f = (let z : Refused R.TemplatesTooSmall ≡ after (unless (leb w.templates tr) R.TemplatesTooSmall) (λ _. unless (leb w.page pr) R.PageTooSmall) = rw (lt-leb w.templates tr f) in z) ∙ room_left
+
+    module _ (f : w.templates ≤ tr) where
+      pub outputs_page : pr < w.page → Refused R.PageTooSmall ≡ verdict_of w tr pr
       unfolding after
-      outputs_mixed d = rw (ne_eqb w.seen.due 4 b, ne_eqb w.seen.due 3 c, eq-eqb w.seen.due 2 d)
+      outputs_page g = (let z : Refused R.PageTooSmall ≡ after (unless (leb w.templates tr) R.TemplatesTooSmall) (λ _. unless (leb w.page pr) R.PageTooSmall) = rw (le-leb w.templates tr f, lt-leb w.page pr g) in z) ∙ room_left
 
-      module _ (d : w.seen.due ≡ 2 → ⊥) where
-        pub outputs_long : w.seen.due ≡ 1 → Refused R.OutputTooLong ≡ verdict_of w tr pr
-        unfolding after
-        outputs_long e = rw (ne_eqb w.seen.due 4 b, ne_eqb w.seen.due 3 c, ne_eqb w.seen.due 2 d, eq-eqb w.seen.due 1 e)
-
-        module _ (e : w.seen.due ≡ 1 → ⊥) where
-          room_left : after (unless (leb w.templates tr) R.TemplatesTooSmall) (λ _. unless (leb w.page pr) R.PageTooSmall) ≡ verdict_of w tr pr
-          unfolding after
-          room_left = rw (ne_eqb w.seen.due 4 b, ne_eqb w.seen.due 3 c, ne_eqb w.seen.due 2 d, ne_eqb w.seen.due 1 e)
-
-          pub outputs_templates : tr < w.templates → Refused R.TemplatesTooSmall ≡ verdict_of w tr pr
-          unfolding after
-          outputs_templates f = (let z : Refused R.TemplatesTooSmall ≡ after (unless (leb w.templates tr) R.TemplatesTooSmall) (λ _. unless (leb w.page pr) R.PageTooSmall) = rw (lt-leb w.templates tr f) in z) ∙ room_left
-
-          module _ (f : w.templates ≤ tr) where
-            pub outputs_page : pr < w.page → Refused R.PageTooSmall ≡ verdict_of w tr pr
-            unfolding after
-            outputs_page g = (let z : Refused R.PageTooSmall ≡ after (unless (leb w.templates tr) R.TemplatesTooSmall) (λ _. unless (leb w.page pr) R.PageTooSmall) = rw (le-leb w.templates tr f, lt-leb w.page pr g) in z) ∙ room_left
-
-            pub outputs_fine : w.page ≤ pr → Fine ≡ verdict_of w tr pr
-            unfolding after
-            outputs_fine g = (let z : Fine ≡ after (unless (leb w.templates tr) R.TemplatesTooSmall) (λ _. unless (leb w.page pr) R.PageTooSmall) = rw (le-leb w.templates tr f, le-leb w.page pr g) in z) ∙ room_left
+      pub outputs_fine : w.page ≤ pr → Fine ≡ verdict_of w tr pr
+      unfolding after
+      outputs_fine g = (let z : Fine ≡ after (unless (leb w.templates tr) R.TemplatesTooSmall) (λ _. unless (leb w.page pr) R.PageTooSmall) = rw (le-leb w.templates tr f, le-leb w.page pr g) in z) ∙ room_left
 
 -- ---- what is left of scratch
 

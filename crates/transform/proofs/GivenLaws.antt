@@ -15,7 +15,7 @@ use Rattle.page.specs.Page.{Options, Page}
 use Rattle.page.specs.Tree.{choose, page_in, works_sums, options_in}
 use Rattle.page.specs.Check.{check_page}
 use Rattle.page.specs.declared.Refusal.TheVariants as R
-use Rattle.page.specs.declared.Verdict.TheVariants.{Fine}
+use Rattle.page.specs.Refusal.{Fine}
 use Rattle.page.proofs.Verdicts.{refused, after_fine, header_fine}
 use Rattle.worked.specs.Row.{field_sum, number_or, worked_row, worked_bytes}
 use Rattle.worked.proofs.Exact.{worked_bound, read_worked, buffer_fits, buffer_part, buffer_bytes, buffer_worked}

@@ -5,6 +5,7 @@ pub mod MoveLaws
 pub mod HeadLaws
 pub mod WrittenLaws
 pub mod ExportLaws
+pub mod OptionLaws
 pub mod ItemLaws
 pub mod PageLaws
 pub mod GivenLaws

@@ -33,6 +33,7 @@ use Rattle.spec.proofs.PageOut.{templates_related}
 use Rattle.decisions.specs.At.{opts}
 use Rattle.decisions.specs.Index.{names_of}
 use Rattle.strings.specs.Due.{graver, long_due, grave}
+use Rattle.strings.specs.declared.due.Due.{Due}
 use Rattle.strings.specs.Recorded.{recorded}
 use Rattle.strings.proofs.DueLaws.{none_graver}
 use Rattle.walk.specs.declared.state.Walk.{Walk}
@@ -290,7 +291,7 @@ place_alike ts r = record { jsx_alike = place_stands 0x94 refl ts r; attr_alike 
 -- ---- the state behind the walk
 
 -- what is due by the flags of a result and by the bodies of that row
-abbrev due_of : Done Row → Row → ℕ
+abbrev due_of : Done Row → Row → Due
 due_of d r = graver (grave d.flags) (long_due (long_body (templates_row d.templates) || long_body r))
 
 -- from q on, over a result of that row
@@ -315,14 +316,14 @@ world d r q t p = at (recorded d.templates t 0) (put p q (bytes r)) (walked d r 
 
 wrote_walked : (d : Done Row) (r : Row) (q : ℕ) (t p : Bytes) → Alike r d.value → wrote (valued r d) (at t p (started q)) ≡ world d r q t p
 wrote_walked d r q t p a =
-    ap₂ (λ (k n : ℕ). noted k (stands 0x94 r) (stands 0x91 r) (stands 0x92 r) n) (zero-add (length (bytes (templates_row d.templates)))) (none_graver (due_of d r))
+    ap₂ (λ (k : ℕ) (n : Due). noted k (stands 0x94 r) (stands 0x91 r) (stands 0x92 r) n) (zero-add (length (bytes (templates_row d.templates)))) (none_graver (due_of d r))
     ∙ ap₂ (λ (x y : Bool). noted size x y (stands 0x92 r) (due_of d r)) a.jsx_alike a.attr_alike
     ∙ ap₂ (λ (x l : Bool). noted size (stands 0x94 d.value) (stands 0x91 d.value) x (graver (grave d.flags) (long_due (long_body (templates_row d.templates) || l)))) a.escape_alike a.long_alike
   where
     size : ℕ
     size = length (bytes (templates_row d.templates))
 
-    noted : ℕ → (x y z : Bool) → ℕ → World
+    noted : ℕ → (x y z : Bool) → Due → World
     noted k x y z n =
         at (recorded d.templates t 0) (put p q (bytes r))
         (record {

@@ -13,9 +13,8 @@ use Rattle.field.specs.Row.{Row, end, loose, field, bytes, long_body}
 use Rattle.field.specs.Put.{put}
 use Rattle.field.proofs.RowLaws.{length_bytes}
 use Rattle.page.specs.Page.{Options, Page}
-use Rattle.page.specs.Refusal.{unless, after}
+use Rattle.page.specs.Refusal.{Verdict, unless, after}
 use Rattle.page.specs.declared.Refusal.TheVariants as R
-use Rattle.page.specs.declared.Verdict.{Verdict}
 use Rattle.page.specs.Tree.{listed_in, source_in, options_in}
 use Rattle.spec.specs.Pass.{Done}
 use Rattle.spec.specs.Transform.{stands, helper_sum, with_import, with_templates, templates_row, page_out_row, transform}
@@ -23,12 +22,14 @@ use Rattle.spec.specs.Answer.{check_outputs}
 use Rattle.spec.proofs.PageOut.{import_row, import_related}
 use Rattle.decisions.specs.At.{opts}
 use Rattle.decisions.specs.Index.{names_of}
-use Rattle.strings.specs.Due.{graver, due_if, long_due, grave}
+use Rattle.strings.specs.Due.{graver, gravity, due_if, long_due, grave}
+use Rattle.strings.specs.declared.due.Due.{Due}
+use Rattle.strings.specs.declared.due.Due.TheVariants as D
 use Rattle.strings.specs.Recorded.{recorded}
 use Rattle.strings.proofs.DueLaws.{graver_left, none_graver, graver_assoc, long_then}
 use Rattle.walk.specs.declared.state.Walk.{Walk}
 use Rattle.walk.specs.See.{World, at, see, to_page}
-use Rattle.transform.specs.Run.{module_mid, has_statement, items_mid, started, sum_of, import_bytes, headed, Headed, written_page, verdict_of}
+use Rattle.transform.specs.Run.{module_mid, has_statement, items_mid, started, sum_of, import_bytes, headed, Headed, written_page, due_verdict, verdict_of}
 use Rattle.transform.proofs.RunLaws.{called_sum, import_free, walked, world, items_walked, module_walked, walked_sum, import_length, import_first, page_put, place_long}
 use Rattle.transform.proofs.CutLaws.{Cut, first_part, second_part, cut_between, cut_before}
 use Rattle.transform.proofs.HeadLaws.{headed_row}
@@ -130,31 +131,27 @@ unfolding page_out_row
 page_long o d h = import_short o.import_source (helper_sum d.value) (placed_row d) h ∙ place_long d.templates d.value
 
 -- what is due, the gravest first: the first flag that is raised
-above : (k : ℕ) (x : Bool) (n : ℕ) → n ≤ k → graver (due_if k x) n ≡ pick x k n
+above : (k : Due) (x : Bool) (n : Due) → gravity n ≤ gravity k → graver (due_if k x) n ≡ pick x k n
 above k true n h = graver_left k n h
 above k false n h = none_graver n
 
-within : (x : Bool) (j n : ℕ) {k : ℕ} → j ≤ k → n ≤ k → pick x j n ≤ k
+within : (x : Bool) (j n : Due) {k : ℕ} → gravity j ≤ k → gravity n ≤ k → gravity (pick x j n) ≤ k
 within true j n p q = p
 within false j n p q = q
 
 module _ (x r m l : Bool) where
-  abbrev gravest : ℕ
-  gravest = pick x 4 (pick r 3 (pick m 2 (long_due l)))
+  abbrev gravest : Due
+  gravest = pick x D.Left (pick r D.Repeated (pick m D.Mixed (long_due l)))
 
-  gravest_is : graver (due_if 4 x) (graver (due_if 3 r) (graver (due_if 2 m) (long_due l))) ≡ gravest
+  gravest_is : graver (due_if D.Left x) (graver (due_if D.Repeated r) (graver (due_if D.Mixed m) (long_due l))) ≡ gravest
   gravest_is =
-      ap (λ (n : ℕ). graver (due_if 4 x) (graver (due_if 3 r) n)) (above 2 m (long_due l) (within l 1 0 (omega arith) (omega arith)))
-      ∙ ap (graver (due_if 4 x)) (above 3 r (pick m 2 (long_due l)) (within m 2 (long_due l) (omega arith) (within l 1 0 (omega arith) (omega arith))))
-      ∙ above 4 x (pick r 3 (pick m 2 (long_due l))) (within r 3 (pick m 2 (long_due l)) (omega arith) (within m 2 (long_due l) (omega arith) (within l 1 0 (omega arith) (omega arith))))
+      ap (λ (n : Due). graver (due_if D.Left x) (graver (due_if D.Repeated r) n)) (above D.Mixed m (long_due l) (within l D.Long D.Nothing (omega arith) (omega arith)))
+      ∙ ap (graver (due_if D.Left x)) (above D.Repeated r (pick m D.Mixed (long_due l)) (within m D.Mixed (long_due l) (omega arith) (within l D.Long D.Nothing (omega arith) (omega arith))))
+      ∙ above D.Left x (pick r D.Repeated (pick m D.Mixed (long_due l))) (within r D.Repeated (pick m D.Mixed (long_due l)) (omega arith) (within m D.Mixed (long_due l) (omega arith) (within l D.Long D.Nothing (omega arith) (omega arith))))
 
 -- the checks by what is due are the checks by the flags
-abbrev by_due : Verdict → ℕ → Verdict
-by_due v n =
-    after (unless (not (eqb n 4)) R.TagLeft) λ _.
-    after (unless (not (eqb n 3)) R.RepeatedAttribute) λ _.
-    after (unless (not (eqb n 2)) R.MixedCaseVoid) λ _.
-    after (unless (not (eqb n 1)) R.OutputTooLong) λ _. v
+abbrev by_due : Verdict → Due → Verdict
+by_due v n = after (due_verdict n) λ _. v
 
 abbrev by_flags : Verdict → (x r m l : Bool) → Verdict
 by_flags v x r m l =
@@ -178,11 +175,11 @@ verdict_is o d t p tr pr h =
     let l = long_body (templates_row d.templates) in
     let v = after (unless (leb (length (bytes (templates_row d.templates))) tr) R.TemplatesTooSmall) (λ _. unless (leb (length (bytes (page_out_row o d))) pr) R.PageTooSmall) in
     let z = l || long_body d.value in
-    let c = due_if 2 f.mixed in
-    let b = due_if 3 f.repeated in
+    let c = due_if D.Mixed f.mixed in
+    let b = due_if D.Repeated f.repeated in
     let e : graver (grave f) (long_due z) ≡ gravest f.left f.repeated f.mixed (f.long || z) =
-    graver_assoc (due_if 4 f.left) (graver b (graver c (long_due f.long))) (long_due z)
-    ∙ ap (graver (due_if 4 f.left)) (graver_assoc b (graver c (long_due f.long)) (long_due z) ∙ ap (graver b) (long_then c f.long z))
+    graver_assoc (due_if D.Left f.left) (graver b (graver c (long_due f.long))) (long_due z)
+    ∙ ap (graver (due_if D.Left f.left)) (graver_assoc b (graver c (long_due f.long)) (long_due z) ∙ ap (graver b) (long_then c f.long z))
     ∙ gravest_is f.left f.repeated f.mixed (f.long || z) in
     ap (by_due v) e ∙ due_told v f.left f.repeated f.mixed (f.long || z)
     ∙ ap (λ (x : Bool). by_flags v f.left f.repeated f.mixed (f.long || (l || x))) (sym (page_long o d h))

@@ -6,15 +6,16 @@ use Rattle.field.specs.Put.{put, head}
 use Rattle.page.specs.Page as P
 use Rattle.page.specs.Page.{Options, Page}
 use Rattle.page.specs.Tree.{pieces_in}
-use Rattle.page.specs.Refusal.{unless, after}
+use Rattle.page.specs.Refusal.{Verdict, Fine, Refused, unless, after}
 use Rattle.page.specs.declared.Refusal.TheVariants as R
-use Rattle.page.specs.declared.Verdict.{Verdict}
 use Rattle.spec.specs.Pass.{Done, Mid, none, node}
 use Rattle.spec.specs.Output.{leaf}
 use Rattle.spec.specs.Transform as T
 use Rattle.spec.specs.Transform.{pieces, templates_row, page_out_row, stands}
 use Rattle.spec.specs.Answer.{Outcome, number, bytes_of_templates, bytes_of_page, templates, templates_left, page_left, scratch_left}
 use Rattle.strings.specs.Due.{graver, long_due, grave}
+use Rattle.strings.specs.declared.due.Due.{Due}
+use Rattle.strings.specs.declared.due.Due.TheVariants as D
 use Rattle.strings.specs.Recorded.{recorded}
 use Rattle.walk.specs.declared.state.Walk.{Walk}
 use Rattle.walk.specs.See.{World, at, to_page}
@@ -91,7 +92,7 @@ has_html o (P.empty_item ∷ is) = has_html o is
 -- ---- the walk over the page
 
 abbrev pub started : ℕ → Walk
-started p = record { first = 1; later = 1; templates = 0; page = p; seen = record { jsx = false; attr = false; escape = false; due = 0 } }
+started p = record { first = 1; later = 1; templates = 0; page = p; seen = record { jsx = false; attr = false; escape = false; due = D.Nothing } }
 
 -- the sum of the helpers called; a template was called where a number was taken
 abbrev pub sum_of : Walk → ℕ
@@ -142,13 +143,18 @@ pub record Ready (page options : Bytes) (scratch : ℕ) : Type 0 where
   pub page_fronted : fronted (read page) ≡ true
   pub options_short : length options ≤ 4096
 
+-- the refusal that is due
+abbrev pub due_verdict : Due → Verdict
+due_verdict D.Nothing = Fine
+due_verdict D.Long = Refused R.OutputTooLong
+due_verdict D.Mixed = Refused R.MixedCaseVoid
+due_verdict D.Repeated = Refused R.RepeatedAttribute
+due_verdict D.Left = Refused R.TagLeft
+
 -- 10, 16, 19, 11, 12 and 13 by the state
 abbrev pub verdict_of : Walk → (templates_room page_room : ℕ) → Verdict
 verdict_of w tr pr =
-    after (unless (not (eqb w.seen.due 4)) R.TagLeft) λ _.
-    after (unless (not (eqb w.seen.due 3)) R.RepeatedAttribute) λ _.
-    after (unless (not (eqb w.seen.due 2)) R.MixedCaseVoid) λ _.
-    after (unless (not (eqb w.seen.due 1)) R.OutputTooLong) λ _.
+    after (due_verdict w.seen.due) λ _.
     after (unless (leb w.templates tr) R.TemplatesTooSmall) λ _.
     unless (leb w.page pr) R.PageTooSmall
 

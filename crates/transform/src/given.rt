@@ -3,23 +3,19 @@
 ghost use Rattle.std.specs.Prelude.{◌≡◌, true, ◌≤◌, length};
 ghost use Rattle.field.specs.Row.{read};
 ghost use Rattle.page.specs.Tree.{page_in, options_in};
-ghost use Rattle.page.specs.declared.Verdict.TheVariants.{Fine};
+ghost use Rattle.page.specs.Refusal.{Fine};
 ghost use Rattle.spec.specs.Answer.{check_inputs, worked_if, page_given};
 ghost use Rattle.spec.specs.Transform.{transform};
 ghost use Rattle.walk.specs.See.{at};
 ghost use Rattle.transform.specs.Run.{written_page, Ready};
 
 use crate::module::write_page;
-use crate::options::works_sums;
+use crate::options::{room, works_sums};
 use walk::state::Walk;
 use worked::work_page;
 
-// Room for a worked page: at most eleven sevenths of 32,768 bytes.
-fn page_room() -> [u8; 51493]
-    ensures { length result ≡ 51493 }
-{
-    [0; 51493]
-}
+// A worked page: at most eleven sevenths of 32,768 bytes.
+const PAGE_ROOM: usize = 51493;
 
 // The page, with its sums worked out where sums is set: it is worked out and written as a page without sums. It has a long frame, and is
 // not merged into its caller.
@@ -37,7 +33,7 @@ fn write_worked<'a>(
     ensures { at templates.new page.new result ≡ written_page (options_in (read options.now)) (transform (options_in (read options.now)) (worked_if sums (page_in (read input.now)))) templates.old page.old }
 {
     if sums {
-        let mut worked = page_room();
+        let mut worked = room::<PAGE_ROOM>();
         let n = work_page(input, &mut worked);
         return write_worked(&worked[..n], options, false, scratch, templates, page);
     }

@@ -3,19 +3,18 @@
 #![tactic(auto)]
 
 ghost use Rattle.std.specs.Prelude.{◌≡◌, length};
-ghost use Rattle.page.specs.Refusal.{refusal_number};
-ghost use Rattle.page.specs.declared.Verdict.TheVariants.{Fine};
-ghost use Rattle.spec.specs.Answer.{outcome, refused, check_inputs, zeros, scratch_left};
-ghost use Rattle.transform.specs.Run.{Answers, verdict_of};
+ghost use Rattle.page.specs.Refusal.{Fine};
+ghost use Rattle.spec.specs.Answer.{outcome, refused, check_inputs, scratch_left};
+ghost use Rattle.transform.specs.Run.{Answers, due_verdict, verdict_of};
 
 mod given;
 mod module;
 mod options;
 
 use given::write_given;
+use page::Refusal;
 use page::whole::{check_options, check_page};
-use page::{Refusal, Verdict};
-use strings::due::{LEFT, LONG, MIXED, REPEATED};
+use strings::due::Due;
 use walk::state::Walk;
 
 #[repr(C)]
@@ -27,80 +26,48 @@ pub struct Answer {
     pub templates: usize,
 }
 
-fn number_of(r: Refusal) -> u32
-    ensures { result ≡ refusal_number r }
-{
-    match r {
-        Refusal::ScratchTooSmall => 1,
-        Refusal::InputTooLong => 2,
-        Refusal::Truncated => 3,
-        Refusal::Misplaced => 4,
-        Refusal::BadName => 5,
-        Refusal::NotUtf8 => 6,
-        Refusal::NumberTooLarge => 7,
-        Refusal::TooDeep => 8,
-        Refusal::TagLeft => 10,
-        Refusal::RepeatedAttribute => 16,
-        Refusal::MixedCaseVoid => 19,
-        Refusal::OutputTooLong => 11,
-        Refusal::TemplatesTooSmall => 12,
-        Refusal::PageTooSmall => 13,
-    }
-}
-
-fn clear(b: &mut [u8])
-    ensures { b.new ≡ zeros b.old }
-{
-    let mut i: usize = 0;
-    while i < b.len() {
-        b[i] = 0;
-        i += 1;
-    }
-}
-
 // 1 to 8.
-fn check_inputs<'a>(page: &'a [u8], options: &'a [u8], scratch: usize) -> Verdict
+fn check_inputs<'a>(page: &'a [u8], options: &'a [u8], scratch: usize) -> Result<(), Refusal>
     ensures { result ≡ check_inputs page.now options.now scratch }
 {
     if scratch < 65536 {
-        return Verdict::Refused(Refusal::ScratchTooSmall);
+        return Err(Refusal::ScratchTooSmall);
     }
     if 32768 < page.len() {
-        return Verdict::Refused(Refusal::InputTooLong);
+        return Err(Refusal::InputTooLong);
     }
     if 4096 < options.len() {
-        return Verdict::Refused(Refusal::InputTooLong);
+        return Err(Refusal::InputTooLong);
     }
-    match check_options(options) {
-        Verdict::Refused(r) => Verdict::Refused(r),
-        Verdict::Fine => check_page(page),
+    check_options(options)?;
+    check_page(page)
+}
+
+// 10, 16, 19 and 11.
+fn check_due(due: Due) -> Result<(), Refusal>
+    ensures { result ≡ due_verdict due }
+{
+    match due {
+        Due::Nothing => Ok(()),
+        Due::Long => Err(Refusal::OutputTooLong),
+        Due::Mixed => Err(Refusal::MixedCaseVoid),
+        Due::Repeated => Err(Refusal::RepeatedAttribute),
+        Due::Left => Err(Refusal::TagLeft),
     }
 }
 
-// 10, 16, 19 and 11, by what is due; then 12 and 13.
-fn check_outputs(w: Walk, templates_room: usize, page_room: usize) -> Verdict
+// What is due, then 12 and 13.
+fn check_outputs(w: Walk, templates_room: usize, page_room: usize) -> Result<(), Refusal>
     ensures { result ≡ verdict_of w templates_room page_room }
 {
-    let due = w.seen.due;
-    if due == LEFT {
-        return Verdict::Refused(Refusal::TagLeft);
-    }
-    if due == REPEATED {
-        return Verdict::Refused(Refusal::RepeatedAttribute);
-    }
-    if due == MIXED {
-        return Verdict::Refused(Refusal::MixedCaseVoid);
-    }
-    if due == LONG {
-        return Verdict::Refused(Refusal::OutputTooLong);
-    }
+    check_due(w.seen.due)?;
     if templates_room < w.templates {
-        return Verdict::Refused(Refusal::TemplatesTooSmall);
+        return Err(Refusal::TemplatesTooSmall);
     }
     if page_room < w.page {
-        return Verdict::Refused(Refusal::PageTooSmall);
+        return Err(Refusal::PageTooSmall);
     }
-    Verdict::Fine
+    Ok(())
 }
 
 // Scratch is cleared but for 1.
@@ -109,7 +76,7 @@ fn clear_scratch(r: Refusal, scratch: &mut [u8])
 {
     match r {
         Refusal::ScratchTooSmall => {}
-        _ => clear(scratch),
+        _ => scratch.fill(0),
     }
 }
 
@@ -118,10 +85,10 @@ fn refuse(r: Refusal, scratch: &mut [u8], templates: &mut [u8], page: &mut [u8])
     ensures { Answers (refused r) scratch.old templates.old page.old result scratch.new templates.new page.new }
 {
     clear_scratch(r, scratch);
-    clear(templates);
-    clear(page);
+    templates.fill(0);
+    page.fill(0);
     Answer {
-        number: number_of(r),
+        number: u32::from(r),
         templates_bytes: 0,
         page_bytes: 0,
         templates: 0,
@@ -141,9 +108,9 @@ fn transform_checked<'a>(
 {
     let w = write_given(input, options, scratch, templates, page);
     match check_outputs(w, templates.len(), page.len()) {
-        Verdict::Refused(r) => refuse(r, scratch, templates, page),
-        Verdict::Fine => {
-            clear(scratch);
+        Err(r) => refuse(r, scratch, templates, page),
+        Ok(()) => {
+            scratch.fill(0);
             Answer {
                 number: 0,
                 templates_bytes: w.templates,
@@ -164,7 +131,7 @@ pub fn transform<'a>(
     ensures { Answers (outcome page.now options.now (length scratch.old) (length templates_out.old) (length page_out.old)) scratch.old templates_out.old page_out.old result scratch.new templates_out.new page_out.new }
 {
     match check_inputs(page, options, scratch.len()) {
-        Verdict::Refused(r) => refuse(r, scratch, templates_out, page_out),
-        Verdict::Fine => transform_checked(page, options, scratch, templates_out, page_out),
+        Err(r) => refuse(r, scratch, templates_out, page_out),
+        Ok(()) => transform_checked(page, options, scratch, templates_out, page_out),
     }
 }

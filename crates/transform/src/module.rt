@@ -11,14 +11,18 @@ ghost use Rattle.walk.specs.See.{at, see, Low};
 ghost use Rattle.visits.specs.Visiting.{Room};
 ghost use Rattle.transform.specs.Run.{item_mid, place_mid, module_mid, items_mid, has_statement, items_before, items_from, has_html, piece_html, started, import_bytes, sum_of, Headed, written_page, Ready};
 
-use crate::options::{index_room, names_in, put_source, source_len};
+use crate::options::{names_in, room, source};
 use decisions::element::is_serializable;
 use decisions::index::index_names;
 use field::reader::{behind, body, tag_at};
 use field::writer::{put_byte, put_bytes, put_head};
 use records::moves::move_up;
+use strings::due::Due;
 use visits::on_pieces;
 use walk::state::{Seen, Walk, at_page, begin, close, leaf};
+
+// What an index of the names of 02 or 03 takes.
+const INDEX_ROOM: usize = 11608;
 
 // An item with that tag and pieces b.
 fn visit_item<'a>(
@@ -73,28 +77,24 @@ fn visit_module<'a>(
                 let a = put_place(page, cur, due);
                 due = false;
                 cur = visit_item(skip, props, body(t), 0x10, scratch, templates, page, a);
-                let r = behind(t);
-                t = r;
+                t = behind(t);
             }
             0x11 => {
                 cur = visit_item(skip, props, body(t), 0x11, scratch, templates, page, cur);
-                let r = behind(t);
-                t = r;
+                t = behind(t);
             }
             0x12 => {
                 let a = put_place(page, cur, due);
                 due = false;
                 cur = visit_item(skip, props, body(t), 0x12, scratch, templates, page, a);
-                let r = behind(t);
-                t = r;
+                t = behind(t);
             }
             256 => {
                 return cur;
             }
             _ => {
                 cur = leaf(page, cur, 0x13, b"");
-                let r = behind(t);
-                t = r;
+                t = behind(t);
             }
         }
     }
@@ -117,24 +117,19 @@ fn visit_before<'a>(
     let mut cur = st;
     loop {
         match tag_at(t) {
-            0x10 => {
+            0x10 | 0x12 => {
                 return cur;
             }
             0x11 => {
                 cur = visit_item(skip, props, body(t), 0x11, scratch, templates, page, cur);
-                let r = behind(t);
-                t = r;
-            }
-            0x12 => {
-                return cur;
+                t = behind(t);
             }
             256 => {
                 return cur;
             }
             _ => {
                 cur = leaf(page, cur, 0x13, b"");
-                let r = behind(t);
-                t = r;
+                t = behind(t);
             }
         }
     }
@@ -147,18 +142,14 @@ fn statements_in(s: &[u8]) -> &[u8]
     let mut t = s;
     loop {
         match tag_at(t) {
-            0x10 => {
-                return t;
-            }
-            0x12 => {
+            0x10 | 0x12 => {
                 return t;
             }
             256 => {
                 return t;
             }
             _ => {
-                let r = behind(t);
-                t = r;
+                t = behind(t);
             }
         }
     }
@@ -170,18 +161,14 @@ fn has_statement(s: &[u8]) -> bool
     let mut t = s;
     loop {
         match tag_at(t) {
-            0x10 => {
-                return true;
-            }
-            0x12 => {
+            0x10 | 0x12 => {
                 return true;
             }
             256 => {
                 return false;
             }
             _ => {
-                let r = behind(t);
-                t = r;
+                t = behind(t);
             }
         }
     }
@@ -217,29 +204,25 @@ fn has_html<'a>(skip: &'a [u8], s: &'a [u8]) -> bool
                 if has_html_piece(skip, body(t)) {
                     return true;
                 }
-                let r = behind(t);
-                t = r;
+                t = behind(t);
             }
             0x11 => {
                 if has_html_piece(skip, body(t)) {
                     return true;
                 }
-                let r = behind(t);
-                t = r;
+                t = behind(t);
             }
             0x12 => {
                 if has_html_piece(skip, body(t)) {
                     return true;
                 }
-                let r = behind(t);
-                t = r;
+                t = behind(t);
             }
             256 => {
                 return false;
             }
             _ => {
-                let r = behind(t);
-                t = r;
+                t = behind(t);
             }
         }
     }
@@ -255,15 +238,13 @@ fn has_html_piece<'a>(skip: &'a [u8], s: &'a [u8]) -> bool
                 if is_serializable(skip, body(t)) {
                     return true;
                 }
-                let r = behind(t);
-                t = r;
+                t = behind(t);
             }
             256 => {
                 return false;
             }
             _ => {
-                let r = behind(t);
-                t = r;
+                t = behind(t);
             }
         }
     }
@@ -276,7 +257,7 @@ fn start(p: usize) -> Walk
         jsx: false,
         attr: false,
         escape: false,
-        due: 0,
+        due: Due::Nothing,
     };
     Walk {
         first: 1,
@@ -292,20 +273,7 @@ fn helper_sum(w: Walk) -> u8
     ensures { result ≡ sum_of w }
 {
     let s = w.seen;
-    let a = bit(s.jsx, 1);
-    let b = bit(1 < w.later, 2);
-    let c = bit(s.attr, 4);
-    let d = bit(s.escape, 8);
-    a + b + c + d
-}
-
-fn bit(b: bool, n: u8) -> u8
-    ensures { result ≡ pick b n 0 }
-{
-    if b {
-        return n;
-    }
-    0
+    u8::from(s.jsx) + 2 * u8::from(1 < w.later) + 4 * u8::from(s.attr) + 8 * u8::from(s.escape)
 }
 
 // 82: the source, `/jsx-runtime` and the sum.
@@ -313,7 +281,7 @@ fn put_import(page: &mut [u8], options: &[u8], sum: u8) -> usize
     requires { length (source_in (read options.now)) < 2 ^ 32 }
     ensures { Wrote page.old 0 (import_bytes (source_in (read options.now)) sum) page.new result }
 {
-    let a = put_source(page, 6, options);
+    let a = put_bytes(page, 6, source(options));
     let b = put_bytes(page, a, b"/jsx-runtime");
     put_head(page, 3, 0x81, b - 6);
     let c = put_byte(page, b, sum);
@@ -326,7 +294,7 @@ fn import_len(options: &[u8]) -> usize
     requires { length (source_in (read options.now)) < 2 ^ 32 }
     ensures { result ≡ 19 + length (source_in (read options.now)) }
 {
-    19 + source_len(options)
+    19 + source(options).len()
 }
 
 // Where the 83 goes: to p, where the first 10 or 12 starts, if t has one.
@@ -396,9 +364,9 @@ fn write_indexed<'a>(
     requires skip_value { (texts_in 0x20 (read skip.now) ≡ listed_in 2 (read options.now)) × (texts_in 0x20 (read props.now) ≡ listed_in 3 (read options.now)) }
     ensures { at templates.new page.new result ≡ written_page (options_in (read options.now)) (transform (options_in (read options.now)) (page_in (read input.now))) templates.old page.old }
 {
-    let mut elements = index_room();
+    let mut elements = room::<INDEX_ROOM>();
     index_names(skip, &mut elements);
-    let mut attributes = index_room();
+    let mut attributes = room::<INDEX_ROOM>();
     index_names(props, &mut attributes);
     write_listed(
         input,

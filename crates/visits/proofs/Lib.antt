@@ -4,6 +4,7 @@ pub mod ExprLaws
 pub mod StateLaws
 pub mod PartLaws
 pub mod CallLaws
+pub mod CallSteps
 pub mod VisitLaws
 pub mod FoundLaws
 pub mod EntryLaws

@@ -28,6 +28,8 @@ use Rattle.spec.specs.Merge.{nothing_found, one_found, array_found}
 use Rattle.spec.specs.Children.{children_to_string, serialize_jsx, found_of, entry_pass, found_pass, children_to_expr, call_node, to_call_expr}
 use Rattle.spec.specs.Visit.{visit_exprs, visit_inside, visit_after, visit_found, visit_only_child, visit_fragment, leave}
 use Rattle.spec.specs.Transform.{templates_row, stands, element_of, fragment_of, element_raw, shape_of, expr, children, child}
+use Rattle.decisions.specs.declared.children.Count.{Count}
+use Rattle.decisions.specs.declared.children.Count.TheVariants.{Zero, One, More}
 use Rattle.decisions.specs.At.{opts, element_at, children_at, is_none, few, FirstChild}
 use Rattle.decisions.proofs.Series.{tested, any_front, children_61, expr_70, expr_71, expr_72, expr_74, expr_75, expr_76, expr_79, expr_7a, expr_7b, expr_30, expr_31}
 use Rattle.strings.specs.Recorded.{recorded}
@@ -405,12 +407,17 @@ module _ (skip props s : Bytes) (f : Place) (e : Finds skip props (children_to_e
 
 -- ---- a fragment
 
-abbrev few_of : List M.Child → ℕ
-few_of [] = 0
-few_of (c ∷ []) = 1
-few_of (c ∷ d ∷ cs) = 2
+abbrev few_of : List M.Child → Count
+few_of [] = Zero
+few_of (c ∷ []) = One
+few_of (c ∷ d ∷ cs) = More
 
-few_behind : (o : Options) (c : M.Child) (cs : P.Children) → pick (is_none cs) 1 2 ≡ few_of (c ∷ children o cs)
+abbrev how_many : Count → ℕ
+how_many Zero = 0
+how_many One = 1
+how_many More = 2
+
+few_behind : (o : Options) (c : M.Child) (cs : P.Children) → pick (is_none cs) One More ≡ few_of (c ∷ children o cs)
 unfolding is_none children
 few_behind o c P.no_children = refl
 few_behind o c (P.text_child b cs) = refl
@@ -429,22 +436,22 @@ few_is o (P.tag_child t cs) = few_behind o (child o t) cs
 few_is o (P.spread_child e cs) = few_behind o (M.spread (expr o e none)) cs
 
 module _ (n : ℕ) where
-  fragment_0 : (cs : List M.Child) → few_of cs ≡ 0 → visit_fragment cs n ≡ pure (field 0x73 [] end end) n
+  fragment_0 : (cs : List M.Child) → few_of cs ≡ Zero → visit_fragment cs n ≡ pure (field 0x73 [] end end) n
   unfolding visit_fragment
   fragment_0 [] h = refl
-  fragment_0 (c ∷ []) h = absurd (omega (arith, h))
-  fragment_0 (c ∷ d ∷ cs) h = absurd (omega (arith, h))
+  fragment_0 (c ∷ []) h = absurd (omega (arith, ap how_many h))
+  fragment_0 (c ∷ d ∷ cs) h = absurd (omega (arith, ap how_many h))
 
-  fragment_1 : (c : M.Child) (cs : List M.Child) → few_of (c ∷ cs) ≡ 1 → visit_fragment (c ∷ cs) n ≡ visit_only_child c n
+  fragment_1 : (c : M.Child) (cs : List M.Child) → few_of (c ∷ cs) ≡ One → visit_fragment (c ∷ cs) n ≡ visit_only_child c n
   unfolding visit_fragment
   fragment_1 c [] h = refl
-  fragment_1 c (d ∷ cs) h = absurd (omega (arith, h))
+  fragment_1 c (d ∷ cs) h = absurd (omega (arith, ap how_many h))
 
-  fragment_2 : (cs : List M.Child) → (few_of cs ≡ 0 → ⊥) → (few_of cs ≡ 1 → ⊥) → visit_fragment cs n ≡ visit_after (gen_template (children_to_string false cs)) n
+  fragment_2 : (cs : List M.Child) → few_of cs ≡ More → visit_fragment cs n ≡ visit_after (gen_template (children_to_string false cs)) n
   unfolding visit_fragment
-  fragment_2 [] x y = absurd (x refl)
-  fragment_2 (c ∷ []) x y = absurd (y refl)
-  fragment_2 (c ∷ d ∷ cs) x y = refl
+  fragment_2 [] h = absurd (omega (arith, ap how_many h))
+  fragment_2 (c ∷ []) h = absurd (omega (arith, ap how_many h))
+  fragment_2 (c ∷ d ∷ cs) h = refl
 
   -- a text or a container is a template, alone too
   fragment_text : (b : Bytes) (cs : List M.Child) → visit_fragment (M.text b ∷ cs) n ≡ visit_after (gen_template (children_to_string false (M.text b ∷ cs))) n
@@ -459,21 +466,21 @@ module _ (n : ℕ) where
   fragment_held skip props (contained e) [] = refl
   fragment_held skip props (contained e) (d ∷ cs) = refl
 
-module _ (skip props s : Bytes) (w : World) {n : ℕ} (e : n ≡ few (children_in (read s))) where
+module _ (skip props s : Bytes) (w : World) {n : Count} (e : n ≡ few (children_in (read s))) where
   count : n ≡ few_of (children_at skip props (read s))
   count = e ∙ few_is (opts skip props) (children_in (read s))
 
-  pub fragment_null : n ≡ 0 → see (fragment_mid skip props s) w ≡ see (leaf 0x73 []) w
+  pub fragment_null : n ≡ Zero → see (fragment_mid skip props s) w ≡ see (leaf 0x73 []) w
   unfolding see visit_exprs both pure ◌⧺◌
   fragment_null h = see_visited (visit_fragment (children_at skip props (read s))) (pure (field 0x73 [] end end)) w (fragment_0 w.st.later (children_at skip props (read s)) (sym count ∙ h))
 
-  pub fragment_several : (n ≡ 0 → ⊥) → (n ≡ 1 → ⊥) → see (fragment_mid skip props s) w ≡ see (raw (template_raw skip props s) none) w
-  fragment_several x y =
+  pub fragment_several : n ≡ More → see (fragment_mid skip props s) w ≡ see (raw (template_raw skip props s) none) w
+  fragment_several h =
       see_visited (visit_fragment (children_at skip props (read s))) (template_raw skip props s) w
-      (fragment_2 w.st.later (children_at skip props (read s)) (λ z. x (count ∙ z)) (λ z. y (count ∙ z)))
+      (fragment_2 w.st.later (children_at skip props (read s)) (sym count ∙ h))
 
   -- an only child, which stands in front of a
-  module _ (h : n ≡ 1) {a : Bytes} (f : FirstChild s a) {t : ℕ} (k : t ≡ tag_of_front a) {b : Bytes} (q : b ≡ body_of a) where
+  module _ (h : n ≡ One) {a : Bytes} (f : FirstChild s a) {t : ℕ} (k : t ≡ tag_of_front a) {b : Bytes} (q : b ≡ body_of a) where
     kids_same : children_at skip props (read a) ≡ children_at skip props (read s)
     kids_same = ap (children (opts skip props)) f.same_children
 
@@ -504,7 +511,7 @@ module _ (skip props s : Bytes) (w : World) {n : ℕ} (e : n ≡ few (children_i
 
     some_left : length a ≡ 0 → ⊥
     unfolding few
-    some_left z = omega (arith, h, e ∙ ap few (f.none_left z))
+    some_left z = omega (arith, ap how_many (sym h ∙ e ∙ ap few (f.none_left z)))
 
     by_tag : (u : ℕ) → u ≡ tag_of_front a → ChildTag u → (u ≡ 0x30 → ⊥) → (u ≡ 0x31 → ⊥) → (u ≡ 0x61 → ⊥) →
         visit_fragment (children_at skip props (read a)) w.st.later ≡ visit_after (gen_template (children_to_string false (children_at skip props (read a)))) w.st.later

@@ -10,8 +10,8 @@ ghost use Rattle.decisions.specs.At.{opts, element_at, attributes_at, children_a
 ghost use Rattle.walk.specs.See.{at, see, act};
 ghost use Rattle.visits.specs.Visiting.{expr_at, held_at, items_at, pieces_at, element_mid, fragment_mid, template_mid, found_mid, given_mid, found_out, Given, Untagged, Room};
 
-use crate::state::{is_found, is_tag, place, recorded, records_of, returned};
-use decisions::children::{child_count, children_at};
+use crate::state::{is_found, is_tag, recorded, records_of, returned};
+use decisions::children::{Count, child_count, children_at};
 use decisions::element::{is_component, is_serializable};
 use field::reader::{behind, body, tag_at};
 use found::{Found, Kind, found_of};
@@ -100,21 +100,18 @@ fn on_items<'a>(
                 let p = cur.page;
                 let x = on_expr(skip, props, body(t), scratch, templates, page, begin(cur));
                 cur = close(page, x, p, 0x77);
-                let r = behind(t);
-                t = r;
+                t = behind(t);
             }
             0x78 => {
                 cur = leaf(page, cur, 0x78, b"");
-                let r = behind(t);
-                t = r;
+                t = behind(t);
             }
             256 => {
                 return cur;
             }
             _ => {
                 cur = on_expr(skip, props, t, scratch, templates, page, cur);
-                let r = behind(t);
-                t = r;
+                t = behind(t);
             }
         }
     }
@@ -140,25 +137,21 @@ pub fn on_pieces<'a>(
         match tag_at(t) {
             0x20 => {
                 cur = leaf(page, cur, 0x20, body(t));
-                let r = behind(t);
-                t = r;
+                t = behind(t);
             }
             0x30 => {
                 cur = on_jsx(skip, props, body(t), scratch, templates, page, cur);
-                let r = behind(t);
-                t = r;
+                t = behind(t);
             }
             0x31 => {
                 cur = on_fragment(skip, props, body(t), scratch, templates, page, cur);
-                let r = behind(t);
-                t = r;
+                t = behind(t);
             }
             256 => {
                 return cur;
             }
             _ => {
-                let r = behind(t);
-                t = r;
+                t = behind(t);
             }
         }
     }
@@ -222,8 +215,8 @@ fn on_fragment<'a>(
     ensures { at templates.new page.new result ≡ see (fragment_mid skip.now props.now s.now) (at templates.old page.old st) }
 {
     match child_count(s) {
-        0 => leaf(page, st, 0x73, b""),
-        1 => {
+        Count::Zero => leaf(page, st, 0x73, b""),
+        Count::One => {
             let a = children_at(s);
             let b = body(a);
             match tag_at(a) {
@@ -233,7 +226,7 @@ fn on_fragment<'a>(
                 _ => on_template(skip, props, s, scratch, templates, page, st),
             }
         }
-        _ => on_template(skip, props, s, scratch, templates, page, st),
+        Count::More => on_template(skip, props, s, scratch, templates, page, st),
     }
 }
 
@@ -252,11 +245,10 @@ fn on_found<'a>(
     ensures { at templates.new page.new result ≡ see (found_mid skip.now props.now s.now) (at templates.old page.old st) }
 {
     let f = found_of(skip, s);
-    let kind = f.kind;
-    match kind {
+    match f.kind {
         Kind::Nothing => leave(page, st),
         Kind::Expr => {
-            let c = place(s, f);
+            let c = f.part(s);
             if is_tag(c) {
                 return leave(page, st);
             }
@@ -375,12 +367,10 @@ fn to_attrs<'a>(
                 let x = attribute_front(page, cur, a, gap);
                 let y = on_held(skip, props, held_at(a, gap), scratch, templates, page, x);
                 cur = gap_back(page, y, p, 0x91, a, gap);
-                let r = behind(t);
-                t = r;
+                t = behind(t);
             }
             0x53 => {
-                let r = behind(t);
-                t = r;
+                t = behind(t);
             }
             _ => {
                 return cur;
@@ -414,25 +404,21 @@ fn to_parts<'a>(
                 let x = begin_if(cur, wrapped);
                 let y = on_held(skip, props, gap_held(c), scratch, templates, page, x);
                 cur = close_if(page, y, p, 0x92, wrapped);
-                let r = behind(t);
-                t = r;
+                t = behind(t);
             }
             0x30 => {
                 cur = to_gaps(skip, props, body(t), scratch, templates, page, cur);
-                let r = behind(t);
-                t = r;
+                t = behind(t);
             }
             0x31 => {
                 cur = to_parts(skip, props, body(t), scratch, templates, page, cur);
-                let r = behind(t);
-                t = r;
+                t = behind(t);
             }
             256 => {
                 return cur;
             }
             _ => {
-                let r = behind(t);
-                t = r;
+                t = behind(t);
             }
         }
     }
@@ -506,15 +492,13 @@ fn to_props<'a>(
                 let x = property_front(page, cur, a, gap);
                 let y = on_held(skip, props, held_at(a, gap), scratch, templates, page, x);
                 cur = gap_back(page, y, p, 0x96, a, gap);
-                let r = behind(t);
-                t = r;
+                t = behind(t);
             }
             0x53 => {
                 let p = cur.page;
                 let x = on_expr(skip, props, body(t), scratch, templates, page, begin(cur));
                 cur = close(page, x, p, 0x53);
-                let r = behind(t);
-                t = r;
+                t = behind(t);
             }
             _ => {
                 return cur;
@@ -539,10 +523,9 @@ fn to_found<'a>(
     requires { (Given skip.now props.now s.now f) × Room scratch.old s.now (act (found_out splice (children_to_expr (children_at skip.now props.now (read s.now)))) (at templates.old page.old st)) }
     ensures { at templates.new page.new result ≡ act (found_out splice (children_to_expr (children_at skip.now props.now (read s.now)))) (at templates.old page.old st) }
 {
-    let u = place(s, f);
+    let u = f.part(s);
     let p = st.page;
-    let kind = f.kind;
-    match kind {
+    match f.kind {
         Kind::Nothing => st,
         Kind::Text => text_leaf(page, st, body(u)),
         Kind::Element => to_jsx(skip, props, body(u), scratch, templates, page, st),
@@ -593,29 +576,25 @@ fn to_entries<'a>(
         match tag_at(t) {
             0x60 => {
                 run = join_text(page, cur.page, run, body(t));
-                let r = behind(t);
-                t = r;
+                t = behind(t);
             }
             0x52 => {
                 let c = body(t);
                 if joins(c) {
                     run = join_container(page, cur.page, run, c);
-                    let r = behind(t);
-                    t = r;
+                    t = behind(t);
                 } else {
                     let a = flush(page, cur, run);
                     run = 0;
                     cur = on_expr(skip, props, c, scratch, templates, page, a);
-                    let r = behind(t);
-                    t = r;
+                    t = behind(t);
                 }
             }
             0x30 => {
                 let a = flush(page, cur, run);
                 run = 0;
                 cur = to_jsx(skip, props, body(t), scratch, templates, page, a);
-                let r = behind(t);
-                t = r;
+                t = behind(t);
             }
             0x31 => {
                 let a = flush(page, cur, run);
@@ -632,15 +611,13 @@ fn to_entries<'a>(
                     page,
                     a,
                 );
-                let r = behind(t);
-                t = r;
+                t = behind(t);
             }
             256 => {
                 return flush(page, cur, run);
             }
             _ => {
-                let r = behind(t);
-                t = r;
+                t = behind(t);
             }
         }
     }

@@ -1,6 +1,7 @@
 -- What an arm of the page walk's writers writes, by the tag, the test or the gap that it is for: literals, names, the `children` property, the
 -- end of properties, both ends of what an attribute leaves, the key. Main statements: `literal_70` and the like, `names_on`, `namespaced_done`,
--- `name_expr_41` and the like, `stands_is`, `props_is`, `front_true` and the like, `back_true` and the like, `key_51`. Assumes nothing.
+-- `name_expr_41` and the like, `stands_is`, `props_is`, `front_true` and the like, `back_plain` and the like, `key_51`. Assumes nothing.
+use Rattle.std.specs.Prelude.{Option, Some, None}
 use mathlib.Core.Path.{◌≡◌, refl, sym, ap, ◌∙◌}
 use mathlib.Core.Logic.{◌⊎◌, ⊎_elim}
 use mathlib.Core.Bool.{Bool, true, false}
@@ -38,7 +39,7 @@ use Rattle.walk.specs.declared.attribute.Gap.{Gap}
 use Rattle.walk.specs.declared.attribute.Gap.TheVariants as G
 use Rattle.walk.specs.declared.state.Walk.{Walk}
 use Rattle.walk.specs.See.{World, at, see, to_page, begun, wrap, props_closed, literal, namespaced_leaf, Low}
-use Rattle.walk.specs.Plan.{string_of, plan_by, plan_front, plan_back, key_string}
+use Rattle.walk.specs.Plan.{string_of, attr_plan, prop_plan, plan_by, plan_front, plan_back, key_string}
 use Rattle.walk.proofs.SeeLaws.{see_none, see_grows, see_page_length}
 use Rattle.walk.proofs.LeafLaws.{low_world, low_seen, pick_true, pick_false, leaf_room, leaf_close, leaf_is, low_as, done_as, front_low, rest_is}
 
@@ -243,21 +244,12 @@ module _ (t : ℕ) (text : Bytes → Bytes) (g : Gap) (n : AttrName) (v : A.Valu
     unfolding plan_by
     back_nothing e = back_by e
 
-    pub back_true : {norm : Bool} → g ≡ G.True norm → Ends t w
+    -- a name, and what else stands before the expression
+    pub back_plain : ((norm : Bool) × (g ≡ G.True norm)) ⊎ (((norm : Bool) × (g ≡ G.String norm)) ⊎ ((g ≡ G.Null) ⊎ ((norm : Bool) × (g ≡ G.Attr norm)))) → Ends t w
     unfolding plan_by
-    back_true e = (stands_by e, back_by e ∙ ap (wrap t p) (see_none w))
-
-    pub back_string : {norm : Bool} → g ≡ G.String norm → Ends t w
-    unfolding plan_by
-    back_string e = (stands_by e, back_by e ∙ ap (wrap t p) (see_none w))
-
-    pub back_null : g ≡ G.Null → Ends t w
-    unfolding plan_by
-    back_null e = (stands_by e, back_by e ∙ ap (wrap t p) (see_none w))
-
-    pub back_attr : {norm : Bool} → g ≡ G.Attr norm → Ends t w
-    unfolding plan_by
-    back_attr e = (stands_by e, back_by e ∙ ap (wrap t p) (see_none w))
+    back_plain d =
+        ⊎_elim (λ h. (stands_by h.1, back_by h.1 ∙ ap (wrap t p) (see_none w)))
+        (⊎_elim (λ h. (stands_by h.1, back_by h.1 ∙ ap (wrap t p) (see_none w))) (⊎_elim (λ e. (stands_by e, back_by e ∙ ap (wrap t p) (see_none w))) (λ h. (stands_by h.1, back_by h.1 ∙ ap (wrap t p) (see_none w))))) d
 
     pub back_choice : g ≡ G.Choice → Ends 0x93 (see (leaf 0x81 (get_attr_name n true)) w)
     unfolding plan_by
@@ -272,18 +264,24 @@ seen_low p m w e l = let n = see_grows m w in (omega (arith, n.g_page, l.0, ap (
 
 -- ---- the key
 
-abbrev field_tag : Value → ℕ
-field_tag Held.Absent = 256
-field_tag (Held.Field t) = t
+abbrev is_text : Option Value → ℕ
+is_text None = 0
+is_text (Some Held.String) = 1
+is_text (Some Held.Container) = 0
+is_text (Some Held.Element) = 0
+is_text (Some Held.Fragment) = 0
 
-pub absent_other : {v : Value} → v ≡ Held.Absent → v ≡ Held.Field 0x51 → ⊥
-absent_other a b = let n : ◌≡◌ {A = ℕ} 256 0x51 = ap field_tag (sym a ∙ b) in omega (arith, n)
+pub absent_other : {v : Option Value} → v ≡ None → v ≡ Some Held.String → ⊥
+absent_other a b = let n : ◌≡◌ {A = ℕ} 0 1 = ap is_text (sym a ∙ b) in omega (arith, n)
 
-pub field_other : {v : Value} {t : ℕ} → v ≡ Held.Field t → (t ≡ 0x51 → ⊥) → v ≡ Held.Field 0x51 → ⊥
-field_other a h b = h (ap field_tag (sym a ∙ b))
+pub field_other : {v : Option Value} {t : Value} → v ≡ Some t → (t ≡ Held.Container) ⊎ ((t ≡ Held.Element) ⊎ (t ≡ Held.Fragment)) → v ≡ Some Held.String → ⊥
+field_other {v} {t} a d b = let n : ◌≡◌ {A = ℕ} 0 1 = sym (⊎_elim (none refl) (⊎_elim (none refl) (none refl)) d) ∙ ap is_text b in omega (arith, n)
+  where
+    none : {u : Value} → is_text (Some u) ≡ 0 → t ≡ u → is_text v ≡ 0
+    none e q = ap is_text (a ∙ ap Some q) ∙ e
 
 -- a value that is no string gives none here
-pub key_none : (o : Options) (v : P.Value) {t : Value} → t ≡ value_of v → (t ≡ Held.Field 0x51 → ⊥) → key_string (value o v) ≡ none
+pub key_none : (o : Options) (v : P.Value) {t : Option Value} → t ≡ value_of v → (t ≡ Some Held.String → ⊥) → key_string (value o v) ≡ none
 unfolding key_string value value_of
 key_none o P.absent e h = refl
 key_none o (P.string_value b) e h = absurd (h e)
@@ -291,8 +289,18 @@ key_none o P.empty_value e h = refl
 key_none o (P.container_value x) e h = refl
 key_none o (P.tag_value x) e h = refl
 
-pub key_51 : (o : Options) (a : Bytes) {v : Value} {t : ℕ} → v ≡ value_of (value_in (read a)) → v ≡ Held.Field t → t ≡ 0x51 → {s : Bytes} → s ≡ behind_of a → {b : Bytes} → b ≡ body_of s →
+pub key_51 : (o : Options) (a : Bytes) {v : Option Value} {t : Value} → v ≡ value_of (value_in (read a)) → v ≡ Some t → t ≡ Held.String → {s : Bytes} → s ≡ behind_of a → {b : Bytes} → b ≡ body_of s →
     key_string (value o (value_in (read a))) ≡ string_node (normalize_lit_str b)
 unfolding key_string value
 key_51 o a e h k q u =
-    ap (λ (x : P.Value). key_string (value o x)) (string_held a (sym e ∙ h ∙ ap Held.Field k)) ∙ ap (λ (x : Bytes). string_node (normalize_lit_str x)) (sym (u ∙ ap body_of q))
+    ap (λ (x : P.Value). key_string (value o x)) (string_held a (sym e ∙ h ∙ ap Some k)) ∙ ap (λ (x : Bytes). string_node (normalize_lit_str x)) (sym (u ∙ ap body_of q))
+
+-- ---- the fronts in an opening tag and in a call are the same, but for a string
+
+pub fronts_agree : (a : Bytes) (w : World) (g : Gap) → (g ≡ G.Nothing) ⊎ (((b : Bool) × (g ≡ G.True b)) ⊎ ((g ≡ G.Null) ⊎ (((b : Bool) × (g ≡ G.Attr b)) ⊎ (g ≡ G.Choice)))) →
+    plan_front (attr_plan [] [] g a) w ≡ plan_front (prop_plan [] [] g a) w
+unfolding plan_by
+fronts_agree a w g d = ⊎_elim (by G.Nothing refl) (⊎_elim (λ h. by (G.True h.0) refl h.1) (⊎_elim (by G.Null refl) (⊎_elim (λ h. by (G.Attr h.0) refl h.1) (by G.Choice refl)))) d
+  where
+    by : (h : Gap) → plan_front (attr_plan [] [] h a) w ≡ plan_front (prop_plan [] [] h a) w → g ≡ h → plan_front (attr_plan [] [] g a) w ≡ plan_front (prop_plan [] [] g a) w
+    by h e q = ap (λ (x : Gap). plan_front (attr_plan [] [] x a) w) q ∙ e ∙ sym (ap (λ (x : Gap). plan_front (prop_plan [] [] x a) w) q)

@@ -14,6 +14,8 @@ use Rattle.field.specs.Number.{big_endian}
 use Rattle.field.specs.Put.{head, Wrote}
 use Rattle.spec.specs.Pass.{Mid, none, node}
 use Rattle.spec.specs.Output.{leaf}
+use Rattle.strings.specs.declared.due.Due.{Due}
+use Rattle.strings.specs.declared.due.Due.TheVariants.{Left}
 use Rattle.strings.specs.Due.{graver, long_due}
 use Rattle.walk.specs.declared.state.Seen.{Seen}
 use Rattle.walk.specs.declared.state.Walk.{Walk}
@@ -28,7 +30,7 @@ or_taken b {a} {t} h e = e ∙ h ∙ sym (ap (λ (x : Bool). x || b) h)
 pub or_left : (b : Bool) {a t : Bool} → a ≡ false → t ≡ b → t ≡ (a || b)
 or_left b {a} {t} h e = e ∙ sym (ap (λ (x : Bool). x || b) h)
 
-pub mark_is : (t n : ℕ) (s : Seen) {a b c : Bool} {d : ℕ} → a ≡ (s.jsx || eqb t 0x94) → b ≡ (s.attr || eqb t 0x91) → c ≡ (s.escape || eqb t 0x92) → d ≡ graver s.due (long_due (ltb 65535 n)) →
+pub mark_is : (t n : ℕ) (s : Seen) {a b c : Bool} {d : Due} → a ≡ (s.jsx || eqb t 0x94) → b ≡ (s.attr || eqb t 0x91) → c ≡ (s.escape || eqb t 0x92) → d ≡ graver s.due (long_due (ltb 65535 n)) →
     ◌≡◌ {A = Seen} (record { jsx = a; attr = b; escape = c; due = d }) (marked t n s)
 mark_is t n s ea eb ec ed = λ i. record { jsx = ea i; attr = eb i; escape = ec i; due = ed i }
 
@@ -189,7 +191,7 @@ module _ (o : Bytes) (st : Walk) where
   pub left_low : Low (left (at [] o st)).st → Low (see (leaf 0x30 []) (at [] o st)).st
   left_low l = low_seen (low_world (left_is (at [] o st)) l)
 
-  pub left_done : {o₁ : Bytes} {r : Walk} → at [] o₁ r ≡ see (leaf 0x30 []) (at [] o st) → {d : ℕ} → d ≡ graver r.seen.due 4 →
+  pub left_done : {o₁ : Bytes} {r : Walk} → at [] o₁ r ≡ see (leaf 0x30 []) (at [] o st) → {d : Due} → d ≡ graver r.seen.due Left →
       at [] o₁ (record {
         first = r.first;
         later = r.later;

@@ -1,6 +1,8 @@
 -- What the code of src/attribute.rt and src/call.rt learns at each return and at each turn of a loop. Main statements: `name_40` and the
 -- like for a name; `gap_shape`, `held_shape`, `wraps_shape` for a container by its shape; `listed_string`, `plain_string`, `prop_string`,
 -- `text_string`, `held_container`, `key_container` and the like for an attribute by its value; `key_set`, `key_kept`. Assumes nothing.
+use Rattle.std.specs.Prelude.{Option, Some, None}
+use mathlib.Core.Logic.{◌⊎◌, ⊎_elim, inl, inr}
 use mathlib.Core.Path.{◌≡◌, refl, sym, ap, ◌∙◌}
 use Prim.Native.Nat.{ℕ, ◌≤◌}
 use native.Mathlib.Omega.{arith}
@@ -171,13 +173,17 @@ record TagHeld (a : Bytes) : Type 0 where
   value_is : value_in (read a) ≡ P.tag_value the_tag
   expression_is : contained_in (read (behind_of a)) ≡ contained (P.tag_expr the_tag)
 
-module _ (a : Bytes) {g : ℕ} (e : value_of (value_in (read a)) ≡ Held.Field g) where
-  tag_held : (g ≡ 0x51 → ⊥) → (g ≡ 0x52 → ⊥) → TagHeld a
+tag_kind : {g : Value} → (g ≡ Held.Element) ⊎ (g ≡ Held.Fragment) → (g ≡ Held.String → ⊥) × (g ≡ Held.Container → ⊥)
+tag_kind (inl e) = (λ s. absurd (let z : ◌≡◌ {A = Value} Held.Element Held.String = sym e ∙ s in let y : ◌≡◌ {A = ℕ} 0 1 = cc z in omega arith), λ s. absurd (let z : ◌≡◌ {A = Value} Held.Element Held.Container = sym e ∙ s in let y : ◌≡◌ {A = ℕ} 0 1 = cc z in omega arith))
+tag_kind (inr e) = (λ s. absurd (let z : ◌≡◌ {A = Value} Held.Fragment Held.String = sym e ∙ s in let y : ◌≡◌ {A = ℕ} 0 1 = cc z in omega arith), λ s. absurd (let z : ◌≡◌ {A = Value} Held.Fragment Held.Container = sym e ∙ s in let y : ◌≡◌ {A = ℕ} 0 1 = cc z in omega arith))
+
+module _ (a : Bytes) {g : Value} (e : value_of (value_in (read a)) ≡ Some g) where
+  tag_held : (g ≡ Held.String → ⊥) → (g ≡ Held.Container → ⊥) → TagHeld a
   tag_held n51 n52 =
       let s = behind_of a in
       let t = tag_of_front (behind_of a) in
-      tested t 0x51 (λ k. absurd (n51 (let z : Held.Field 0x51 ≡ Held.Field g = value_is_51 a refl t refl k ∙ e in let y : g ≡ 0x51 = cc z in y))) λ n1.
-      tested t 0x52 (λ k. absurd (n52 (let z : Held.Field 0x52 ≡ Held.Field g = value_is_52 a refl t refl k ∙ e in let y : g ≡ 0x52 = cc z in y))) λ n2.
+      tested t 0x51 (λ k. absurd (n51 (let z : Some Held.String ≡ Some g = value_is_51 a refl t refl k ∙ e in let y : g ≡ Held.String = cc z in y))) λ n1.
+      tested t 0x52 (λ k. absurd (n52 (let z : Some Held.Container ≡ Some g = value_is_52 a refl t refl k ∙ e in let y : g ≡ Held.Container = cc z in y))) λ n2.
       tested t 0x30
       (λ k. record {
         the_tag = element_in (read (body_of s));
@@ -190,7 +196,7 @@ module _ (a : Bytes) {g : ℕ} (e : value_of (value_in (read a)) ≡ Held.Field 
         value_is = value_in_at a ∙ value_31 s t refl k;
         expression_is = contained_field s t refl (λ z. omega (arith, k)) ∙ ap contained (expr_31 s t refl k);
       }) λ n4.
-      absurd (let z : Held.Absent ≡ Held.Field g = value_is_absent a refl t refl n1 n2 n3 n4 ∙ e in let y : ◌≡◌ {A = ℕ} 0 1 = cc z in omega arith)
+      absurd (let z : None ≡ Some g = value_is_absent a refl t refl n1 n2 n3 n4 ∙ e in let y : ◌≡◌ {A = ℕ} 0 1 = cc z in omega arith)
 
 module _ (o : Options) where
   contained_held : (x : Contained) → held_of (value o (contained_value x)) ≡ contained_mid o x
@@ -214,7 +220,7 @@ contained_plain n nothing_contained = refl
 contained_plain n (contained e) = refl
 
 -- a value that stands: it decides the key, and a key is no property
-sets_by : (norm : Bool) (n : AttrName) (v : P.Value) {g : ℕ} → value_of v ≡ Held.Field g → sets_key norm n v ≡ same (get_attr_name n norm) (ascii "key")
+sets_by : (norm : Bool) (n : AttrName) (v : P.Value) {g : Value} → value_of v ≡ Some g → sets_key norm n v ≡ same (get_attr_name n norm) (ascii "key")
 unfolding sets_key value_of
 sets_by norm n P.absent e = absurd (let z : ◌≡◌ {A = ℕ} 0 1 = cc e in omega arith)
 sets_by norm n (P.string_value b) e = refl
@@ -222,7 +228,7 @@ sets_by norm n P.empty_value e = refl
 sets_by norm n (P.container_value x) e = refl
 sets_by norm n (P.tag_value t) e = refl
 
-key_nothing : (norm : Bool) (n : AttrName) (v : P.Value) {g : ℕ} → value_of v ≡ Held.Field g → same (get_attr_name n norm) (ascii "key") ≡ true → prop_gap norm n v ≡ G.Nothing
+key_nothing : (norm : Bool) (n : AttrName) (v : P.Value) {g : Value} → value_of v ≡ Some g → same (get_attr_name n norm) (ascii "key") ≡ true → prop_gap norm n v ≡ G.Nothing
 unfolding prop_gap value_of
 key_nothing norm n P.absent e h = absurd (let z : ◌≡◌ {A = ℕ} 0 1 = cc e in omega arith)
 key_nothing norm n (P.string_value b) e h = pick_true G.Nothing (G.String norm) refl h
@@ -231,35 +237,35 @@ key_nothing norm n (P.container_value x) e h = pick_true G.Nothing (G.Attr norm)
 key_nothing norm n (P.tag_value t) e h = refl
 
 -- a is the fields of a 50, and h what was found of its value
-module _ (a : Bytes) {h : Value} (he : h ≡ value_of (value_in (read a))) where
-  absent_is : h ≡ Held.Absent → value_in (read a) ≡ P.absent
+module _ (a : Bytes) {h : Option Value} (he : h ≡ value_of (value_in (read a))) where
+  absent_is : h ≡ None → value_in (read a) ≡ P.absent
   absent_is e = absent_held a (sym he ∙ e)
 
-  pub listed_absent : h ≡ Held.Absent → G.True false ≡ listed_gap (value_in (read a))
+  pub listed_absent : h ≡ None → G.True false ≡ listed_gap (value_in (read a))
   unfolding listed_gap
   listed_absent e = sym (ap listed_gap (absent_is e))
 
-  pub prop_absent : (norm : Bool) (n : AttrName) → h ≡ Held.Absent → G.True norm ≡ prop_gap norm n (value_in (read a))
+  pub prop_absent : (norm : Bool) (n : AttrName) → h ≡ None → G.True norm ≡ prop_gap norm n (value_in (read a))
   unfolding prop_gap
   prop_absent norm n e = sym (ap (prop_gap norm n) (absent_is e))
 
-  pub sets_absent : (norm : Bool) (n : AttrName) → h ≡ Held.Absent → false ≡ sets_key norm n (value_in (read a))
+  pub sets_absent : (norm : Bool) (n : AttrName) → h ≡ None → false ≡ sets_key norm n (value_in (read a))
   unfolding sets_key
   sets_absent norm n e = sym (ap (sets_key norm n) (absent_is e))
 
-  pub text_absent : (o : Options) → h ≡ Held.Absent → [] ≡ string_of (value o (value_in (read a)))
+  pub text_absent : (o : Options) → h ≡ None → [] ≡ string_of (value o (value_in (read a)))
   unfolding string_of value
   text_absent o e = sym (ap (λ (v : P.Value). string_of (value o v)) (absent_is e))
 
-  pub held_absent : (o : Options) → h ≡ Held.Absent → contained_mid o (contained_in (read [])) ≡ held_of (value o (value_in (read a)))
+  pub held_absent : (o : Options) → h ≡ None → contained_mid o (contained_in (read [])) ≡ held_of (value o (value_in (read a)))
   unfolding held_of value
   held_absent o e = nothing_held o ∙ sym (ap (λ (v : P.Value). held_of (value o v)) (absent_is e))
 
-  pub key_absent : (o : Options) → h ≡ Held.Absent → contained_mid o (contained_in (read [])) ≡ key_held (value o (value_in (read a)))
+  pub key_absent : (o : Options) → h ≡ None → contained_mid o (contained_in (read [])) ≡ key_held (value o (value_in (read a)))
   unfolding key_held value
   key_absent o e = nothing_held o ∙ sym (ap (λ (v : P.Value). key_held (value o v)) (absent_is e))
 
-  module _ (n : Bytes) (e : h ≡ Held.Absent) {b : Bool} (t : b ≡ is_boolean_attr n) where
+  module _ (n : Bytes) (e : h ≡ None) {b : Bool} (t : b ≡ is_boolean_attr n) where
     absent_by : plain_gap n (value_in (read a)) ≡ pick (is_boolean_attr n) G.Nothing (G.True true)
     unfolding plain_gap
     absent_by = ap (plain_gap n) (absent_is e)
@@ -270,31 +276,29 @@ module _ (a : Bytes) {h : Value} (he : h ≡ value_of (value_in (read a))) where
     pub plain_true : b ≡ false → G.True true ≡ plain_gap n (value_in (read a))
     plain_true k = sym (absent_by ∙ pick_false G.Nothing (G.True true) t k)
 
-  module _ {g : ℕ} (e : h ≡ Held.Field g) where
-    found : value_of (value_in (read a)) ≡ Held.Field g
+  module _ {g : Value} (e : h ≡ Some g) where
+    found : value_of (value_in (read a)) ≡ Some g
     found = sym he ∙ e
 
-    string_is : g ≡ 0x51 → value_in (read a) ≡ P.string_value (body_of (behind_of a))
-    string_is q = string_held a (found ∙ ap Held.Field q)
+    string_is : g ≡ Held.String → value_in (read a) ≡ P.string_value (body_of (behind_of a))
+    string_is q = string_held a (found ∙ ap Some q)
 
-    container_is : g ≡ 0x52 → {v : Bytes} → v ≡ body_of (behind_of a) → value_in (read a) ≡ contained_value (contained_in (read v))
-    container_is q w = container_held a (found ∙ ap Held.Field q) ∙ ap (λ (b : Bytes). contained_value (contained_in (read b))) (sym w)
+    container_is : g ≡ Held.Container → {v : Bytes} → v ≡ body_of (behind_of a) → value_in (read a) ≡ contained_value (contained_in (read v))
+    container_is q w = container_held a (found ∙ ap Some q) ∙ ap (λ (b : Bytes). contained_value (contained_in (read b))) (sym w)
 
     -- what is asked of the value, where it is neither a string nor a container
-    by_tag : {A : Type 0} (f : P.Value → A) {y : A} → ((t : P.Tag) → f (P.tag_value t) ≡ y) → (g ≡ 0x51 → ⊥) → (g ≡ 0x52 → ⊥) → y ≡ f (value_in (read a))
-    by_tag f k n51 n52 = let t = tag_held a found n51 n52 in sym (ap f t.value_is ∙ k t.the_tag)
+    by_tag : {A : Type 0} (f : P.Value → A) {y : A} → ((t : P.Tag) → f (P.tag_value t) ≡ y) → (g ≡ Held.Element) ⊎ (g ≡ Held.Fragment) → y ≡ f (value_in (read a))
+    by_tag f k d = let t = tag_held a found (tag_kind d).0 (tag_kind d).1 in sym (ap f t.value_is ∙ k t.the_tag)
 
     -- and where it is no string
-    by_other : {A : Type 0} (f : P.Value → A) {y : A} → ((x : Contained) → f (contained_value x) ≡ y) → ((t : P.Tag) → f (P.tag_value t) ≡ y) → (g ≡ 0x51 → ⊥) → y ≡ f (value_in (read a))
-    by_other f j k n51 =
-        tested g 0x52 (λ q. sym (ap f (container_is q refl) ∙ j (contained_in (read (body_of (behind_of a)))))) λ n52.
-        by_tag f k n51 n52
+    by_other : {A : Type 0} (f : P.Value → A) {y : A} → ((x : Contained) → f (contained_value x) ≡ y) → ((t : P.Tag) → f (P.tag_value t) ≡ y) → (g ≡ Held.Container) ⊎ ((g ≡ Held.Element) ⊎ (g ≡ Held.Fragment)) → y ≡ f (value_in (read a))
+    by_other f j k d = ⊎_elim (λ q. sym (ap f (container_is q refl) ∙ j (contained_in (read (body_of (behind_of a)))))) (by_tag f k) d
 
-    pub listed_string : g ≡ 0x51 → G.String false ≡ listed_gap (value_in (read a))
+    pub listed_string : g ≡ Held.String → G.String false ≡ listed_gap (value_in (read a))
     unfolding listed_gap
     listed_string q = sym (ap listed_gap (string_is q))
 
-    module _ (q : g ≡ 0x52) {v : Bytes} (w : v ≡ body_of (behind_of a)) where
+    module _ (q : g ≡ Held.Container) {v : Bytes} (w : v ≡ body_of (behind_of a)) where
       pub listed_empty : Ended (read v) → G.Null ≡ listed_gap (value_in (read a))
       unfolding listed_gap contained_value
       listed_empty i = sym (ap listed_gap (container_is q w ∙ ap contained_value (contained_none (read v) i)))
@@ -303,18 +307,18 @@ module _ (a : Bytes) {h : Value} (he : h ≡ value_of (value_in (read a))) where
       unfolding listed_gap contained_value
       listed_full {t} y z = sym (ap listed_gap (container_is q w ∙ ap contained_value (contained_field v t y z)))
 
-    pub listed_tag : (g ≡ 0x51 → ⊥) → (g ≡ 0x52 → ⊥) → G.Attr false ≡ listed_gap (value_in (read a))
+    pub listed_tag : (g ≡ Held.Element) ⊎ (g ≡ Held.Fragment) → G.Attr false ≡ listed_gap (value_in (read a))
     unfolding listed_gap
-    listed_tag n51 n52 = by_tag listed_gap (λ t. refl) n51 n52
+    listed_tag d = by_tag listed_gap (λ t. refl) d
 
-    pub plain_container : (n : Bytes) → g ≡ 0x52 → {v : Bytes} → v ≡ body_of (behind_of a) → container_gap n (contained_in (read v)) ≡ plain_gap n (value_in (read a))
+    pub plain_container : (n : Bytes) → g ≡ Held.Container → {v : Bytes} → v ≡ body_of (behind_of a) → container_gap n (contained_in (read v)) ≡ plain_gap n (value_in (read a))
     plain_container n q {v} w = sym (ap (plain_gap n) (container_is q w) ∙ contained_plain n (contained_in (read v)))
 
-    pub plain_tag : (n : Bytes) → (g ≡ 0x51 → ⊥) → (g ≡ 0x52 → ⊥) → G.Nothing ≡ plain_gap n (value_in (read a))
+    pub plain_tag : (n : Bytes) → (g ≡ Held.Element) ⊎ (g ≡ Held.Fragment) → G.Nothing ≡ plain_gap n (value_in (read a))
     unfolding plain_gap
-    plain_tag n n51 n52 = by_tag (plain_gap n) (λ t. refl) n51 n52
+    plain_tag n d = by_tag (plain_gap n) (λ t. refl) d
 
-    module _ (n : Bytes) (q : g ≡ 0x51) {k : Bool} (ke : k ≡ same n (ascii "key")) where
+    module _ (n : Bytes) (q : g ≡ Held.String) {k : Bool} (ke : k ≡ same n (ascii "key")) where
       string_by : (x y : Bool) → k ≡ x → same n (ascii "ref") ≡ y → plain_gap n (value_in (read a)) ≡ pick (x || y) (G.String true) G.Nothing
       unfolding plain_gap
       string_by x y u v = ap (plain_gap n) (string_is q) ∙ rw (← ke, u, v)
@@ -329,53 +333,52 @@ module _ (a : Bytes) {h : Value} (he : h ≡ value_of (value_in (read a))) where
         pub plain_string : r ≡ false → G.Nothing ≡ plain_gap n (value_in (read a))
         plain_string u = sym (string_by false false kn (sym re ∙ u))
 
-    pub text_string : (o : Options) → g ≡ 0x51 → {v : Bytes} → v ≡ body_of (behind_of a) → v ≡ string_of (value o (value_in (read a)))
+    pub text_string : (o : Options) → g ≡ Held.String → {v : Bytes} → v ≡ body_of (behind_of a) → v ≡ string_of (value o (value_in (read a)))
     unfolding string_of value
     text_string o q w = w ∙ sym (ap (λ (v : P.Value). string_of (value o v)) (string_is q))
 
-    pub text_other : (o : Options) → (g ≡ 0x51 → ⊥) → [] ≡ string_of (value o (value_in (read a)))
+    pub text_other : (o : Options) → (g ≡ Held.Container) ⊎ ((g ≡ Held.Element) ⊎ (g ≡ Held.Fragment)) → [] ≡ string_of (value o (value_in (read a)))
     unfolding string_of value
-    text_other o n51 = by_other (λ (v : P.Value). string_of (value o v)) (contained_text o) (λ t. refl) n51
+    text_other o d = by_other (λ (v : P.Value). string_of (value o v)) (contained_text o) (λ t. refl) d
 
-    pub held_string : (o : Options) → g ≡ 0x51 → contained_mid o (contained_in (read [])) ≡ held_of (value o (value_in (read a)))
+    pub held_string : (o : Options) → g ≡ Held.String → contained_mid o (contained_in (read [])) ≡ held_of (value o (value_in (read a)))
     unfolding held_of value
     held_string o q = nothing_held o ∙ sym (ap (λ (v : P.Value). held_of (value o v)) (string_is q))
 
-    pub held_container : (o : Options) → g ≡ 0x52 → {v : Bytes} → v ≡ body_of (behind_of a) → contained_mid o (contained_in (read v)) ≡ held_of (value o (value_in (read a)))
+    pub held_container : (o : Options) → g ≡ Held.Container → {v : Bytes} → v ≡ body_of (behind_of a) → contained_mid o (contained_in (read v)) ≡ held_of (value o (value_in (read a)))
     held_container o q {v} w = sym (ap (λ (v : P.Value). held_of (value o v)) (container_is q w) ∙ contained_held o (contained_in (read v)))
 
-    pub held_tag : (o : Options) → (g ≡ 0x51 → ⊥) → (g ≡ 0x52 → ⊥) → {v : Bytes} → v ≡ behind_of a → contained_mid o (contained_in (read v)) ≡ held_of (value o (value_in (read a)))
+    pub held_tag : (o : Options) → (g ≡ Held.Element) ⊎ (g ≡ Held.Fragment) → {v : Bytes} → v ≡ behind_of a → contained_mid o (contained_in (read v)) ≡ held_of (value o (value_in (read a)))
     unfolding held_of value contained_mid expr
-    held_tag o n51 n52 w =
-        let t = tag_held a found n51 n52 in
+    held_tag o d w =
+        let t = tag_held a found (tag_kind d).0 (tag_kind d).1 in
         ap (λ (b : Bytes). contained_mid o (contained_in (read b))) w ∙ ap (contained_mid o) t.expression_is ∙ sym (ap (λ (v : P.Value). held_of (value o v)) t.value_is)
 
-    pub key_container : (o : Options) → g ≡ 0x52 → {v : Bytes} → v ≡ body_of (behind_of a) → contained_mid o (contained_in (read v)) ≡ key_held (value o (value_in (read a)))
+    pub key_container : (o : Options) → g ≡ Held.Container → {v : Bytes} → v ≡ body_of (behind_of a) → contained_mid o (contained_in (read v)) ≡ key_held (value o (value_in (read a)))
     key_container o q {v} w = sym (ap (λ (v : P.Value). key_held (value o v)) (container_is q w) ∙ contained_key o (contained_in (read v)))
 
-    pub key_other : (o : Options) → (g ≡ 0x52 → ⊥) → contained_mid o (contained_in (read [])) ≡ key_held (value o (value_in (read a)))
+    pub key_other : (o : Options) → (g ≡ Held.String) ⊎ ((g ≡ Held.Element) ⊎ (g ≡ Held.Fragment)) → contained_mid o (contained_in (read [])) ≡ key_held (value o (value_in (read a)))
     unfolding key_held value
-    key_other o n52 =
+    key_other o d =
         nothing_held o
-        ∙ tested g 0x51 (λ q. sym (ap (λ (v : P.Value). key_held (value o v)) (string_is q))) λ n51.
-        by_tag (λ (v : P.Value). key_held (value o v)) (λ t. refl) n51 n52
+        ∙ ⊎_elim (λ q. sym (ap (λ (v : P.Value). key_held (value o v)) (string_is q))) (by_tag (λ (v : P.Value). key_held (value o v)) (λ t. refl)) d
 
     pub sets_field : (norm : Bool) (n : AttrName) {k : Bool} → k ≡ same (get_attr_name n norm) (ascii "key") → k ≡ sets_key norm n (value_in (read a))
     sets_field norm n ke = ke ∙ sym (sets_by norm n (value_in (read a)) found)
 
-    pub prop_tag : (norm : Bool) (n : AttrName) → (g ≡ 0x51 → ⊥) → (g ≡ 0x52 → ⊥) → G.Nothing ≡ prop_gap norm n (value_in (read a))
+    pub prop_tag : (norm : Bool) (n : AttrName) → (g ≡ Held.Element) ⊎ (g ≡ Held.Fragment) → G.Nothing ≡ prop_gap norm n (value_in (read a))
     unfolding prop_gap
-    prop_tag norm n n51 n52 = by_tag (prop_gap norm n) (λ t. refl) n51 n52
+    prop_tag norm n d = by_tag (prop_gap norm n) (λ t. refl) d
 
     module _ (norm : Bool) (n : AttrName) {k : Bool} (ke : k ≡ same (get_attr_name n norm) (ascii "key")) where
       pub prop_key : k ≡ true → G.Nothing ≡ prop_gap norm n (value_in (read a))
       prop_key u = sym (key_nothing norm n (value_in (read a)) found (sym ke ∙ u))
 
-      pub prop_string : k ≡ false → g ≡ 0x51 → G.String norm ≡ prop_gap norm n (value_in (read a))
+      pub prop_string : k ≡ false → g ≡ Held.String → G.String norm ≡ prop_gap norm n (value_in (read a))
       unfolding prop_gap
       prop_string u q = sym (ap (prop_gap norm n) (string_is q) ∙ pick_false G.Nothing (G.String norm) ke u)
 
-      module _ (q : g ≡ 0x52) {v : Bytes} (w : v ≡ body_of (behind_of a)) where
+      module _ (q : g ≡ Held.Container) {v : Bytes} (w : v ≡ body_of (behind_of a)) where
         pub prop_empty : Ended (read v) → G.Nothing ≡ prop_gap norm n (value_in (read a))
         unfolding prop_gap contained_value
         prop_empty i = sym (ap (prop_gap norm n) (container_is q w ∙ ap contained_value (contained_none (read v) i)))

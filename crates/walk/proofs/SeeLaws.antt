@@ -20,6 +20,7 @@ use Rattle.spec.specs.Visit as W
 use Rattle.spec.specs.Visit.{visit_exprs}
 use Rattle.spec.specs.Transform.{templates_row, stands}
 use Rattle.spec.specs.declared.Flags.{Flags}
+use Rattle.strings.specs.declared.due.Due.TheVariants.{Left}
 use Rattle.strings.specs.Due.{graver, long_due, grave}
 use Rattle.strings.specs.Recorded.{recorded}
 use Rattle.strings.proofs.DueLaws.{due_none, due_then, due_more, due_raised, left_grave, none_grave}
@@ -261,7 +262,7 @@ left_noted w =
       templates = w.st.templates;
       page = w.st.page;
       seen =
-          record { jsx = w.st.seen.jsx; attr = w.st.seen.attr; escape = w.st.seen.escape; due = graver w.st.seen.due 4 };
+          record { jsx = w.st.seen.jsx; attr = w.st.seen.attr; escape = w.st.seen.escape; due = graver w.st.seen.due Left };
     })
 
 pub left_is : (w : World) → left w ≡ left_noted (see (leaf 0x30 []) w)

@@ -116,62 +116,57 @@ fn container_gap<'a>(a: &'a [u8], c: &'a [u8]) -> Gap
     ensures { result ≡ container_gap (get_attr_name (attr_name_in (read a.now)) true) (contained_in (read c.now)) }
 {
     match shape_at(c) {
-        Shape::Empty => Gap::Nothing,
-        Shape::String => Gap::Nothing,
-        Shape::Number => Gap::Nothing,
-        Shape::Minus => Gap::Nothing,
+        Shape::Empty | Shape::String | Shape::Number | Shape::Minus => Gap::Nothing,
         Shape::Boolean(_) => {
             if is_boolean(a) {
                 return Gap::Nothing;
             }
             Gap::Attr(true)
         }
-        Shape::Null => dynamic_gap(a),
-        Shape::Literal => dynamic_gap(a),
-        Shape::Other => dynamic_gap(a),
+        Shape::Null | Shape::Literal | Shape::Other => dynamic_gap(a),
     }
 }
 
 fn listed_gap(a: &[u8]) -> Gap
     ensures { result ≡ listed_gap (value_in (read a.now)) }
 {
-    let Value::Field(tag) = value_at(a) else {
+    let Some(value) = value_at(a) else {
         return Gap::True(false);
     };
-    if tag == 0x51 {
-        return Gap::String(false);
-    }
-    if tag == 0x52 {
-        if tag_at(body(behind(a))) == 256 {
-            return Gap::Null;
+    match value {
+        Value::String => Gap::String(false),
+        Value::Container => {
+            if tag_at(body(behind(a))) == 256 {
+                return Gap::Null;
+            }
+            Gap::Attr(false)
         }
-        return Gap::Attr(false);
+        Value::Element | Value::Fragment => Gap::Attr(false),
     }
-    Gap::Attr(false)
 }
 
 fn plain_gap(a: &[u8]) -> Gap
     ensures { result ≡ plain_gap (get_attr_name (attr_name_in (read a.now)) true) (value_in (read a.now)) }
 {
-    let Value::Field(tag) = value_at(a) else {
+    let Some(value) = value_at(a) else {
         if is_boolean(a) {
             return Gap::Nothing;
         }
         return Gap::True(true);
     };
-    if tag == 0x51 {
-        if is_key(a, true) {
-            return Gap::String(true);
+    match value {
+        Value::String => {
+            if is_key(a, true) {
+                return Gap::String(true);
+            }
+            if is_ref(a) {
+                return Gap::String(true);
+            }
+            Gap::Nothing
         }
-        if is_ref(a) {
-            return Gap::String(true);
-        }
-        return Gap::Nothing;
+        Value::Container => container_gap(a, body(behind(a))),
+        Value::Element | Value::Fragment => Gap::Nothing,
     }
-    if tag == 0x52 {
-        return container_gap(a, body(behind(a)));
-    }
-    Gap::Nothing
 }
 
 // In an opening tag.
@@ -188,22 +183,22 @@ pub fn attribute_gap<'a>(props: &'a [u8], a: &'a [u8]) -> Gap
 pub fn property_gap(a: &[u8], norm: bool) -> Gap
     ensures { result ≡ prop_gap norm (attr_name_in (read a.now)) (value_in (read a.now)) }
 {
-    let Value::Field(tag) = value_at(a) else {
+    let Some(value) = value_at(a) else {
         return Gap::True(norm);
     };
     if is_key(a, norm) {
         return Gap::Nothing;
     }
-    if tag == 0x51 {
-        return Gap::String(norm);
-    }
-    if tag == 0x52 {
-        if tag_at(body(behind(a))) == 256 {
-            return Gap::Nothing;
+    match value {
+        Value::String => Gap::String(norm),
+        Value::Container => {
+            if tag_at(body(behind(a))) == 256 {
+                return Gap::Nothing;
+            }
+            Gap::Attr(norm)
         }
-        return Gap::Attr(norm);
+        Value::Element | Value::Fragment => Gap::Nothing,
     }
-    Gap::Nothing
 }
 
 // All that stands before the expression, in an opening tag.
@@ -227,15 +222,14 @@ pub fn property_front(page: &mut [u8], st: Walk, a: &[u8], gap: Gap) -> Walk
     ensures { at [] page.new result ≡ plan_front (prop_plan [] [] gap a.now) (at [] page.old st) }
 {
     match gap {
-        Gap::Nothing => st,
-        Gap::True(norm) => begin_true(page, st, a, norm),
+        // in an opening tag it stands as it is
         Gap::String(norm) => {
             let x = begin_named(page, st, a, norm);
             attr_string_leaf(page, x, string_at(a))
         }
-        Gap::Null => begin_null(page, st, a),
-        Gap::Attr(norm) => begin_named(page, st, a, norm),
-        Gap::Choice => begin(st),
+        Gap::Nothing | Gap::True(_) | Gap::Null | Gap::Attr(_) | Gap::Choice => {
+            attribute_front(page, st, a, gap)
+        }
     }
 }
 
@@ -243,43 +237,36 @@ pub fn property_front(page: &mut [u8], st: Walk, a: &[u8], gap: Gap) -> Walk
 fn string_at(a: &[u8]) -> &[u8]
     ensures { (skip props : Bytes) → result.now ≡ Plan.string_of (value (opts skip props) (value_in (read a.now))) }
 {
-    let Value::Field(tag) = value_at(a) else {
-        return &a[..0];
+    let Some(value) = value_at(a) else {
+        return &[];
     };
-    if tag == 0x51 {
-        return body(behind(a));
+    match value {
+        Value::String => body(behind(a)),
+        Value::Container | Value::Element | Value::Fragment => &[],
     }
-    &a[..0]
 }
 
-// The expression, or nothing where the gap holds none.
+// The expression, or no bytes where the gap holds none. Braces may hold no bytes too, so an Option would be a second way to say the same.
 pub fn held_at(a: &[u8], gap: Gap) -> &[u8]
     ensures { ((skip props : Bytes) → contained_mid (opts skip props) (contained_in (read result.now)) ≡ (attr_plan skip props gap a.now).held) × (length result.now ≤ length a.now) }
 {
     match gap {
-        Gap::Nothing => &a[..0],
-        Gap::True(_) => &a[..0],
-        Gap::String(_) => &a[..0],
-        Gap::Null => &a[..0],
-        Gap::Attr(_) => value_held(a),
-        Gap::Choice => value_held(a),
+        Gap::Nothing | Gap::True(_) | Gap::String(_) | Gap::Null => &[],
+        Gap::Attr(_) | Gap::Choice => value_held(a),
     }
 }
 
 fn value_held(a: &[u8]) -> &[u8]
     ensures { ((skip props : Bytes) → contained_mid (opts skip props) (contained_in (read result.now)) ≡ held_of (value (opts skip props) (value_in (read a.now)))) × (length result.now ≤ length a.now) }
 {
-    let Value::Field(tag) = value_at(a) else {
-        return &a[..0];
+    let Some(value) = value_at(a) else {
+        return &[];
     };
-    let v = behind(a);
-    if tag == 0x52 {
-        return body(v);
+    match value {
+        Value::String => &[],
+        Value::Container => body(behind(a)),
+        Value::Element | Value::Fragment => behind(a),
     }
-    if tag == 0x51 {
-        return &a[..0];
-    }
-    v
 }
 
 // All that stands behind it, and the head of the field at p with that tag.
@@ -293,10 +280,7 @@ pub fn gap_back(page: &mut [u8], st: Walk, p: usize, tag: u8, a: &[u8], gap: Gap
             let x = name_leaf(page, st, a, true);
             close(page, x, p, 0x93)
         }
-        Gap::True(_) => close(page, st, p, tag),
-        Gap::String(_) => close(page, st, p, tag),
-        Gap::Null => close(page, st, p, tag),
-        Gap::Attr(_) => close(page, st, p, tag),
+        Gap::True(_) | Gap::String(_) | Gap::Null | Gap::Attr(_) => close(page, st, p, tag),
     }
 }
 
@@ -312,16 +296,13 @@ pub fn key_at(s: &[u8], norm: bool) -> &[u8]
                 let a = body(t);
                 if sets_key(a, norm) {
                     k = a;
-                    let r = behind(t);
-                    t = r;
+                    t = behind(t);
                 } else {
-                    let r = behind(t);
-                    t = r;
+                    t = behind(t);
                 }
             }
             0x53 => {
-                let r = behind(t);
-                t = r;
+                t = behind(t);
             }
             _ => {
                 return k;
@@ -334,7 +315,7 @@ pub fn key_at(s: &[u8], norm: bool) -> &[u8]
 fn sets_key(a: &[u8], norm: bool) -> bool
     ensures { result ≡ Plan.sets_key norm (attr_name_in (read a.now)) (value_in (read a.now)) }
 {
-    let Value::Field(_) = value_at(a) else {
+    let Some(_) = value_at(a) else {
         return false;
     };
     is_key(a, norm)
@@ -345,26 +326,26 @@ pub fn key_front(page: &mut [u8], st: Walk, a: &[u8]) -> Walk
     requires { Low (see (key_string (value (opts [] []) (value_in (read a.now)))) (at [] page.old st)).st }
     ensures { at [] page.new result ≡ see (key_string (value (opts [] []) (value_in (read a.now)))) (at [] page.old st) }
 {
-    let Value::Field(tag) = value_at(a) else {
+    let Some(value) = value_at(a) else {
         return st;
     };
-    if tag == 0x51 {
-        return attr_string_leaf(page, st, body(behind(a)));
+    match value {
+        Value::String => attr_string_leaf(page, st, body(behind(a))),
+        Value::Container | Value::Element | Value::Fragment => st,
     }
-    st
 }
 
 // The expression, where it holds one.
 pub fn key_held(a: &[u8]) -> &[u8]
     ensures { ((skip props : Bytes) → contained_mid (opts skip props) (contained_in (read result.now)) ≡ Plan.key_held (value (opts skip props) (value_in (read a.now)))) × (length result.now ≤ length a.now) }
 {
-    let Value::Field(tag) = value_at(a) else {
-        return &a[..0];
+    let Some(value) = value_at(a) else {
+        return &[];
     };
-    if tag == 0x52 {
-        return body(behind(a));
+    match value {
+        Value::Container => body(behind(a)),
+        Value::String | Value::Element | Value::Fragment => &[],
     }
-    &a[..0]
 }
 
 // A child in a template: whether its expression is wrapped with jsxEscape.
@@ -372,14 +353,13 @@ pub fn is_wrapped(c: &[u8]) -> bool
     ensures { result ≡ gap_wraps (contained_in (read c.now)) }
 {
     match shape_at(c) {
-        Shape::Minus => true,
-        Shape::Other => true,
-        Shape::Empty => false,
-        Shape::String => false,
-        Shape::Number => false,
-        Shape::Boolean(_) => false,
-        Shape::Null => false,
-        Shape::Literal => false,
+        Shape::Minus | Shape::Other => true,
+        Shape::Empty
+        | Shape::String
+        | Shape::Number
+        | Shape::Boolean(_)
+        | Shape::Null
+        | Shape::Literal => false,
     }
 }
 
@@ -388,13 +368,7 @@ pub fn gap_held(c: &[u8]) -> &[u8]
     ensures { ((skip props : Bytes) → contained_mid (opts skip props) (contained_in (read result.now)) ≡ Plan.gap_held (opts skip props) (contained_in (read c.now))) × (length result.now ≤ length c.now) }
 {
     match shape_at(c) {
-        Shape::Empty => &c[..0],
-        Shape::String => &c[..0],
-        Shape::Number => &c[..0],
-        Shape::Boolean(_) => &c[..0],
-        Shape::Null => c,
-        Shape::Literal => c,
-        Shape::Minus => c,
-        Shape::Other => c,
+        Shape::Empty | Shape::String | Shape::Number | Shape::Boolean(_) => &[],
+        Shape::Null | Shape::Literal | Shape::Minus | Shape::Other => c,
     }
 }

@@ -27,15 +27,13 @@ fn member_names(page: &mut [u8], st: Walk, s: &[u8]) -> Walk
         match tag_at(t) {
             0x40 => {
                 cur = leaf(page, cur, 0x40, body(t));
-                let r = behind(t);
-                t = r;
+                t = behind(t);
             }
             256 => {
                 return cur;
             }
             _ => {
-                let r = behind(t);
-                t = r;
+                t = behind(t);
             }
         }
     }

@@ -14,7 +14,7 @@ ghost use Rattle.walk.specs.See.{at, see, to_page, marked, begun, begun_if, wrap
 use decisions::expr::{boolean_in, put_number_bytes_at};
 use field::reader::{body, tag_at};
 use field::writer::{put_bytes, put_four, put_head};
-use strings::due::{LEFT, graver, with_body};
+use strings::due::{Due, graver, with_body};
 use strings::put_joined;
 use text::jsx_text::{jsx_text_to_str, normalize_lit_str};
 
@@ -24,10 +24,11 @@ pub struct Seen {
     pub jsx: bool,
     pub attr: bool,
     pub escape: bool,
-    pub due: u8,
+    pub due: Due,
 }
 
-// The next numbers of the first pass and of the second, the places behind what was written.
+// The next numbers of the first pass and of the second, the places behind what was written. It goes by value, and the buffers beside it: a rule
+// of this project.
 #[derive(Clone, Copy)]
 pub struct Walk {
     pub first: usize,
@@ -40,9 +41,7 @@ pub struct Walk {
 pub fn at_page(st: Walk, p: usize) -> Walk
     ensures { result ≡ to_page p st }
 {
-    let mut w = st;
-    w.page = p;
-    w
+    Walk { page: p, ..st }
 }
 
 fn mark(seen: Seen, tag: u8, len: usize) -> Seen
@@ -61,8 +60,7 @@ pub fn begin(st: Walk) -> Walk
     requires { st.page + 3 < 2 ^ 63 }
     ensures { result ≡ to_page (st.page + 3) st }
 {
-    let p = st.page;
-    at_page(st, p + 3)
+    at_page(st, st.page + 3)
 }
 
 pub fn begin_if(st: Walk, b: bool) -> Walk
@@ -83,10 +81,10 @@ pub fn close(page: &mut [u8], st: Walk, p: usize, tag: u8) -> Walk
     let end = st.page;
     let len = end - (p + 3);
     put_head(page, p, tag, len);
-    let mut w = st;
-    let seen = mark(st.seen, tag, len);
-    w.seen = seen;
-    w
+    Walk {
+        seen: mark(st.seen, tag, len),
+        ..st
+    }
 }
 
 pub fn close_if(page: &mut [u8], st: Walk, p: usize, tag: u8, b: bool) -> Walk
@@ -194,10 +192,11 @@ pub fn begin_template(page: &mut [u8], st: Walk) -> Walk
     ensures { at [] page.new result ≡ numbered (at [] page.old st) }
 {
     let n = st.first;
-    let mut w = st;
-    w.page = put_four(page, st.page + 3, n);
-    w.first = n + 1;
-    w
+    Walk {
+        page: put_four(page, st.page + 3, n),
+        first: n + 1,
+        ..st
+    }
 }
 
 // A tag is left: a 30 stands in the result.
@@ -205,8 +204,10 @@ pub fn leave(page: &mut [u8], st: Walk) -> Walk
     requires { Low (left (at [] page.old st)).st }
     ensures { at [] page.new result ≡ left (at [] page.old st) }
 {
-    let mut w = leaf(page, st, 0x30, b"");
-    let due = graver(w.seen.due, LEFT);
-    w.seen.due = due;
-    w
+    let w = leaf(page, st, 0x30, b"");
+    let due = graver(w.seen.due, Due::Left);
+    Walk {
+        seen: Seen { due, ..w.seen },
+        ..w
+    }
 }

@@ -12,10 +12,11 @@ use Rattle.page.specs.Page.{Name, identifier, member, namespaced, Tag, element, 
 use Rattle.page.specs.Tree.{choose, pieces_in, page_in}
 use Rattle.page.specs.Encode.{name_row, attr_name_row, tag_row, attributes_row, value_row, children_row, expr_row, items_row, pieces_row, module_items_row, page_row, encode}
 use Rattle.page.specs.Check.{check_page}
-use Rattle.page.specs.declared.Verdict.TheVariants.{Fine}
+use Rattle.page.specs.Refusal.{Fine}
 use Rattle.page.proofs.Sound.{page_sound}
-use Rattle.sums.specs.declared.value.Worked.{Worked}
-use Rattle.sums.specs.declared.value.Worked.TheVariants.{Stays, Plus, Minus}
+use Rattle.sums.specs.Value.{Worked}
+use Rattle.sums.specs.declared.value.Sum.TheVariants.{Plus, Minus}
+use Rattle.std.specs.Prelude.{Some, None}
 use Rattle.worked.specs.Worked.{pieces_sum, literal_or, worked_tag, worked_attributes, worked_value, worked_children, worked_expr, worked_items, worked_pieces, worked_item, worked}
 use Rattle.worked.specs.Row.{holds, field_sum, number_or, worked_row, worked_bytes}
 
@@ -46,12 +47,12 @@ minus_kept (scaled n p) r = refl
 
 -- ---- what a 79 comes to, on its fields and on its pieces
 
-tag_behind : (b : Bytes) (t : Tag) (r : Row) → pieces_sum (pieces_in (field 0x20 b end (tag_row t r))) ≡ Stays
+tag_behind : (b : Bytes) (t : Tag) (r : Row) → pieces_sum (pieces_in (field 0x20 b end (tag_row t r))) ≡ None
 unfolding pieces_sum pieces_in choose tag_row
 tag_behind b (element n bs cs) r = refl
 tag_behind b (fragment cs) r = refl
 
-tag_first : (t : Tag) (r : Row) → pieces_sum (pieces_in (tag_row t r)) ≡ Stays
+tag_first : (t : Tag) (r : Row) → pieces_sum (pieces_in (tag_row t r)) ≡ None
 unfolding pieces_sum pieces_in choose tag_row
 tag_first (element n bs cs) r = refl
 tag_first (fragment cs) r = refl
@@ -66,9 +67,9 @@ sum_kept (tag_piece t ps) = tag_first t (pieces_row ps)
 
 other_row : (w : Worked) (ps : Pieces) (j r : Row) → j ≡ pieces_row (worked_pieces ps) → number_or w 0x79 [] j r ≡ expr_row (literal_or w (other_expr (worked_pieces ps))) r
 unfolding number_or literal_or expr_row number_tag minus_tag
-other_row Stays ps j r e = ap (λ (x : Row). field 0x79 [] x r) e
-other_row (Plus n) ps j r e = refl
-other_row (Minus n) ps j r e = refl
+other_row None ps j r e = ap (λ (x : Row). field 0x79 [] x r) e
+other_row (Some (Plus n)) ps j r e = refl
+other_row (Some (Minus n)) ps j r e = refl
 
 -- ---- every tree
 

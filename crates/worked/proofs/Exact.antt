@@ -17,8 +17,9 @@ use Rattle.field.proofs.RowLaws.{FrontFits, Shaped, Sane, read_shaped, read_sane
 use Rattle.page.specs.Number.{number_bytes}
 use Rattle.page.specs.Tree.{page_in}
 use Rattle.page.proofs.PageRow.{short_row}
-use Rattle.sums.specs.declared.value.Worked.{Worked}
-use Rattle.sums.specs.declared.value.Worked.TheVariants.{Stays, Plus, Minus}
+use Rattle.sums.specs.Value.{Worked}
+use Rattle.sums.specs.declared.value.Sum.TheVariants.{Plus, Minus}
+use Rattle.std.specs.Prelude.{Some, None}
 use Rattle.worked.specs.Worked.{worked}
 use Rattle.worked.specs.Row.{holds, field_sum, number_or, worked_row, worked_bytes}
 use Rattle.worked.proofs.Fields.{holds_fields}
@@ -44,9 +45,9 @@ picked_row P false i j p q = p
 
 shaped_or : (w : Worked) (t : ℕ) (f : Bytes) (i r : Row) → FrontFits (inside t) f i → Shaped i → Shaped r → Shaped (number_or w t f i r)
 unfolding number_or Shaped FrontFits inside
-shaped_or Stays t f i r a p q = (a, p, q)
-shaped_or (Plus n) t f i r a p q = (tt, tt, q)
-shaped_or (Minus n) t f i r a p q = (tt, tt, q)
+shaped_or None t f i r a p q = (a, p, q)
+shaped_or (Some (Plus n)) t f i r a p q = (tt, tt, q)
+shaped_or (Some (Minus n)) t f i r a p q = (tt, tt, q)
 
 shaped_worked : (x : Row) → Shaped x → Shaped (worked_row x)
 unfolding worked_row Shaped
@@ -59,9 +60,9 @@ shaped_worked (field t f i r) s =
 -- and of nothing but bytes
 sane_or : (w : Worked) (t : ℕ) (f : Bytes) (i r : Row) → FrontFits (inside t) f i → AllBytes f → Sane i → Sane r → t < 256 → Sane (number_or w t f i r)
 unfolding number_or Sane FrontFits inside number_bytes AllBytes
-sane_or Stays t f i r a b p q l = (a, b, p, q, l)
-sane_or (Plus n) t f i r a b p q l = (tt, all_big_endian 8 n [] tt, tt, q, omega arith)
-sane_or (Minus n) t f i r a b p q l = (tt, all_big_endian 8 n [] tt, tt, q, omega arith)
+sane_or None t f i r a b p q l = (a, b, p, q, l)
+sane_or (Some (Plus n)) t f i r a b p q l = (tt, all_big_endian 8 n [] tt, tt, q, omega arith)
+sane_or (Some (Minus n)) t f i r a b p q l = (tt, all_big_endian 8 n [] tt, tt, q, omega arith)
 
 sane_worked : (x : Row) → Sane x → Sane (worked_row x)
 unfolding worked_row Sane

@@ -13,8 +13,9 @@ use Rattle.field.specs.Row.{Row, end, field, field_bytes, bytes, Inside, only_by
 use Rattle.field.proofs.NumberLaws.{all_drop}
 use Rattle.field.proofs.RowLaws.{read_step, read_nil, read_ind, next_nothing, bytes_read}
 use Rattle.page.specs.Number.{whole, number_bytes}
-use Rattle.sums.specs.declared.value.Worked.{Worked}
-use Rattle.sums.specs.declared.value.Worked.TheVariants.{Stays, Plus, Minus}
+use Rattle.sums.specs.Value.{Worked}
+use Rattle.sums.specs.declared.value.Sum.TheVariants.{Plus, Minus}
+use Rattle.std.specs.Prelude.{Some, None}
 use Rattle.worked.specs.Row.{holds, field_sum, number_or, worked_row, worked_bytes, worked_field}
 use Rattle.worked.proofs.Tests.{or_true, both}
 use Rattle.worked.proofs.Pieces.{no_79}
@@ -23,9 +24,9 @@ use Rattle.worked.proofs.Pieces.{no_79}
 
 number_or_front : (x : Worked) (t : ℕ) (f : Bytes) (i r : Row) → bytes (number_or x t f i r) ≡ bytes (number_or x t f i end) ++ bytes r
 unfolding number_or bytes
-number_or_front Stays t f i r = ap (λ (x : Bytes). x ++ bytes r) (sym (append-nil (field_bytes t (f ++ bytes i))))
-number_or_front (Plus n) t f i r = ap (λ (x : Bytes). x ++ bytes r) (sym (append-nil (field_bytes 0x71 (number_bytes (whole n) ++ []))))
-number_or_front (Minus n) t f i r = ap (λ (x : Bytes). x ++ bytes r) (sym (append-nil (field_bytes 0x75 (number_bytes (whole n) ++ []))))
+number_or_front None t f i r = ap (λ (x : Bytes). x ++ bytes r) (sym (append-nil (field_bytes t (f ++ bytes i))))
+number_or_front (Some (Plus n)) t f i r = ap (λ (x : Bytes). x ++ bytes r) (sym (append-nil (field_bytes 0x71 (number_bytes (whole n) ++ []))))
+number_or_front (Some (Minus n)) t f i r = ap (λ (x : Bytes). x ++ bytes r) (sym (append-nil (field_bytes 0x75 (number_bytes (whole n) ++ []))))
 
 row_front : (t : ℕ) (f : Bytes) (i r : Row) → bytes (worked_row (field t f i r)) ≡ bytes (worked_row (field t f i end)) ++ bytes (worked_row r)
 unfolding worked_row
@@ -116,17 +117,17 @@ module _ (t : ℕ) (w : Bytes) (h : holds t ≡ true) where
       ap (λ (c : Inside). bytes (worked_row (opened c read t w []))) (holds_fields t h)
       ∙ ap₂ (λ (b : Bool) (x : Row). bytes (number_or (field_sum t (read w)) t [] (pick b (worked_row (read w)) (read w)) (worked_row x))) h read_nil
 
-  pub worked_nest : {x : Worked} → x ≡ field_sum t (read w) → x ≡ Stays → field_bytes t (worked_bytes w) ≡ worked_field t w
+  pub worked_nest : {x : Worked} → x ≡ field_sum t (read w) → x ≡ None → field_bytes t (worked_bytes w) ≡ worked_field t w
   unfolding number_or bytes worked_bytes
   worked_nest {x} p e = sym (held ∙ ap (λ (z : Worked). bytes (number_or z t [] (worked_row (read w)) end)) (sym p ∙ e) ∙ append-nil (field_bytes t (bytes (worked_row (read w)))))
 
-  pub worked_plus : {x : Worked} (n : ℕ) → x ≡ field_sum t (read w) → x ≡ Plus n → field_bytes 0x71 (number_bytes (whole n)) ≡ worked_field t w
+  pub worked_plus : {x : Worked} (n : ℕ) → x ≡ field_sum t (read w) → x ≡ Some (Plus n) → field_bytes 0x71 (number_bytes (whole n)) ≡ worked_field t w
   unfolding number_or bytes
   worked_plus {x} n p e =
       sym (held ∙ ap (λ (z : Worked). bytes (number_or z t [] (worked_row (read w)) end)) (sym p ∙ e) ∙ append-nil (field_bytes 0x71 (number_bytes (whole n) ++ []))
       ∙ ap (field_bytes 0x71) (append-nil (number_bytes (whole n))))
 
-  pub worked_minus : {x : Worked} (n : ℕ) → x ≡ field_sum t (read w) → x ≡ Minus n → field_bytes 0x75 (number_bytes (whole n)) ≡ worked_field t w
+  pub worked_minus : {x : Worked} (n : ℕ) → x ≡ field_sum t (read w) → x ≡ Some (Minus n) → field_bytes 0x75 (number_bytes (whole n)) ≡ worked_field t w
   unfolding number_or bytes
   worked_minus {x} n p e =
       sym (held ∙ ap (λ (z : Worked). bytes (number_or z t [] (worked_row (read w)) end)) (sym p ∙ e) ∙ append-nil (field_bytes 0x75 (number_bytes (whole n) ++ []))

@@ -7,16 +7,17 @@ use Rattle.page.specs.Number.{in_range}
 use Rattle.page.specs.Page.{Tag, element, fragment, Attributes, no_attributes, attribute, spread_attribute, Value, absent, string_value, empty_value, container_value, tag_value, Children, no_children, text_child, empty_child, container_child, tag_child, spread_child, Expr, string_literal, number_literal, boolean_literal, null_literal, other_literal, minus_literal, array_literal, other_expr, tag_expr, Items, no_items, item, spread_item, hole_item, Pieces, no_pieces, source_piece, tag_piece, export_item, declaration_item, statement_item, empty_item, Page}
 use Rattle.page.specs.Limits.{Deep, TagOk, AttributesOk, ValueOk, ChildrenOk, ExprOk, ItemsOk, PiecesOk, ModuleItemsOk}
 use Rattle.sums.proofs.Proper.{Proper}
-use Rattle.sums.specs.declared.value.Worked.{Worked}
-use Rattle.sums.specs.declared.value.Worked.TheVariants.{Stays, Plus, Minus}
+use Rattle.sums.specs.Value.{Worked}
+use Rattle.sums.specs.declared.value.Sum.TheVariants.{Plus, Minus}
+use Rattle.std.specs.Prelude.{Some, None}
 use Rattle.worked.specs.Worked.{pieces_sum, literal_or, worked_tag, worked_attributes, worked_value, worked_children, worked_expr, worked_items, worked_pieces, worked_item, worked}
 use Rattle.worked.proofs.Tree.{pieces_proper}
 
 literal_ok : (w : Worked) (e : Expr) (d : ℕ) → Proper w → Deep d → ExprOk e d → ExprOk (literal_or w e) d
 unfolding literal_or ExprOk Proper in_range
-literal_ok Stays e d p g h = h
-literal_ok (Plus n) e d p g h = (g, le→leb n 9_007_199_254_740_991 p)
-literal_ok (Minus n) e d p g h = (g, le→leb n 9_007_199_254_740_991 p.1)
+literal_ok None e d p g h = h
+literal_ok (Some (Plus n)) e d p g h = (g, le→leb n 9_007_199_254_740_991 p)
+literal_ok (Some (Minus n)) e d p g h = (g, le→leb n 9_007_199_254_740_991 p.1)
 
 mutual
   unfolding TagOk worked_tag

@@ -13,8 +13,8 @@ use Rattle.field.proofs.FrontLaws.{read_at, leaf_at, nest_at}
 use Rattle.page.specs.Page.{Pieces, no_pieces, source_piece, tag_piece}
 use Rattle.page.specs.Tree.{choose, pieces_in, element_in, fragment_in}
 use Rattle.sums.specs.Machine.{sum_of}
-use Rattle.sums.specs.declared.value.Worked.{Worked}
-use Rattle.sums.specs.declared.value.Worked.TheVariants.{Stays}
+use Rattle.sums.specs.Value.{Worked}
+use Rattle.std.specs.Prelude.{None}
 use Rattle.worked.specs.Worked.{pieces_sum}
 use Rattle.worked.specs.Row.{field_sum, is_piece}
 use Rattle.worked.proofs.Tests.{chosen, passed, or_false, or_true}
@@ -84,22 +84,22 @@ module _ (s : Bytes) {t : ℕ} (q : t ≡ tag_of_front s) where
   fragment_piece e = ap pieces_in (nest_at s t q 0x31 e tt refl)
 
   -- no source in front: no sum
-  lone : (t ≡ 256 → Ended (read s)) → is_piece t ≡ true → (t ≡ 0x20 → ⊥) → pieces_sum (pieces_in (read s)) ≡ Stays
+  lone : (t ≡ 256 → Ended (read s)) → is_piece t ≡ true → (t ≡ 0x20 → ⊥) → pieces_sum (pieces_in (read s)) ≡ None
   unfolding pieces_sum
   lone d e n = on (which t e)
     where
-      on : Which t → pieces_sum (pieces_in (read s)) ≡ Stays
+      on : Which t → pieces_sum (pieces_in (read s)) ≡ None
       on (source z) = absurd (n z)
       on (an_element z) = ap pieces_sum (element_piece z)
       on (a_fragment z) = ap pieces_sum (fragment_piece z)
       on (nothing z) = ap pieces_sum (none_in (read s) (d z))
 
   -- a piece in front: source before it is not alone
-  second : is_piece t ≡ true → (t ≡ 256 → ⊥) → (b : Bytes) → pieces_sum (source_piece b (pieces_in (read s))) ≡ Stays
+  second : is_piece t ≡ true → (t ≡ 256 → ⊥) → (b : Bytes) → pieces_sum (source_piece b (pieces_in (read s))) ≡ None
   unfolding pieces_sum
   second e n b = on (which t e)
     where
-      on : Which t → pieces_sum (source_piece b (pieces_in (read s))) ≡ Stays
+      on : Which t → pieces_sum (source_piece b (pieces_in (read s))) ≡ None
       on (source z) = ap (λ (x : Pieces). pieces_sum (source_piece b x)) (source_in z)
       on (an_element z) = ap (λ (x : Pieces). pieces_sum (source_piece b x)) (element_piece z)
       on (a_fragment z) = ap (λ (x : Pieces). pieces_sum (source_piece b x)) (fragment_piece z)
@@ -107,7 +107,7 @@ module _ (s : Bytes) {t : ℕ} (q : t ≡ tag_of_front s) where
 
 -- ---- the answers of the code
 
-pub no_79 : (t : ℕ) (i : Row) → (t ≡ 0x79 → ⊥) → Stays ≡ field_sum t i
+pub no_79 : (t : ℕ) (i : Row) → (t ≡ 0x79 → ⊥) → None ≡ field_sum t i
 unfolding field_sum
 no_79 t i n = sym (passed (eqb t 0x79) _ _ (ne_eqb t 0x79 n))
 
@@ -116,14 +116,14 @@ unfolding field_sum
 a_79 t i e = chosen (eqb t 0x79) _ _ (eq-eqb t 0x79 e)
 
 module _ (t : ℕ) (w : Bytes) (e : t ≡ 0x79) (p : Bytes) (k : pieces_in (read p) ≡ pieces_in (read w)) {u : ℕ} (q : u ≡ tag_of_front p) where
-  pub no_source : is_piece (tag_of_front p) ≡ true → (u ≡ 256 → Ended (read p)) → (u ≡ 0x20 → ⊥) → Stays ≡ field_sum t (read w)
+  pub no_source : is_piece (tag_of_front p) ≡ true → (u ≡ 256 → Ended (read p)) → (u ≡ 0x20 → ⊥) → None ≡ field_sum t (read w)
   no_source a d n = sym (a_79 t (read w) e ∙ ap pieces_sum (sym k) ∙ lone p q d (ap is_piece q ∙ a) n)
 
   module _ (z : u ≡ 0x20) {b : Bytes} (r : Bytes) (h : b ≡ behind_of p) (l : pieces_in (read r) ≡ pieces_in (read b)) {v : ℕ} (q₂ : v ≡ tag_of_front r) where
     split : pieces_in (read w) ≡ source_piece (body_of p) (pieces_in (read r))
     split = sym k ∙ source_in p q z ∙ ap (λ (x : Bytes). source_piece (body_of p) (pieces_in (read x))) (sym h) ∙ ap (source_piece (body_of p)) (sym l)
 
-    pub not_alone : is_piece (tag_of_front r) ≡ true → (v ≡ 256 → ⊥) → Stays ≡ field_sum t (read w)
+    pub not_alone : is_piece (tag_of_front r) ≡ true → (v ≡ 256 → ⊥) → None ≡ field_sum t (read w)
     not_alone a n = sym (a_79 t (read w) e ∙ ap pieces_sum split ∙ second r q₂ (ap is_piece q₂ ∙ a) n (body_of p))
 
     pub alone : (v ≡ 256 → Ended (read r)) → v ≡ 256 → {x : Worked} {y : Bytes} → y ≡ body_of p → x ≡ sum_of y → x ≡ field_sum t (read w)

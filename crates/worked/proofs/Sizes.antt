@@ -16,8 +16,9 @@ use Rattle.page.specs.Number.{whole, number_bytes}
 use Rattle.page.specs.Page.{Pieces, no_pieces, source_piece, tag_piece}
 use Rattle.page.specs.Tree.{pieces_in}
 use Rattle.sums.specs.Machine.{sum_of, found, outcome, at_end}
-use Rattle.sums.specs.declared.value.Worked.{Worked}
-use Rattle.sums.specs.declared.value.Worked.TheVariants.{Stays, Plus, Minus}
+use Rattle.sums.specs.Value.{Worked}
+use Rattle.sums.specs.declared.value.Sum.TheVariants.{Plus, Minus}
+use Rattle.std.specs.Prelude.{Some, None}
 use Rattle.worked.specs.Worked.{pieces_sum}
 use Rattle.worked.specs.Row.{holds, field_sum, number_or, worked_row, worked_bytes, worked_field}
 use Rattle.worked.proofs.Tests.{chosen, passed}
@@ -42,17 +43,17 @@ opened_size (counted n) t w r = omega (arith, length_bytes t (take (counted_fron
 
 -- ---- a sum has at least four bytes with its header
 
-no_text : (ps : Pieces) → pieces_sum (source_piece [] ps) ≡ Stays
+no_text : (ps : Pieces) → pieces_sum (source_piece [] ps) ≡ None
 unfolding pieces_sum sum_of found outcome at_end
 no_text no_pieces = refl
 no_text (source_piece s ps) = refl
 no_text (tag_piece t ps) = refl
 
-some_text : (f : Bytes) (ps : Pieces) → (pieces_sum (source_piece f ps) ≡ Stays → ⊥) → 1 ≤ length f
+some_text : (f : Bytes) (ps : Pieces) → (pieces_sum (source_piece f ps) ≡ None → ⊥) → 1 ≤ length f
 some_text [] ps n = absurd (n (no_text ps))
 some_text (c ∷ f) ps n = omega arith
 
-sum_size : (i : Row) → (pieces_sum (pieces_in i) ≡ Stays → ⊥) → 4 ≤ length (bytes i)
+sum_size : (i : Row) → (pieces_sum (pieces_in i) ≡ None → ⊥) → 4 ≤ length (bytes i)
 unfolding pieces_in pieces_sum
 sum_size end n = absurd (n refl)
 sum_size (loose b) n = absurd (n refl)
@@ -62,7 +63,7 @@ sum_size (field t f i r) n = on (eqb t 0x20) refl (sum_size r)
     size = length_bytes t f i r
 
     Behind : Type 0
-    Behind = (pieces_sum (pieces_in r) ≡ Stays → ⊥) → 4 ≤ length (bytes r)
+    Behind = (pieces_sum (pieces_in r) ≡ None → ⊥) → 4 ≤ length (bytes r)
 
     last : (b : Bool) → eqb t 0x20 ≡ false → eqb t 0x30 ≡ false → eqb t 0x31 ≡ b → Behind → 4 ≤ length (bytes (field t f i r))
     last true e d k h = absurd (n (ap pieces_sum (passed (eqb t 0x20) _ _ e ∙ passed (eqb t 0x30) _ _ d ∙ chosen (eqb t 0x31) _ _ k)))
@@ -78,7 +79,7 @@ sum_size (field t f i r) n = on (eqb t 0x20) refl (sum_size r)
     on true e h = omega (arith, size, some_text f (pieces_in r) (λ y. n (ap pieces_sum (chosen (eqb t 0x20) _ _ e) ∙ y)))
     on false e h = next_on (eqb t 0x30) e refl h
 
-field_sum_size : (t : ℕ) (i : Row) → (field_sum t i ≡ Stays → ⊥) → 4 ≤ length (bytes i)
+field_sum_size : (t : ℕ) (i : Row) → (field_sum t i ≡ None → ⊥) → 4 ≤ length (bytes i)
 unfolding field_sum
 field_sum_size t i n = on (eqb t 0x79) refl
   where
@@ -96,11 +97,11 @@ kept_size : (b : Bool) (i j : Row) → 7 * length (bytes j) ≤ 11 * length (byt
 kept_size true i j h = h
 kept_size false i j h = omega arith
 
-number_or_size : (x : Worked) (t : ℕ) (f : Bytes) (i j r q : Row) → ((x ≡ Stays → ⊥) → 4 ≤ length (bytes i)) → 7 * length (bytes j) ≤ 11 * length (bytes i) → 7 * length (bytes q) ≤ 11 * length (bytes r) → 7 * length (bytes (number_or x t f j q)) ≤ 11 * length (bytes (field t f i r))
+number_or_size : (x : Worked) (t : ℕ) (f : Bytes) (i j r q : Row) → ((x ≡ None → ⊥) → 4 ≤ length (bytes i)) → 7 * length (bytes j) ≤ 11 * length (bytes i) → 7 * length (bytes q) ≤ 11 * length (bytes r) → 7 * length (bytes (number_or x t f j q)) ≤ 11 * length (bytes (field t f i r))
 unfolding number_or
-number_or_size Stays t f i j r q n a b = omega (arith, length_bytes t f j q, length_bytes t f i r)
-number_or_size (Plus k) t f i j r q n a b = omega (arith, number_size 0x71 k q, length_bytes t f i r, n (λ e. let z : ◌≡◌ {A = ℕ} 0 1 = cc in omega arith))
-number_or_size (Minus k) t f i j r q n a b = omega (arith, number_size 0x75 k q, length_bytes t f i r, n (λ e. let z : ◌≡◌ {A = ℕ} 0 1 = cc in omega arith))
+number_or_size None t f i j r q n a b = omega (arith, length_bytes t f j q, length_bytes t f i r)
+number_or_size (Some (Plus k)) t f i j r q n a b = omega (arith, number_size 0x71 k q, length_bytes t f i r, n (λ e. let z : ◌≡◌ {A = ℕ} 0 1 = cc in omega arith))
+number_or_size (Some (Minus k)) t f i j r q n a b = omega (arith, number_size 0x75 k q, length_bytes t f i r, n (λ e. let z : ◌≡◌ {A = ℕ} 0 1 = cc in omega arith))
 
 pub worked_size : (x : Row) → 7 * length (bytes (worked_row x)) ≤ 11 * length (bytes x)
 unfolding worked_row

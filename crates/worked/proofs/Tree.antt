@@ -19,8 +19,9 @@ use Rattle.page.specs.Number.{whole, number_bytes, number_in}
 use Rattle.page.specs.Page.{Name, identifier, member, namespaced, Tag, element, fragment, attribute, spread_attribute, Value, tag_value, Children, text_child, tag_child, spread_child, Expr, number_literal, minus_literal, array_literal, other_expr, tag_expr, Items, item, spread_item, hole_item, Pieces, no_pieces, source_piece, tag_piece, ModuleItem, export_item, declaration_item, statement_item, empty_item, Page}
 use Rattle.page.specs.Tree.{choose, texts_in, first_in, second_in, name_by, attr_name_by, expr_by, Contained, nothing_contained, contained, contained_value, contained_child, value_by, child_by, element_in, fragment_in, attributes_in, attr_name_in, value_in, value_behind, children_in, contained_in, expr_in, items_in, pieces_in, module_item_by, module_items_in, page_in}
 use Rattle.sums.proofs.Proper.{Proper, sum_proper}
-use Rattle.sums.specs.declared.value.Worked.{Worked}
-use Rattle.sums.specs.declared.value.Worked.TheVariants.{Stays, Plus, Minus}
+use Rattle.sums.specs.Value.{Worked}
+use Rattle.sums.specs.declared.value.Sum.TheVariants.{Plus, Minus}
+use Rattle.std.specs.Prelude.{Some, None}
 use Rattle.worked.specs.Worked.{pieces_sum, literal_or, worked_tag, worked_attributes, worked_value, worked_children, worked_expr, worked_items, worked_pieces, worked_item, worked}
 use Rattle.worked.specs.Row.{holds, field_sum, number_or, worked_row}
 use Rattle.worked.proofs.Tests.{chosen, passed}
@@ -64,7 +65,7 @@ child_joins (contained e) cs = refl
 holds_at : (t k : ℕ) → eqb t k ≡ true → holds k ≡ true → holds t ≡ true
 holds_at t k e h = ap holds (eqb-true t k e) ∙ h
 
-module _ (t : ℕ) (f : Bytes) (i j r q : Row) (h : holds t ≡ true → Alike i j) (n : holds t ≡ false → j ≡ i) (s : eqb t 0x79 ≡ true → pieces_sum (pieces_in i) ≡ Stays) (a : Alike r q) where
+module _ (t : ℕ) (f : Bytes) (i j r q : Row) (h : holds t ≡ true → Alike i j) (n : holds t ≡ false → j ≡ i) (s : eqb t 0x79 ≡ true → pieces_sum (pieces_in i) ≡ None) (a : Alike r q) where
   at : (k : ℕ) → eqb t k ≡ true → holds k ≡ true → Alike i j
   at k e p = h (holds_at t k e p)
 
@@ -221,29 +222,29 @@ pieces_proper (source_piece s (source_piece u ps)) = tt
 pieces_proper (source_piece s (tag_piece t ps)) = tt
 pieces_proper (tag_piece t ps) = tt
 
-sum_at_79 : (t : ℕ) (i : Row) (b : Bool) → eqb t 0x79 ≡ b → (field_sum t i ≡ Stays → ⊥) → (t ≡ 0x79) × (field_sum t i ≡ pieces_sum (pieces_in i))
+sum_at_79 : (t : ℕ) (i : Row) (b : Bool) → eqb t 0x79 ≡ b → (field_sum t i ≡ None → ⊥) → (t ≡ 0x79) × (field_sum t i ≡ pieces_sum (pieces_in i))
 unfolding field_sum
 sum_at_79 t i true e n = (eqb-true t 0x79 e, chosen (eqb t 0x79) _ _ e)
 sum_at_79 t i false e n = absurd (n (passed (eqb t 0x79) _ _ e))
 
 by_sum : (t : ℕ) (f : Bytes) (i j r q : Row) (w : Worked) → field_sum t i ≡ w → (holds t ≡ true → Alike i j) → (holds t ≡ false → j ≡ i) → Alike r q → Alike (field t f i r) (number_or w t f j q)
 unfolding number_or field_sum Proper literal_or
-by_sum t f i j r q Stays e h n a = kept t f i j r q h n (λ z. sym (chosen (eqb t 0x79) _ _ z) ∙ e) a
-by_sum t f i j r q (Plus k) e h n a =
-    let p = sum_at_79 t i (eqb t 0x79) refl (λ z. let y : Plus k ≡ Stays = sym e ∙ z in let x : ◌≡◌ {A = ℕ} 0 1 = cc in omega arith) in
-    let s : pieces_sum (pieces_in i) ≡ Plus k = sym p.1 ∙ e in
+by_sum t f i j r q None e h n a = kept t f i j r q h n (λ z. sym (chosen (eqb t 0x79) _ _ z) ∙ e) a
+by_sum t f i j r q (Some (Plus k)) e h n a =
+    let p = sum_at_79 t i (eqb t 0x79) refl (λ z. let y : Some (Plus k) ≡ None = sym e ∙ z in let x : ◌≡◌ {A = ℕ} 0 1 = cc in omega arith) in
+    let s : pieces_sum (pieces_in i) ≡ Some (Plus k) = sym p.1 ∙ e in
     let l : k < 2 ^ 64 = below (subst Proper s (pieces_proper (pieces_in i))) in
-    subst (λ (x : ℕ). Alike (field x f i r) (field 0x71 (number_bytes (whole k)) end q)) (sym p.0) (to_plus f (number_bytes (whole k)) i r q a (literal_is (Plus k) i _ s (plus_read k _ _ _ _ l)))
+    subst (λ (x : ℕ). Alike (field x f i r) (field 0x71 (number_bytes (whole k)) end q)) (sym p.0) (to_plus f (number_bytes (whole k)) i r q a (literal_is (Some (Plus k)) i _ s (plus_read k _ _ _ _ l)))
   where
-    below : Proper (Plus k) → k < 2 ^ 64
+    below : Proper (Some (Plus k)) → k < 2 ^ 64
     below p = omega arith
-by_sum t f i j r q (Minus k) e h n a =
-    let p = sum_at_79 t i (eqb t 0x79) refl (λ z. let y : Minus k ≡ Stays = sym e ∙ z in let x : ◌≡◌ {A = ℕ} 0 1 = cc in omega arith) in
-    let s : pieces_sum (pieces_in i) ≡ Minus k = sym p.1 ∙ e in
+by_sum t f i j r q (Some (Minus k)) e h n a =
+    let p = sum_at_79 t i (eqb t 0x79) refl (λ z. let y : Some (Minus k) ≡ None = sym e ∙ z in let x : ◌≡◌ {A = ℕ} 0 1 = cc in omega arith) in
+    let s : pieces_sum (pieces_in i) ≡ Some (Minus k) = sym p.1 ∙ e in
     let l : k < 2 ^ 64 = below (subst Proper s (pieces_proper (pieces_in i))) in
-    subst (λ (x : ℕ). Alike (field x f i r) (field 0x75 (number_bytes (whole k)) end q)) (sym p.0) (to_minus f (number_bytes (whole k)) i r q a (literal_is (Minus k) i _ s (minus_read k _ _ _ _ l)))
+    subst (λ (x : ℕ). Alike (field x f i r) (field 0x75 (number_bytes (whole k)) end q)) (sym p.0) (to_minus f (number_bytes (whole k)) i r q a (literal_is (Some (Minus k)) i _ s (minus_read k _ _ _ _ l)))
   where
-    below : Proper (Minus k) → k < 2 ^ 64
+    below : Proper (Some (Minus k)) → k < 2 ^ 64
     below p = omega (arith, p.1)
 
 picked : (b : Bool) (i j : Row) → Alike i j → b ≡ true → Alike i (pick b j i)
@@ -302,12 +303,12 @@ no_item t i e = sym (ap (λ (x : ℕ). worked_item (module_item_by x i)) e)
 -- the items of a page
 module_by : (t : ℕ) (f : Bytes) (i j r q : Row) (w : Worked) → field_sum t i ≡ w → (holds t ≡ true → pieces_in j ≡ worked_pieces (pieces_in i)) → module_items_in q ≡ worked (module_items_in r) → module_items_in (number_or w t f j q) ≡ worked (module_items_in (field t f i r))
 unfolding number_or module_items_in worked module_item_by choose
-module_by t f i j r q Stays e h a = ap₂ (λ (x : ModuleItem) (y : Page). x ∷ y) (item_kept t i j h) a
-module_by t f i j r q (Plus k) e h a =
-    let p = sum_at_79 t i (eqb t 0x79) refl (λ z. let y : Plus k ≡ Stays = sym e ∙ z in let x : ◌≡◌ {A = ℕ} 0 1 = cc in omega arith) in
+module_by t f i j r q None e h a = ap₂ (λ (x : ModuleItem) (y : Page). x ∷ y) (item_kept t i j h) a
+module_by t f i j r q (Some (Plus k)) e h a =
+    let p = sum_at_79 t i (eqb t 0x79) refl (λ z. let y : Some (Plus k) ≡ None = sym e ∙ z in let x : ◌≡◌ {A = ℕ} 0 1 = cc in omega arith) in
     ap₂ (λ (x : ModuleItem) (y : Page). x ∷ y) (no_item t i p.0) a
-module_by t f i j r q (Minus k) e h a =
-    let p = sum_at_79 t i (eqb t 0x79) refl (λ z. let y : Minus k ≡ Stays = sym e ∙ z in let x : ◌≡◌ {A = ℕ} 0 1 = cc in omega arith) in
+module_by t f i j r q (Some (Minus k)) e h a =
+    let p = sum_at_79 t i (eqb t 0x79) refl (λ z. let y : Some (Minus k) ≡ None = sym e ∙ z in let x : ◌≡◌ {A = ℕ} 0 1 = cc in omega arith) in
     ap₂ (λ (x : ModuleItem) (y : Page). x ∷ y) (no_item t i p.0) a
 
 modules_worked : (x : Row) → module_items_in (worked_row x) ≡ worked (module_items_in x)
@@ -323,12 +324,12 @@ picked_items false i e = absurd (let z : ◌≡◌ {A = ℕ} 0 1 = cc in omega a
 
 page_by : (t : ℕ) (f : Bytes) (i j r q : Row) (w : Worked) → field_sum t i ≡ w → (holds t ≡ true → module_items_in j ≡ worked (module_items_in i)) → page_in (number_or w t f j q) ≡ worked (page_in (field t f i r))
 unfolding number_or page_in worked holds choose
-page_by t f i j r q Stays e h = step worked _ _ _ _ _ (λ z. h (holds_at t 0x01 z refl)) refl
-page_by t f i j r q (Plus k) e h =
-    let p = sum_at_79 t i (eqb t 0x79) refl (λ z. let y : Plus k ≡ Stays = sym e ∙ z in let x : ◌≡◌ {A = ℕ} 0 1 = cc in omega arith) in
+page_by t f i j r q None e h = step worked _ _ _ _ _ (λ z. h (holds_at t 0x01 z refl)) refl
+page_by t f i j r q (Some (Plus k)) e h =
+    let p = sum_at_79 t i (eqb t 0x79) refl (λ z. let y : Some (Plus k) ≡ None = sym e ∙ z in let x : ◌≡◌ {A = ℕ} 0 1 = cc in omega arith) in
     sym (ap (λ (x : ℕ). worked (page_in (field x f i r))) p.0)
-page_by t f i j r q (Minus k) e h =
-    let p = sum_at_79 t i (eqb t 0x79) refl (λ z. let y : Minus k ≡ Stays = sym e ∙ z in let x : ◌≡◌ {A = ℕ} 0 1 = cc in omega arith) in
+page_by t f i j r q (Some (Minus k)) e h =
+    let p = sum_at_79 t i (eqb t 0x79) refl (λ z. let y : Some (Minus k) ≡ None = sym e ∙ z in let x : ◌≡◌ {A = ℕ} 0 1 = cc in omega arith) in
     sym (ap (λ (x : ℕ). worked (page_in (field x f i r))) p.0)
 
 pub page_worked : (x : Row) → page_in (worked_row x) ≡ worked (page_in x)

@@ -11,14 +11,14 @@ use Rattle.field.specs.Number.{big_endian}
 use Rattle.field.specs.Row.{field_bytes, read}
 use Rattle.field.specs.Header.{header_of}
 use Rattle.field.specs.declared.reader.Header.{Header}
-use Rattle.field.specs.declared.reader.Header.TheVariants as H
 use Rattle.field.specs.Put.{put, Wrote, head}
 use Rattle.field.proofs.RowLaws.{next_sizes}
 use Rattle.field.proofs.HeaderLaws.{next_field, no_field_read}
 use Rattle.field.proofs.PutLaws.{put_put, wrote_is, wrote_field, wrote_behind}
 use Rattle.page.specs.Number.{whole, number_bytes}
-use Rattle.sums.specs.declared.value.Worked.{Worked}
-use Rattle.sums.specs.declared.value.Worked.TheVariants as W
+use Rattle.sums.specs.Value.{Worked}
+use Rattle.sums.specs.declared.value.Sum.TheVariants as W
+use Rattle.std.specs.Prelude.{Option, Some, None}
 use Rattle.worked.specs.Row.{holds, field_sum, worked_bytes, worked_field}
 use Rattle.worked.proofs.Fields.{worked_front, worked_none, worked_leaf, worked_nest, worked_plus, worked_minus}
 use Rattle.worked.proofs.Sizes.{field_room}
@@ -44,26 +44,26 @@ body_at e t = take (e - 3) (drop 3 t)
 abbrev pub behind_at : ℕ → Bytes → Bytes
 behind_at e t = take (length t - e) (drop e t)
 
-module _ (t : Bytes) {v : Header} (q : v ≡ header_of t) where
-  module _ {g e : ℕ} (h : v ≡ H.Field g e) where
-    pub part_sizes : 3 + length (body_at e t) + length (behind_at e t) ≡ length t
-    part_sizes = next_sizes t g (body_at e t) (behind_at e t) (next_field t g e (sym q ∙ h))
+module _ (t : Bytes) {v : Option Header} (q : v ≡ header_of t) where
+  module _ {x : Header} (h : v ≡ Some x) where
+    pub part_sizes : 3 + length (body_at x.end t) + length (behind_at x.end t) ≡ length t
+    part_sizes = next_sizes t x.tag (body_at x.end t) (behind_at x.end t) (next_field t x (sym q ∙ h))
 
-    pub left_on : {s o out out₂ : Bytes} {at a a₂ : ℕ} → Left s o at t out a → Wrote out a (worked_field g (body_at e t)) out₂ a₂ → Left s o at (behind_at e t) out₂ a₂
+    pub left_on : {s o out out₂ : Bytes} {at a a₂ : ℕ} → Left s o at t out a → Wrote out a (worked_field x.tag (body_at x.end t)) out₂ a₂ → Left s o at (behind_at x.end t) out₂ a₂
     left_on {s} {o} {out} {out₂} {at} {a} {a₂} l u =
-        let w : Bytes = body_at e t in
-        let r : Bytes = behind_at e t in
-        let f : worked_bytes t ≡ worked_field g w ++ worked_bytes r = worked_front t g w r (next_field t g e (sym q ∙ h)) in
-        let k : length (worked_bytes t) ≡ length (worked_field g w) + length (worked_bytes r) = ap length f ∙ length-append (worked_field g w) (worked_bytes r) in
-        let p : put (put out a (worked_field g w)) (a + length (worked_field g w)) (worked_bytes r) ≡ put out a (worked_bytes t) = put_put out a (worked_field g w) (worked_bytes r) ∙ ap (put out a) (sym f) in
+        let w : Bytes = body_at x.end t in
+        let r : Bytes = behind_at x.end t in
+        let f : worked_bytes t ≡ worked_field x.tag w ++ worked_bytes r = worked_front t x.tag w r (next_field t x (sym q ∙ h)) in
+        let k : length (worked_bytes t) ≡ length (worked_field x.tag w) + length (worked_bytes r) = ap length f ∙ length-append (worked_field x.tag w) (worked_bytes r) in
+        let p : put (put out a (worked_field x.tag w)) (a + length (worked_field x.tag w)) (worked_bytes r) ≡ put out a (worked_bytes t) = put_put out a (worked_field x.tag w) (worked_bytes r) ∙ ap (put out a) (sym f) in
         record {
-          rest = ap (λ (x : Bytes). put x a₂ (worked_bytes r)) u.out_is ∙ ap (λ (x : ℕ). put (put out a (worked_field g w)) x (worked_bytes r)) u.end_is ∙ p ∙ l.rest;
+          rest = ap (λ (y : Bytes). put y a₂ (worked_bytes r)) u.out_is ∙ ap (λ (y : ℕ). put (put out a (worked_field x.tag w)) y (worked_bytes r)) u.end_is ∙ p ∙ l.rest;
           place = omega (arith, u.end_is, k, l.place);
-          room = omega (arith, u.end_is, field_room g w, part_sizes, l.room);
+          room = omega (arith, u.end_is, field_room x.tag w, part_sizes, l.room);
           short = omega (arith, part_sizes, l.short);
         }
 
-  pub left_end : v ≡ H.Absent → {s o out out₂ : Bytes} {at a a₂ : ℕ} → Left s o at t out a → Wrote out a t out₂ a₂ → Wrote o at (worked_bytes s) out₂ a₂
+  pub left_end : v ≡ None → {s o out out₂ : Bytes} {at a a₂ : ℕ} → Left s o at t out a → Wrote out a t out₂ a₂ → Wrote o at (worked_bytes s) out₂ a₂
   left_end h {s} {o} {out} {out₂} {at} {a} {a₂} l u =
       let f : t ≡ worked_bytes t = worked_none t (no_field_read t q h) in
       record {
@@ -77,11 +77,11 @@ module _ (t : ℕ) (w : Bytes) {o o₁ : Bytes} {n n₁ : ℕ} {b : Bool} (q : b
   leaf_written e a u v = wrote_is (worked_leaf t w (sym q ∙ e) a) (wrote_field t u v)
 
   module _ (e : b ≡ true) {x : Worked} (p : x ≡ field_sum t (read w)) where
-    pub plus_written : {k : ℕ} → x ≡ W.Plus k → Wrote o n (field_bytes 0x71 (number_bytes (whole k))) o₁ n₁ → Wrote o n (worked_field t w) o₁ n₁
+    pub plus_written : {k : ℕ} → x ≡ Some (W.Plus k) → Wrote o n (field_bytes 0x71 (number_bytes (whole k))) o₁ n₁ → Wrote o n (worked_field t w) o₁ n₁
     plus_written {k} h u = wrote_is (worked_plus t w (sym q ∙ e) k p h) u
 
-    pub minus_written : {k : ℕ} → x ≡ W.Minus k → Wrote o n (field_bytes 0x75 (number_bytes (whole k))) o₁ n₁ → Wrote o n (worked_field t w) o₁ n₁
+    pub minus_written : {k : ℕ} → x ≡ Some (W.Minus k) → Wrote o n (field_bytes 0x75 (number_bytes (whole k))) o₁ n₁ → Wrote o n (worked_field t w) o₁ n₁
     minus_written {k} h u = wrote_is (worked_minus t w (sym q ∙ e) k p h) u
 
-    pub nest_written : x ≡ W.Stays → {o₂ : Bytes} {n₂ m : ℕ} → m ≡ n + 3 → Wrote o m (worked_bytes w) o₁ n₁ → Wrote o₁ n (head t (n₁ - m)) o₂ n₂ → Wrote o n (worked_field t w) o₂ n₁
+    pub nest_written : x ≡ None → {o₂ : Bytes} {n₂ m : ℕ} → m ≡ n + 3 → Wrote o m (worked_bytes w) o₁ n₁ → Wrote o₁ n (head t (n₁ - m)) o₂ n₂ → Wrote o n (worked_field t w) o₂ n₁
     nest_written h r u v = wrote_is (worked_nest t w (sym q ∙ e) p h) (wrote_behind t r u v)

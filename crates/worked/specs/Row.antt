@@ -5,8 +5,9 @@ use Rattle.field.specs.Bytes.{Bytes, pick}
 use Rattle.field.specs.Row.{Row, end, loose, field, bytes, inside, opened, read}
 use Rattle.page.specs.Number.{whole, number_bytes}
 use Rattle.page.specs.Tree.{choose, pieces_in}
-use Rattle.sums.specs.declared.value.Worked.{Worked}
-use Rattle.sums.specs.declared.value.Worked.TheVariants.{Stays, Plus, Minus}
+use Rattle.sums.specs.Value.{Worked}
+use Rattle.sums.specs.declared.value.Sum.TheVariants.{Plus, Minus}
+use Rattle.std.specs.Prelude.{Some, None}
 use Rattle.worked.specs.Worked.{pieces_sum}
 
 -- the tags of a page below which an expression may stand
@@ -15,12 +16,12 @@ holds t =
     eqb t 0x01 || ((leb 0x10 t && leb t 0x12) || (eqb t 0x30 || (eqb t 0x31 || (eqb t 0x50 || (eqb t 0x52 || (eqb t 0x53 || (eqb t 0x61 || (eqb t 0x76 || (eqb t 0x77 || eqb t 0x79)))))))))
 
 unfoldable pub field_sum : ℕ → Row → Worked
-field_sum t i = choose (eqb t 0x79) (λ _. pieces_sum (pieces_in i)) λ _. Stays
+field_sum t i = choose (eqb t 0x79) (λ _. pieces_sum (pieces_in i)) λ _. None
 
 unfoldable pub number_or : Worked → ℕ → Bytes → Row → Row → Row
-number_or Stays t f i r = field t f i r
-number_or (Plus n) t f i r = field 0x71 (number_bytes (whole n)) end r
-number_or (Minus n) t f i r = field 0x75 (number_bytes (whole n)) end r
+number_or None t f i r = field t f i r
+number_or (Some (Plus n)) t f i r = field 0x71 (number_bytes (whole n)) end r
+number_or (Some (Minus n)) t f i r = field 0x75 (number_bytes (whole n)) end r
 
 unfoldable pub worked_row : Row → Row
 worked_row end = end

@@ -3,22 +3,23 @@ use Rattle.std.specs.Prelude.{[], ◌∷◌}
 use Rattle.page.specs.Number.{whole}
 use Rattle.page.specs.Page.{Tag, element, fragment, Attributes, no_attributes, attribute, spread_attribute, Value, absent, string_value, empty_value, container_value, tag_value, Children, no_children, text_child, empty_child, container_child, tag_child, spread_child, Expr, string_literal, number_literal, boolean_literal, null_literal, other_literal, minus_literal, array_literal, other_expr, tag_expr, Items, no_items, item, spread_item, hole_item, Pieces, no_pieces, source_piece, tag_piece, ModuleItem, export_item, declaration_item, statement_item, empty_item, Page}
 use Rattle.sums.specs.Machine.{sum_of}
-use Rattle.sums.specs.declared.value.Worked.{Worked}
-use Rattle.sums.specs.declared.value.Worked.TheVariants.{Stays, Plus, Minus}
+use Rattle.sums.specs.Value.{Worked}
+use Rattle.sums.specs.declared.value.Sum.TheVariants.{Plus, Minus}
+use Rattle.std.specs.Prelude.{Some, None}
 
 -- what a 79 comes to: only one source piece, and nothing beside it, is asked about
 unfoldable pub pieces_sum : Pieces → Worked
-pieces_sum no_pieces = Stays
+pieces_sum no_pieces = None
 pieces_sum (source_piece s no_pieces) = sum_of s
-pieces_sum (source_piece s (source_piece u ps)) = Stays
-pieces_sum (source_piece s (tag_piece t ps)) = Stays
-pieces_sum (tag_piece t ps) = Stays
+pieces_sum (source_piece s (source_piece u ps)) = None
+pieces_sum (source_piece s (tag_piece t ps)) = None
+pieces_sum (tag_piece t ps) = None
 
 -- it becomes 71, or 75 when negative; or it stays
 unfoldable pub literal_or : Worked → Expr → Expr
-literal_or Stays e = e
-literal_or (Plus n) e = number_literal (whole n)
-literal_or (Minus n) e = minus_literal (whole n)
+literal_or None e = e
+literal_or (Some (Plus n)) e = number_literal (whole n)
+literal_or (Some (Minus n)) e = minus_literal (whole n)
 
 unfoldable mutual
   pub worked_tag : Tag → Tag

@@ -12,24 +12,28 @@ ghost use Rattle.page.specs.Tree.{pieces_in};
 ghost use Rattle.page.specs.Number.{whole, number_bytes};
 ghost use Rattle.worked.specs.Row.{holds, field_sum, worked_bytes, worked_field, is_piece};
 
-use field::reader::{Header, behind, body, read_header, tag_at};
+use field::reader::{behind, body, read_header, tag_at};
 use field::writer::{put_bytes, put_eight, put_head};
 use sums::reader::{ROOM, sum_in};
-use sums::value::Worked;
+use sums::value::Sum;
 
 // Below this tag an expression may stand.
+#[tactic(auto, unfolding(crate::specs::Row::holds))]
 fn may_hold(tag: u8) -> bool
     ensures { result ≡ holds tag }
 {
-    (tag == 0x01)
-        | (((0x10 <= tag) & (tag <= 0x12))
-            | ((tag == 0x30)
-                | ((tag == 0x31)
-                    | ((tag == 0x50)
-                        | ((tag == 0x52)
-                            | ((tag == 0x53)
-                                | ((tag == 0x61)
-                                    | ((tag == 0x76) | ((tag == 0x77) | (tag == 0x79))))))))))
+    matches!(
+        tag,
+        0x01 | 0x10..=0x12 | 0x30 | 0x31 | 0x50 | 0x52 | 0x53 | 0x61 | 0x76 | 0x77 | 0x79
+    )
+}
+
+// A 20, 30 or 31, or no field at all.
+#[tactic(auto, unfolding(crate::specs::Row::is_piece))]
+fn is_piece(tag: usize) -> bool
+    ensures { result ≡ is_piece tag }
+{
+    matches!(tag, 0x20 | 0x30 | 0x31 | 256)
 }
 
 // The row from its first 20, 30 or 31 on.
@@ -37,31 +41,27 @@ fn to_piece(s: &[u8]) -> &[u8]
     ensures { (pieces_in (read result.now) ≡ pieces_in (read s.now)) × (is_piece (tag_of_front result.now) ≡ true) × (length result.now ≤ length s.now) }
 {
     let mut t = s;
-    loop {
-        let tag = tag_at(t);
-        if (tag == 0x20) | ((tag == 0x30) | ((tag == 0x31) | (tag == 256))) {
-            return t;
-        }
-        let r = behind(t);
-        t = r;
+    while !is_piece(tag_at(t)) {
+        t = behind(t);
     }
+    t
 }
 
 // What a field comes to, by its tag and body: a number only where it is a 79 of one source piece that is a sum.
-fn sum_of_field(tag: u8, w: &[u8], words: &mut [u64; ROOM]) -> Worked
+fn sum_of_field(tag: u8, w: &[u8], words: &mut [u64; ROOM]) -> Option<Sum>
     requires { (length w.now ≤ 32768) × (length words.old ≡ 16384) }
     ensures { (result ≡ field_sum tag (read w.now)) × (length words.new ≡ 16384) }
 {
     if tag != 0x79 {
-        return Worked::Stays;
+        return None;
     }
     let p = to_piece(w);
     if tag_at(p) != 0x20 {
-        return Worked::Stays;
+        return None;
     }
     let q = to_piece(behind(p));
     if tag_at(q) != 256 {
-        return Worked::Stays;
+        return None;
     }
     sum_in(body(p), words)
 }
@@ -86,9 +86,9 @@ fn work_field(tag: u8, w: &[u8], words: &mut [u64; ROOM], out: &mut [u8], at: us
         return put_bytes(out, a, w);
     }
     match sum_of_field(tag, w, words) {
-        Worked::Plus(n) => put_number(out, at, 0x71, n),
-        Worked::Minus(n) => put_number(out, at, 0x75, n),
-        Worked::Stays => {
+        Some(Sum::Plus(n)) => put_number(out, at, 0x71, n),
+        Some(Sum::Minus(n)) => put_number(out, at, 0x75, n),
+        None => {
             let e = work_fields(w, words, out, at + 3);
             put_head(out, at, tag, e - (at + 3));
             e
@@ -104,20 +104,11 @@ fn work_fields(s: &[u8], words: &mut [u64; ROOM], out: &mut [u8], at: usize) -> 
 {
     let mut t = s;
     let mut a = at;
-    loop {
-        match read_header(t) {
-            Header::Absent => {
-                return put_bytes(out, a, t);
-            }
-            Header::Field { tag, end } => {
-                let w = &t[3..end];
-                let r = &t[end..];
-                let e = work_field(tag, w, words, out, a);
-                a = e;
-                t = r;
-            }
-        }
+    while let Some(h) = read_header(t) {
+        a = work_field(h.tag, &t[3..h.end], words, out, a);
+        t = &t[h.end..];
     }
+    put_bytes(out, a, t)
 }
 
 // The page with its sums worked out, at the front of out.

@@ -1,9 +1,11 @@
--- `finish` meets its contract: by the number. Assumes nothing.
-use Rattle.convert.proofs.AnswerLaws.{finish_refused, finish_kept}
+-- `finish` meets its contract: kept, or cleared. Assumes nothing.
+use mathlib.Core.Path.{refl, ap, sym}
+use Rattle.convert.specs.Flat.{number_due}
+use Rattle.convert.proofs.AnswerLaws.{finish_refused, finish_kept, reason_some}
 use Rattle.convert.proofs.finish.Goals as goal
 
-pub returns-then-n-ne0 : goal.returns-then-n-ne0
-returns-then-n-ne0 c = finish_refused c.if-n-ne0.true c.refuse.ensures
+pub returns-in-Ok : goal.returns-in-Ok
+returns-in-Ok c = finish_kept (ap number_due c.in-Ok.is)
 
-pub returns : goal.returns
-returns c = finish_kept c.if-n-ne0.false
+pub returns-in-Err : goal.returns-in-Err
+returns-in-Err c = rw c.in-Err.is (finish_refused (reason_some c.in-Err.e) c.refuse.ensures)

@@ -5,4 +5,4 @@ use Rattle.convert.proofs.refuse.Goals as goal
 
 pub returns : goal.returns
 unfolding number bytes_of_templates bytes_of_page templates_left page_left
-returns c = record { number_is = refl; templates_bytes_is = refl; page_bytes_is = refl; templates_is = c.clear.ensures; page_is = c.clear-2.ensures }
+returns c = record { number_is = c.from.ensures; templates_bytes_is = refl; page_bytes_is = refl; templates_is = c.clear.ensures; page_is = c.clear-2.ensures }

@@ -6,8 +6,8 @@ use Rattle.found.proofs.then.Goals as goal
 pub returns-in-Empty : goal.returns-in-Empty
 returns-in-Empty c = then_behind c.args.a c.args.b c.in-Empty.is
 
-pub returns-in-Empty-second : goal.returns-in-Empty-second
-returns-in-Empty-second c = then_before c.args.a c.args.b (not_empty _ (opened c.in_default.in_default-own.keys2)) c.in-Empty-second.is
+pub returns-in-Empty-kind : goal.returns-in-Empty-kind
+returns-in-Empty-kind c = then_before c.args.a c.args.b (not_empty _ (opened c.in_default.in_default-own.keys2)) c.in-Empty-kind.is
 
-pub returns-in_default-second : goal.returns-in_default-second
-returns-in_default-second c = c.nowhere.ensures ∙ then_many c.args.a c.args.b (not_empty _ (opened c.in_default.in_default-own.keys2)) (not_empty _ (opened c.in_default-second.in_default-second-own.keys2))
+pub returns-in_default-kind : goal.returns-in_default-kind
+returns-in_default-kind c = c.nowhere.ensures ∙ then_many c.args.a c.args.b (not_empty _ (opened c.in_default.in_default-own.keys2)) (not_empty _ (opened c.in_default-kind.in_default-kind-own.keys2))

@@ -1,6 +1,9 @@
 -- `print_card` meets its contract: of a refusal its number is printed, of an accepted page what stands in both outs. Assumes nothing.
 use native.Mathlib.Omega.{arith}
 use mathlib.Core.List.{[]}
+use mathlib.Core.Path.{ap}
+use Rattle.field.specs.Bytes.{Bytes}
+use Rattle.text.specs.Decimal.{decimal}
 use Rattle.field.proofs.PutLaws.{wrote_is}
 use Rattle.text.proofs.DecimalLaws.{length_decimal}
 use Rattle.print_card.proofs.CardLaws.{front_length, refused_printed, Stand, outs_stand}
@@ -8,13 +11,13 @@ use Rattle.print_card.proofs.print_card.Goals as goal
 use Rattle.print_card.proofs.print_card.Goals.{Else-a-ne0}
 
 pub put_decimal-end-requires : goal.put_decimal-end-requires
-put_decimal-end-requires c = omega (arith, length_decimal c.jsx_precompile_transform-a.result.number)
+put_decimal-end-requires c = omega (arith, length_decimal c.from.result)
 
 pub put_byte-requires : goal.put_byte-requires
-put_byte-requires c = omega (arith, c.put_decimal-end.ensures.end_is, length_decimal c.jsx_precompile_transform-a.result.number)
+put_byte-requires c = omega (arith, c.put_decimal-end.ensures.end_is, length_decimal c.from.result)
 
 pub returns-then-a-ne0 : goal.returns-then-a-ne0
-returns-then-a-ne0 c = let a = c.args in refused_printed a.input.now [] a.scratch.now a.templates.now a.page.now c.jsx_precompile_transform-a.ensures c.if-a-ne0.true c.put_decimal-end.ensures c.put_byte.ensures
+returns-then-a-ne0 c = let a = c.args in refused_printed a.input.now [] a.scratch.now a.templates.now a.page.now c.jsx_precompile_transform-a.ensures c.if-a-ne0.true (wrote_is (ap {B = Bytes} decimal c.from.ensures) c.put_decimal-end.ensures) c.put_byte.ensures
 
 stands : (c : Else-a-ne0) →
     let a = c.args in Stand a.input.now [] a.scratch.now a.templates.now a.page.now c.jsx_precompile_transform-a.ensures

@@ -16,13 +16,7 @@ pub put_two-requires : goal.put_two-requires
 put_two-requires c = let a = c.args in let e : length (numbered a.width a.tag a.number) ≡ 2 = ap length (numbered_call a.width a.tag a.number 2 c.if-tag-ne144.false c.if-width-eq2.true) ∙ length_big_endian 2 a.number [] in
     omega (arith, c.requires.0)
 
-pub returns-then-width-eq2 : goal.returns-then-width-eq2
-returns-then-width-eq2 c = wrote_is (sym (numbered_call _ _ _ 2 c.if-tag-ne144.false c.if-width-eq2.true)) c.put_two.ensures
-
 pub put_four-requires : goal.put_four-requires
 put_four-requires c = let a = c.args in let four = four_left c.requires.1 c.if-width-eq2.false in
     let e : length (numbered a.width a.tag a.number) ≡ 4 = ap length (numbered_call a.width a.tag a.number 4 c.if-tag-ne144.false four) ∙ length_big_endian 4 a.number [] in
     omega (arith, c.requires.0)
-
-pub returns : goal.returns
-returns c = wrote_is (sym (numbered_call _ _ _ 4 c.if-tag-ne144.false (four_left c.requires.1 c.if-width-eq2.false))) c.put_four.ensures

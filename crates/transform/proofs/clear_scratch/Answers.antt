@@ -7,4 +7,4 @@ pub returns-in-ScratchTooSmall : goal.returns-in-ScratchTooSmall
 returns-in-ScratchTooSmall c = cleared_not _ c.in-ScratchTooSmall.is
 
 pub returns-in_default : goal.returns-in_default
-returns-in_default c = cleared_all _ _ (opened c.in_default.in_default-own.keys2) c.clear.ensures
+returns-in_default c = cleared_all _ _ (opened c.in_default.in_default-own.keys2) (c.fill.ensures.after (λ y e. e))

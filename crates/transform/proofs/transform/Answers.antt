@@ -4,7 +4,7 @@ use Rattle.transform.proofs.AnswerLaws.{refused_inputs}
 use Rattle.transform.proofs.transform.Goals as goal
 
 pub transform_checked-requires : goal.transform_checked-requires
-transform_checked-requires c = sym c.check_inputs.ensures ∙ c.in-Fine.is
+transform_checked-requires c = sym c.check_inputs.ensures ∙ c.in-Ok.is
 
-pub returns-in-Refused : goal.returns-in-Refused
-returns-in-Refused c = refused_inputs _ _ _ _ _ c.check_inputs.ensures c.in-Refused.is c.refuse.ensures
+pub returns-in-Err : goal.returns-in-Err
+returns-in-Err c = refused_inputs _ _ _ _ _ c.check_inputs.ensures c.in-Err.is c.refuse.ensures

@@ -1,6 +1,7 @@
 -- The two functions meet their contracts by one induction: the bytes left fall, and a field stands above the row that it holds. The loop
 -- keeps that what is left of the row, written from here on, gives what the whole gives from the start. Assumes nothing.
-use mathlib.Core.Path.{refl}
+use mathlib.Core.Path.{refl, ◌∙◌, ap}
+use Rattle.std.specs.Prelude.{Some}
 use native.Mathlib.Omega.{arith}
 use lib.ListN.{length}
 use Rattle.field.proofs.NumberLaws.{all_from}
@@ -27,8 +28,8 @@ work_field-sum_of_field-requires t c = (c.requires.0, c.requires.1)
 pub work_field-put_number-requires : goal.work_field-put_number-requires
 work_field-put_number-requires t c = omega (arith, c.requires.2)
 
-pub work_field-put_number-requires-in-Minus : goal.work_field-put_number-requires-in-Minus
-work_field-put_number-requires-in-Minus t c = omega (arith, c.requires.2)
+pub work_field-put_number-requires-in-Some-Minus : goal.work_field-put_number-requires-in-Some-Minus
+work_field-put_number-requires-in-Some-Minus t c = omega (arith, c.requires.2)
 
 pub work_field-overflow_add-at : goal.work_field-overflow_add-at
 work_field-overflow_add-at t c = omega (arith, c.requires.2)
@@ -36,8 +37,8 @@ work_field-overflow_add-at t c = omega (arith, c.requires.2)
 pub work_field-work_fields-e-requires : goal.work_field-work_fields-e-requires
 work_field-work_fields-e-requires t c = (omega (arith, c.decreases), (c.requires.0, c.sum_of_field.ensures.1, omega (arith, c.requires.2)))
 
-pub work_field-overflow_add-at-in-Stays : goal.work_field-overflow_add-at-in-Stays
-work_field-overflow_add-at-in-Stays t c = omega (arith, c.requires.2)
+pub work_field-overflow_add-at-in-None : goal.work_field-overflow_add-at-in-None
+work_field-overflow_add-at-in-None t c = omega (arith, c.requires.2)
 
 pub work_field-overflow_sub-e : goal.work_field-overflow_sub-e
 work_field-overflow_sub-e t c = omega (arith, c.work_fields-e.ensures.0.end_is)
@@ -45,59 +46,59 @@ work_field-overflow_sub-e t c = omega (arith, c.work_fields-e.ensures.0.end_is)
 pub work_field-put_head-requires : goal.work_field-put_head-requires
 work_field-put_head-requires t c = omega (arith, c.requires.2)
 
-pub work_field-shape_of-out-in-Plus : goal.work_field-shape_of-out-in-Plus
-work_field-shape_of-out-in-Plus t c = wrote_length (plus_written _ _ c.may_hold.ensures c.if-not-may_hold.false c.sum_of_field.ensures.0 c.in-Plus.is c.put_number.ensures)
+pub work_field-shape_of-out-in-Some-Plus : goal.work_field-shape_of-out-in-Some-Plus
+work_field-shape_of-out-in-Some-Plus t c = wrote_length (plus_written _ _ c.may_hold.ensures c.if-not-may_hold.false c.sum_of_field.ensures.0 (c.in-Some-Plus.is ∙ ap Some c.in-Some-Plus.field-0-is) c.put_number.ensures)
 
-pub work_field-returns-in-Plus : goal.work_field-returns-in-Plus
-work_field-returns-in-Plus t c = (plus_written _ _ c.may_hold.ensures c.if-not-may_hold.false c.sum_of_field.ensures.0 c.in-Plus.is c.put_number.ensures, c.sum_of_field.ensures.1)
+pub work_field-returns-in-Some-Plus : goal.work_field-returns-in-Some-Plus
+work_field-returns-in-Some-Plus t c = (plus_written _ _ c.may_hold.ensures c.if-not-may_hold.false c.sum_of_field.ensures.0 (c.in-Some-Plus.is ∙ ap Some c.in-Some-Plus.field-0-is) c.put_number.ensures, c.sum_of_field.ensures.1)
 
-pub work_field-shape_of-out-in-Minus : goal.work_field-shape_of-out-in-Minus
-work_field-shape_of-out-in-Minus t c = wrote_length (minus_written _ _ c.may_hold.ensures c.if-not-may_hold.false c.sum_of_field.ensures.0 c.in-Minus.is c.put_number-in-Minus.ensures)
+pub work_field-shape_of-out-in-Some-Minus : goal.work_field-shape_of-out-in-Some-Minus
+work_field-shape_of-out-in-Some-Minus t c = wrote_length (minus_written _ _ c.may_hold.ensures c.if-not-may_hold.false c.sum_of_field.ensures.0 (c.in-Some-Minus.is ∙ ap Some c.in-Some-Minus.field-0-is) c.put_number-in-Some-Minus.ensures)
 
-pub work_field-returns-in-Minus : goal.work_field-returns-in-Minus
-work_field-returns-in-Minus t c = (minus_written _ _ c.may_hold.ensures c.if-not-may_hold.false c.sum_of_field.ensures.0 c.in-Minus.is c.put_number-in-Minus.ensures, c.sum_of_field.ensures.1)
+pub work_field-returns-in-Some-Minus : goal.work_field-returns-in-Some-Minus
+work_field-returns-in-Some-Minus t c = (minus_written _ _ c.may_hold.ensures c.if-not-may_hold.false c.sum_of_field.ensures.0 (c.in-Some-Minus.is ∙ ap Some c.in-Some-Minus.field-0-is) c.put_number-in-Some-Minus.ensures, c.sum_of_field.ensures.1)
 
-pub work_field-shape_of-out-in-Stays : goal.work_field-shape_of-out-in-Stays
-work_field-shape_of-out-in-Stays t c = wrote_length (nest_written _ _ c.may_hold.ensures c.if-not-may_hold.false c.sum_of_field.ensures.0 c.in-Stays.is refl c.work_fields-e.ensures.0 c.put_head.ensures)
+pub work_field-shape_of-out-in-None : goal.work_field-shape_of-out-in-None
+work_field-shape_of-out-in-None t c = wrote_length (nest_written _ _ c.may_hold.ensures c.if-not-may_hold.false c.sum_of_field.ensures.0 c.in-None.is refl c.work_fields-e.ensures.0 c.put_head.ensures)
 
-pub work_field-returns-in-Stays : goal.work_field-returns-in-Stays
-work_field-returns-in-Stays t c = (nest_written _ _ c.may_hold.ensures c.if-not-may_hold.false c.sum_of_field.ensures.0 c.in-Stays.is refl c.work_fields-e.ensures.0 c.put_head.ensures, c.work_fields-e.ensures.1)
+pub work_field-returns-in-None : goal.work_field-returns-in-None
+work_field-returns-in-None t c = (nest_written _ _ c.may_hold.ensures c.if-not-may_hold.false c.sum_of_field.ensures.0 c.in-None.is refl c.work_fields-e.ensures.0 c.put_head.ensures, c.work_fields-e.ensures.1)
 
-pub work_fields-loop-out-init : goal.work_fields-loop-out-init
-work_fields-loop-out-init t c = (left_start _ _ _, c.requires.1)
+pub work_fields-loop-h-init : goal.work_fields-loop-h-init
+work_fields-loop-h-init t c = (left_start _ _ _, c.requires.1)
 
 pub work_fields-put_bytes-requires : goal.work_fields-put_bytes-requires
-work_fields-put_bytes-requires t c = omega (arith, c.loop-out.invariant.0.room, c.requires.2)
+work_fields-put_bytes-requires t c = omega (arith, c.loop-h.invariant.0.room, c.requires.2)
 
-pub work_fields-shape_of-out-in-Absent : goal.work_fields-shape_of-out-in-Absent
-work_fields-shape_of-out-in-Absent t c = wrote_length (left_end _ c.read_header.ensures.0 c.in-Absent.is c.loop-out.invariant.0 c.put_bytes.ensures)
+pub work_fields-shape_of-out : goal.work_fields-shape_of-out
+work_fields-shape_of-out t c = wrote_length (left_end _ c.read_header.ensures.0 c.in_default.is c.loop-h.invariant.0 c.put_bytes.ensures)
 
-pub work_fields-returns-in-Absent : goal.work_fields-returns-in-Absent
-work_fields-returns-in-Absent t c = (left_end _ c.read_header.ensures.0 c.in-Absent.is c.loop-out.invariant.0 c.put_bytes.ensures, c.loop-out.invariant.1)
+pub work_fields-returns : goal.work_fields-returns
+work_fields-returns t c = (left_end _ c.read_header.ensures.0 c.in_default.is c.loop-h.invariant.0 c.put_bytes.ensures, c.loop-h.invariant.1)
 
-pub work_fields-slice_bounds-w-count : goal.work_fields-slice_bounds-w-count
-work_fields-slice_bounds-w-count t c = omega (arith, within_field c.read_header.ensures.1 c.in-Field.is)
+pub work_fields-slice_bounds-work_field-count : goal.work_fields-slice_bounds-work_field-count
+work_fields-slice_bounds-work_field-count t c = omega (arith, within_field c.read_header.ensures.1 c.in-Some.is)
 
-pub work_fields-slice_bounds-w-start : goal.work_fields-slice_bounds-w-start
-work_fields-slice_bounds-w-start t c = omega (arith, within_field c.read_header.ensures.1 c.in-Field.is)
+pub work_fields-slice_bounds-work_field-start : goal.work_fields-slice_bounds-work_field-start
+work_fields-slice_bounds-work_field-start t c = omega (arith, within_field c.read_header.ensures.1 c.in-Some.is)
 
-pub work_fields-slice_bounds-w-end : goal.work_fields-slice_bounds-w-end
-work_fields-slice_bounds-w-end t c = omega (arith, within_field c.read_header.ensures.1 c.in-Field.is)
+pub work_fields-slice_bounds-work_field-end : goal.work_fields-slice_bounds-work_field-end
+work_fields-slice_bounds-work_field-end t c = omega (arith, within_field c.read_header.ensures.1 c.in-Some.is)
 
-pub work_fields-slice_bounds-r-count : goal.work_fields-slice_bounds-r-count
-work_fields-slice_bounds-r-count t c = omega (arith, within_field c.read_header.ensures.1 c.in-Field.is)
+pub work_fields-slice_bounds-t-count : goal.work_fields-slice_bounds-t-count
+work_fields-slice_bounds-t-count t c = omega (arith, within_field c.read_header.ensures.1 c.in-Some.is)
 
-pub work_fields-slice_bounds-r-start : goal.work_fields-slice_bounds-r-start
-work_fields-slice_bounds-r-start t c = omega (arith, within_field c.read_header.ensures.1 c.in-Field.is)
+pub work_fields-slice_bounds-t-start : goal.work_fields-slice_bounds-t-start
+work_fields-slice_bounds-t-start t c = omega (arith, within_field c.read_header.ensures.1 c.in-Some.is)
 
-pub work_fields-slice_bounds-r-end : goal.work_fields-slice_bounds-r-end
-work_fields-slice_bounds-r-end t c = omega (arith, within_field c.read_header.ensures.1 c.in-Field.is)
+pub work_fields-slice_bounds-t-end : goal.work_fields-slice_bounds-t-end
+work_fields-slice_bounds-t-end t c = omega (arith, within_field c.read_header.ensures.1 c.in-Some.is)
 
-pub work_fields-work_field-e-requires : goal.work_fields-work_field-e-requires
-work_fields-work_field-e-requires t c = (omega (arith, c.decreases, c.loop-out.invariant.0.short, part_sizes _ c.read_header.ensures.0 c.in-Field.is), (omega (arith, c.requires.0, c.loop-out.invariant.0.short, part_sizes _ c.read_header.ensures.0 c.in-Field.is), c.loop-out.invariant.1, omega (arith, c.requires.2, c.loop-out.invariant.0.room, part_sizes _ c.read_header.ensures.0 c.in-Field.is)))
+pub work_fields-work_field-a-requires : goal.work_fields-work_field-a-requires
+work_fields-work_field-a-requires t c = (omega (arith, c.decreases, c.loop-h.invariant.0.short, part_sizes _ c.read_header.ensures.0 c.in-Some.is), (omega (arith, c.requires.0, c.loop-h.invariant.0.short, part_sizes _ c.read_header.ensures.0 c.in-Some.is), c.loop-h.invariant.1, omega (arith, c.requires.2, c.loop-h.invariant.0.room, part_sizes _ c.read_header.ensures.0 c.in-Some.is)))
 
-pub work_fields-loop-out-smaller : goal.work_fields-loop-out-smaller
-work_fields-loop-out-smaller t c = omega (arith, part_sizes _ c.read_header.ensures.0 c.in-Field.is)
+pub work_fields-loop-h-smaller : goal.work_fields-loop-h-smaller
+work_fields-loop-h-smaller t c = omega (arith, part_sizes _ c.read_header.ensures.0 c.in-Some.is)
 
-pub work_fields-loop-out-preserved : goal.work_fields-loop-out-preserved
-work_fields-loop-out-preserved t c = (left_on _ c.read_header.ensures.0 c.in-Field.is c.loop-out.invariant.0 c.work_field-e.ensures.0, c.work_field-e.ensures.1)
+pub work_fields-loop-h-preserved : goal.work_fields-loop-h-preserved
+work_fields-loop-h-preserved t c = (left_on _ c.read_header.ensures.0 c.in-Some.is c.loop-h.invariant.0 c.work_field-a.ensures.0, c.work_field-a.ensures.1)

@@ -9,14 +9,13 @@ use Rattle.worked.proofs.to_piece.Goals as goal
 pub loop-t-init : goal.loop-t-init
 loop-t-init c = (refl, omega arith)
 
-pub returns-then-tag : goal.returns-then-tag
-unfolding is_piece
-returns-then-tag c = (c.loop-t.invariant.0, ap is_piece (sym c.tag_at-tag.ensures.0) ∙ c.if-tag.true, c.loop-t.invariant.1)
-
 pub loop-t-smaller : goal.loop-t-smaller
-unfolding is_piece
-loop-t-smaller c = behind_less _ _ c.tag_at-tag.ensures.0 (stands _ c.if-tag.false) c.behind-r.ensures
+loop-t-smaller c = behind_less _ _ c.tag_at.ensures.0 (stands _ (sym c.is_piece.ensures ∙ c.loop-t-test.true)) c.behind-t.ensures
 
 pub loop-t-preserved : goal.loop-t-preserved
-unfolding is_piece
-loop-t-preserved c = (passed_over _ c.tag_at-tag.ensures.0 c.if-tag.false c.behind-r.ensures ∙ c.loop-t.invariant.0, omega (arith, c.loop-t.invariant.1, behind_less _ _ c.tag_at-tag.ensures.0 (stands _ c.if-tag.false) c.behind-r.ensures))
+loop-t-preserved c =
+    let n = sym c.is_piece.ensures ∙ c.loop-t-test.true in
+    (passed_over _ c.tag_at.ensures.0 n c.behind-t.ensures ∙ c.loop-t.invariant.0, omega (arith, c.loop-t.invariant.1, behind_less _ _ c.tag_at.ensures.0 (stands _ n) c.behind-t.ensures))
+
+pub returns : goal.returns
+returns c = (c.loop-t.invariant.0, ap is_piece (sym c.tag_at.ensures.0) ∙ sym c.is_piece.ensures ∙ c.loop-t-test.false, c.loop-t.invariant.1)

@@ -3,23 +3,14 @@ use native.Mathlib.Omega.{arith}
 use Rattle.convert.proofs.KindLaws.{comparing_begins, comparing_off, comparing_on, comparing_ends}
 use Rattle.convert.proofs.kinds.are_kinds.Goals as goal
 
-pub loop-i-init : goal.loop-i-init
-loop-i-init c = comparing_begins _ _
+pub loop-k-init : goal.loop-k-init
+loop-k-init c = comparing_begins _ _
 
-pub bounds-kinds-i : goal.bounds-kinds-i
-bounds-kinds-i c = omega (arith, c.loop-i-test.true)
+pub returns-then-k-kind_of : goal.returns-then-k-kind_of
+returns-then-k-kind_of c = comparing_off c.loop-k.invariant (omega arith) c.body.ensures c.pass_all-m.ensures c.kind_of.ensures c.if-k-kind_of.true
 
-pub returns-then-kinds-i : goal.returns-then-kinds-i
-returns-then-kinds-i c = comparing_off c.loop-i.invariant c.loop-i-test.true c.body.ensures c.pass_all-m.ensures c.kind_of.ensures c.if-kinds-i.true
-
-pub overflow_add-i : goal.overflow_add-i
-overflow_add-i c = omega (arith, c.loop-i-test.true)
-
-pub loop-i-smaller : goal.loop-i-smaller
-loop-i-smaller c = omega (arith, c.loop-i-test.true)
-
-pub loop-i-preserved : goal.loop-i-preserved
-loop-i-preserved c = comparing_on c.loop-i.invariant c.loop-i-test.true c.body.ensures c.pass_all-m.ensures c.kind_of.ensures c.if-kinds-i.false c.behind-r.ensures
+pub loop-k-preserved : goal.loop-k-preserved
+loop-k-preserved c = comparing_on c.loop-k.invariant (omega arith) c.body.ensures c.pass_all-m.ensures c.kind_of.ensures c.if-k-kind_of.false c.behind-t.ensures
 
 pub returns : goal.returns
-returns c = comparing_ends c.loop-i.invariant c.loop-i-test.false
+returns c = comparing_ends c.loop-k.invariant (omega arith)

@@ -8,14 +8,14 @@ use Rattle.convert.proofs.kinds.count_fields.Goals as goal
 pub loop-t-init : goal.loop-t-init
 loop-t-init c = (omega arith, omega arith)
 
-pub returns-then-tag_at-eq256 : goal.returns-then-tag_at-eq256
-returns-then-tag_at-eq256 c = omega (arith, c.loop-t.invariant.1, fields_none (read c.loop-t.t.now) (c.tag_at.ensures.1 c.if-tag_at-eq256.true))
+pub returns : goal.returns
+returns c = omega (arith, c.loop-t.invariant.1, fields_none (read c.loop-t.t.now) (c.tag_at.ensures.1 c.loop-t-test.false))
 
 pub overflow_add-n : goal.overflow_add-n
-overflow_add-n c = omega (arith, c.loop-t.invariant.0, behind_far c.loop-t.t.now c.tag_at.ensures.0 c.if-tag_at-eq256.false refl)
+overflow_add-n c = omega (arith, c.loop-t.invariant.0, behind_far c.loop-t.t.now c.tag_at.ensures.0 c.loop-t-test.true refl)
 
 pub loop-t-smaller : goal.loop-t-smaller
-loop-t-smaller c = omega (arith, behind_far c.loop-t.t.now c.tag_at.ensures.0 c.if-tag_at-eq256.false c.behind-r.ensures)
+loop-t-smaller c = omega (arith, behind_far c.loop-t.t.now c.tag_at.ensures.0 c.loop-t-test.true c.behind-t.ensures)
 
 pub loop-t-preserved : goal.loop-t-preserved
-loop-t-preserved c = (omega (arith, c.loop-t.invariant.0, behind_far c.loop-t.t.now c.tag_at.ensures.0 c.if-tag_at-eq256.false c.behind-r.ensures), omega (arith, c.loop-t.invariant.1, fields_more c.loop-t.t.now c.tag_at.ensures.0 c.if-tag_at-eq256.false c.behind-r.ensures))
+loop-t-preserved c = (omega (arith, c.loop-t.invariant.0, behind_far c.loop-t.t.now c.tag_at.ensures.0 c.loop-t-test.true c.behind-t.ensures), omega (arith, c.loop-t.invariant.1, fields_more c.loop-t.t.now c.tag_at.ensures.0 c.loop-t-test.true c.behind-t.ensures))

@@ -8,17 +8,17 @@ use Rattle.convert.proofs.templates.rewrite_templates.Goals as goal
 pub loop-t-init : goal.loop-t-init
 loop-t-init c = keeps_begins _ _ _ (all_from _ (λ i. (c.type_inv.s i).fits)) c.requires (omega (arith, c.well_formed.0.1))
 
-pub shape_of-out-then-tag_at-eq256 : goal.shape_of-out-then-tag_at-eq256
-shape_of-out-then-tag_at-eq256 c = c.loop-t.invariant.same_size
+pub shape_of-out : goal.shape_of-out
+shape_of-out c = c.loop-t.invariant.same_size
 
-pub returns-then-tag_at-eq256 : goal.returns-then-tag_at-eq256
-returns-then-tag_at-eq256 c = keeps_end c.loop-t.invariant (c.tag_at.ensures.1 c.if-tag_at-eq256.true)
+pub returns : goal.returns
+returns c = keeps_end c.loop-t.invariant (c.tag_at.ensures.1 c.loop-t-test.false)
 
 pub rewrite_record-w-requires : goal.rewrite_record-w-requires
-rewrite_record-w-requires c = fits_body c.loop-t.invariant c.tag_at.ensures.0 c.if-tag_at-eq256.false c.body.ensures
+rewrite_record-w-requires c = fits_body c.loop-t.invariant c.tag_at.ensures.0 c.loop-t-test.true c.body.ensures
 
 pub loop-t-smaller : goal.loop-t-smaller
-loop-t-smaller c = omega (arith, behind_far c.loop-t.t.now c.tag_at.ensures.0 c.if-tag_at-eq256.false c.behind-r.ensures)
+loop-t-smaller c = omega (arith, behind_far c.loop-t.t.now c.tag_at.ensures.0 c.loop-t-test.true c.behind-t.ensures)
 
 pub loop-t-preserved : goal.loop-t-preserved
-loop-t-preserved c = keeps_on c.loop-t.invariant c.tag_at.ensures.0 c.if-tag_at-eq256.false c.body.ensures c.rewrite_record-w.ensures c.behind-r.ensures
+loop-t-preserved c = keeps_on c.loop-t.invariant c.tag_at.ensures.0 c.loop-t-test.true c.body.ensures c.rewrite_record-w.ensures c.behind-t.ensures

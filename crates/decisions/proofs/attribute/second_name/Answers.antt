@@ -8,13 +8,13 @@ use Rattle.decisions.proofs.AttributeLaws.{second_40, second_none}
 use Rattle.decisions.proofs.attribute.second_name.Goals as goal
 
 pub returns-in-64 : goal.returns-in-64
-returns-in-64 c = second_40 _ _ c.tag_at.ensures.0 c.in-64.is c.behind.ensures c.first_name.ensures ∙ ap second_in c.loop-r.invariant
+returns-in-64 c = second_40 _ _ c.tag_at.ensures.0 c.in-64.is c.behind.ensures c.first_name.ensures ∙ ap second_in c.loop-t.invariant
 
 pub returns-in-256 : goal.returns-in-256
-returns-in-256 c = second_none _ (c.tag_at.ensures.1 c.in-256.is) ∙ ap second_in c.loop-r.invariant
+returns-in-256 c = second_none _ (c.tag_at.ensures.1 c.in-256.is) ∙ ap second_in c.loop-t.invariant
 
-pub loop-r-smaller : goal.loop-r-smaller
-loop-r-smaller c = behind_less _ _ c.tag_at.ensures.0 c.in_default.in_default-own.rest.1 c.behind-r.ensures
+pub loop-t-smaller : goal.loop-t-smaller
+loop-t-smaller c = behind_less _ _ c.tag_at.ensures.0 c.in_default.in_default-own.rest.1 c.behind-t.ensures
 
-pub loop-r-preserved : goal.loop-r-preserved
-loop-r-preserved c = ap (λ x. texts_in 0x40 (read x)) c.behind-r.ensures ∙ sym (texts_past _ _ c.tag_at.ensures.0 0x40 c.in_default.in_default-own.rest.1 c.in_default.in_default-own.rest.0.1) ∙ c.loop-r.invariant
+pub loop-t-preserved : goal.loop-t-preserved
+loop-t-preserved c = ap (λ x. texts_in 0x40 (read x)) c.behind-t.ensures ∙ sym (texts_past _ _ c.tag_at.ensures.0 0x40 c.in_default.in_default-own.rest.1 c.in_default.in_default-own.rest.0.1) ∙ c.loop-t.invariant

@@ -4,8 +4,8 @@ use Rattle.field.specs.Row.{read}
 use Rattle.page.specs.Tree.{texts_in}
 use Rattle.decisions.proofs.attribute.second_name.Given as goal
 
-abbrev pub invariant-loop-r : goal.invariant-loop-r
-invariant-loop-r l = texts_in 0x40 (read l.t) ≡ texts_in 0x40 (read l.s)
+abbrev pub invariant-loop-t : goal.invariant-loop-t
+invariant-loop-t l = texts_in 0x40 (read l.t) ≡ texts_in 0x40 (read l.s)
 
-abbrev pub decreases-loop-r : goal.decreases-loop-r
-decreases-loop-r l = length l.t
+abbrev pub decreases-loop-t : goal.decreases-loop-t
+decreases-loop-t l = length l.t

@@ -38,8 +38,8 @@ returns-in-256 c = let args = c.args in let h = no_tag args.skip.now c.loop-r.t.
     c.has_text.ensures ∙ becomes_one args.skip.now (children_in (read args.s.now)) (omega (arith, h, c.loop-r.invariant.0, c.loop-r.invariant.1, c.if-tags-eq0.false))
 
 pub loop-r-smaller : goal.loop-r-smaller
-loop-r-smaller c = behind_less _ _ c.tag_at.ensures.0 c.in_default.in_default-own.rest.1 c.behind-r-in_default.ensures
+loop-r-smaller c = behind_less _ _ c.tag_at.ensures.0 c.in_default.in_default-own.rest.1 c.behind-t.ensures
 
 pub loop-r-preserved : goal.loop-r-preserved
-loop-r-preserved c = let args = c.args in let h = tag_other args.skip.now c.loop-r.t.now _ c.tag_at.ensures.0 c.behind-r-in_default.ensures c.in_default.in_default-own.rest.1 c.in_default.in_default-own.rest.0.1 in
+loop-r-preserved c = let args = c.args in let h = tag_other args.skip.now c.loop-r.t.now _ c.tag_at.ensures.0 c.behind-t.ensures c.in_default.in_default-own.rest.1 c.in_default.in_default-own.rest.0.1 in
     (c.loop-r.invariant.0, omega (arith, h, c.loop-r.invariant.1))

@@ -1,40 +1,38 @@
--- The invariant: what is left holds the same children, and is no longer.
-use mathlib.Core.Path.{refl, sym, ap, ◌∙◌}
+-- The invariant: what is left holds the same children, and stands at the end of the whole.
+use mathlib.Core.Path.{refl, sym, ◌∙◌}
 use native.Mathlib.Nat.{le_refl}
 use native.Mathlib.Omega.{arith}
-use Rattle.field.specs.Row.{read}
+use Prim.Native.Nat.{◌-◌}
+use lib.ListN.{length, drop_of_length-le}
 use Rattle.field.proofs.FrontLaws.{behind_less}
-use Rattle.page.specs.Tree.{children_in}
-use Rattle.decisions.proofs.Series.{children_other}
-use Rattle.decisions.proofs.ChildrenLaws.{first_child, no_child}
+use Rattle.decisions.proofs.ChildrenLaws.{first_child, no_child, passed_by, stands_behind, child_tag, stands_all}
 use Rattle.decisions.proofs.children.children_at.Goals as goal
 
-pub loop-r-init : goal.loop-r-init
-loop-r-init c = (refl, le_refl _)
+pub loop-t-init : goal.loop-t-init
+loop-t-init c = (refl, (le_refl _, stands_all _))
 
-pub returns-in-96 : goal.returns-in-96
-returns-in-96 c = (first_child _ _ c.loop-r.invariant.0 _ c.tag_at.ensures.0 0x60 c.in-96.is tt tt, c.loop-r.invariant.1)
+pub returns-then-is_child : goal.returns-then-is_child
+returns-then-is_child c = record {
+  first = first_child _ _ c.loop-t.invariant.0 _ c.tag_at-tag.ensures.0 (sym c.is_child.ensures ∙ c.if-is_child.true) (child_tag (sym c.is_child.ensures ∙ c.if-is_child.true));
+  within = c.loop-t.invariant.1.0;
+  place = c.loop-t.invariant.1.1;
+}
 
-pub returns-in-82 : goal.returns-in-82
-returns-in-82 c = (first_child _ _ c.loop-r.invariant.0 _ c.tag_at.ensures.0 0x52 c.in-82.is tt tt, c.loop-r.invariant.1)
+pub returns-then-tag-eq256 : goal.returns-then-tag-eq256
+returns-then-tag-eq256 c = record {
+  first = no_child _ _ c.loop-t.invariant.0 (c.tag_at-tag.ensures.1 c.if-tag-eq256.true);
+  within = omega arith;
+  place = sym (drop_of_length-le c.args.s.now {i = length c.args.s.now - 0} (omega arith));
+}
 
-pub returns-in-48 : goal.returns-in-48
-returns-in-48 c = (first_child _ _ c.loop-r.invariant.0 _ c.tag_at.ensures.0 0x30 c.in-48.is tt tt, c.loop-r.invariant.1)
+pub loop-t-smaller : goal.loop-t-smaller
+loop-t-smaller c = behind_less _ _ c.tag_at-tag.ensures.0 c.if-tag-eq256.false c.behind-t.ensures
 
-pub returns-in-49 : goal.returns-in-49
-returns-in-49 c = (first_child _ _ c.loop-r.invariant.0 _ c.tag_at.ensures.0 0x31 c.in-49.is tt tt, c.loop-r.invariant.1)
-
-pub returns-in-97 : goal.returns-in-97
-returns-in-97 c = (first_child _ _ c.loop-r.invariant.0 _ c.tag_at.ensures.0 0x61 c.in-97.is tt tt, c.loop-r.invariant.1)
-
-pub returns-in-256 : goal.returns-in-256
-returns-in-256 c = (no_child _ _ c.loop-r.invariant.0 (c.tag_at.ensures.1 c.in-256.is), omega arith)
-
-pub loop-r-smaller : goal.loop-r-smaller
-loop-r-smaller c = behind_less _ _ c.tag_at.ensures.0 c.in_default.in_default-own.rest.1 c.behind-r.ensures
-
-pub loop-r-preserved : goal.loop-r-preserved
-loop-r-preserved c = (
-  ap (λ x. children_in (read x)) c.behind-r.ensures ∙ sym (children_other _ _ c.tag_at.ensures.0 c.in_default.in_default-own.rest.1 c.in_default.in_default-own.rest.0.0.0.0.0.1 c.in_default.in_default-own.rest.0.0.0.0.1 c.in_default.in_default-own.rest.0.0.0.1 c.in_default.in_default-own.rest.0.0.1 c.in_default.in_default-own.rest.0.1) ∙ c.loop-r.invariant.0,
-  omega (arith, behind_less _ _ c.tag_at.ensures.0 c.in_default.in_default-own.rest.1 c.behind-r.ensures, c.loop-r.invariant.1),
+pub loop-t-preserved : goal.loop-t-preserved
+loop-t-preserved c = (
+  passed_by _ _ c.loop-t.invariant.0 _ c.tag_at-tag.ensures.0 (sym c.is_child.ensures ∙ c.if-is_child.false) c.if-tag-eq256.false c.behind-t.ensures,
+  (
+    omega (arith, behind_less _ _ c.tag_at-tag.ensures.0 c.if-tag-eq256.false c.behind-t.ensures, c.loop-t.invariant.1.0),
+    stands_behind _ _ c.loop-t.invariant.1.0 c.loop-t.invariant.1.1 _ c.tag_at-tag.ensures.0 c.if-tag-eq256.false c.behind-t.ensures,
+  ),
 )

@@ -18,7 +18,7 @@ pub returns-in-256 : goal.returns-in-256
 returns-in-256 c = no_text _ (c.tag_at.ensures.1 c.in-256.is) ∙ c.loop-r.invariant
 
 pub loop-r-smaller : goal.loop-r-smaller
-loop-r-smaller c = behind_less _ _ c.tag_at.ensures.0 c.in_default.in_default-own.rest.1 c.behind-r-in_default.ensures
+loop-r-smaller c = behind_less _ _ c.tag_at.ensures.0 c.in_default.in_default-own.rest.1 c.behind-t.ensures
 
 pub loop-r-preserved : goal.loop-r-preserved
-loop-r-preserved c = text_other _ _ c.tag_at.ensures.0 c.in_default.in_default-own.rest.1 c.in_default.in_default-own.rest.0.1 c.behind-r-in_default.ensures ∙ c.loop-r.invariant
+loop-r-preserved c = text_other _ _ c.tag_at.ensures.0 c.in_default.in_default-own.rest.1 c.in_default.in_default-own.rest.0.1 c.behind-t.ensures ∙ c.loop-r.invariant

@@ -5,8 +5,8 @@ use Rattle.page.specs.Tree.{attributes_in}
 use Rattle.decisions.specs.At.{forbids}
 use Rattle.decisions.proofs.element.keeps_from_serializing.Given as goal
 
-abbrev pub invariant-loop-r : goal.invariant-loop-r
-invariant-loop-r l = forbids (attributes_in (read l.t)) ≡ forbids (attributes_in (read l.s))
+abbrev pub invariant-loop-t : goal.invariant-loop-t
+invariant-loop-t l = forbids (attributes_in (read l.t)) ≡ forbids (attributes_in (read l.s))
 
-abbrev pub decreases-loop-r : goal.decreases-loop-r
-decreases-loop-r l = length l.t
+abbrev pub decreases-loop-t : goal.decreases-loop-t
+decreases-loop-t l = length l.t

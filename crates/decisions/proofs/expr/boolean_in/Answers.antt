@@ -1,8 +1,9 @@
+use native.Mathlib.Omega.{arith}
 use Rattle.decisions.proofs.ExprLaws.{boolean_first, boolean_none}
 use Rattle.decisions.proofs.expr.boolean_in.Goals as goal
 
-pub returns-then-s-gt0 : goal.returns-then-s-gt0
-returns-then-s-gt0 c = boolean_first _ c.if-s-gt0.true
+pub returns-in-len1-up : goal.returns-in-len1-up
+returns-in-len1-up c = boolean_first _ c.in-len1-up.len_at_least
 
-pub returns : goal.returns
-returns c = boolean_none _ c.if-s-gt0.false
+pub returns-in-empty : goal.returns-in-empty
+returns-in-empty c = boolean_none _ (omega (arith, c.in-empty.len_below))

@@ -2,7 +2,7 @@ use Rattle.decisions.proofs.IndexLaws.{listed_series, listed_chain}
 use Rattle.decisions.proofs.index.finds.Goals as goal
 
 pub returns-then-list-le4096 : goal.returns-then-list-le4096
-returns-then-list-le4096 c = listed_series _ _ c.if-list-le4096.true c.in_series.ensures
+returns-then-list-le4096 g c = listed_series _ _ c.if-list-le4096.true c.in_series.ensures
 
 pub returns : goal.returns
-returns c = listed_chain _ _ c.if-list-le4096.false c.hash_on-h.ensures.0 c.two_at.ensures.0 c.in_chain.ensures
+returns g c = listed_chain _ _ c.if-list-le4096.false c.hash-h.ensures.0 c.two_at.ensures.0 c.in_chain.ensures

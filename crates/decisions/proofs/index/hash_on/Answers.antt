@@ -1,17 +1,14 @@
 -- The invariant: the hash of all bytes is that of those left, behind what gave x.
-use mathlib.Core.Path.{sym, ◌∙◌}
+use mathlib.Core.Path.{refl, sym, ◌∙◌}
 use native.Mathlib.Omega.{arith}
-use Rattle.decisions.proofs.IndexLaws.{hash_on, hash_end}
+use Rattle.decisions.proofs.IndexLaws.{read_on, read_end}
 use Rattle.decisions.proofs.index.hash_on.Goals as goal
 
-pub overflow_cast-x : goal.overflow_cast-x
-overflow_cast-x c = omega (arith, c.type_inv.s c.loop-i.i)
+pub loop-c-init : goal.loop-c-init
+loop-c-init c = (c.requires, refl)
 
-pub overflow_add-x : goal.overflow_add-x
-overflow_add-x c = omega (arith, c.type_inv.s c.loop-i.i)
-
-pub loop-i-preserved : goal.loop-i-preserved
-loop-i-preserved c = (omega arith, (omega arith, hash_on _ _ _ c.loop-i-test.true ∙ c.loop-i.invariant.1.1))
+pub loop-c-preserved : goal.loop-c-preserved
+loop-c-preserved c = (omega arith, read_on _ c.args.s.now _ c.args.small (c.from.ensures ∙ c.letter.ensures) (omega arith) ∙ c.loop-c.invariant.1)
 
 pub returns : goal.returns
-returns c = (sym (hash_end _ _ _ c.loop-i-test.false) ∙ c.loop-i.invariant.1.1, c.loop-i.invariant.1.0)
+returns c = (sym (read_end _ c.args.s.now _ c.args.small (omega arith)) ∙ c.loop-c.invariant.1, c.loop-c.invariant.0)

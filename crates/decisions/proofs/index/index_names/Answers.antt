@@ -19,10 +19,10 @@ pub overflow_add-k : goal.overflow_add-k
 overflow_add-k c = omega (arith, few _ _ _ _ c.loop-h.invariant _ c.tag_at.ensures.0 (λ z. omega (arith, c.in-32.is)))
 
 pub loop-h-smaller-in-32 : goal.loop-h-smaller-in-32
-loop-h-smaller-in-32 c = behind_less _ _ c.tag_at.ensures.0 (λ z. omega (arith, c.in-32.is)) c.behind-r.ensures
+loop-h-smaller-in-32 c = behind_less _ _ c.tag_at.ensures.0 (λ z. omega (arith, c.in-32.is)) c.behind-t.ensures
 
 pub loop-h-preserved-in-32 : goal.loop-h-preserved-in-32
-loop-h-preserved-in-32 c = built_more _ _ _ _ c.loop-h.invariant _ c.tag_at.ensures.0 (λ z. omega (arith, c.in-32.is)) c.behind-r.ensures c.in-32.is
+loop-h-preserved-in-32 c = built_more _ _ _ _ c.loop-h.invariant _ c.tag_at.ensures.0 (λ z. omega (arith, c.in-32.is)) c.behind-t.ensures c.in-32.is
     (c.hash_on-h.ensures.0 ∙ ap hash c.body.ensures) c.link.ensures
 
 pub shape_of-out-in-256 : goal.shape_of-out-in-256
@@ -32,7 +32,7 @@ pub returns-in-256 : goal.returns-in-256
 returns-in-256 c = built_all _ _ _ _ c.loop-h.invariant (c.tag_at.ensures.1 c.in-256.is)
 
 pub loop-h-smaller : goal.loop-h-smaller
-loop-h-smaller c = behind_less _ _ c.tag_at.ensures.0 c.in_default.in_default-own.rest.1 c.behind-r-in_default.ensures
+loop-h-smaller c = behind_less _ _ c.tag_at.ensures.0 c.in_default.in_default-own.rest.1 c.behind-t-in_default.ensures
 
 pub loop-h-preserved : goal.loop-h-preserved
-loop-h-preserved c = built_past _ _ _ _ c.loop-h.invariant _ c.tag_at.ensures.0 c.in_default.in_default-own.rest.1 c.behind-r-in_default.ensures c.in_default.in_default-own.rest.0.1
+loop-h-preserved c = built_past _ _ _ _ c.loop-h.invariant _ c.tag_at.ensures.0 c.in_default.in_default-own.rest.1 c.behind-t-in_default.ensures c.in_default.in_default-own.rest.0.1

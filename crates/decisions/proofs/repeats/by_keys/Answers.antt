@@ -23,21 +23,21 @@ pub note_key-requires : goal.note_key-requires
 note_key-requires c = c.loop-key.invariant.1
 
 pub overflow_add-k : goal.overflow_add-k
-overflow_add-k c = omega (arith, passed_room c.loop-key.invariant.0 c.tag_at.ensures.0 c.in-80.is c.body.ensures c.behind-r.ensures, c.well_formed.0.0)
+overflow_add-k c = omega (arith, passed_room c.loop-key.invariant.0 c.tag_at.ensures.0 c.in-80.is c.body.ensures c.behind-t.ensures, c.well_formed.0.0)
 
 pub loop-key-smaller-in-80 : goal.loop-key-smaller-in-80
-loop-key-smaller-in-80 c = passed_less c.loop-key.invariant.0 c.tag_at.ensures.0 c.in-80.is c.body.ensures c.behind-r.ensures
+loop-key-smaller-in-80 c = passed_less c.loop-key.invariant.0 c.tag_at.ensures.0 c.in-80.is c.body.ensures c.behind-t.ensures
 
 pub loop-key-preserved-in-80 : goal.loop-key-preserved-in-80
 loop-key-preserved-in-80 c = let free = c.may_be.ensures c.if-may_be.false in
     let s = c.args.s.now in let fresh = key_may_not c.loop-key.seen (take c.loop-key.k (html_names (attributes_in (read s)))) _ c.key_of-key.result c.loop-key.invariant.2 c.key_of-key.ensures free in
-    (passed_one c.loop-key.invariant.0 c.tag_at.ensures.0 c.in-80.is c.body.ensures c.behind-r.ensures refl fresh, keys_length c.loop-key.seen _ c.key_of-key.result c.note_key.ensures c.loop-key.invariant.1, passed_keyed c.loop-key.invariant.0 c.tag_at.ensures.0 c.in-80.is c.body.ensures c.behind-r.ensures c.loop-key.seen _ c.key_of-key.result c.key_of-key.ensures free.0 c.loop-key.invariant.1 c.note_key.ensures c.loop-key.invariant.2)
+    (passed_one c.loop-key.invariant.0 c.tag_at.ensures.0 c.in-80.is c.body.ensures c.behind-t.ensures refl fresh, keys_length c.loop-key.seen _ c.key_of-key.result c.note_key.ensures c.loop-key.invariant.1, passed_keyed c.loop-key.invariant.0 c.tag_at.ensures.0 c.in-80.is c.body.ensures c.behind-t.ensures c.loop-key.seen _ c.key_of-key.result c.key_of-key.ensures free.0 c.loop-key.invariant.1 c.note_key.ensures c.loop-key.invariant.2)
 
 pub loop-key-smaller : goal.loop-key-smaller
-loop-key-smaller c = behind_less _ _ c.tag_at.ensures.0 (λ z. omega (arith, c.in-83.is, z)) c.behind-r-in-83.ensures
+loop-key-smaller c = behind_less _ _ c.tag_at.ensures.0 (λ z. omega (arith, c.in-83.is, z)) c.behind-t-in-83.ensures
 
 pub loop-key-preserved : goal.loop-key-preserved
-loop-key-preserved c = (passed_spread c.loop-key.invariant.0 c.tag_at.ensures.0 c.in-83.is c.behind-r-in-83.ensures, c.loop-key.invariant.1, c.loop-key.invariant.2)
+loop-key-preserved c = (passed_spread c.loop-key.invariant.0 c.tag_at.ensures.0 c.in-83.is c.behind-t-in-83.ensures, c.loop-key.invariant.1, c.loop-key.invariant.2)
 
 pub returns-in_default : goal.returns-in_default
 returns-in_default c = λ f. sym (passed_all c.loop-key.invariant.0 c.tag_at.ensures.0 c.in_default.in_default-own.rest.0.1 c.in_default.in_default-own.rest.1)

@@ -3,13 +3,13 @@ use Rattle.field.proofs.HeaderLaws.{within_field, behind_is, nothing_behind}
 use Rattle.field.proofs.reader.behind.Goals as goal
 
 pub slice_bounds-result-count : goal.slice_bounds-result-count
-slice_bounds-result-count c = omega (arith, within_field c.read_header.ensures.1 c.in-Field.is)
+slice_bounds-result-count c = omega (arith, within_field c.read_header.ensures.1 c.in-Some.is)
 
 pub slice_bounds-result-start : goal.slice_bounds-result-start
-slice_bounds-result-start c = omega (arith, within_field c.read_header.ensures.1 c.in-Field.is)
+slice_bounds-result-start c = omega (arith, within_field c.read_header.ensures.1 c.in-Some.is)
 
-pub returns-in-Field : goal.returns-in-Field
-returns-in-Field c = behind_is _ c.read_header.ensures.0 c.in-Field.is
+pub returns-in-Some : goal.returns-in-Some
+returns-in-Some c = behind_is _ c.read_header.ensures.0 c.in-Some.is
 
-pub returns-in-Absent : goal.returns-in-Absent
-returns-in-Absent c = nothing_behind _ c.read_header.ensures.0 c.in-Absent.is
+pub returns-in-None : goal.returns-in-None
+returns-in-None c = nothing_behind _ c.read_header.ensures.0 c.in-None.is

@@ -1,25 +1,12 @@
-use native.Mathlib.Omega.{arith}
 use Rattle.field.proofs.HeaderLaws.{header_short, header_is, header_long}
-use borrow.Author.Rules.{rules}
+use mathlib.Core.Path.{◌∙◌}
 use Rattle.field.proofs.reader.read_header.Goals as goal
 
-pub returns-then-n-lt3 : goal.returns-then-n-lt3
-returns-then-n-lt3 c = (header_short _ c.if-n-lt3.true, tt)
+pub returns-in_default : goal.returns-in_default
+returns-in_default c = (header_short _ c.in_default.len_below, tt)
 
-pub overflow_cast-len : goal.overflow_cast-len
-overflow_cast-len c = omega (arith, c.type_inv.s 1)
-
-pub overflow_mul-len : goal.overflow_mul-len
-overflow_mul-len c = omega (arith, c.type_inv.s 1)
-
-pub overflow_cast-len-2 : goal.overflow_cast-len-2
-overflow_cast-len-2 c = omega (arith, c.type_inv.s 2)
-
-pub overflow_add-len : goal.overflow_add-len
-overflow_add-len c = omega (arith, c.type_inv.s 1, c.type_inv.s 2)
-
-pub returns-then-len-n : goal.returns-then-len-n
-returns-then-len-n c = (header_is _ (search rules) (search rules), search rules)
+pub returns-then-len-rest : goal.returns-then-len-rest
+returns-then-len-rest c = header_is _ _ c.in-len3-up.len_at_least (c.from-len.ensures ∙ c.from_be_bytes.ensures) c.if-len-rest.true
 
 pub returns : goal.returns
-returns c = (header_long _ (search rules) (search rules), tt)
+returns c = (header_long _ _ c.in-len3-up.len_at_least (c.from-len.ensures ∙ c.from_be_bytes.ensures) c.if-len-rest.false, tt)

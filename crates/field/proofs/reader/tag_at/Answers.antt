@@ -1,9 +1,10 @@
+use mathlib.Core.Path.{◌∙◌}
 use native.Mathlib.Omega.{arith}
 use Rattle.field.proofs.HeaderLaws.{tag_is, no_tag, no_field_read}
 use Rattle.field.proofs.reader.tag_at.Goals as goal
 
-pub returns-in-Field : goal.returns-in-Field
-returns-in-Field c = (tag_is _ c.read_header.ensures.0 c.in-Field.is, λ z. absurd (omega arith))
+pub returns-in-Some : goal.returns-in-Some
+returns-in-Some c = (c.from.ensures ∙ tag_is _ c.read_header.ensures.0 c.in-Some.is, λ z. absurd (omega arith))
 
-pub returns-in-Absent : goal.returns-in-Absent
-returns-in-Absent c = (no_tag _ c.read_header.ensures.0 c.in-Absent.is, λ z. no_field_read _ c.read_header.ensures.0 c.in-Absent.is)
+pub returns-in-None : goal.returns-in-None
+returns-in-None c = (no_tag _ c.read_header.ensures.0 c.in-None.is, λ z. no_field_read _ c.read_header.ensures.0 c.in-None.is)

@@ -1,67 +1,50 @@
 -- `find::lookup::walk` meets its contract: what is left is walked from what was met so far. Assumes nothing.
+use Prim.Native.Nat.{ℕ, ◌<◌}
+use mathlib.Core.Path.{refl, ◌∙◌}
 use native.Mathlib.Omega.{arith}
-use Rattle.find.proofs.RecordLaws.{walk_begins, walk_ends, walk_ends_there, has_seven, end_in, one_more, next_in, rest_less, turn_not_asked, turn_met_before, turn_first_met}
+use lib.ListN.{length, get_or}
+use Rattle.find.specs.Search.{beyond}
+use Rattle.find.proofs.SearchLaws.{index_found, index_none}
+use Rattle.find.proofs.RecordLaws.{number_four, walk_begins, walk_ends, walk_ends_there, has_seven, turn_not_asked, turn_met_before, turn_first_met}
 use Rattle.find.proofs.lookup.walk.Goals as goal
+use Rattle.find.proofs.lookup.walk.Goals.{in-Ok+then-places-i, in-Ok+else-places-i, in_default-binary_search}
 
 pub loop-waiting-init : goal.loop-waiting-init
-loop-waiting-init c = search (walk_begins)
+loop-waiting-init c = walk_begins _ _ c.requires.0
 
-pub returns-in-Absent : goal.returns-in-Absent
-returns-in-Absent c = search (walk_ends_there)
+pub bounds-t-3 : goal.bounds-t-3
+bounds-t-3 c = omega (arith, has_seven c.loop-waiting.invariant c.read_header.ensures c.in-Some.is)
 
-pub number_at-requires : goal.number_at-requires
-number_at-requires c = search (has_seven)
+pub bounds-t-4 : goal.bounds-t-4
+bounds-t-4 c = omega (arith, has_seven c.loop-waiting.invariant c.read_header.ensures c.in-Some.is)
 
-pub index_of-i-requires : goal.index_of-i-requires
-index_of-i-requires c = let pre = c.requires in record {
-  in_order = pre.1.0;
-  not_many = pre.1.1;
-  table_is = c.table_of-table.ensures;
-  low = c.number_at.ensures.1;
-  all_low = λ i. omega (arith, c.type_inv.numbers i);
-}
+pub bounds-t-5 : goal.bounds-t-5
+bounds-t-5 c = omega (arith, has_seven c.loop-waiting.invariant c.read_header.ensures c.in-Some.is)
 
-pub slice_bounds-r-count : goal.slice_bounds-r-count
-slice_bounds-r-count c = search (end_in)
-
-pub slice_bounds-r-start : goal.slice_bounds-r-start
-slice_bounds-r-start c = search (end_in)
-
-pub overflow_add-records : goal.overflow_add-records
-overflow_add-records c = omega (arith, one_more c.loop-waiting.invariant c.read_header.ensures c.in-Field.is, c.well_formed)
-
-pub overflow_add-at : goal.overflow_add-at
-overflow_add-at c = omega (arith, next_in c.loop-waiting.invariant c.read_header.ensures c.in-Field.is, c.well_formed)
-
-pub loop-waiting-smaller-then-places-i : goal.loop-waiting-smaller-then-places-i
-loop-waiting-smaller-then-places-i c = search (rest_less)
-
-pub loop-waiting-preserved-then-places-i : goal.loop-waiting-preserved-then-places-i
-loop-waiting-preserved-then-places-i c = turn_first_met c.loop-waiting.invariant c.read_header.ensures c.in-Field.is c.loop-waiting-test.true c.number_at.ensures c.index_of-i.ensures c.if-i-numbers.true c.if-places-i.true
-
-pub overflow_add-records-else-places-i : goal.overflow_add-records-else-places-i
-overflow_add-records-else-places-i c = omega (arith, one_more c.loop-waiting.invariant c.read_header.ensures c.in-Field.is, c.well_formed)
-
-pub overflow_add-at-else-places-i : goal.overflow_add-at-else-places-i
-overflow_add-at-else-places-i c = omega (arith, next_in c.loop-waiting.invariant c.read_header.ensures c.in-Field.is, c.well_formed)
-
-pub loop-waiting-smaller-else-places-i : goal.loop-waiting-smaller-else-places-i
-loop-waiting-smaller-else-places-i c = search (rest_less)
-
-pub loop-waiting-preserved-else-places-i : goal.loop-waiting-preserved-else-places-i
-loop-waiting-preserved-else-places-i c = turn_met_before c.loop-waiting.invariant c.read_header.ensures c.in-Field.is c.loop-waiting-test.true c.number_at.ensures c.index_of-i.ensures c.if-i-numbers.true c.if-places-i.false
-
-pub overflow_add-records-else-i-numbers : goal.overflow_add-records-else-i-numbers
-overflow_add-records-else-i-numbers c = omega (arith, one_more c.loop-waiting.invariant c.read_header.ensures c.in-Field.is, c.well_formed)
-
-pub overflow_add-at-else-i-numbers : goal.overflow_add-at-else-i-numbers
-overflow_add-at-else-i-numbers c = omega (arith, next_in c.loop-waiting.invariant c.read_header.ensures c.in-Field.is, c.well_formed)
-
-pub loop-waiting-smaller : goal.loop-waiting-smaller
-loop-waiting-smaller c = search (rest_less)
+pub bounds-t-6 : goal.bounds-t-6
+bounds-t-6 c = omega (arith, has_seven c.loop-waiting.invariant c.read_header.ensures c.in-Some.is)
 
 pub loop-waiting-preserved : goal.loop-waiting-preserved
-loop-waiting-preserved c = turn_not_asked c.loop-waiting.invariant c.read_header.ensures c.in-Field.is c.loop-waiting-test.true c.number_at.ensures c.index_of-i.ensures c.if-i-numbers.false
+loop-waiting-preserved c =
+    let a = c.loop-waiting.invariant in
+    let q = c.in-Some.is in
+    let n = c.from.ensures ∙ number_four _ (has_seven a c.read_header.ensures q) c.from_be_bytes-number.ensures in
+    let low : c.from.result < beyond = omega arith in
+    let r = c.requires.1.0 in
+    let small = λ (j : ℕ). λ (l : j < length c.args.numbers.now). (let k : get_or c.args.numbers.now j 0 < beyond = omega (arith, c.type_inv.numbers j) in k) in
+    elim c.match-binary_search.branch [
+      | in-Ok+then-places-i w ↦
+          (let i = index_found c.args.numbers.now r c.requires.1.1 c.table_of-table.ensures small low _ c.binary_search.ensures.position w.in-Ok.is in
+          rw (w.places-is, w.waiting-is) (turn_first_met a c.read_header.ensures q c.loop-waiting-test.true n i.1 i.0 w.if-places-i.true))
+      | in-Ok+else-places-i w ↦
+          (let i = index_found c.args.numbers.now r c.requires.1.1 c.table_of-table.ensures small low _ c.binary_search.ensures.position w.in-Ok.is in
+          rw (w.places-is, w.waiting-is) (turn_met_before a c.read_header.ensures q c.loop-waiting-test.true n i.1 i.0 w.if-places-i.false))
+      | in_default-binary_search w ↦
+          rw (w.places-is, w.waiting-is) (turn_not_asked a c.read_header.ensures q c.loop-waiting-test.true n refl (index_none c.args.numbers.now r c.requires.1.1 c.table_of-table.ensures small low _ c.binary_search.ensures.position w.in_default-binary_search.is))
+    ]
 
-pub returns : goal.returns
-returns c = search (walk_ends)
+pub returns-after-loop-waiting : goal.returns-after-loop-waiting
+returns-after-loop-waiting c = walk_ends c.loop-waiting.invariant c.loop-waiting-test.false
+
+pub returns-in_default : goal.returns-in_default
+returns-in_default c = walk_ends_there c.loop-waiting.invariant c.read_header.ensures c.in_default.is

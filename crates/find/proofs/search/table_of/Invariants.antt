@@ -1,12 +1,9 @@
-use Prim.Native.Nat.{◌-◌, ◌≤◌}
+use Prim.Native.Nat.{◌-◌}
 use mathlib.Core.Path.{◌≡◌}
-use lib.ListN.{length, take, replicate}
+use lib.ListN.{take, replicate}
 use mathlib.Core.List.{◌++◌}
 use Rattle.find.specs.Search.{beyond}
 use Rattle.find.proofs.search.table_of.Given as goal
 
 abbrev pub invariant-loop-i : goal.invariant-loop-i
-invariant-loop-i l = (l.i ≤ length l.numbers) × (l.table ≡ take l.i l.numbers ++ replicate (256 - l.i) beyond)
-
-abbrev pub decreases-loop-i : goal.decreases-loop-i
-decreases-loop-i l = length l.numbers - l.i
+invariant-loop-i l = l.table ≡ take l.i l.numbers ++ replicate (256 - l.i) beyond

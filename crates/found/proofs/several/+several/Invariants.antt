@@ -9,8 +9,8 @@ decreases-gives l = 2 * length l.s.now + 1
 abbrev pub decreases-has_one : goal.decreases-has_one
 decreases-has_one l = 2 * length l.s.now
 
-abbrev pub invariant-has_one-loop-r : goal.invariant-has_one-loop-r
-invariant-has_one-loop-r l = Ahead l.skip l.s l.t l.heavy
+abbrev pub invariant-has_one-loop-t : goal.invariant-has_one-loop-t
+invariant-has_one-loop-t l = Ahead l.skip l.s l.t l.heavy
 
-abbrev pub decreases-has_one-loop-r : goal.decreases-has_one-loop-r
-decreases-has_one-loop-r l = length l.t
+abbrev pub decreases-has_one-loop-t : goal.decreases-has_one-loop-t
+decreases-has_one-loop-t l = length l.t

@@ -1,4 +1,5 @@
 -- What is no array stays; an array by its first element.
+use native.Mathlib.Omega.{arith}
 use Rattle.found.proofs.SteadyLaws.{never, stays_plain, stays_array}
 use Rattle.found.proofs.several.stays.Goals as goal
 
@@ -8,11 +9,8 @@ returns-then-tag_at-ne118 c = λ h skip props. stays_plain _ _ c.tag_at.ensures.
 pub returns-in-118 : goal.returns-in-118
 returns-in-118 c = λ h. absurd (never h)
 
-pub returns-in-119 : goal.returns-in-119
-returns-in-119 c = λ h. absurd (never h)
-
-pub returns-in-256 : goal.returns-in-256
-returns-in-256 c = λ h. absurd (never h)
-
 pub returns-in_default : goal.returns-in_default
-returns-in_default c = λ h. stays_array _ _ c.tag_at.ensures.0 c.if-tag_at-ne118.false c.body.ensures _ c.tag_at-2.ensures.0 c.in_default.in_default-own.rest.1 c.in_default.in_default-own.rest.0.0.1 c.in_default.in_default-own.rest.0.1
+returns-in_default c = λ h. stays_array _ _ c.tag_at.ensures.0 c.if-tag_at-ne118.false c.body.ensures _ c.tag_at-2.ensures.0 (λ z. omega (arith, z)) (λ z. omega (arith, z)) (λ z. omega (arith, z))
+
+pub returns-in_default-2 : goal.returns-in_default-2
+returns-in_default-2 c = λ h. stays_array _ _ c.tag_at.ensures.0 c.if-tag_at-ne118.false c.body.ensures _ c.tag_at-2.ensures.0 (λ z. omega (arith, z)) (λ z. omega (arith, z)) (λ z. omega (arith, z))

@@ -3,6 +3,7 @@ use mathlib.Core.Path.{◌≡◌, sym, ap, ap₂, ◌∙◌}
 use mathlib.Core.List.{◌∷◌, [], ◌++◌, append_assoc}
 use native.Mathlib.Omega.{arith}
 use lib.ListN.{length}
+use Rattle.std.specs.Prelude.{None}
 use Rattle.field.specs.Bytes.{Bytes}
 use Rattle.field.proofs.PutLaws.{wrote_is, wrote_then}
 use Rattle.names.specs.Names.{small_letters}
@@ -12,11 +13,11 @@ use Rattle.names.proofs.MarkLaws.{spelled_none}
 use Rattle.names.proofs.NamespacedLaws.{namespaced_xlink, namespaced_other, namespaced_length}
 use Rattle.names.proofs.attributes.normalize_namespaced.Goals as goal
 
-length_none : (n : Bytes) → length (spelled 0 n) ≡ length n
+length_none : (n : Bytes) → length (spelled None n) ≡ length n
 length_none n = ap length (spelled_none n) ∙ length_small n
 
-parts : (ns n : Bytes) → (spelled 0 ns ++ (58 ∷ [])) ++ spelled 0 n ≡ small_letters ns ++ (58 ∷ small_letters n)
-parts ns n = append_assoc (spelled 0 ns) (58 ∷ []) (spelled 0 n) ∙ ap₂ (λ (a b : Bytes). a ++ (58 ∷ b)) (spelled_none ns) (spelled_none n)
+parts : (ns n : Bytes) → (spelled None ns ++ (58 ∷ [])) ++ spelled None n ≡ small_letters ns ++ (58 ∷ small_letters n)
+parts ns n = append_assoc (spelled None ns) (58 ∷ []) (spelled None n) ∙ ap₂ (λ (a b : Bytes). a ++ (58 ∷ b)) (spelled_none ns) (spelled_none n)
 
 pub returns-then-is_xlink_href : goal.returns-then-is_xlink_href
 returns-then-is_xlink_href c = let a = c.args in wrote_is (sym (namespaced_xlink a.ns.now a.name.now (sym c.is_xlink_href.ensures ∙ c.if-is_xlink_href.true))) c.put_bytes.ensures

@@ -10,31 +10,31 @@ use Rattle.names.specs.Table.{spelled}
 use Rattle.names.proofs.SpellLaws.{spelled_next, spelled_bound, spelled_least}
 use Rattle.names.proofs.attributes.put_spelled.Goals as goal
 
-pub overflow_add-n : goal.overflow_add-n
-overflow_add-n c = omega (arith, c.requires, spelled_least c.args.sep c.args.name.now)
+pub overflow_mul-name : goal.overflow_mul-name
+overflow_mul-name c = omega (arith, c.requires, spelled_least c.args.sign c.args.name.now)
 
 pub overflow_add-at : goal.overflow_add-at
-overflow_add-at c = omega (arith, c.requires, spelled_least c.args.sep c.args.name.now)
+overflow_add-at c = omega (arith, c.requires, spelled_least c.args.sign c.args.name.now)
 
 pub put_within-requires : goal.put_within-requires
-put_within-requires c = (c.if-at-n.true, c.requires)
+put_within-requires c = (omega (arith, c.if-at-name.true), c.requires)
 
-pub returns-then-at-n : goal.returns-then-at-n
-returns-then-at-n c = c.put_within.ensures
+pub returns-then-at-name : goal.returns-then-at-name
+returns-then-at-name c = c.put_within.ensures
 
-pub loop-i-init : goal.loop-i-init
+pub loop-c-init : goal.loop-c-init
 unfolding spelled
-loop-i-init c = (search rules, wrote_none _ _)
+loop-c-init c = wrote_none _ _
 
-pub put_letter-b-requires : goal.put_letter-b-requires
-put_letter-b-requires c = let a = c.args in omega (arith, c.loop-i.invariant.1.end_is, spelled_bound a.sep a.name.now c.loop-i.i)
+pub put_letter-a-requires : goal.put_letter-a-requires
+put_letter-a-requires c = let a = c.args in omega (arith, c.loop-c.invariant.end_is, spelled_bound a.sign a.name.now c.loop-c.c-index)
 
-pub loop-i-preserved : goal.loop-i-preserved
-loop-i-preserved c = let a = c.args in (search rules, wrote_is (spelled_next a.sep a.name.now c.loop-i.i (search rules)) (wrote_then c.loop-i.invariant.1 c.put_letter-b.ensures))
+pub loop-c-preserved : goal.loop-c-preserved
+loop-c-preserved c = let a = c.args in (wrote_is (spelled_next a.sign a.name.now c.loop-c.c-index (search rules)) (wrote_then c.loop-c.invariant c.put_letter-a.ensures))
 
 pub shape_of-out : goal.shape_of-out
-shape_of-out c = wrote_length c.loop-i.invariant.1
+shape_of-out c = wrote_length c.loop-c.invariant
 
 pub returns : goal.returns
-returns c = let a = c.args in let h : length a.name.now ≤ c.loop-i.i = search rules in
-    wrote_is (ap (spelled a.sep) (take_all c.loop-i.i a.name.now h)) c.loop-i.invariant.1
+returns c = let a = c.args in let h : length a.name.now ≤ c.loop-c.c-index = search rules in
+    wrote_is (ap (spelled a.sign) (take_all c.loop-c.c-index a.name.now h)) c.loop-c.invariant

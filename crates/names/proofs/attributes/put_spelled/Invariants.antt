@@ -1,11 +1,7 @@
-use Prim.Native.Nat.{◌≤◌, ◌-◌}
 use lib.ListN.{take}
 use Rattle.field.specs.Put.{Wrote}
 use Rattle.names.specs.Table.{spelled}
 use Rattle.names.proofs.attributes.put_spelled.Given as goal
 
-abbrev pub invariant-loop-i : goal.invariant-loop-i
-invariant-loop-i l = (l.i ≤ l.n) × Wrote l.initial.out l.at (spelled l.sep (take l.i l.name)) l.out l.a
-
-abbrev pub decreases-loop-i : goal.decreases-loop-i
-decreases-loop-i l = l.n - l.i
+abbrev pub invariant-loop-c : goal.invariant-loop-c
+invariant-loop-c l = Wrote l.initial.out l.at (spelled l.sign (take l.c-index l.name)) l.out l.a

@@ -35,4 +35,4 @@ pub returns : goal.returns
 unfolding is_boolean_attr boolean_names entries mark_from among same
 returns c = let a = c.args in let n = read_as a.small a.name.now in
     let h = fits_read_as FIRSTS a.small a.name.now ∙ sym c.fits.ensures ∙ c.if-not-fits.false in
-    table_has _ _ _ boolean_names n c.find_in.ensures (length_read_as a.small a.name.now) c.row_of-row.ensures h refl refl
+    c.is_some.ensures ∙ table_has _ _ _ boolean_names n c.find_in.ensures (length_read_as a.small a.name.now) c.row_of-row.ensures h refl refl

@@ -1,12 +1,8 @@
 use mathlib.Core.Path.{◌≡◌}
-use Prim.Native.Nat.{◌≤◌, ◌-◌}
-use lib.ListN.{drop}
+use lib.ListN.{length}
 use Rattle.field.specs.Bytes.{same}
 use Rattle.names.specs.Table.{read_as}
 use Rattle.names.proofs.compare.letters_are.Given as goal
 
-abbrev pub invariant-loop-i : goal.invariant-loop-i
-invariant-loop-i l = (l.i ≤ l.n) × (same (drop l.i (read_as l.small l.a)) (drop l.i l.b) ≡ same (read_as l.small l.a) l.b)
-
-abbrev pub decreases-loop-i : goal.decreases-loop-i
-decreases-loop-i l = l.n - l.i
+abbrev pub invariant-loop-x : goal.invariant-loop-x
+invariant-loop-x l = let x = l.x-iterator.a.rest.now in let y = l.x-iterator.b.rest.now in (length x ≡ length y) × (same (read_as l.small x) y ≡ same (read_as l.small l.a) l.b)

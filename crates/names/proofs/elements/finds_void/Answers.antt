@@ -1,5 +1,5 @@
 -- The table has the void names and no others, by tests that antt computes over the whole table.
-use mathlib.Core.Path.{refl}
+use mathlib.Core.Path.{refl, ◌∙◌}
 use native.Mathlib.Omega.{arith}
 use Rattle.field.specs.Bytes.{same, among}
 use Rattle.names.specs.Names.{void_names, is_void_element}
@@ -20,4 +20,4 @@ find_in-requires c = (ends_within c.args.name.now c.requires).0
 pub returns : goal.returns
 unfolding is_void_element void_names entries mark_from among same
 returns c = let a = c.args in let l = length_read_as a.small a.name.now in
-    table_finds _ _ 7 void_names (read_as a.small a.name.now) c.find_in.ensures l c.row_of-row.ensures (omega (arith, l, (ends_within a.name.now c.requires).1)) refl refl
+    c.is_some.ensures ∙ table_finds _ _ 7 void_names (read_as a.small a.name.now) c.find_in.ensures l c.row_of-row.ensures (omega (arith, l, (ends_within a.name.now c.requires).1)) refl refl

@@ -12,21 +12,21 @@ use Rattle.names.specs.Names.{small_letters}
 use Rattle.names.proofs.EscapedLaws.{escaped_next, escaped_bound}
 use Rattle.names.proofs.escaped.put_small_escaped.Goals as goal
 
-pub loop-i-init : goal.loop-i-init
+pub loop-c-init : goal.loop-c-init
 unfolding small_letters escape_html
-loop-i-init c = (search rules, wrote_none _ _)
+loop-c-init c = wrote_none _ _
 
-pub put_escaped-b-requires : goal.put_escaped-b-requires
-put_escaped-b-requires c = let n = c.args.name.now in let x = c.letter.result in let e = ap length (escaped_next n c.loop-i.i x (search rules) c.letter.ensures) in
-    let k = length-append (escape_html (small_letters (take c.loop-i.i n))) (escape_html (x ∷ [])) in
-    omega (arith, c.loop-i.invariant.1.end_is, e, k, escaped_bound n (c.loop-i.i + 1))
+pub put_escaped-a-requires : goal.put_escaped-a-requires
+put_escaped-a-requires c = let n = c.args.name.now in let x = c.small_letter.result in let e = ap length (escaped_next n c.loop-c.c-index x (search rules) c.small_letter.ensures) in
+    let k = length-append (escape_html (small_letters (take c.loop-c.c-index n))) (escape_html (x ∷ [])) in
+    omega (arith, c.loop-c.invariant.end_is, e, k, escaped_bound n (c.loop-c.c-index + 1))
 
-pub loop-i-preserved : goal.loop-i-preserved
-loop-i-preserved c = let n = c.args.name.now in (search rules, wrote_is (escaped_next n c.loop-i.i c.letter.result (search rules) c.letter.ensures) (wrote_then c.loop-i.invariant.1 c.put_escaped-b.ensures))
+pub loop-c-preserved : goal.loop-c-preserved
+loop-c-preserved c = let n = c.args.name.now in (wrote_is (escaped_next n c.loop-c.c-index c.small_letter.result (search rules) c.small_letter.ensures) (wrote_then c.loop-c.invariant c.put_escaped-a.ensures))
 
 pub shape_of-out : goal.shape_of-out
-shape_of-out c = wrote_length c.loop-i.invariant.1
+shape_of-out c = wrote_length c.loop-c.invariant
 
 pub returns : goal.returns
-returns c = let n = c.args.name.now in let h : length n ≤ c.loop-i.i = search rules in
-    wrote_is (ap (λ t. escape_html (small_letters t)) (take_all c.loop-i.i n h)) c.loop-i.invariant.1
+returns c = let n = c.args.name.now in let h : length n ≤ c.loop-c.c-index = search rules in
+    wrote_is (ap (λ t. escape_html (small_letters t)) (take_all c.loop-c.c-index n h)) c.loop-c.invariant

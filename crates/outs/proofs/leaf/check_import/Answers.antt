@@ -1,34 +1,18 @@
--- `outs::leaf::check_import` meets its contract. Assumes nothing.
-use Rattle.field.proofs.HeaderLaws.{within_field}
-use Rattle.outs.proofs.LeafLaws.{import_empty, import_torn, import_other, import_bad, import_sum}
+-- `outs::leaf::check_import` meets its contract: each answer by the law of what was found. Assumes nothing.
+use mathlib.Core.Path.{◌∙◌}
+use Rattle.page.proofs.Steps.{handed}
+use Rattle.outs.proofs.NoField.{missing_import}
+use Rattle.outs.proofs.LeafLaws.{import_other, import_bad, import_sum}
 use Rattle.outs.proofs.leaf.check_import.Goals as goal
 
-pub returns-then-s-eq0 : goal.returns-then-s-eq0
-returns-then-s-eq0 c = import_empty _ c.if-s-eq0.true
+pub returns-in_default : goal.returns-in_default
+returns-in_default c = missing_import _ c.read_header.ensures.0 c.in_default.is c.check_missing.ensures
 
-pub returns-then-tag : goal.returns-then-tag
-returns-then-tag c = import_other _ c.read_header.ensures.0 c.in-Field.is c.if-tag.true
+pub returns-then-h : goal.returns-then-h
+returns-then-h c = import_other _ c.read_header.ensures.0 c.in-Some.is c.if-h.true
 
-pub slice_bounds-check_text-count : goal.slice_bounds-check_text-count
-slice_bounds-check_text-count c = (within_field c.read_header.ensures.1 c.in-Field.is).0
+pub returns-in_err-check_text : goal.returns-in_err-check_text
+returns-in_err-check_text c = handed c.from_residual.ensures ∙ import_bad _ c.read_header.ensures.0 c.in-Some.is c.if-h.false c.check_text.ensures c.in_err-check_text.was
 
-pub slice_bounds-check_text-start : goal.slice_bounds-check_text-start
-slice_bounds-check_text-start c = (within_field c.read_header.ensures.1 c.in-Field.is).0
-
-pub slice_bounds-check_text-end : goal.slice_bounds-check_text-end
-slice_bounds-check_text-end c = (within_field c.read_header.ensures.1 c.in-Field.is).1
-
-pub slice_bounds-check_sum-count : goal.slice_bounds-check_sum-count
-slice_bounds-check_sum-count c = (within_field c.read_header.ensures.1 c.in-Field.is).1
-
-pub slice_bounds-check_sum-start : goal.slice_bounds-check_sum-start
-slice_bounds-check_sum-start c = (within_field c.read_header.ensures.1 c.in-Field.is).1
-
-pub returns-else-s-eq0 : goal.returns-else-s-eq0
-returns-else-s-eq0 c = import_torn _ c.read_header.ensures.0 c.in-Absent.is c.if-s-eq0.false
-
-pub returns-in-Fine : goal.returns-in-Fine
-returns-in-Fine c = import_sum _ c.read_header.ensures.0 c.in-Field.is c.if-tag.false c.check_text.ensures c.in-Fine.is c.check_sum.ensures
-
-pub returns-in-Refused : goal.returns-in-Refused
-returns-in-Refused c = import_bad _ c.read_header.ensures.0 c.in-Field.is c.if-tag.false c.check_text.ensures c.in-Refused.is
+pub returns : goal.returns
+returns c = import_sum _ c.read_header.ensures.0 c.in-Some.is c.if-h.false c.check_text.ensures c.in_ok-check_text.was c.check_sum.ensures

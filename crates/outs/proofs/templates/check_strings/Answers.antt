@@ -1,47 +1,28 @@
--- `outs::templates::check_strings` meets its contract: the strings before a place are passed, and so many are still to come. Assumes nothing.
+-- `outs::templates::check_strings` meets its contract: the strings in front are passed, and so many are still to come. Assumes nothing.
+use Prim.Native.Nat.{◌-◌}
+use mathlib.Core.Path.{ap, ◌∙◌}
 use native.Mathlib.Omega.{arith}
-use Rattle.outs.proofs.TemplateLaws.{behind_string, strings_start, strings_end, more_on, more_refused, more_end}
+use Rattle.std.specs.Prelude.{Ok}
+use Rattle.field.specs.Row.{read}
+use Rattle.page.proofs.Steps.{handed}
+use Rattle.outs.specs.Templates.{check_strings}
+use Rattle.outs.proofs.TemplateLaws.{rest_is, one_more, one_less, strings_start, strings_end, goes_on, ends, stops}
 use Rattle.outs.proofs.templates.check_strings.Goals as goal
 
-pub loop-left-init : goal.loop-left-init
-loop-left-init c = (omega arith, strings_start _ _)
+pub loop-init : goal.loop-init
+loop-init c = strings_start _ _
 
-pub slice_bounds-pass_string-count : goal.slice_bounds-pass_string-count
-slice_bounds-pass_string-count c = c.loop-left.invariant.0
+pub returns-in_err-end : goal.returns-in_err-end
+returns-in_err-end c = handed c.from_residual.ensures ∙ stops (one_more (c.args.count - c.loop.counter) _ (omega arith) c.loop.invariant) c.pass.ensures.gives c.in_err-end.was
 
-pub slice_bounds-pass_string-start : goal.slice_bounds-pass_string-start
-slice_bounds-pass_string-start c = c.loop-left.invariant.0
+pub returns-in_default : goal.returns-in_default
+returns-in_default c = ends (one_more (c.args.count - c.loop.counter) _ (omega arith) c.loop.invariant) c.pass.ensures.gives (c.in_ok-end.was ∙ ap Ok c.in_default.is)
 
-pub slice_bounds-pass_string-end : goal.slice_bounds-pass_string-end
-slice_bounds-pass_string-end c = omega arith
-
-pub overflow_add-at : goal.overflow_add-at
-overflow_add-at c = let q = behind_string c.args.b.now c.loop-left.at c.loop-left.invariant.0 c.pass_string.ensures c.in-Behind.is in
-    omega (arith, q.1)
-
-pub overflow_sub-left : goal.overflow_sub-left
-overflow_sub-left c = omega (arith, c.loop-left-test.true)
-
-pub loop-left-smaller : goal.loop-left-smaller
-loop-left-smaller c = omega (arith, c.loop-left-test.true)
-
-pub loop-left-preserved : goal.loop-left-preserved
-loop-left-preserved c = ((behind_string c.args.b.now c.loop-left.at c.loop-left.invariant.0 c.pass_string.ensures c.in-Behind.is).1, more_on c.args.b.now c.loop-left.at c.loop-left.invariant.0 c.pass_string.ensures c.loop-left.left c.loop-left-test.true c.loop-left.invariant.1 c.in-Behind.is)
-
-pub returns-in-Refused : goal.returns-in-Refused
-returns-in-Refused c = more_refused c.args.b.now c.loop-left.at c.loop-left.invariant.0 c.pass_string.ensures c.loop-left.left c.loop-left-test.true c.loop-left.invariant.1 c.in-Refused.is
-
-pub returns-in-End : goal.returns-in-End
-returns-in-End c = more_end c.args.b.now c.loop-left.at c.loop-left.invariant.0 c.pass_string.ensures c.loop-left.left c.loop-left-test.true c.loop-left.invariant.1 c.in-End.is
-
-pub slice_bounds-check_end-count : goal.slice_bounds-check_end-count
-slice_bounds-check_end-count c = c.loop-left.invariant.0
-
-pub slice_bounds-check_end-start : goal.slice_bounds-check_end-start
-slice_bounds-check_end-start c = c.loop-left.invariant.0
-
-pub slice_bounds-check_end-end : goal.slice_bounds-check_end-end
-slice_bounds-check_end-end c = omega arith
+pub loop-preserved : goal.loop-preserved
+loop-preserved c =
+    goes_on (one_more (c.args.count - c.loop.counter) _ (omega arith) c.loop.invariant) c.pass.ensures.gives (c.in_ok-end.was ∙ ap Ok c.in-Some.is)
+    ∙ ap (λ b. check_strings (c.args.count - c.loop.counter - 1) (read b)) (rest_is c.loop.t.now c.in-Some.end)
+    ∙ one_less c.args.count c.loop.counter _
 
 pub returns : goal.returns
-returns c = strings_end c.loop-left.left _ c.loop-left-test.false c.loop-left.invariant.1 c.check_end.ensures
+returns c = strings_end (c.args.count - c.loop.counter) _ (omega arith) c.loop.invariant c.check_end.ensures

@@ -1,33 +1,19 @@
--- `outs::templates::check_templates` meets its contract: the records before a place are passed. Assumes nothing.
-use native.Mathlib.Omega.{arith}
-use Rattle.outs.proofs.TemplateLaws.{behind_record, records_start, records_on, records_refused, records_end}
+-- `outs::templates::check_templates` meets its contract: a row of records of the kind. Assumes nothing.
+use Rattle.outs.specs.Templates.{check_templates}
+use Rattle.outs.specs.declared.Kind.TheVariants.{Old, New}
+use Rattle.outs.proofs.TemplateLaws.{record_rowwise}
 use Rattle.outs.proofs.templates.check_templates.Goals as goal
 
-pub loop-e-init : goal.loop-e-init
-loop-e-init c = (omega arith, records_start _ _)
+pub check_row-requires : goal.check_row-requires
+check_row-requires c = record_rowwise Old
 
-pub slice_bounds-pass_record-count : goal.slice_bounds-pass_record-count
-slice_bounds-pass_record-count c = c.loop-e.invariant.0
+pub check_row-requires-in-New : goal.check_row-requires-in-New
+check_row-requires-in-New c = record_rowwise New
 
-pub slice_bounds-pass_record-start : goal.slice_bounds-pass_record-start
-slice_bounds-pass_record-start c = c.loop-e.invariant.0
+pub returns-in-Old : goal.returns-in-Old
+unfolding check_templates
+returns-in-Old c = rw c.in-Old.is c.check_row.ensures
 
-pub slice_bounds-pass_record-end : goal.slice_bounds-pass_record-end
-slice_bounds-pass_record-end c = omega arith
-
-pub overflow_add-at : goal.overflow_add-at
-overflow_add-at c = let q = behind_record c.args.kind c.args.s.now c.loop-e.at c.loop-e.invariant.0 c.pass_record.ensures c.in-Behind.is in
-    omega (arith, q.1)
-
-pub loop-e-smaller : goal.loop-e-smaller
-loop-e-smaller c = let q = behind_record c.args.kind c.args.s.now c.loop-e.at c.loop-e.invariant.0 c.pass_record.ensures c.in-Behind.is in
-    omega (arith, q.0, q.1)
-
-pub loop-e-preserved : goal.loop-e-preserved
-loop-e-preserved c = ((behind_record c.args.kind c.args.s.now c.loop-e.at c.loop-e.invariant.0 c.pass_record.ensures c.in-Behind.is).1, records_on c.args.kind c.args.s.now c.loop-e.at c.loop-e.invariant.0 c.pass_record.ensures c.loop-e.invariant.1 c.in-Behind.is)
-
-pub returns-in-Refused : goal.returns-in-Refused
-returns-in-Refused c = records_refused c.args.kind c.args.s.now c.loop-e.at c.loop-e.invariant.0 c.pass_record.ensures c.loop-e.invariant.1 c.in-Refused.is
-
-pub returns-in-End : goal.returns-in-End
-returns-in-End c = records_end c.args.kind c.args.s.now c.loop-e.at c.loop-e.invariant.0 c.pass_record.ensures c.loop-e.invariant.1 c.in-End.is
+pub returns-in-New : goal.returns-in-New
+unfolding check_templates
+returns-in-New c = rw c.in-New.is c.check_row-in-New.ensures

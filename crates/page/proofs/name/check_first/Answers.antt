@@ -1,16 +1,14 @@
 -- `page::name::check_first` meets its contract. Assumes nothing.
-use Rattle.page.proofs.RowEnds.{first_missing, first_other, first_deep, first_fine, first_bad}
-use mathlib.Core.Path.{◌∙◌}
+use mathlib.Core.Path.{refl, ◌∙◌}
+use Rattle.page.proofs.Steps.{exit_at, last_at}
+use Rattle.page.proofs.RowEnds.{first_missing, first_other, first_name}
 use Rattle.page.proofs.name.check_first.Goals as goal
 
-pub returns-then-depth-gt-MAX_DEPTH : goal.returns-then-depth-gt-MAX_DEPTH
-returns-then-depth-gt-MAX_DEPTH c = first_deep _ _ _ c.tag_at.ensures.0 c.in-64.is c.if-depth-gt-MAX_DEPTH.true
-
-pub returns-then-is_name : goal.returns-then-is_name
-returns-then-is_name c = let tag = c.tag_at.ensures.0 in first_fine _ _ _ tag c.in-64.is c.if-depth-gt-MAX_DEPTH.false _ c.body.ensures _ c.is_name.ensures c.if-is_name.true
+pub returns-in_err-check_depth-in-64 : goal.returns-in_err-check_depth-in-64
+returns-in_err-check_depth-in-64 c = exit_at (first_name _ _ _ c.tag_at.ensures.0 c.in-64.is refl) c.check_depth.ensures.gives c.in_err-check_depth-in-64.was c.from_residual.ensures
 
 pub returns-in-64 : goal.returns-in-64
-returns-in-64 c = let tag = c.tag_at.ensures.0 in first_bad _ _ _ tag c.in-64.is c.if-depth-gt-MAX_DEPTH.false _ c.body.ensures _ c.is_name.ensures c.if-is_name.false
+returns-in-64 c = last_at (first_name _ _ _ c.tag_at.ensures.0 c.in-64.is c.body.ensures) c.check_depth.ensures.gives c.in_ok-check_depth-in-64.was c.check_name.ensures
 
 pub returns-in-256 : goal.returns-in-256
 returns-in-256 c = c.check_missing.ensures ∙ first_missing _ _ _ c.tag_at.ensures.0 (c.tag_at.ensures.1 c.in-256.is)

@@ -1,8 +1,7 @@
 -- `page::name::check_name_by` meets its contract. Assumes nothing.
-use mathlib.Core.Path.{sym, ◌∙◌}
 use borrow.Author.Tests.{eq-eqb, ne_eqb}
 use Rattle.page.specs.Tree.{choose}
-use Rattle.page.specs.Check.{check_name_by, check_name}
+use Rattle.page.specs.Check.{check_name_by}
 use Rattle.page.specs.CheckField.{check_counted, check_namespaced}
 use Rattle.page.proofs.name.check_name_by.Goals as goal
 
@@ -14,10 +13,6 @@ pub returns-then-tag-eq66 : goal.returns-then-tag-eq66
 unfolding check_name_by check_namespaced choose
 returns-then-tag-eq66 c = rw (ne_eqb _ 0x41 c.if-tag-eq65.false, eq-eqb _ 0x42 c.if-tag-eq66.true) c.check_namespaced.ensures
 
-pub returns-then-is_name : goal.returns-then-is_name
-unfolding check_name_by check_name choose
-returns-then-is_name c = rw (ne_eqb _ 0x41 c.if-tag-eq65.false, ne_eqb _ 0x42 c.if-tag-eq66.false, sym c.is_name.ensures ∙ c.if-is_name.true)
-
 pub returns : goal.returns
-unfolding check_name_by check_name choose
-returns c = rw (ne_eqb _ 0x41 c.if-tag-eq65.false, ne_eqb _ 0x42 c.if-tag-eq66.false, sym c.is_name.ensures ∙ c.if-is_name.false)
+unfolding check_name_by choose
+returns c = rw (ne_eqb _ 0x41 c.if-tag-eq65.false, ne_eqb _ 0x42 c.if-tag-eq66.false) c.check_name.ensures

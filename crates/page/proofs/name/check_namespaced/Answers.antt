@@ -1,12 +1,14 @@
 -- `page::name::check_namespaced` meets its contract. Assumes nothing.
-use Rattle.page.proofs.RowEnds.{space_refused, name_refused, name_end}
+use mathlib.Core.Path.{refl}
+use Rattle.page.proofs.Steps.{exit_at, last_at}
+use Rattle.page.proofs.RowEnds.{space_then, local_then}
 use Rattle.page.proofs.name.check_namespaced.Goals as goal
 
-pub returns-in-Fine-check_first : goal.returns-in-Fine-check_first
-returns-in-Fine-check_first c = let first = c.check_first.ensures in name_end _ _ _ first c.in-Fine.is _ c.behind-t.ensures _ c.check_first-in-Fine.ensures c.in-Fine-check_first.is _ c.behind.ensures _ c.check_end.ensures
+pub returns-in_err-check_first : goal.returns-in_err-check_first
+returns-in_err-check_first c = exit_at (space_then _ _ refl) c.check_first.ensures c.in_err-check_first.was c.from_residual.ensures
 
-pub returns-in-Refused-check_first : goal.returns-in-Refused-check_first
-returns-in-Refused-check_first c = let first = c.check_first.ensures in name_refused _ _ _ first c.in-Fine.is _ c.behind-t.ensures _ c.check_first-in-Fine.ensures _ c.in-Refused-check_first.is
+pub returns-in_err-check_first-2 : goal.returns-in_err-check_first-2
+returns-in_err-check_first-2 c = last_at (space_then _ _ c.behind-t.ensures) c.check_first.ensures c.in_ok-check_first.was (exit_at (local_then _ _ refl) c.check_first-2.ensures c.in_err-check_first-2.was c.from_residual-in_err-check_first-2.ensures)
 
-pub returns-in-Refused : goal.returns-in-Refused
-returns-in-Refused c = let first = c.check_first.ensures in space_refused _ _ _ first _ c.in-Refused.is
+pub returns : goal.returns
+returns c = last_at (space_then _ _ c.behind-t.ensures) c.check_first.ensures c.in_ok-check_first.was (last_at (local_then _ _ c.behind.ensures) c.check_first-2.ensures c.in_ok-check_first-2.was c.check_end.ensures)

@@ -1,10 +1,13 @@
 -- `page::number::number_in` meets its contract. Assumes nothing.
-use mathlib.Core.Path.{sym}
+use mathlib.Core.Path.{ap, ◌∙◌}
+use lib.ListN.{length}
 use lib.Seq.{length-take-le}
+use Rattle.field.specs.Bytes.{Bytes}
+use Rattle.field.specs.Number.{number_of}
+use Rattle.page.proofs.LeafLaws.{number_eight}
 use Rattle.page.proofs.number.number_in.Goals as goal
 
-pub slice_bounds-eight_in-end : goal.slice_bounds-eight_in-end
-slice_bounds-eight_in-end c = sym (length-take-le 8 c.args.s.now c.if-s-ge8.true)
-
-pub eight_in-requires : goal.eight_in-requires
-eight_in-requires c = length-take-le 8 c.args.s.now c.if-s-ge8.true
+pub returns-in-Some : goal.returns-in-Some
+returns-in-Some c =
+    let e = c.in-Some.ensures.cases in
+    number_eight _ (ap (λ (x : Bytes). length x) e.same ∙ length-take-le 8 c.args.s.now e.enough) c.from_be_bytes.ensures ∙ ap number_of e.same

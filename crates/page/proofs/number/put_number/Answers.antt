@@ -4,15 +4,15 @@ use mathlib.Core.Path.{sym, ap, ◌∙◌}
 use lib.ListN.{length}
 use Rattle.field.specs.Bytes.{Bytes}
 use Rattle.field.proofs.PutLaws.{wrote_is}
-use Rattle.page.proofs.NumberLaws.{whole_text, scaled_text}
+use Rattle.page.proofs.NumberLaws.{min_15, whole_text, scaled_text}
 use Rattle.page.proofs.number.put_number.Goals as goal
 
 pub put_shortest-requires : goal.put_shortest-requires
-put_shortest-requires c = let has = c.has_places.ensures in let e = scaled_text c.args.tag c.args.s.now (sym c.if-has_places.true ∙ has) c.number_in-n.ensures c.places_in.ensures.0 c.at_most_15-p.ensures.0 in
-    (c.at_most_15-p.ensures.1, omega (arith, c.requires, ap (λ (x : Bytes). length x) e))
+put_shortest-requires c = let has = c.has_places.ensures in let e = scaled_text c.args.tag c.args.s.now (sym c.if-has_places.true ∙ has) c.number_in-n.ensures c.places_in.ensures.0 (min_15 _ c.min.ensures) in
+    (omega (arith, c.min.ensures), omega (arith, c.requires, ap (λ (x : Bytes). length x) e))
 
 pub returns-then-has_places : goal.returns-then-has_places
-returns-then-has_places c = let has = c.has_places.ensures in wrote_is (scaled_text _ _ (sym c.if-has_places.true ∙ has) c.number_in-n.ensures c.places_in.ensures.0 c.at_most_15-p.ensures.0) c.put_shortest.ensures
+returns-then-has_places c = let has = c.has_places.ensures in wrote_is (scaled_text _ _ (sym c.if-has_places.true ∙ has) c.number_in-n.ensures c.places_in.ensures.0 (min_15 _ c.min.ensures)) c.put_shortest.ensures
 
 pub put_decimal-requires : goal.put_decimal-requires
 put_decimal-requires c = let has = c.has_places.ensures in let e = whole_text c.args.tag c.args.s.now (sym c.if-has_places.false ∙ has) c.number_in-n.ensures in

@@ -1,25 +1,21 @@
--- The invariant: n is the number in the first i bytes, and has room for what is still to come.
+-- The invariant: n is the number in the first bytes, and has room for what is still to come.
+use mathlib.Core.Path.{ap}
+use Prim.Native.Nat.{ℕ, ◌+◌, ◌*◌}
 use native.Mathlib.Omega.{arith}
-use Rattle.page.proofs.LeafLaws.{number_start, number_next, number_all, number_end, number_room, number_grown}
+use Rattle.page.proofs.LeafLaws.{number_start, number_next, number_all, number_room, number_grown}
 use Rattle.page.proofs.number.short_in.Goals as goal
 
-pub loop-i-init : goal.loop-i-init
-loop-i-init c = ((number_start, omega arith), omega arith)
+pub loop-b-init : goal.loop-b-init
+loop-b-init c = (number_start, omega arith)
 
-pub shifted-n-requires : goal.shifted-n-requires
-shifted-n-requires c = number_room c.loop-i.i c.loop-i.n c.loop-i.invariant.0.1 c.loop-i-test.true
+pub overflow_mul-n : goal.overflow_mul-n
+overflow_mul-n c = omega (arith, number_room _ _ c.loop-b.invariant.1 (omega (arith, c.loop-b-test.true, c.requires)))
 
-pub returns-else-i-s : goal.returns-else-i-s
-returns-else-i-s c = number_all c.args.s.now c.loop-i.i c.loop-i.n c.if-i-s.false c.loop-i-test.true c.loop-i.invariant.0.0
+pub overflow_add-n : goal.overflow_add-n
+overflow_add-n c = omega (arith, number_room _ _ c.loop-b.invariant.1 (omega (arith, c.loop-b-test.true, c.requires)), c.from.ensures, c.type_inv.s c.loop-b.b-index)
 
-pub overflow_add-i : goal.overflow_add-i
-overflow_add-i c = omega arith
-
-pub loop-i-smaller : goal.loop-i-smaller
-loop-i-smaller c = omega arith
-
-pub loop-i-preserved : goal.loop-i-preserved
-loop-i-preserved c = ((number_next c.args.s.now c.loop-i.i c.loop-i.n c.if-i-s.true c.loop-i.invariant.0.0 c.shifted-n.ensures.0, number_grown c.loop-i.i c.loop-i.n c.loop-i.invariant.0.1 c.shifted-n.ensures.1), omega arith)
+pub loop-b-preserved : goal.loop-b-preserved
+loop-b-preserved c = (number_next _ _ _ c.loop-b-test.true c.loop-b.invariant.0 (ap (λ (x : ℕ). c.loop-b.n * 256 + x) c.from.ensures), number_grown _ _ c.loop-b.invariant.1 (omega (arith, c.from.ensures, c.type_inv.s c.loop-b.b-index)))
 
 pub returns : goal.returns
-returns c = number_end c.args.s.now c.loop-i.i c.loop-i.n c.loop-i-test.false c.loop-i.invariant.1 c.loop-i.invariant.0.0
+returns c = number_all _ _ _ c.loop-b-test.false c.loop-b.invariant.0

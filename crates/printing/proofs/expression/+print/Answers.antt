@@ -21,10 +21,10 @@ pub print_all-print_first-a-requires : goal.print_all-print_first-a-requires
 print_all-print_first-a-requires t c = let i = c.loop-t.invariant in (omega (arith, i.0, c.decreases), left_room i.1 (first_text (read _)) (all_text (read _)) (all_on _ _ c.tag_at.ensures.0 c.loop-t-test.true refl))
 
 pub print_all-loop-t-smaller : goal.print_all-loop-t-smaller
-print_all-loop-t-smaller t c = behind_less _ _ c.tag_at.ensures.0 c.loop-t-test.true c.behind-r.ensures
+print_all-loop-t-smaller t c = behind_less _ _ c.tag_at.ensures.0 c.loop-t-test.true c.behind-t.ensures
 
 pub print_all-loop-t-preserved : goal.print_all-loop-t-preserved
-print_all-loop-t-preserved t c = let i = c.loop-t.invariant in let e = c.tag_at.ensures.0 in let h = c.loop-t-test.true in let b = c.behind-r.ensures in (omega (arith, i.0, behind_less _ _ e h b), left_on i.1 (all_on _ _ e h b) c.print_first-a.ensures)
+print_all-loop-t-preserved t c = let i = c.loop-t.invariant in let e = c.tag_at.ensures.0 in let h = c.loop-t-test.true in let b = c.behind-t.ensures in (omega (arith, i.0, behind_less _ _ e h b), left_on i.1 (all_on _ _ e h b) c.print_first-a.ensures)
 
 pub print_all-shape_of-out : goal.print_all-shape_of-out
 print_all-shape_of-out t c = wrote_length (left_done c.loop-t.invariant.1 (all_ended _ (c.tag_at.ensures.1 c.loop-t-test.false)))
@@ -43,10 +43,10 @@ print_behind-print_first-a-requires t c = let i = c.loop-t.invariant in let l = 
     (omega (arith, i.0, c.decreases), left_room l (first_text (read _)) (behind_text (read _)) refl)
 
 pub print_behind-loop-t-smaller : goal.print_behind-loop-t-smaller
-print_behind-loop-t-smaller t c = behind_less _ _ c.tag_at.ensures.0 c.loop-t-test.true c.behind-r.ensures
+print_behind-loop-t-smaller t c = behind_less _ _ c.tag_at.ensures.0 c.loop-t-test.true c.behind-t.ensures
 
 pub print_behind-loop-t-preserved : goal.print_behind-loop-t-preserved
-print_behind-loop-t-preserved t c = let i = c.loop-t.invariant in let e = c.tag_at.ensures.0 in let h = c.loop-t-test.true in let b = c.behind-r.ensures in let l = left_on i.1 (behind_on _ _ e h b) c.put_bytes-b.ensures in
+print_behind-loop-t-preserved t c = let i = c.loop-t.invariant in let e = c.tag_at.ensures.0 in let h = c.loop-t-test.true in let b = c.behind-t.ensures in let l = left_on i.1 (behind_on _ _ e h b) c.put_bytes-b.ensures in
     (omega (arith, i.0, behind_less _ _ e h b), left_on l refl c.print_first-a.ensures)
 
 pub print_behind-shape_of-out : goal.print_behind-shape_of-out

@@ -1,25 +1,28 @@
--- `printing::front::front_len` meets its contract: the code tests what `inside` tests, in its order. Assumes nothing.
+-- `printing::front::front_len` meets its contract: the tags that `inside` tests, in its order. Assumes nothing.
+use mathlib.Core.Path.{sym, ◌∙◌}
+use native.Mathlib.Omega.{arith}
 use lib.Dec.{leb-zero}
 use borrow.Author.Tests.{ne_eqb}
 use Rattle.field.specs.Row.{inside}
+use Rattle.printing.proofs.FrontLaws.{min_is}
 use Rattle.printing.proofs.front.front_len.Goals as goal
 
-pub returns-then-tag-eq144 : goal.returns-then-tag-eq144
+pub returns-in-144 : goal.returns-in-144
 unfolding inside
-returns-then-tag-eq144 c = rw c.if-tag-eq144.true c.at_most.ensures
+returns-in-144 c = rw c.in-144.is (c.min.ensures ∙ min_is _ 4)
 
-pub returns-then-tag-eq132 : goal.returns-then-tag-eq132
+pub returns-in-132 : goal.returns-in-132
 unfolding inside
-returns-then-tag-eq132 c = rw c.if-tag-eq132.true c.counted_len.ensures
+returns-in-132 c = rw c.in-132.is c.counted_len.ensures
 
-pub returns-then-tag-eq128 : goal.returns-then-tag-eq128
+pub returns-in-128 : goal.returns-in-128
 unfolding inside
-returns-then-tag-eq128 c = rw c.if-tag-eq128.true c.at_most-then-tag-eq128.ensures
+returns-in-128 c = rw c.in-128.is (c.min-in-128.ensures ∙ min_is _ 2)
 
-pub returns-then-tag : goal.returns-then-tag
+pub returns-in_default : goal.returns-in_default
 unfolding inside
-returns-then-tag c = let t = c.args.tag in rw (ne_eqb t 0x90 c.if-tag-eq144.false, ne_eqb t 0x84 c.if-tag-eq132.false, ne_eqb t 0x80 c.if-tag-eq128.false, c.if-tag.true, leb-zero)
+returns-in_default c = let t = c.args.tag in rw (ne_eqb t 0x90 (omega arith), ne_eqb t 0x84 (omega arith), ne_eqb t 0x80 (omega arith), sym c.holds_fields.ensures ∙ c.if-holds_fields.true, leb-zero)
 
-pub returns : goal.returns
+pub returns-in_default-2 : goal.returns-in_default-2
 unfolding inside
-returns c = let t = c.args.tag in rw (ne_eqb t 0x90 c.if-tag-eq144.false, ne_eqb t 0x84 c.if-tag-eq132.false, ne_eqb t 0x80 c.if-tag-eq128.false, c.if-tag.false)
+returns-in_default-2 c = let t = c.args.tag in rw (ne_eqb t 0x90 (omega arith), ne_eqb t 0x84 (omega arith), ne_eqb t 0x80 (omega arith), sym c.holds_fields.ensures ∙ c.if-holds_fields.false)

@@ -26,10 +26,10 @@ pub put_bytes-a-requires : goal.put_bytes-a-requires
 put_bytes-a-requires c = omega (arith, c.put_bytes-b.ensures.end_is, c.put_template_name-c.ensures.end_is, c.put_bytes-d.ensures.end_is, c.print_parted-e.ensures.end_is, templates_turn _ c.loop-t.invariant _ c.tag_at.ensures.0 c.loop-t-test.true c.front.ensures c.inner.ensures)
 
 pub loop-t-smaller : goal.loop-t-smaller
-loop-t-smaller c = behind_less _ _ c.tag_at.ensures.0 c.loop-t-test.true c.behind-r.ensures
+loop-t-smaller c = behind_less _ _ c.tag_at.ensures.0 c.loop-t-test.true c.behind-t.ensures
 
 pub loop-t-preserved : goal.loop-t-preserved
-loop-t-preserved c = left_on c.loop-t.invariant (templates_at _ _ c.tag_at.ensures.0 c.loop-t-test.true c.front.ensures c.inner.ensures c.behind-r.ensures) (wrote_then c.put_bytes-b.ensures (wrote_then c.put_template_name-c.ensures (wrote_then c.put_bytes-d.ensures (wrote_then c.print_parted-e.ensures c.put_bytes-a.ensures))))
+loop-t-preserved c = left_on c.loop-t.invariant (templates_at _ _ c.tag_at.ensures.0 c.loop-t-test.true c.front.ensures c.inner.ensures c.behind-t.ensures) (wrote_then c.put_bytes-b.ensures (wrote_then c.put_template_name-c.ensures (wrote_then c.put_bytes-d.ensures (wrote_then c.print_parted-e.ensures c.put_bytes-a.ensures))))
 
 pub shape_of-out : goal.shape_of-out
 shape_of-out c = wrote_length (left_done c.loop-t.invariant (templates_end _ (c.tag_at.ensures.1 c.loop-t-test.false)))

@@ -12,10 +12,10 @@ pub put_helper-b-requires : goal.put_helper-b-requires
 put_helper-b-requires c = omega (arith, c.put_helper-a.ensures.end_is, helpers_room _ c.odd-jsx.ensures c.odd-template.ensures c.odd-attr.ensures c.odd-escape.ensures refl refl refl _ c.requires)
 
 pub put_helper-c-requires : goal.put_helper-c-requires
-put_helper-c-requires c = omega (arith, c.put_helper-a.ensures.end_is, c.put_helper-b.ensures.end_is, helpers_room _ c.odd-jsx.ensures c.odd-template.ensures c.odd-attr.ensures c.odd-escape.ensures c.either.ensures refl refl _ c.requires)
+put_helper-c-requires c = omega (arith, c.put_helper-a.ensures.end_is, c.put_helper-b.ensures.end_is, helpers_room _ c.odd-jsx.ensures c.odd-template.ensures c.odd-attr.ensures c.odd-escape.ensures refl refl refl _ c.requires)
 
 pub put_helper-requires : goal.put_helper-requires
-put_helper-requires c = omega (arith, c.put_helper-a.ensures.end_is, c.put_helper-b.ensures.end_is, c.put_helper-c.ensures.end_is, helpers_room _ c.odd-jsx.ensures c.odd-template.ensures c.odd-attr.ensures c.odd-escape.ensures c.either.ensures c.either-2.ensures c.either-3.ensures _ c.requires)
+put_helper-requires c = omega (arith, c.put_helper-a.ensures.end_is, c.put_helper-b.ensures.end_is, c.put_helper-c.ensures.end_is, helpers_room _ c.odd-jsx.ensures c.odd-template.ensures c.odd-attr.ensures c.odd-escape.ensures refl refl refl _ c.requires)
 
 pub returns : goal.returns
-returns c = wrote_is (helpers_is _ c.odd-jsx.ensures c.odd-template.ensures c.odd-attr.ensures c.odd-escape.ensures c.either.ensures c.either-2.ensures c.either-3.ensures) (wrote_then c.put_helper-a.ensures (wrote_then c.put_helper-b.ensures (wrote_then c.put_helper-c.ensures c.put_helper.ensures)))
+returns c = wrote_is (helpers_is _ c.odd-jsx.ensures c.odd-template.ensures c.odd-attr.ensures c.odd-escape.ensures refl refl refl) (wrote_then c.put_helper-a.ensures (wrote_then c.put_helper-b.ensures (wrote_then c.put_helper-c.ensures c.put_helper.ensures)))

@@ -1,4 +1,4 @@
--- `printing::quoted::put_quoted_bytes` meets its contract. The loop's invariant: the first i bytes are written, quoted. Assumes nothing.
+-- `printing::quoted::put_quoted_bytes` meets its contract. The loop's invariant: the first bytes are written, quoted. Assumes nothing.
 use native.Mathlib.Omega.{arith}
 use mathlib.Core.Path.{ap}
 use Prim.Native.Nat.{◌+◌, ◌^◌}
@@ -11,28 +11,19 @@ use Rattle.printing.specs.Card.{quoted_byte, quoted_bytes}
 use Rattle.printing.proofs.QuotedLaws.{quoted_more, quoted_le}
 use Rattle.printing.proofs.quoted.put_quoted_bytes.Goals as goal
 
-pub loop-i-init : goal.loop-i-init
+pub loop-c-init : goal.loop-c-init
 unfolding quoted_bytes
-loop-i-init c = (omega arith, wrote_none _ _)
-
-pub bounds-s-i : goal.bounds-s-i
-bounds-s-i c = omega arith
+loop-c-init c = wrote_none _ _
 
 pub put_quoted_byte-a-requires : goal.put_quoted_byte-a-requires
 put_quoted_byte-a-requires c = let args = c.args in let s = args.s.now in
-    let i = c.loop-i.i in room_for {k = 2 ^ 63} (quoted_byte (get_or s i 0)) c.loop-i.invariant.1 (quoted_more s i (omega arith)) (quoted_le s (i + 1)) c.requires
+    let i = c.loop-c.c-index in room_for {k = 2 ^ 63} (quoted_byte (get_or s i 0)) c.loop-c.invariant (quoted_more s i (omega arith)) (quoted_le s (i + 1)) c.requires
 
-pub overflow_add-i : goal.overflow_add-i
-overflow_add-i c = omega arith
-
-pub loop-i-smaller : goal.loop-i-smaller
-loop-i-smaller c = omega arith
-
-pub loop-i-preserved : goal.loop-i-preserved
-loop-i-preserved c = let args = c.args in (omega arith, wrote_more c.loop-i.invariant.1 (quoted_more args.s.now c.loop-i.i (omega arith)) c.put_quoted_byte-a.ensures)
+pub loop-c-preserved : goal.loop-c-preserved
+loop-c-preserved c = let args = c.args in wrote_more c.loop-c.invariant (quoted_more args.s.now c.loop-c.c-index (omega arith)) c.put_quoted_byte-a.ensures
 
 pub shape_of-out : goal.shape_of-out
-shape_of-out c = wrote_length c.loop-i.invariant.1
+shape_of-out c = wrote_length c.loop-c.invariant
 
 pub returns : goal.returns
-returns c = let args = c.args in wrote_is (ap {B = Bytes} quoted_bytes (take_all c.loop-i.i args.s.now (omega arith))) c.loop-i.invariant.1
+returns c = let args = c.args in wrote_is (ap {B = Bytes} quoted_bytes (take_all c.loop-c.c-index args.s.now (omega arith))) c.loop-c.invariant

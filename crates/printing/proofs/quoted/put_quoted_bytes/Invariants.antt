@@ -1,11 +1,7 @@
-use Prim.Native.Nat.{◌≤◌, ◌-◌}
-use lib.ListN.{length, take}
+use lib.ListN.{take}
 use Rattle.field.specs.Put.{Wrote}
 use Rattle.printing.specs.Card.{quoted_bytes}
 use Rattle.printing.proofs.quoted.put_quoted_bytes.Given as goal
 
-abbrev pub invariant-loop-i : goal.invariant-loop-i
-invariant-loop-i l = (l.i ≤ length l.s) × Wrote l.initial.out l.at (quoted_bytes (take l.i l.s)) l.out l.a
-
-abbrev pub decreases-loop-i : goal.decreases-loop-i
-decreases-loop-i l = length l.s - l.i
+abbrev pub invariant-loop-c : goal.invariant-loop-c
+invariant-loop-c l = Wrote l.initial.out l.at (quoted_bytes (take l.c-index l.s)) l.out l.a

@@ -1,16 +1,20 @@
 -- `read_tag::known::put_trimmed` meets its contract. Assumes nothing.
 use native.Mathlib.Omega.{arith}
 use mathlib.Core.Path.{sym, ◌∙◌}
+use Rattle.read_tag.specs.Knowns.{Holds}
 use Rattle.read_tag.proofs.ChoiceLaws.{trimmed_true, trimmed_false, trimmed_null, trimmed_string, trimmed_unquoted, string_long}
 use Rattle.read_tag.proofs.known.put_trimmed.Goals as goal
 
 pub returns-then-same_bytes : goal.returns-then-same_bytes
+unfolding Holds
 returns-then-same_bytes c = trimmed_true _ _ _ _ _ (sym c.same_bytes.ensures ∙ c.if-same_bytes.true) c.put_boolean.ensures
 
 pub returns-then-same_bytes-2 : goal.returns-then-same_bytes-2
+unfolding Holds
 returns-then-same_bytes-2 c = trimmed_false _ _ _ _ _ (sym c.same_bytes.ensures ∙ c.if-same_bytes.false) (sym c.same_bytes-2.ensures ∙ c.if-same_bytes-2.true) c.put_boolean-then-same_bytes-2.ensures
 
 pub returns-then-same_bytes-3 : goal.returns-then-same_bytes-3
+unfolding Holds
 returns-then-same_bytes-3 c = trimmed_null _ _ _ _ _ (sym c.same_bytes.ensures ∙ c.if-same_bytes.false) (sym c.same_bytes-2.ensures ∙ c.if-same_bytes-2.false) (sym c.same_bytes-3.ensures ∙ c.if-same_bytes-3.true) c.put_null.ensures
 
 pub overflow_sub-s : goal.overflow_sub-s
@@ -23,6 +27,7 @@ pub slice_bounds-put_quoted-start : goal.slice_bounds-put_quoted-start
 slice_bounds-put_quoted-start c = omega (arith, string_long _ _ c.is_string.ensures c.if-is_string.true)
 
 pub returns-then-is_string : goal.returns-then-is_string
+unfolding Holds
 returns-then-is_string c = trimmed_string _ _ _ _ _ (sym c.same_bytes.ensures ∙ c.if-same_bytes.false) (sym c.same_bytes-2.ensures ∙ c.if-same_bytes-2.false) (sym c.same_bytes-3.ensures ∙ c.if-same_bytes-3.false) _ c.is_string.ensures c.if-is_string.true c.put_quoted.ensures
 
 pub returns : goal.returns

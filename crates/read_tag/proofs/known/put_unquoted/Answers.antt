@@ -1,12 +1,14 @@
 -- `read_tag::known::put_unquoted` meets its contract. Assumes nothing.
+use mathlib.Core.Path.{◌∙◌, ap}
+use Rattle.std.specs.Prelude.{Some}
 use Rattle.read_tag.proofs.ChoiceLaws.{unquoted_rest, unquoted_whole, unquoted_scaled}
 use Rattle.read_tag.proofs.known.put_unquoted.Goals as goal
 
-pub returns-in-Nothing : goal.returns-in-Nothing
-returns-in-Nothing c = unquoted_rest _ _ c.unsigned_at-u.ensures _ c.read_number.ensures _ _ _ _ c.in-Nothing.is c.put_rest.ensures
+pub returns-in-None : goal.returns-in-None
+returns-in-None c = unquoted_rest _ _ c.unsigned_at-u.ensures _ c.read_number.ensures _ _ _ _ c.in-None.is c.put_rest.ensures
 
-pub returns-in-Whole : goal.returns-in-Whole
-returns-in-Whole c = unquoted_whole _ _ c.unsigned_at-u.ensures _ c.read_number.ensures _ _ _ _ _ c.in-Whole.is c.put_whole.ensures
+pub returns-in-Some-Whole : goal.returns-in-Some-Whole
+returns-in-Some-Whole c = unquoted_whole _ _ c.unsigned_at-u.ensures _ c.read_number.ensures _ _ _ _ _ (c.in-Some-Whole.is ∙ ap Some c.in-Some-Whole.field-0-is) c.put_whole.ensures
 
-pub returns-in-Scaled : goal.returns-in-Scaled
-returns-in-Scaled c = unquoted_scaled _ _ c.unsigned_at-u.ensures _ c.read_number.ensures _ _ _ _ _ _ c.in-Scaled.is c.put_scaled.ensures
+pub returns-in-Some-Scaled : goal.returns-in-Some-Scaled
+returns-in-Some-Scaled c = unquoted_scaled _ _ c.unsigned_at-u.ensures _ c.read_number.ensures _ _ _ _ _ _ (c.in-Some-Scaled.is ∙ ap Some c.in-Some-Scaled.field-0-is) c.put_scaled.ensures

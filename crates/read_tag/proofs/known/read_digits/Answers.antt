@@ -2,7 +2,8 @@
 use native.Mathlib.Omega.{arith}
 use Rattle.read_tag.proofs.DigitLaws.{counting_none, counting_stops, counting_digit, counting_more, counting_on, counting_out}
 use mathlib.Core.Bool.{not}
-use mathlib.Core.Path.{ap}
+use mathlib.Core.Path.{◌≡◌, ap}
+use lib.ListN.{length}
 use Rattle.read_tag.proofs.known.read_digits.Goals as goal
 
 pub loop-i-init : goal.loop-i-init
@@ -27,4 +28,6 @@ pub loop-i-preserved : goal.loop-i-preserved
 loop-i-preserved c = counting_on _ _ _ _ _ c.loop-i.invariant c.loop-i-test.true _ c.is_digit.ensures (ap not c.if-not-is_digit.false) c.if-v-gt-MAX_WHOLE.false
 
 pub returns : goal.returns
-returns c = counting_out _ _ _ _ _ c.loop-i.invariant c.loop-i-test.false
+returns c =
+    let e : c.loop-i.i ≡ length c.args.s.now = omega arith in
+    rw (← e) (counting_out _ _ _ _ _ c.loop-i.invariant c.loop-i-test.false)

@@ -3,6 +3,3 @@ use Rattle.read_tag.proofs.known.trim_end.Given as goal
 
 abbrev pub invariant-loop-k : goal.invariant-loop-k
 invariant-loop-k l = Trimming l.text l.i l.e l.k
-
-abbrev pub decreases-loop-k : goal.decreases-loop-k
-decreases-loop-k l = l.k

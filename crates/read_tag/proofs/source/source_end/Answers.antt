@@ -35,24 +35,24 @@ pub returns-then-not-is_quote : goal.returns-then-not-is_quote
 returns-then-not-is_quote c = source_barred _ _ _ _ _ _ c.loop-k.invariant c.loop-k-test.true c.is_source.ensures c.if-is_source.false c.if-c-eq125.false c.if-c-eq123.false c.is_quote.ensures (ap not c.if-not-is_quote.true)
 
 -- src/source.rt:44:13
-pub quotes_end-e-requires : goal.quotes_end-e-requires
-quotes_end-e-requires c = omega (arith, c.loop-k-test.true)
+pub run_end-e-requires : goal.run_end-e-requires
+run_end-e-requires c = omega (arith, c.loop-k-test.true)
 
 -- src/source.rt:46:13
 pub returns-then-text-e : goal.returns-then-text-e
-returns-then-text-e c = source_open _ _ _ _ _ _ c.loop-k.invariant c.loop-k-test.true c.is_quote.ensures (ap not c.if-not-is_quote.false) c.quotes_end-e.ensures c.if-text-e.true
+returns-then-text-e c = source_open _ _ _ _ _ _ c.loop-k.invariant c.loop-k-test.true c.is_quote.ensures (ap not c.if-not-is_quote.false) c.run_end-e.ensures c.if-text-e.true
 
 -- src/source.rt:49:13
 pub returns-then-text-e-2 : goal.returns-then-text-e-2
-returns-then-text-e-2 c = source_broken _ _ _ _ _ _ c.loop-k.invariant c.loop-k-test.true c.is_quote.ensures (ap not c.if-not-is_quote.false) c.quotes_end-e.ensures c.if-text-e.false c.if-text-e-2.true
+returns-then-text-e-2 c = source_broken _ _ _ _ _ _ c.loop-k.invariant c.loop-k-test.true c.is_quote.ensures (ap not c.if-not-is_quote.false) c.run_end-e.ensures c.if-text-e.false c.if-text-e-2.true
 
 -- src/source.rt:22:5
 pub loop-k-smaller : goal.loop-k-smaller
-loop-k-smaller c = omega (arith, c.quotes_end-e.ensures.after, c.if-text-e.false)
+loop-k-smaller c = omega (arith, c.run_end-e.ensures.after, c.if-text-e.false)
 
 -- src/source.rt:22:5
 pub loop-k-preserved : goal.loop-k-preserved
-loop-k-preserved c = sourcing_quotes _ _ _ _ _ _ c.loop-k.invariant c.loop-k-test.true c.is_quote.ensures (ap not c.if-not-is_quote.false) c.quotes_end-e.ensures c.if-text-e.false c.if-text-e-2.false
+loop-k-preserved c = sourcing_quotes _ _ _ _ _ _ c.loop-k.invariant c.loop-k-test.true c.is_quote.ensures (ap not c.if-not-is_quote.false) c.run_end-e.ensures c.if-text-e.false c.if-text-e-2.false
 
 -- src/source.rt:16:1
 pub returns : goal.returns

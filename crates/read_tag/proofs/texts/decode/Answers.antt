@@ -5,11 +5,11 @@ use Rattle.field.proofs.PutLaws.{wrote_length}
 use Rattle.read_tag.proofs.TextLaws.{decoding_none, decoding_plain, entity_further, decoding_entity, decoding_barred, decoding_ends, decoding_out}
 use Rattle.read_tag.proofs.texts.decode.Goals as goal
 
-pub loop-i-init : goal.loop-i-init
-loop-i-init c = decoding_none _ _ _ _ _ (search rules)
+pub loop-x-init : goal.loop-x-init
+loop-x-init c = decoding_none _ _ _ _ _ (search rules)
 
 pub plain_end-e-requires : goal.plain_end-e-requires
-plain_end-e-requires c = c.loop-i.invariant.inside
+plain_end-e-requires c = c.loop-x.invariant.inside
 
 pub slice_bounds-put_bytes-count : goal.slice_bounds-put_bytes-count
 slice_bounds-put_bytes-count c = c.plain_end-e.ensures.after
@@ -21,36 +21,36 @@ pub slice_bounds-put_bytes-end : goal.slice_bounds-put_bytes-end
 slice_bounds-put_bytes-end c = omega (arith, c.plain_end-e.ensures.after, c.plain_end-e.ensures.inside)
 
 pub put_bytes-b-requires : goal.put_bytes-b-requires
-put_bytes-b-requires c = omega (arith, c.loop-i.invariant.wrote.end_is, c.loop-i.invariant.short, c.plain_end-e.ensures.after, c.plain_end-e.ensures.inside, c.requires.1)
+put_bytes-b-requires c = omega (arith, c.loop-x.invariant.wrote.end_is, c.loop-x.invariant.short, c.plain_end-e.ensures.after, c.plain_end-e.ensures.inside, c.requires.1)
 
 pub shape_of-out-then-text-e : goal.shape_of-out-then-text-e
-shape_of-out-then-text-e c = wrote_length (decoding_plain _ _ _ _ _ c.loop-i.invariant c.plain_end-e.ensures c.put_bytes-b.ensures).wrote
+shape_of-out-then-text-e c = wrote_length (decoding_plain _ _ _ _ _ c.loop-x.invariant c.plain_end-e.ensures c.put_bytes-b.ensures).wrote
 
 pub returns-then-text-e : goal.returns-then-text-e
-returns-then-text-e c = decoding_out _ _ _ _ _ (decoding_plain _ _ _ _ _ c.loop-i.invariant c.plain_end-e.ensures c.put_bytes-b.ensures) c.if-text-e.true
+returns-then-text-e c = decoding_out _ _ _ _ _ (decoding_plain _ _ _ _ _ c.loop-x.invariant c.plain_end-e.ensures c.put_bytes-b.ensures) c.if-text-e.true
 
 pub shape_of-out-then-text-e-ne38 : goal.shape_of-out-then-text-e-ne38
-shape_of-out-then-text-e-ne38 c = wrote_length (decoding_plain _ _ _ _ _ c.loop-i.invariant c.plain_end-e.ensures c.put_bytes-b.ensures).wrote
+shape_of-out-then-text-e-ne38 c = wrote_length (decoding_plain _ _ _ _ _ c.loop-x.invariant c.plain_end-e.ensures c.put_bytes-b.ensures).wrote
 
 pub returns-then-text-e-ne38 : goal.returns-then-text-e-ne38
-returns-then-text-e-ne38 c = decoding_ends _ _ _ _ _ (decoding_plain _ _ _ _ _ c.loop-i.invariant c.plain_end-e.ensures c.put_bytes-b.ensures) c.plain_end-e.ensures c.if-text-e.false c.if-text-e-ne38.true
+returns-then-text-e-ne38 c = decoding_ends _ _ _ _ _ (decoding_plain _ _ _ _ _ c.loop-x.invariant c.plain_end-e.ensures c.put_bytes-b.ensures) c.plain_end-e.ensures c.if-text-e.false c.if-text-e-ne38.true
 
 pub read_entity-requires : goal.read_entity-requires
 read_entity-requires c = omega (arith, c.if-text-e.false)
 
-pub shape_of-out-in-Nothing : goal.shape_of-out-in-Nothing
-shape_of-out-in-Nothing c = wrote_length (decoding_plain _ _ _ _ _ c.loop-i.invariant c.plain_end-e.ensures c.put_bytes-b.ensures).wrote
+pub shape_of-out-in_err-entity : goal.shape_of-out-in_err-entity
+shape_of-out-in_err-entity c = wrote_length (decoding_plain _ _ _ _ _ c.loop-x.invariant c.plain_end-e.ensures c.put_bytes-b.ensures).wrote
 
-pub returns-in-Nothing : goal.returns-in-Nothing
-returns-in-Nothing c = decoding_barred _ _ _ _ _ (decoding_plain _ _ _ _ _ c.loop-i.invariant c.plain_end-e.ensures c.put_bytes-b.ensures) c.if-text-e.false c.if-text-e-ne38.false _ c.read_entity.ensures c.in-Nothing.is
+pub returns-in_err-entity : goal.returns-in_err-entity
+returns-in_err-entity c = rw c.from_residual.ensures (decoding_barred _ _ _ _ _ (decoding_plain _ _ _ _ _ c.loop-x.invariant c.plain_end-e.ensures c.put_bytes-b.ensures) c.if-text-e.false c.if-text-e-ne38.false _ c.read_entity.ensures c.in_err-entity.was)
 
-pub put_byte-d-requires : goal.put_byte-d-requires
-put_byte-d-requires c = let u = decoding_plain _ _ _ _ _ c.loop-i.invariant c.plain_end-e.ensures c.put_bytes-b.ensures in
+pub put_byte-a-requires : goal.put_byte-a-requires
+put_byte-a-requires c = let u = decoding_plain _ _ _ _ _ c.loop-x.invariant c.plain_end-e.ensures c.put_bytes-b.ensures in
     omega (arith, u.wrote.end_is, u.short, u.inside, c.requires.1)
 
-pub loop-i-smaller : goal.loop-i-smaller
-loop-i-smaller c = let f = entity_further _ _ _ c.read_entity.ensures c.in-Stands.is in
+pub loop-x-smaller : goal.loop-x-smaller
+loop-x-smaller c = let f = entity_further _ _ _ c.read_entity.ensures c.in_ok-entity.was in
     omega (arith, f.0, f.1, c.plain_end-e.ensures.after)
 
-pub loop-i-preserved : goal.loop-i-preserved
-loop-i-preserved c = decoding_entity _ _ _ _ _ (decoding_plain _ _ _ _ _ c.loop-i.invariant c.plain_end-e.ensures c.put_bytes-b.ensures) c.if-text-e.false c.if-text-e-ne38.false _ c.read_entity.ensures c.in-Stands.is c.put_byte-d.ensures
+pub loop-x-preserved : goal.loop-x-preserved
+loop-x-preserved c = decoding_entity _ _ _ _ _ (decoding_plain _ _ _ _ _ c.loop-x.invariant c.plain_end-e.ensures c.put_bytes-b.ensures) c.if-text-e.false c.if-text-e-ne38.false _ c.read_entity.ensures c.in_ok-entity.was c.put_byte-a.ensures

@@ -7,11 +7,11 @@ use Rattle.read_tag.proofs.texts.read_entity.Goals as goal
 pub loop-k-init : goal.loop-k-init
 loop-k-init c = running_none _ _ _ (search rules)
 
-pub returns-then-d-eq0 : goal.returns-then-d-eq0
-returns-then-d-eq0 c = entity_unknown _ _ _ c.loop-k.invariant c.loop-k-test.true c.if-text-k-eq59.true _ c.entity_code-d.ensures c.if-d-eq0.true
+pub returns-in_err-code : goal.returns-in_err-code
+returns-in_err-code c = rw c.from_residual.ensures (entity_unknown _ _ _ c.loop-k.invariant c.loop-k-test.true c.if-text-k-eq59.true _ c.entity_code.ensures c.in_err-code.was)
 
 pub returns-then-text-k-eq59 : goal.returns-then-text-k-eq59
-returns-then-text-k-eq59 c = entity_found _ _ _ c.loop-k.invariant c.loop-k-test.true c.if-text-k-eq59.true _ c.entity_code-d.ensures c.if-d-eq0.false
+returns-then-text-k-eq59 c = entity_found _ _ _ c.loop-k.invariant c.loop-k-test.true c.if-text-k-eq59.true _ c.entity_code.ensures c.in_ok-code.was
 
 pub returns-then-k-i-ge-MAX_ENTITY : goal.returns-then-k-i-ge-MAX_ENTITY
 returns-then-k-i-ge-MAX_ENTITY c = entity_long _ _ _ c.loop-k.invariant c.loop-k-test.true c.if-text-k-eq59.false c.if-k-i-ge-MAX_ENTITY.true

@@ -25,28 +25,28 @@ pub returns-in_default : goal.returns-in_default
 returns-in_default c = let a = c.args in c.space_and_cut-in_default.ensures ∙ sym (absent_other (opts a.skip.now a.props.now) a.a.now (at a.out.now a.st) c.is_listed.ensures c.if-is_listed.false c.value_at.ensures c.in_default.is c.is_boolean.ensures c.if-is_boolean.false)
 
 pub space_and_cut-requires-then-is_key : goal.space_and_cut-requires-then-is_key
-space_and_cut-requires-then-is_key c = let a = c.args in subst Low (string_key (opts a.skip.now a.props.now) a.a.now (at a.out.now a.st) c.is_listed.ensures c.if-is_listed.false c.value_at.ensures c.in-Field.is (c.body-v.ensures ∙ ap body_of c.behind.ensures) c.if-tag-eq81.true c.is_key.ensures c.if-is_key.true) c.requires
+space_and_cut-requires-then-is_key c = let a = c.args in subst Low (string_key (opts a.skip.now a.props.now) a.a.now (at a.out.now a.st) c.is_listed.ensures c.if-is_listed.false c.value_at.ensures c.in-Some.is (c.body-v.ensures ∙ ap body_of c.behind.ensures) c.in-String.is c.is_key.ensures c.if-is_key.true) c.requires
 
 pub returns-then-is_key : goal.returns-then-is_key
-returns-then-is_key c = let a = c.args in c.space_and_cut-then-is_key.ensures ∙ sym (string_key (opts a.skip.now a.props.now) a.a.now (at a.out.now a.st) c.is_listed.ensures c.if-is_listed.false c.value_at.ensures c.in-Field.is (c.body-v.ensures ∙ ap body_of c.behind.ensures) c.if-tag-eq81.true c.is_key.ensures c.if-is_key.true)
+returns-then-is_key c = let a = c.args in c.space_and_cut-then-is_key.ensures ∙ sym (string_key (opts a.skip.now a.props.now) a.a.now (at a.out.now a.st) c.is_listed.ensures c.if-is_listed.false c.value_at.ensures c.in-Some.is (c.body-v.ensures ∙ ap body_of c.behind.ensures) c.in-String.is c.is_key.ensures c.if-is_key.true)
 
 pub space_and_cut-requires-then-is_ref : goal.space_and_cut-requires-then-is_ref
-space_and_cut-requires-then-is_ref c = let a = c.args in subst Low (string_ref (opts a.skip.now a.props.now) a.a.now (at a.out.now a.st) c.is_listed.ensures c.if-is_listed.false c.value_at.ensures c.in-Field.is (c.body-v.ensures ∙ ap body_of c.behind.ensures) c.if-tag-eq81.true c.is_key.ensures c.if-is_key.false c.is_ref.ensures c.if-is_ref.true) c.requires
+space_and_cut-requires-then-is_ref c = let a = c.args in subst Low (string_ref (opts a.skip.now a.props.now) a.a.now (at a.out.now a.st) c.is_listed.ensures c.if-is_listed.false c.value_at.ensures c.in-Some.is (c.body-v.ensures ∙ ap body_of c.behind.ensures) c.in-String.is c.is_key.ensures c.if-is_key.false c.is_ref.ensures c.if-is_ref.true) c.requires
 
 pub returns-then-is_ref : goal.returns-then-is_ref
-returns-then-is_ref c = let a = c.args in c.space_and_cut-then-is_ref.ensures ∙ sym (string_ref (opts a.skip.now a.props.now) a.a.now (at a.out.now a.st) c.is_listed.ensures c.if-is_listed.false c.value_at.ensures c.in-Field.is (c.body-v.ensures ∙ ap body_of c.behind.ensures) c.if-tag-eq81.true c.is_key.ensures c.if-is_key.false c.is_ref.ensures c.if-is_ref.true)
+returns-then-is_ref c = let a = c.args in c.space_and_cut-then-is_ref.ensures ∙ sym (string_ref (opts a.skip.now a.props.now) a.a.now (at a.out.now a.st) c.is_listed.ensures c.if-is_listed.false c.value_at.ensures c.in-Some.is (c.body-v.ensures ∙ ap body_of c.behind.ensures) c.in-String.is c.is_key.ensures c.if-is_key.false c.is_ref.ensures c.if-is_ref.true)
 
 pub put_serialized-requires : goal.put_serialized-requires
-put_serialized-requires c = let a = c.args in subst Low (string_plain (opts a.skip.now a.props.now) a.a.now (at a.out.now a.st) c.is_listed.ensures c.if-is_listed.false c.value_at.ensures c.in-Field.is (c.body-v.ensures ∙ ap body_of c.behind.ensures) c.if-tag-eq81.true c.is_key.ensures c.if-is_key.false c.is_ref.ensures c.if-is_ref.false) c.requires
+put_serialized-requires c = let a = c.args in subst Low (string_plain (opts a.skip.now a.props.now) a.a.now (at a.out.now a.st) c.is_listed.ensures c.if-is_listed.false c.value_at.ensures c.in-Some.is (c.body-v.ensures ∙ ap body_of c.behind.ensures) c.in-String.is c.is_key.ensures c.if-is_key.false c.is_ref.ensures c.if-is_ref.false) c.requires
 
-pub returns-then-tag-eq81 : goal.returns-then-tag-eq81
-returns-then-tag-eq81 c = let a = c.args in c.put_serialized.ensures ∙ sym (string_plain (opts a.skip.now a.props.now) a.a.now (at a.out.now a.st) c.is_listed.ensures c.if-is_listed.false c.value_at.ensures c.in-Field.is (c.body-v.ensures ∙ ap body_of c.behind.ensures) c.if-tag-eq81.true c.is_key.ensures c.if-is_key.false c.is_ref.ensures c.if-is_ref.false)
+pub returns-else-is_ref : goal.returns-else-is_ref
+returns-else-is_ref c = let a = c.args in c.put_serialized.ensures ∙ sym (string_plain (opts a.skip.now a.props.now) a.a.now (at a.out.now a.st) c.is_listed.ensures c.if-is_listed.false c.value_at.ensures c.in-Some.is (c.body-v.ensures ∙ ap body_of c.behind.ensures) c.in-String.is c.is_key.ensures c.if-is_key.false c.is_ref.ensures c.if-is_ref.false)
 
 pub container_strings-requires : goal.container_strings-requires
-container_strings-requires c = let a = c.args in subst Low (in_container (opts a.skip.now a.props.now) a.a.now (at a.out.now a.st) c.is_listed.ensures c.if-is_listed.false c.value_at.ensures c.in-Field.is (c.body-v.ensures ∙ ap body_of c.behind.ensures) c.if-tag-eq82.true) c.requires
+container_strings-requires c = let a = c.args in subst Low (in_container (opts a.skip.now a.props.now) a.a.now (at a.out.now a.st) c.is_listed.ensures c.if-is_listed.false c.value_at.ensures c.in-Some.is (c.body-v.ensures ∙ ap body_of c.behind.ensures) c.in-Container.is) c.requires
 
-pub returns-then-tag-eq82 : goal.returns-then-tag-eq82
-returns-then-tag-eq82 c = let a = c.args in c.container_strings.ensures ∙ sym (in_container (opts a.skip.now a.props.now) a.a.now (at a.out.now a.st) c.is_listed.ensures c.if-is_listed.false c.value_at.ensures c.in-Field.is (c.body-v.ensures ∙ ap body_of c.behind.ensures) c.if-tag-eq82.true)
+pub returns-in-Container : goal.returns-in-Container
+returns-in-Container c = let a = c.args in c.container_strings.ensures ∙ sym (in_container (opts a.skip.now a.props.now) a.a.now (at a.out.now a.st) c.is_listed.ensures c.if-is_listed.false c.value_at.ensures c.in-Some.is (c.body-v.ensures ∙ ap body_of c.behind.ensures) c.in-Container.is)
 
-pub returns : goal.returns
-returns c = let a = c.args in sym (no_text (opts a.skip.now a.props.now) a.a.now (at a.out.now a.st) c.is_listed.ensures c.if-is_listed.false c.value_at.ensures c.in-Field.is (c.body-v.ensures ∙ ap body_of c.behind.ensures) c.if-tag-eq81.false c.if-tag-eq82.false)
+pub returns-in-Element : goal.returns-in-Element
+returns-in-Element c = let a = c.args in sym (no_text (opts a.skip.now a.props.now) a.a.now (at a.out.now a.st) c.is_listed.ensures c.if-is_listed.false c.value_at.ensures c.in-Some.is (c.body-v.ensures ∙ ap body_of c.behind.ensures) c.in-Element.is)

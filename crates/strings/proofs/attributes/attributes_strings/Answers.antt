@@ -11,16 +11,16 @@ pub attribute_strings-cur-requires : goal.attribute_strings-cur-requires
 attribute_strings-cur-requires c = let a = c.args in room carving lows (attr_at a.skip.now a.props.now c.body.result.now) (by carving (attrs_50 a.skip.now a.props.now _ _ c.tag_at.ensures.0 c.body.ensures refl c.in-80.is) c.loop-out.invariant) c.requires
 
 pub loop-out-smaller-in-80 : goal.loop-out-smaller-in-80
-loop-out-smaller-in-80 c = behind_less _ _ c.tag_at.ensures.0 (λ z. omega (arith, c.in-80.is)) c.behind-r.ensures
+loop-out-smaller-in-80 c = behind_less _ _ c.tag_at.ensures.0 (λ z. omega (arith, c.in-80.is)) c.behind-t.ensures
 
 pub loop-out-preserved-in-80 : goal.loop-out-preserved-in-80
-loop-out-preserved-in-80 c = let a = c.args in on carving (attr_at a.skip.now a.props.now c.body.result.now) (by carving (attrs_50 a.skip.now a.props.now _ _ c.tag_at.ensures.0 c.body.ensures c.behind-r.ensures c.in-80.is) c.loop-out.invariant) c.attribute_strings-cur.ensures
+loop-out-preserved-in-80 c = let a = c.args in on carving (attr_at a.skip.now a.props.now c.body.result.now) (by carving (attrs_50 a.skip.now a.props.now _ _ c.tag_at.ensures.0 c.body.ensures c.behind-t.ensures c.in-80.is) c.loop-out.invariant) c.attribute_strings-cur.ensures
 
 pub loop-out-smaller : goal.loop-out-smaller
-loop-out-smaller c = behind_less _ _ c.tag_at.ensures.0 (λ z. omega (arith, c.in-83.is)) c.behind-r-in-83.ensures
+loop-out-smaller c = behind_less _ _ c.tag_at.ensures.0 (λ z. omega (arith, c.in-83.is)) c.behind-t-in-83.ensures
 
 pub loop-out-preserved : goal.loop-out-preserved
-loop-out-preserved c = let a = c.args in by carving (attrs_53 a.skip.now a.props.now _ _ c.tag_at.ensures.0 c.behind-r-in-83.ensures c.in-83.is) c.loop-out.invariant
+loop-out-preserved c = let a = c.args in by carving (attrs_53 a.skip.now a.props.now _ _ c.tag_at.ensures.0 c.behind-t-in-83.ensures c.in-83.is) c.loop-out.invariant
 
 pub shape_of-out-in_default : goal.shape_of-out-in_default
 shape_of-out-in_default c = keeps same_size c.loop-out.invariant

@@ -2,7 +2,7 @@
 use mathlib.Core.Path.{sym, ◌∙◌, subst}
 use Rattle.decisions.specs.At.{opts}
 use Rattle.strings.specs.Carve.{at, name_at, Low}
-use Rattle.strings.proofs.ShapeLaws.{container_empty, container_string, container_number, container_minus, container_null, container_literal, container_other, boolean_true, boolean_false, boolean_other}
+use Rattle.strings.proofs.ShapeLaws.{container_empty, container_string, container_number, container_minus, container_gap, boolean_true, boolean_false, boolean_other}
 use Rattle.strings.proofs.attributes.container_strings.Goals as goal
 
 pub put_serialized-requires : goal.put_serialized-requires
@@ -24,16 +24,10 @@ pub space_and_cut-requires : goal.space_and_cut-requires
 space_and_cut-requires c = let a = c.args in subst Low (boolean_other (opts a.skip.now a.props.now) (name_at a.a.now) a.c.now (at a.out.now a.st) (sym c.in-Boolean.is ∙ c.shape_at.ensures) c.is_boolean.ensures c.if-is_boolean.false) c.requires
 
 pub space_and_cut-requires-in-Null : goal.space_and_cut-requires-in-Null
-space_and_cut-requires-in-Null c = let a = c.args in subst Low (container_null (opts a.skip.now a.props.now) (name_at a.a.now) a.c.now (at a.out.now a.st) (sym c.in-Null.is ∙ c.shape_at.ensures)) c.requires
-
-pub space_and_cut-requires-in-Literal : goal.space_and_cut-requires-in-Literal
-space_and_cut-requires-in-Literal c = let a = c.args in subst Low (container_literal (opts a.skip.now a.props.now) (name_at a.a.now) a.c.now (at a.out.now a.st) (sym c.in-Literal.is ∙ c.shape_at.ensures)) c.requires
+space_and_cut-requires-in-Null c = let a = c.args in subst Low (container_gap (opts a.skip.now a.props.now) (name_at a.a.now) a.c.now (at a.out.now a.st) c.shape_at.ensures c.in-Null.is) c.requires
 
 pub put_serialized_number-requires-in-Minus : goal.put_serialized_number-requires-in-Minus
 put_serialized_number-requires-in-Minus c = let a = c.args in subst Low (container_minus (opts a.skip.now a.props.now) (name_at a.a.now) a.c.now (at a.out.now a.st) (sym c.in-Minus.is ∙ c.shape_at.ensures)) c.requires
-
-pub space_and_cut-requires-in-Other : goal.space_and_cut-requires-in-Other
-space_and_cut-requires-in-Other c = let a = c.args in subst Low (container_other (opts a.skip.now a.props.now) (name_at a.a.now) a.c.now (at a.out.now a.st) (sym c.in-Other.is ∙ c.shape_at.ensures)) c.requires
 
 pub returns-in-Empty : goal.returns-in-Empty
 returns-in-Empty c = let a = c.args in sym (container_empty (opts a.skip.now a.props.now) (name_at a.a.now) a.c.now (at a.out.now a.st) (sym c.in-Empty.is ∙ c.shape_at.ensures))
@@ -48,13 +42,7 @@ pub returns-else-is_boolean : goal.returns-else-is_boolean
 returns-else-is_boolean c = let a = c.args in c.space_and_cut.ensures ∙ sym (boolean_other (opts a.skip.now a.props.now) (name_at a.a.now) a.c.now (at a.out.now a.st) (sym c.in-Boolean.is ∙ c.shape_at.ensures) c.is_boolean.ensures c.if-is_boolean.false)
 
 pub returns-in-Null : goal.returns-in-Null
-returns-in-Null c = let a = c.args in c.space_and_cut-in-Null.ensures ∙ sym (container_null (opts a.skip.now a.props.now) (name_at a.a.now) a.c.now (at a.out.now a.st) (sym c.in-Null.is ∙ c.shape_at.ensures))
-
-pub returns-in-Literal : goal.returns-in-Literal
-returns-in-Literal c = let a = c.args in c.space_and_cut-in-Literal.ensures ∙ sym (container_literal (opts a.skip.now a.props.now) (name_at a.a.now) a.c.now (at a.out.now a.st) (sym c.in-Literal.is ∙ c.shape_at.ensures))
+returns-in-Null c = let a = c.args in c.space_and_cut-in-Null.ensures ∙ sym (container_gap (opts a.skip.now a.props.now) (name_at a.a.now) a.c.now (at a.out.now a.st) c.shape_at.ensures c.in-Null.is)
 
 pub returns-in-Minus : goal.returns-in-Minus
 returns-in-Minus c = let a = c.args in c.put_serialized_number-in-Minus.ensures ∙ sym (container_minus (opts a.skip.now a.props.now) (name_at a.a.now) a.c.now (at a.out.now a.st) (sym c.in-Minus.is ∙ c.shape_at.ensures))
-
-pub returns-in-Other : goal.returns-in-Other
-returns-in-Other c = let a = c.args in c.space_and_cut-in-Other.ensures ∙ sym (container_other (opts a.skip.now a.props.now) (name_at a.a.now) a.c.now (at a.out.now a.st) (sym c.in-Other.is ∙ c.shape_at.ensures))

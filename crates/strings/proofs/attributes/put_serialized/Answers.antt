@@ -7,11 +7,8 @@ use Rattle.strings.proofs.CarveLaws.{put_is}
 use Rattle.strings.proofs.AttrLaws.{serialized, serialized_low}
 use Rattle.strings.proofs.attributes.put_serialized.Goals as goal
 
-pub overflow_add-st : goal.overflow_add-st
-overflow_add-st c = let a = c.args in omega (arith, serialized_low (name_at a.a.now) a.v.now refl a.out.now a.st c.requires)
-
-pub overflow_add-st-2 : goal.overflow_add-st-2
-overflow_add-st-2 c = let a = c.args in omega (arith, serialized_low (name_at a.a.now) a.v.now refl a.out.now a.st c.requires)
+pub end-requires : goal.end-requires
+end-requires c = let a = c.args in omega (arith, serialized_low (name_at a.a.now) a.v.now refl a.out.now a.st c.requires)
 
 pub put_attr_front-p-requires : goal.put_attr_front-p-requires
 put_attr_front-p-requires c = let a = c.args in omega (arith, serialized_low (name_at a.a.now) a.v.now refl a.out.now a.st c.requires)
@@ -23,6 +20,6 @@ pub put_byte-f-requires : goal.put_byte-f-requires
 put_byte-f-requires c = let a = c.args in omega (arith, serialized_low (name_at a.a.now) a.v.now refl a.out.now a.st c.requires, c.put_attr_front-p.ensures.end_is, c.put_escaped-e.ensures.end_is)
 
 pub returns : goal.returns
-returns c = let a = c.args in put_is a.out.now a.st c.ended.ensures
+returns c = let a = c.args in put_is a.out.now a.st c.end.ensures c.ended.ensures
     (wrote_is (serialized (name_at a.a.now) a.v.now refl)
     (wrote_then c.put_attr_front-p.ensures (wrote_then c.put_escaped-e.ensures c.put_byte-f.ensures)))

@@ -8,11 +8,8 @@ use Rattle.strings.proofs.CarveLaws.{put_is}
 use Rattle.strings.proofs.AttrLaws.{number_value, minus_value, plain_value, serialized, serialized_low}
 use Rattle.strings.proofs.attributes.put_serialized_number.Goals as goal
 
-pub overflow_add-st : goal.overflow_add-st
-overflow_add-st c = let a = c.args in omega (arith, serialized_low (name_at a.a.now) (number_value a.minus (number_at a.c.now)) refl a.out.now a.st c.requires)
-
-pub overflow_add-st-2 : goal.overflow_add-st-2
-overflow_add-st-2 c = let a = c.args in omega (arith, serialized_low (name_at a.a.now) (number_value a.minus (number_at a.c.now)) refl a.out.now a.st c.requires)
+pub end-requires : goal.end-requires
+end-requires c = let a = c.args in omega (arith, serialized_low (name_at a.a.now) (number_value a.minus (number_at a.c.now)) refl a.out.now a.st c.requires)
 
 pub put_attr_front-p-requires : goal.put_attr_front-p-requires
 put_attr_front-p-requires c = let a = c.args in omega (arith, serialized_low (name_at a.a.now) (number_value a.minus (number_at a.c.now)) refl a.out.now a.st c.requires)
@@ -27,7 +24,7 @@ pub put_byte-f-requires : goal.put_byte-f-requires
 put_byte-f-requires c = let a = c.args in omega (arith, serialized_low (name_at a.a.now) (number_value a.minus (number_at a.c.now)) (minus_value (number_at a.c.now) c.if-minus.true) a.out.now a.st c.requires, c.put_attr_front-p.ensures.end_is, c.put_byte-m.ensures.end_is, c.put_number_at-e.ensures.end_is)
 
 pub returns-then-minus : goal.returns-then-minus
-returns-then-minus c = let a = c.args in put_is a.out.now a.st c.ended.ensures
+returns-then-minus c = let a = c.args in put_is a.out.now a.st c.end.ensures c.ended.ensures
     (wrote_is (serialized (name_at a.a.now) (number_value a.minus (number_at a.c.now)) (minus_value (number_at a.c.now) c.if-minus.true))
     (wrote_then c.put_attr_front-p.ensures (wrote_then (wrote_then c.put_byte-m.ensures c.put_number_at-e.ensures) c.put_byte-f.ensures)))
 
@@ -38,6 +35,6 @@ pub put_byte-f-requires-2 : goal.put_byte-f-requires-2
 put_byte-f-requires-2 c = let a = c.args in omega (arith, serialized_low (name_at a.a.now) (number_value a.minus (number_at a.c.now)) (plain_value (number_at a.c.now) c.if-minus.false) a.out.now a.st c.requires, c.put_attr_front-p.ensures.end_is, c.put_number_at-e-2.ensures.end_is)
 
 pub returns : goal.returns
-returns c = let a = c.args in put_is a.out.now a.st c.ended-2.ensures
+returns c = let a = c.args in put_is a.out.now a.st c.end.ensures c.ended-2.ensures
     (wrote_is (serialized (name_at a.a.now) (number_value a.minus (number_at a.c.now)) (plain_value (number_at a.c.now) c.if-minus.false))
     (wrote_then c.put_attr_front-p.ensures (wrote_then c.put_number_at-e-2.ensures c.put_byte-f-2.ensures)))

@@ -6,11 +6,8 @@ use Rattle.strings.specs.Carve.{name_at}
 use Rattle.strings.proofs.CarveLaws.{put_low, put_is}
 use Rattle.strings.proofs.attributes.put_space_name.Goals as goal
 
-pub overflow_add-st : goal.overflow_add-st
-overflow_add-st c = let a = c.args in omega (arith, put_low a.out.now a.st (32 ∷ name_at a.a.now) c.requires)
-
-pub overflow_add-st-2 : goal.overflow_add-st-2
-overflow_add-st-2 c = let a = c.args in omega (arith, put_low a.out.now a.st (32 ∷ name_at a.a.now) c.requires)
+pub end-requires : goal.end-requires
+end-requires c = let a = c.args in omega (arith, put_low a.out.now a.st (32 ∷ name_at a.a.now) c.requires)
 
 pub put_byte-p-requires : goal.put_byte-p-requires
 put_byte-p-requires c = let a = c.args in omega (arith, put_low a.out.now a.st (32 ∷ name_at a.a.now) c.requires)
@@ -19,4 +16,4 @@ pub put_name-q-requires : goal.put_name-q-requires
 put_name-q-requires c = let a = c.args in omega (arith, put_low a.out.now a.st (32 ∷ name_at a.a.now) c.requires, c.put_byte-p.ensures.end_is)
 
 pub returns : goal.returns
-returns c = let a = c.args in put_is a.out.now a.st c.ended.ensures (wrote_then c.put_byte-p.ensures c.put_name-q.ensures)
+returns c = let a = c.args in put_is a.out.now a.st c.end.ensures c.ended.ensures (wrote_then c.put_byte-p.ensures c.put_name-q.ensures)

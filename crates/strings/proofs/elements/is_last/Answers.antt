@@ -3,4 +3,4 @@ use Rattle.strings.proofs.ElementLaws.{last_child}
 use Rattle.strings.proofs.elements.is_last.Goals as goal
 
 pub returns-then-parent : goal.returns-then-parent
-returns-then-parent c = last_child c.if-parent.true c.children_at.ensures.0
+returns-then-parent c = last_child c.if-parent.true c.children_at.ensures.first

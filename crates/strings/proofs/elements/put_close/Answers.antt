@@ -5,11 +5,8 @@ use Rattle.strings.proofs.CarveLaws.{put_is}
 use Rattle.strings.proofs.ElementLaws.{closing_low}
 use Rattle.strings.proofs.elements.put_close.Goals as goal
 
-pub overflow_add-st : goal.overflow_add-st
-overflow_add-st c = let a = c.args in omega (arith, closing_low a.n.now a.out.now a.st c.requires)
-
-pub overflow_add-st-2 : goal.overflow_add-st-2
-overflow_add-st-2 c = let a = c.args in omega (arith, closing_low a.n.now a.out.now a.st c.requires)
+pub end-requires : goal.end-requires
+end-requires c = let a = c.args in omega (arith, closing_low a.n.now a.out.now a.st c.requires)
 
 pub put_byte-p-requires : goal.put_byte-p-requires
 put_byte-p-requires c = let a = c.args in omega (arith, closing_low a.n.now a.out.now a.st c.requires)
@@ -24,4 +21,4 @@ pub put_byte-e-requires : goal.put_byte-e-requires
 put_byte-e-requires c = let a = c.args in omega (arith, closing_low a.n.now a.out.now a.st c.requires, c.put_byte-p.ensures.end_is, c.put_byte-q.ensures.end_is, c.put_short-r.ensures.end_is)
 
 pub returns : goal.returns
-returns c = let a = c.args in put_is a.out.now a.st c.ended.ensures (wrote_then (wrote_then (wrote_then c.put_byte-p.ensures c.put_byte-q.ensures) c.put_short-r.ensures) c.put_byte-e.ensures)
+returns c = let a = c.args in put_is a.out.now a.st c.end.ensures c.ended.ensures (wrote_then (wrote_then (wrote_then c.put_byte-p.ensures c.put_byte-q.ensures) c.put_short-r.ensures) c.put_byte-e.ensures)

@@ -3,12 +3,8 @@ use Rattle.strings.proofs.CarveLaws.{put_low, put_is, end_low}
 use Rattle.strings.proofs.writer.put_chars.Goals as goal
 
 -- src/writer.rt:36:30
-pub overflow_add-st : goal.overflow_add-st
-overflow_add-st c = omega (arith, put_low c.args.out.now c.args.st c.args.b.now c.requires)
-
--- src/writer.rt:36:30
-pub overflow_add-st-2 : goal.overflow_add-st-2
-overflow_add-st-2 c = omega (arith, put_low c.args.out.now c.args.st c.args.b.now c.requires)
+pub end-requires : goal.end-requires
+end-requires c = omega (arith, put_low c.args.out.now c.args.st c.args.b.now c.requires)
 
 -- src/writer.rt:36:9
 pub put_bytes-end-requires : goal.put_bytes-end-requires
@@ -16,8 +12,8 @@ put_bytes-end-requires c = omega (arith, put_low c.args.out.now c.args.st c.args
 
 -- src/writer.rt:37:5
 pub ended-requires : goal.ended-requires
-ended-requires c = end_low c.args.out.now c.args.st c.put_bytes-end.ensures
+ended-requires c = end_low c.args.out.now c.args.st c.end.ensures c.put_bytes-end.ensures
 
 -- src/writer.rt:32:1
 pub returns : goal.returns
-returns c = put_is c.args.out.now c.args.st c.ended.ensures c.put_bytes-end.ensures
+returns c = put_is c.args.out.now c.args.st c.end.ensures c.ended.ensures c.put_bytes-end.ensures

@@ -5,12 +5,8 @@ use Rattle.strings.proofs.CarveLaws.{put_low, put_is, end_low}
 use Rattle.strings.proofs.writer.put_text.Goals as goal
 
 -- src/writer.rt:75:36
-pub overflow_add-st : goal.overflow_add-st
-overflow_add-st c = omega (arith, put_low c.args.out.now c.args.st (jsx_text_to_str c.args.s.now true c.args.last) c.requires)
-
--- src/writer.rt:75:36
-pub overflow_add-st-2 : goal.overflow_add-st-2
-overflow_add-st-2 c = omega (arith, put_low c.args.out.now c.args.st (jsx_text_to_str c.args.s.now true c.args.last) c.requires)
+pub end-requires : goal.end-requires
+end-requires c = omega (arith, put_low c.args.out.now c.args.st (jsx_text_to_str c.args.s.now true c.args.last) c.requires)
 
 -- src/writer.rt:75:9
 pub jsx_text_to_str-end-requires : goal.jsx_text_to_str-end-requires
@@ -18,8 +14,8 @@ jsx_text_to_str-end-requires c = omega (arith, put_low c.args.out.now c.args.st 
 
 -- src/writer.rt:76:5
 pub ended-requires : goal.ended-requires
-ended-requires c = end_low c.args.out.now c.args.st c.jsx_text_to_str-end.ensures
+ended-requires c = end_low c.args.out.now c.args.st c.end.ensures c.jsx_text_to_str-end.ensures
 
 -- src/writer.rt:71:1
 pub returns : goal.returns
-returns c = put_is c.args.out.now c.args.st c.ended.ensures c.jsx_text_to_str-end.ensures
+returns c = put_is c.args.out.now c.args.st c.end.ensures c.ended.ensures c.jsx_text_to_str-end.ensures

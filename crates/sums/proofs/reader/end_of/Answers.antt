@@ -1,12 +1,16 @@
 -- `sums::reader::end_of` meets its contract. Assumes nothing.
-use Rattle.sums.proofs.Packs.{ended_awaits, ended_digits, ended_behind}
+use mathlib.Core.Path.{refl, ◌∙◌, ap}
+use Rattle.sums.specs.Small.{finished, times_by, ended}
 use Rattle.sums.proofs.reader.end_of.Goals as goal
 
-pub returns-then-mode-eq-AWAITS : goal.returns-then-mode-eq-AWAITS
-returns-then-mode-eq-AWAITS c = ended_awaits _ _ _ _ _ _ c.if-mode-eq-AWAITS.true
+pub returns-in-Awaits : goal.returns-in-Awaits
+unfolding ended
+returns-in-Awaits c = rw c.in-Awaits.is refl
 
-pub returns-then-mode-eq-DIGITS : goal.returns-then-mode-eq-DIGITS
-returns-then-mode-eq-DIGITS c = ended_digits _ _ _ _ _ _ c.if-mode-eq-AWAITS.false c.if-mode-eq-DIGITS.true _ _ _ c.up.ensures c.product.ensures c.total.ensures c.worked_of.ensures
+pub returns-in-Digits : goal.returns-in-Digits
+unfolding ended
+returns-in-Digits c = rw c.in-Digits.is (c.total.ensures ∙ ap (finished c.in-Digits.before) (c.product.ensures ∙ ap (times_by c.in-Digits.factor) c.up.ensures))
 
-pub returns : goal.returns
-returns c = ended_behind _ _ _ _ _ _ c.if-mode-eq-AWAITS.false c.if-mode-eq-DIGITS.false _ c.total-2.ensures c.worked_of-2.ensures
+pub returns-in-Behind : goal.returns-in-Behind
+unfolding ended
+returns-in-Behind c = rw c.in-Behind.is c.total-in-Behind.ensures

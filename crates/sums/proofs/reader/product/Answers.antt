@@ -1,10 +1,12 @@
 -- `sums::reader::product` meets its contract. Assumes nothing.
-use mathlib.Core.Path.{◌∙◌}
-use Rattle.sums.proofs.Packs.{times_none, times_some}
+use mathlib.Core.Path.{refl}
+use Rattle.sums.specs.Small.{times_by}
 use Rattle.sums.proofs.reader.product.Goals as goal
 
-pub returns-then-tag-eq-NOTHING : goal.returns-then-tag-eq-NOTHING
-returns-then-tag-eq-NOTHING c = times_none _ _ _ c.if-tag-eq-NOTHING.true
+pub returns-in-None : goal.returns-in-None
+unfolding times_by
+returns-in-None c = rw c.in-None.is refl
 
-pub returns : goal.returns
-returns c = c.multiply.ensures ∙ times_some _ _ _ c.if-tag-eq-NOTHING.false
+pub returns-in-Some : goal.returns-in-Some
+unfolding times_by
+returns-in-Some c = rw c.in-Some.is c.multiply.ensures

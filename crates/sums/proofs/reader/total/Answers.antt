@@ -1,13 +1,16 @@
 -- `sums::reader::total` meets its contract. Assumes nothing.
-use mathlib.Core.Path.{◌∙◌}
-use Rattle.sums.proofs.Packs.{finished_none, finished_plus, finished_minus}
+use mathlib.Core.Path.{refl}
+use Rattle.sums.specs.Small.{finished}
 use Rattle.sums.proofs.reader.total.Goals as goal
 
-pub returns-then-tag-eq-NOTHING : goal.returns-then-tag-eq-NOTHING
-returns-then-tag-eq-NOTHING c = finished_none _ _ _ c.if-tag-eq-NOTHING.true
+pub returns-in-NoSum : goal.returns-in-NoSum
+unfolding finished
+returns-in-NoSum c = rw c.in-NoSum.is refl
 
-pub returns-then-tag-eq-PLUS : goal.returns-then-tag-eq-PLUS
-returns-then-tag-eq-PLUS c = c.add.ensures ∙ finished_plus _ _ _ c.if-tag-eq-NOTHING.false c.if-tag-eq-PLUS.true
+pub returns-in-SumPlus : goal.returns-in-SumPlus
+unfolding finished
+returns-in-SumPlus c = rw c.in-SumPlus.is c.add.ensures
 
-pub returns : goal.returns
-returns c = c.subtract.ensures ∙ finished_minus _ _ _ c.if-tag-eq-NOTHING.false c.if-tag-eq-PLUS.false
+pub returns-in-SumMinus : goal.returns-in-SumMinus
+unfolding finished
+returns-in-SumMinus c = rw c.in-SumMinus.is c.subtract.ensures

@@ -1,16 +1,29 @@
 -- `sums::value::add` meets its contract. Assumes nothing.
-use mathlib.Core.Path.{◌∙◌}
-use Rattle.sums.proofs.Steps.{add_first, add_second, add_passes, add_is, stayed}
+use mathlib.Core.Path.{sym, ◌∙◌, ap, ap₂}
+use mathlib.Core.Logic.{inl, inr}
+use Rattle.std.specs.Prelude.{Some}
+use Rattle.sums.specs.Value.{upward, downward, added}
+use Rattle.sums.proofs.Steps.{up_capped, down_capped, none_added}
 use Rattle.sums.proofs.value.add.Goals as goal
 
-pub returns-then-a-gt-TWICE : goal.returns-then-a-gt-TWICE
-returns-then-a-gt-TWICE c = stayed ∙ add_first _ _ c.if-a-gt-TWICE.true
+pub returns-in_err-a : goal.returns-in_err-a
+returns-in_err-a c = c.from_residual.ensures ∙ none_added _ _ (inl c.in_err-a.was)
 
-pub returns-then-b-gt-TWICE : goal.returns-then-b-gt-TWICE
-returns-then-b-gt-TWICE c = stayed ∙ add_second _ _ c.if-b-gt-TWICE.true
+pub returns-in_err-y : goal.returns-in_err-y
+returns-in_err-y c = c.from_residual-in_err-y.ensures ∙ none_added _ _ (inr c.in_err-y.was)
 
-pub returns-then-a-b-lt-MOST : goal.returns-then-a-b-lt-MOST
-returns-then-a-b-lt-MOST c = stayed ∙ add_passes c.if-a-gt-TWICE.false c.if-b-gt-TWICE.false c.if-a-b-lt-MOST.true
+pub returns-in-Plus-Plus : goal.returns-in-Plus-Plus
+unfolding added
+returns-in-Plus-Plus c = c.up.ensures ∙ ap upward c.saturating_add.ensures ∙ up_capped _ ∙ sym (ap₂ added (c.in_ok-a.was ∙ ap Some c.in-Plus-Plus.is-0) (c.in_ok-y.was ∙ ap Some c.in-Plus-Plus.is-1))
 
-pub returns : goal.returns
-returns c = add_is c.if-a-gt-TWICE.false c.if-b-gt-TWICE.false c.if-a-b-lt-MOST.false
+pub returns-in-Plus-Minus : goal.returns-in-Plus-Minus
+unfolding added
+returns-in-Plus-Minus c = c.difference.ensures ∙ sym (ap₂ added (c.in_ok-a.was ∙ ap Some c.in-Plus-Minus.is-0) (c.in_ok-y.was ∙ ap Some c.in-Plus-Minus.is-1))
+
+pub returns-in-Minus-Plus : goal.returns-in-Minus-Plus
+unfolding added
+returns-in-Minus-Plus c = c.difference-in-Minus-Plus.ensures ∙ sym (ap₂ added (c.in_ok-a.was ∙ ap Some c.in-Minus-Plus.is-0) (c.in_ok-y.was ∙ ap Some c.in-Minus-Plus.is-1))
+
+pub returns-in-Minus-Minus : goal.returns-in-Minus-Minus
+unfolding added
+returns-in-Minus-Minus c = c.down.ensures ∙ ap downward c.saturating_add-in-Minus-Minus.ensures ∙ down_capped _ ∙ sym (ap₂ added (c.in_ok-a.was ∙ ap Some c.in-Minus-Minus.is-0) (c.in_ok-y.was ∙ ap Some c.in-Minus-Minus.is-1))

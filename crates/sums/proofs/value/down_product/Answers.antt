@@ -1,23 +1,16 @@
 -- `sums::value::down_product` meets its contract. Assumes nothing.
-use mathlib.Core.Path.{sym, ◌∙◌}
-use Prim.Native.Nat.{◌*◌}
-use native.Mathlib.Omega.{arith}
-use borrow.Author.Tests.{leb-true}
-use Rattle.sums.specs.Value.{most}
-use Rattle.sums.proofs.Steps.{mixed_zero, mixed_stays, mixed_is, stayed}
+use mathlib.Core.Path.{refl, ◌∙◌, ap}
+use borrow.Author.Tests.{ne_eqb}
+use Rattle.sums.specs.Choice.{choose}
+use Rattle.sums.specs.Value.{downward}
+use Rattle.sums.specs.Small.{mixed_product}
+use Rattle.sums.proofs.Steps.{down_capped}
 use Rattle.sums.proofs.value.down_product.Goals as goal
 
 pub returns-then-x-eq0 : goal.returns-then-x-eq0
-returns-then-x-eq0 c = stayed ∙ mixed_zero _ _ c.if-x-eq0.true
-
-pub overflow_mul-result : goal.overflow_mul-result
-overflow_mul-result c = omega (arith, leb-true (c.args.x * c.args.y) most (sym c.product_fits.ensures ∙ c.if-product_fits.true))
-
-pub overflow_sub-result : goal.overflow_sub-result
-overflow_sub-result c = leb-true (c.args.x * c.args.y) most (sym c.product_fits.ensures ∙ c.if-product_fits.true)
-
-pub returns-then-product_fits : goal.returns-then-product_fits
-returns-then-product_fits c = mixed_is _ _ c.if-x-eq0.false c.requires (sym c.product_fits.ensures ∙ c.if-product_fits.true)
+unfolding mixed_product choose
+returns-then-x-eq0 c = rw c.if-x-eq0.true refl
 
 pub returns : goal.returns
-returns c = stayed ∙ mixed_stays _ _ c.if-x-eq0.false (sym c.product_fits.ensures ∙ c.if-product_fits.false)
+unfolding mixed_product choose
+returns c = rw (ne_eqb c.args.x 0 c.if-x-eq0.false) (c.down.ensures ∙ ap downward c.saturating_mul.ensures ∙ down_capped _)

@@ -1,10 +1,9 @@
 -- `sums::value::up` meets its contract. Assumes nothing.
-use mathlib.Core.Path.{◌∙◌}
-use Rattle.sums.proofs.Steps.{up_is, up_passes, stayed}
+use Rattle.sums.proofs.Steps.{up_fits, up_passes}
 use Rattle.sums.proofs.value.up.Goals as goal
 
-pub returns-then-n-le-MOST : goal.returns-then-n-le-MOST
-returns-then-n-le-MOST c = up_is _
+pub returns-then-n-gt-MOST : goal.returns-then-n-gt-MOST
+returns-then-n-gt-MOST c = up_passes _ c.if-n-gt-MOST.true
 
 pub returns : goal.returns
-returns c = stayed ∙ up_passes _ c.if-n-le-MOST.false
+returns c = up_fits _ c.if-n-gt-MOST.false

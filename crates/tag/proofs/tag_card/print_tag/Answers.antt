@@ -2,6 +2,7 @@
 use Rattle.std.proofs.Common.{ℕ, ◌≡◌, ◌+◌, ◌∙◌, [], ap, arith, length, subst, take}
 use Rattle.field.specs.Bytes.{Bytes}
 use Rattle.field.proofs.PutLaws.{wrote_is}
+use Rattle.text.specs.Decimal.{decimal}
 use Rattle.text.proofs.DecimalLaws.{length_decimal}
 use Rattle.tag_pass.specs.Answers.{TagAnswers}
 use Rattle.tag_pass.specs.declared.answer.TagAnswer.{TagAnswer}
@@ -13,10 +14,10 @@ use Rattle.tag.proofs.TagCardLaws.{tag_refused_printed, TagStands, tag_stands, p
 use Rattle.tag.proofs.tag_card.print_tag.Goals as goal
 
 pub put_decimal-end-requires : goal.put_decimal-end-requires
-put_decimal-end-requires c = omega (arith, length_decimal c.read_tag-a.result.number)
+put_decimal-end-requires c = omega (arith, length_decimal c.from.result)
 
 pub put_byte-requires : goal.put_byte-requires
-put_byte-requires c = omega (arith, c.put_decimal-end.ensures.end_is, length_decimal c.read_tag-a.result.number)
+put_byte-requires c = omega (arith, c.put_decimal-end.ensures.end_is, length_decimal c.from.result)
 
 -- the reader's answer is to the text without its line end
 answered : (s t out : Bytes) {a : TagAnswer} {out' : Bytes} → s ≡ without_end t → TagAnswers s out a out' → TagAnswers (without_end t) out a out'
@@ -25,7 +26,7 @@ answered s t out {a} {out'} e x = subst (λ (k : Bytes). TagAnswers k out a out'
 pub returns-then-a-ne0 : goal.returns-then-a-ne0
 returns-then-a-ne0 c =
     let x = answered c.without_end.result.now c.args.text.now c.args.tag.now c.without_end.ensures c.read_tag-a.ensures in
-    tag_refused_printed (length c.args.scratch.now) (length c.args.templates.now) (length c.args.page.now) (without_end c.args.text.now) c.args.tag.now x c.if-a-ne0.true c.put_decimal-end.ensures c.put_byte.ensures
+    tag_refused_printed (length c.args.scratch.now) (length c.args.templates.now) (length c.args.page.now) (without_end c.args.text.now) c.args.tag.now x c.if-a-ne0.true (wrote_is (ap {B = Bytes} decimal c.from.ensures) c.put_decimal-end.ensures) c.put_byte.ensures
 
 -- the number is 0
 stands : (scratch templates page : ℕ) (s t out : Bytes) {a : TagAnswer} {out' : Bytes} → s ≡ without_end t → TagAnswers s out a out' → a.number ≡ 0 →

@@ -6,10 +6,10 @@ use Rattle.tag_pass.proofs.AttributeLaws.{string_none, string_some, string_small
 use Rattle.tag_pass.proofs.attributes.string_value.Goals as goal
 
 pub end_attribute-requires : goal.end_attribute-requires
-end_attribute-requires c = omega (arith, c.requires.0.small, c.requires.0.inside, c.requires.0.grown, string_small _ _ _ _ _ _ _ c.read_string.ensures c.in-Ends.is, ap (λ (z : Reading). z.at) c.wrote-w.ensures)
+end_attribute-requires c = omega (arith, c.requires.0.small, c.requires.0.inside, c.requires.0.grown, string_small _ _ _ _ _ _ _ c.read_string.ensures c.in-Some.is, ap (λ (z : Reading). z.at) c.wrote-w.ensures)
 
-pub returns-in-Nothing : goal.returns-in-Nothing
-returns-in-Nothing c = string_none _ c.read_string.ensures c.in-Nothing.is c.refuse.ensures
+pub returns-in_default : goal.returns-in_default
+returns-in_default c = string_none _ c.read_string.ensures c.in_default.is c.refuse.ensures
 
-pub returns-in-Ends : goal.returns-in-Ends
-returns-in-Ends c = string_some _ c.requires.0.grown c.read_string.ensures c.in-Ends.is refl c.wrote-w.ensures c.end_attribute.ensures
+pub returns : goal.returns
+returns c = string_some _ c.requires.0.grown c.read_string.ensures c.in-Some.is refl c.wrote-w.ensures c.end_attribute.ensures

@@ -14,10 +14,10 @@ pub returns-then-c-eq91 : goal.returns-then-c-eq91
 returns-then-c-eq91 c = bracket_barred c.requires.1 c.if-c-eq91.true c.refuse.ensures
 
 pub known-requires : goal.known-requires
-known-requires c = (c.requires.0, (source_bounds _ _ _ c.source_end.ensures c.in-Ends.is).0, (source_bounds _ _ _ c.source_end.ensures c.in-Ends.is).1)
+known-requires c = (c.requires.0, (source_bounds _ _ _ c.source_end.ensures c.in-Some.is).0, (source_bounds _ _ _ c.source_end.ensures c.in-Some.is).1)
 
-pub returns-in-Nothing : goal.returns-in-Nothing
-returns-in-Nothing c = source_none c.requires.1 c.requires.2 c.if-c-eq60.false c.requires.3 c.requires.4 c.if-c-eq91.false _ c.source_end.ensures c.in-Nothing.is c.refuse-in-Nothing.ensures
+pub returns-in_default : goal.returns-in_default
+returns-in_default c = source_none c.requires.1 c.requires.2 c.if-c-eq60.false c.requires.3 c.requires.4 c.if-c-eq91.false _ c.source_end.ensures c.in_default.is c.refuse-in_default.ensures
 
-pub returns-in-Ends : goal.returns-in-Ends
-returns-in-Ends c = source_some c.requires.1 c.requires.2 c.if-c-eq60.false c.requires.3 c.requires.4 c.if-c-eq91.false _ c.source_end.ensures c.in-Ends.is c.known.ensures
+pub returns : goal.returns
+returns c = source_some c.requires.1 c.requires.2 c.if-c-eq60.false c.requires.3 c.requires.4 c.if-c-eq91.false _ c.source_end.ensures c.in-Some.is c.known.ensures

@@ -1,13 +1,12 @@
 -- `tag_pass::pass::step` meets its contract. Assumes nothing.
-use native.Mathlib.Omega.{arith}
-use Rattle.tag_pass.proofs.PassLaws.{step_in_tag, step_in_children, front_on, front_inner}
+use Rattle.tag_pass.proofs.PassLaws.{step_in_tag, step_in_children, front_on, front_inner, inner_left}
 use Rattle.tag_pass.proofs.pass.step.Goals as goal
 
-pub returns-then-st-eq-TAG : goal.returns-then-st-eq-TAG
-returns-then-st-eq-TAG c fs o i g = front_on (step_in_tag c.if-st-eq-TAG.true c.step_tag.ensures o i g)
+pub returns-in-InTag : goal.returns-in-InTag
+returns-in-InTag c fs o i g = front_on (step_in_tag c.in-InTag.is c.step_tag.ensures o i g)
 
-pub returns-then-st-eq-CHILDREN : goal.returns-then-st-eq-CHILDREN
-returns-then-st-eq-CHILDREN c fs o i g = front_on (step_in_children c.if-st-eq-CHILDREN.true c.step_children.ensures o i g)
+pub returns-in-InChildren : goal.returns-in-InChildren
+returns-in-InChildren c fs o i g = front_on (step_in_children c.in-InChildren.is c.step_children.ensures o i g)
 
-pub returns : goal.returns
-returns c fs o i g = front_inner (omega (arith, c.if-st-eq-TAG.false, c.if-st-eq-CHILDREN.false, c.requires.1)) g
+pub returns-in_default : goal.returns-in_default
+returns-in_default c fs o i g = front_inner (inner_left _ c.requires.1 c.in_default.not-InTag c.in_default.not-InChildren) g

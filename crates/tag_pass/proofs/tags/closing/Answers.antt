@@ -18,16 +18,16 @@ pub scan_name-requires : goal.scan_name-requires
 scan_name-requires c = (c.if-text-j.false, is_letter _ (ap not (sym c.is_letter.ensures) ∙ (ap not c.if-not-is_letter.false)))
 
 pub returns-then-text-end : goal.returns-then-text-end
-returns-then-text-end c = closing_named_out _ c.skip_spaces-j.ensures c.if-text-j.false c.is_letter.ensures (ap not c.if-not-is_letter.false) c.scan_name.ensures c.in-Found.is c.if-text-end.true c.refuse-then-text-end.ensures
+returns-then-text-end c = closing_named_out _ c.skip_spaces-j.ensures c.if-text-j.false c.is_letter.ensures (ap not c.if-not-is_letter.false) c.scan_name.ensures c.in-Some.is c.if-text-end.true c.refuse-then-text-end.ensures
 
 pub returns-then-text-end-ne62 : goal.returns-then-text-end-ne62
-returns-then-text-end-ne62 c = closing_named_barred _ c.skip_spaces-j.ensures c.if-text-j.false c.is_letter.ensures (ap not c.if-not-is_letter.false) c.scan_name.ensures c.in-Found.is c.if-text-end.false c.if-text-end-ne62.true c.refuse-then-text-end-ne62.ensures
+returns-then-text-end-ne62 c = closing_named_barred _ c.skip_spaces-j.ensures c.if-text-j.false c.is_letter.ensures (ap not c.if-not-is_letter.false) c.scan_name.ensures c.in-Some.is c.if-text-end.false c.if-text-end-ne62.true c.refuse-then-text-end-ne62.ensures
 
 pub same_closing-same-requires : goal.same_closing-same-requires
-same_closing-same-requires c = (c.requires.1, name_found _ _ _ c.scan_name.ensures c.in-Found.is)
+same_closing-same-requires c = (c.requires.1, name_found _ _ _ c.scan_name.ensures c.in-Some.is)
 
-pub returns-in-Nothing : goal.returns-in-Nothing
-returns-in-Nothing c = closing_none _ c.skip_spaces-j.ensures c.if-text-j.false c.is_letter.ensures (ap not c.if-not-is_letter.false) c.scan_name.ensures c.in-Nothing.is c.refuse-in-Nothing.ensures
+pub returns-in_default : goal.returns-in_default
+returns-in_default c = closing_none _ c.skip_spaces-j.ensures c.if-text-j.false c.is_letter.ensures (ap not c.if-not-is_letter.false) c.scan_name.ensures c.in_default.is c.refuse-in_default.ensures
 
-pub returns-else-text-end-ne62 : goal.returns-else-text-end-ne62
-returns-else-text-end-ne62 c = closing_named _ c.skip_spaces-j.ensures c.if-text-j.false c.is_letter.ensures (ap not c.if-not-is_letter.false) c.scan_name.ensures c.in-Found.is c.if-text-end.false c.if-text-end-ne62.false c.same_closing-same.ensures c.end_tag-in-Found.ensures
+pub returns : goal.returns
+returns c = closing_named _ c.skip_spaces-j.ensures c.if-text-j.false c.is_letter.ensures (ap not c.if-not-is_letter.false) c.scan_name.ensures c.in-Some.is c.if-text-end.false c.if-text-end-ne62.false c.same_closing-same.ensures c.end_tag-2.ensures

@@ -14,10 +14,7 @@ use Rattle.text.proofs.escape.put_short_escaped.Goals as goal
 
 pub loop-i-init : goal.loop-i-init
 unfolding escape_html
-loop-i-init c = (omega arith, wrote_none _ _)
-
-pub bounds-s-i : goal.bounds-s-i
-bounds-s-i c = omega arith
+loop-i-init c = wrote_none _ _
 
 pub slice_bounds-put_escaped-count : goal.slice_bounds-put_escaped-count
 slice_bounds-put_escaped-count c = omega arith
@@ -29,32 +26,26 @@ pub slice_bounds-put_escaped-end : goal.slice_bounds-put_escaped-end
 slice_bounds-put_escaped-end c = omega arith
 
 pub put_escaped-requires-then-not-is_plain : goal.put_escaped-requires-then-not-is_plain
-put_escaped-requires-then-not-is_plain c = let s = c.args.s.now in let i = c.loop-i.i in let h = room_for {k = 2 ^ 63} (escape_html (take (length s - i) (drop i s))) c.loop-i.invariant.1 (escaped_rest s i c.loop-i.invariant.0) (omega arith) c.requires in
+put_escaped-requires-then-not-is_plain c = let s = c.args.s.now in let i = c.loop-i.i in let h = room_for {k = 2 ^ 63} (escape_html (take (length s - i) (drop i s))) c.loop-i.invariant (escaped_rest s i (omega arith)) (omega arith) c.requires in
     omega arith
 
 pub shape_of-out-then-not-is_plain : goal.shape_of-out-then-not-is_plain
-shape_of-out-then-not-is_plain c = let s = c.args.s.now in wrote_length (wrote_more c.loop-i.invariant.1 (escaped_rest s c.loop-i.i c.loop-i.invariant.0) c.put_escaped-then-not-is_plain.ensures)
+shape_of-out-then-not-is_plain c = let s = c.args.s.now in wrote_length (wrote_more c.loop-i.invariant (escaped_rest s c.loop-i.i (omega arith)) c.put_escaped-then-not-is_plain.ensures)
 
 pub returns-then-not-is_plain : goal.returns-then-not-is_plain
-returns-then-not-is_plain c = let s = c.args.s.now in wrote_more c.loop-i.invariant.1 (escaped_rest s c.loop-i.i c.loop-i.invariant.0) c.put_escaped-then-not-is_plain.ensures
+returns-then-not-is_plain c = let s = c.args.s.now in wrote_more c.loop-i.invariant (escaped_rest s c.loop-i.i (omega arith)) c.put_escaped-then-not-is_plain.ensures
 
 pub put_byte-a-requires : goal.put_byte-a-requires
 put_byte-a-requires c = let s = c.args.s.now in let i = c.loop-i.i in let is = sym c.is_plain.ensures ∙ c.if-not-is_plain.false in
-    let h = room_for {k = 2 ^ 63} (get_or s i 0 ∷ []) c.loop-i.invariant.1 (escaped_plain s i (omega arith) is) (escaped_le s (i + 1)) c.requires in
+    let h = room_for {k = 2 ^ 63} (get_or s i 0 ∷ []) c.loop-i.invariant (escaped_plain s i (omega arith) is) (escaped_le s (i + 1)) c.requires in
     omega arith
-
-pub overflow_add-i : goal.overflow_add-i
-overflow_add-i c = omega arith
-
-pub loop-i-smaller : goal.loop-i-smaller
-loop-i-smaller c = omega arith
 
 pub loop-i-preserved : goal.loop-i-preserved
 loop-i-preserved c = let s = c.args.s.now in let is = sym c.is_plain.ensures ∙ c.if-not-is_plain.false in
-    (omega arith, wrote_more c.loop-i.invariant.1 (escaped_plain s c.loop-i.i (omega arith) is) c.put_byte-a.ensures)
+    wrote_more c.loop-i.invariant (escaped_plain s c.loop-i.i (omega arith) is) c.put_byte-a.ensures
 
 pub shape_of-out : goal.shape_of-out
-shape_of-out c = wrote_length c.loop-i.invariant.1
+shape_of-out c = wrote_length c.loop-i.invariant
 
 pub returns : goal.returns
-returns c = let s = c.args.s.now in wrote_is (ap {B = Bytes} escape_html (take_all c.loop-i.i s (omega arith))) c.loop-i.invariant.1
+returns c = let s = c.args.s.now in wrote_is (ap {B = Bytes} escape_html (take_all c.loop-i.i s (omega arith))) c.loop-i.invariant

@@ -28,11 +28,11 @@ indent_blank : (s : Bytes) (last : Bool) → (length s ≡ 0 → ⊥) → get_or
 indent_blank [] last h q e = absurd (h refl)
 indent_blank (c ∷ s) last h q e = ap null? (sym (indent_none (c ∷ s) false last (eq-eqb c 10 q) e))
 
-pub returns-then-s-eq0 : goal.returns-then-s-eq0
-returns-then-s-eq0 c = let args = c.args in empty_blank args.s.now args.last c.if-s-eq0.true
+pub returns-in_default : goal.returns-in_default
+returns-in_default c = empty_blank c.args.s.now c.args.last (omega (arith, c.in_default.len_below))
 
 pub returns-then-c : goal.returns-then-c
-returns-then-c c = let args = c.args in visible_not args.s.now args.last c.if-s-eq0.false c.if-c.true
+returns-then-c c = visible_not c.args.s.now c.args.last (λ e. omega (arith, e, c.in-len1-up.len_at_least)) c.if-c.true
 
 pub returns-then-is_indent : goal.returns-then-is_indent
-returns-then-is_indent c = let args = c.args in indent_blank args.s.now args.last c.if-s-eq0.false c.if-c-eq10.true (sym c.is_indent.ensures ∙ c.if-is_indent.true)
+returns-then-is_indent c = indent_blank c.args.s.now c.args.last (λ e. omega (arith, e, c.in-len1-up.len_at_least)) c.if-c-eq10.true (sym c.is_indent.ensures ∙ c.if-is_indent.true)

@@ -1,38 +1,42 @@
 -- `text::jsx_text::is_blank_by_lines` meets its contract. The loop's invariant: the lines read so far leave nothing. Assumes nothing.
 use native.Mathlib.Omega.{arith}
-use Rattle.text.proofs.LineLaws.{line_cut}
+use mathlib.Core.Path.{◌∙◌}
+use lib.ListN.{length}
+use Rattle.text.proofs.LineLaws.{line_read, none_read, read_trimmed, read_empty}
+use Rattle.text.proofs.WriteLaws.{empty_is, filled_is}
 use Rattle.text.proofs.TextLaws.{blank_start, blank_step, blank_skip, blank_line, blank_end}
 use Rattle.text.proofs.jsx_text.is_blank_by_lines.Goals as goal
 
-pub loop-i-init : goal.loop-i-init
-loop-i-init c = (omega arith, blank_start _ _)
+pub loop-line-init : goal.loop-line-init
+loop-line-init c = let e = c.new-lines.ensures in (e.0, (omega (arith, e.1), rw e.1 (blank_start _ _)))
 
-pub loop-i-smaller-then-end-i : goal.loop-i-smaller-then-end-i
-loop-i-smaller-then-end-i c = let args = c.args in omega (arith, line_cut args.s.now c.loop-i.i c.loop-i-test.true c.read_line-line.ensures)
+pub returns-then-not-is_empty : goal.returns-then-not-is_empty
+returns-then-not-is_empty c = let s = c.args.s.now in let i = c.loop-line.lines.place in let next = c.next_line.new.self.place in
+    let k = line_read {l = c.in-Some.line} s i next c.loop-line.invariant.0 c.in-Some.ensures.line in
+    let t = c.trim_line-t.result.now in
+    blank_line s c.args.last i k.end next t k.cut (read_trimmed c.args.last k c.trim_line-t.ensures) c.loop-line.invariant.1.1 (omega (arith, filled_is (length t) c.is_empty-in-Some.ensures c.if-not-is_empty.true))
 
-pub loop-i-preserved-then-end-i : goal.loop-i-preserved-then-end-i
-loop-i-preserved-then-end-i c = let args = c.args in let cut = line_cut args.s.now c.loop-i.i c.loop-i-test.true c.read_line-line.ensures in
-    (cut.within, blank_skip args.s.now args.last c.loop-i.i c.read_line-line.result.end c.read_line-line.result.next cut c.loop-i.invariant.1 c.if-end-i.true)
+pub loop-line-smaller-then-is_empty : goal.loop-line-smaller-then-is_empty
+loop-line-smaller-then-is_empty c = let s = c.args.s.now in let i = c.loop-line.lines.place in let next = c.next_line.new.self.place in
+    let k = line_read {l = c.in-Some.line} s i next c.loop-line.invariant.0 c.in-Some.ensures.line in
+    omega (arith, k.cut)
 
-pub slice_bounds-trim_line-count : goal.slice_bounds-trim_line-count
-slice_bounds-trim_line-count c = let args = c.args in omega (arith, line_cut args.s.now c.loop-i.i c.loop-i-test.true c.read_line-line.ensures)
+pub loop-line-preserved-then-is_empty : goal.loop-line-preserved-then-is_empty
+loop-line-preserved-then-is_empty c = let s = c.args.s.now in let i = c.loop-line.lines.place in let next = c.next_line.new.self.place in
+    let k = line_read {l = c.in-Some.line} s i next c.loop-line.invariant.0 c.in-Some.ensures.line in
+    (c.next_line.ensures.text ∙ c.loop-line.invariant.0, (k.cut.within, blank_skip s c.args.last i k.end next k.cut c.loop-line.invariant.1.1 (read_empty k (empty_is (length c.in-Some.line.text.now) c.is_empty.ensures c.if-is_empty.true))))
 
-pub slice_bounds-trim_line-start : goal.slice_bounds-trim_line-start
-slice_bounds-trim_line-start c = let args = c.args in omega (arith, line_cut args.s.now c.loop-i.i c.loop-i-test.true c.read_line-line.ensures)
+pub loop-line-smaller : goal.loop-line-smaller
+loop-line-smaller c = let s = c.args.s.now in let i = c.loop-line.lines.place in let next = c.next_line.new.self.place in
+    let k = line_read {l = c.in-Some.line} s i next c.loop-line.invariant.0 c.in-Some.ensures.line in
+    omega (arith, k.cut)
 
-pub slice_bounds-trim_line-end : goal.slice_bounds-trim_line-end
-slice_bounds-trim_line-end c = let args = c.args in omega (arith, line_cut args.s.now c.loop-i.i c.loop-i-test.true c.read_line-line.ensures)
-
-pub returns-then-left-gt0 : goal.returns-then-left-gt0
-returns-then-left-gt0 c = let args = c.args in let cut = line_cut args.s.now c.loop-i.i c.loop-i-test.true c.read_line-line.ensures in
-    blank_line args.s.now args.last c.loop-i.i c.read_line-line.result.end c.read_line-line.result.next c.trim_line-left.result.now cut c.trim_line-left.ensures c.loop-i.invariant.1 c.if-left-gt0.true
-
-pub loop-i-smaller : goal.loop-i-smaller
-loop-i-smaller c = let args = c.args in omega (arith, line_cut args.s.now c.loop-i.i c.loop-i-test.true c.read_line-line.ensures)
-
-pub loop-i-preserved : goal.loop-i-preserved
-loop-i-preserved c = let args = c.args in let cut = line_cut args.s.now c.loop-i.i c.loop-i-test.true c.read_line-line.ensures in
-    (cut.within, blank_step args.s.now args.last c.loop-i.i c.read_line-line.result.end c.read_line-line.result.next c.trim_line-left.result.now cut c.trim_line-left.ensures c.loop-i.invariant.1 c.if-left-gt0.false)
+pub loop-line-preserved : goal.loop-line-preserved
+loop-line-preserved c = let s = c.args.s.now in let i = c.loop-line.lines.place in let next = c.next_line.new.self.place in
+    let k = line_read {l = c.in-Some.line} s i next c.loop-line.invariant.0 c.in-Some.ensures.line in
+    let t = c.trim_line-t.result.now in
+    (c.next_line.ensures.text ∙ c.loop-line.invariant.0, (k.cut.within, blank_step s c.args.last i k.end next t k.cut (read_trimmed c.args.last k c.trim_line-t.ensures) c.loop-line.invariant.1.1 (omega (arith, empty_is (length t) c.is_empty-in-Some.ensures c.if-not-is_empty.false))))
 
 pub returns : goal.returns
-returns c = let args = c.args in blank_end args.s.now args.last c.loop-i.i (omega arith) c.loop-i.invariant.1
+returns c = let s = c.args.s.now in
+    blank_end s c.args.last c.loop-line.lines.place (none_read s c.loop-line.lines.place c.next_line.new.self.place c.loop-line.invariant.0 c.in_default.ensures.line) c.loop-line.invariant.1.1

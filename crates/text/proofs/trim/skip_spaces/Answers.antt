@@ -1,32 +1,24 @@
 -- `text::trim::skip_spaces` meets its contract. The loop's invariant: the run that is looked for ends where the run from i on ends. Assumes nothing.
 use native.Mathlib.Omega.{arith}
-use mathlib.Core.Path.{refl}
+use mathlib.Core.Path.{◌≡◌, refl, sym, ◌∙◌}
+use lib.ListN.{length}
 use borrow.Author.Tests.{eq-eqb, ne_eqb}
 use Rattle.text.specs.Runs.{is_space}
 use Rattle.text.proofs.RunLaws.{scan_step, scan_stop, scan_end}
 use Rattle.text.proofs.trim.skip_spaces.Goals as goal
 
 pub loop-i-init : goal.loop-i-init
-loop-i-init c = (omega arith, refl)
-
-pub bounds-s-i : goal.bounds-s-i
-bounds-s-i c = omega arith
+loop-i-init c = refl
 
 pub returns-then-s-i-ne32 : goal.returns-then-s-i-ne32
 unfolding is_space
 returns-then-s-i-ne32 c = let args = c.args in let s = args.s.now in
-    scan_stop is_space s c.loop-i.i (omega arith) (ne_eqb _ _ c.if-s-i-ne32.true) c.loop-i.invariant.1
-
-pub overflow_add-i : goal.overflow_add-i
-overflow_add-i c = omega arith
-
-pub loop-i-smaller : goal.loop-i-smaller
-loop-i-smaller c = omega arith
+    scan_stop is_space s c.loop-i.i (omega arith) (ne_eqb _ _ c.if-s-i-ne32.true) c.loop-i.invariant
 
 pub loop-i-preserved : goal.loop-i-preserved
 unfolding is_space
 loop-i-preserved c = let args = c.args in let s = args.s.now in
-    (omega arith, scan_step is_space s c.loop-i.i (omega arith) (eq-eqb _ _ c.if-s-i-ne32.false) c.loop-i.invariant.1)
+    scan_step is_space s c.loop-i.i (omega arith) (eq-eqb _ _ c.if-s-i-ne32.false) c.loop-i.invariant
 
 pub returns : goal.returns
-returns c = scan_end is_space c.args.s.now c.loop-i.i (omega arith) c.loop-i.invariant.1
+returns c = let s = c.args.s.now in let e : c.loop-i.i ≡ length s = omega arith in sym e ∙ scan_end is_space s c.loop-i.i (omega arith) c.loop-i.invariant

@@ -7,8 +7,8 @@ use Rattle.decisions.specs.At.{opts}
 use Rattle.transform.specs.Run.{has_html}
 use Rattle.transform.proofs.module.has_html.Given as goal
 
-abbrev pub invariant-loop-r : goal.invariant-loop-r
-invariant-loop-r l = has_html (opts l.skip []) (module_items_in (read l.t)) ≡ has_html (opts l.skip []) (module_items_in (read l.s))
+abbrev pub invariant-loop-t : goal.invariant-loop-t
+invariant-loop-t l = has_html (opts l.skip []) (module_items_in (read l.t)) ≡ has_html (opts l.skip []) (module_items_in (read l.s))
 
-abbrev pub decreases-loop-r : goal.decreases-loop-r
-decreases-loop-r l = length l.t
+abbrev pub decreases-loop-t : goal.decreases-loop-t
+decreases-loop-t l = length l.t

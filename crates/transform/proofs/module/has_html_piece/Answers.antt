@@ -6,19 +6,19 @@ use Rattle.transform.proofs.ExportLaws.{piece_none, piece_here, piece_on, piece_
 use Rattle.transform.proofs.module.has_html_piece.Goals as goal
 
 pub returns-then-is_serializable : goal.returns-then-is_serializable
-returns-then-is_serializable c = piece_here _ _ _ c.tag_at.ensures.0 c.in-48.is c.body.ensures c.is_serializable.ensures c.if-is_serializable.true ∙ c.loop-r.invariant
+returns-then-is_serializable c = piece_here _ _ _ c.tag_at.ensures.0 c.in-48.is c.body.ensures c.is_serializable.ensures c.if-is_serializable.true ∙ c.loop-t.invariant
 
-pub loop-r-smaller-in-48 : goal.loop-r-smaller-in-48
-loop-r-smaller-in-48 c = behind_less _ _ c.tag_at.ensures.0 (λ z. omega (arith, c.in-48.is)) c.behind-r.ensures
+pub loop-t-smaller-in-48 : goal.loop-t-smaller-in-48
+loop-t-smaller-in-48 c = behind_less _ _ c.tag_at.ensures.0 (λ z. omega (arith, c.in-48.is)) c.behind-t.ensures
 
-pub loop-r-preserved-in-48 : goal.loop-r-preserved-in-48
-loop-r-preserved-in-48 c = piece_on _ _ _ c.tag_at.ensures.0 c.in-48.is c.body.ensures c.is_serializable.ensures c.if-is_serializable.false c.behind-r.ensures ∙ c.loop-r.invariant
+pub loop-t-preserved-in-48 : goal.loop-t-preserved-in-48
+loop-t-preserved-in-48 c = piece_on _ _ _ c.tag_at.ensures.0 c.in-48.is c.body.ensures c.is_serializable.ensures c.if-is_serializable.false c.behind-t.ensures ∙ c.loop-t.invariant
 
 pub returns-in-256 : goal.returns-in-256
-returns-in-256 c = piece_none _ _ (c.tag_at.ensures.1 c.in-256.is) ∙ c.loop-r.invariant
+returns-in-256 c = piece_none _ _ (c.tag_at.ensures.1 c.in-256.is) ∙ c.loop-t.invariant
 
-pub loop-r-smaller : goal.loop-r-smaller
-loop-r-smaller c = behind_less _ _ c.tag_at.ensures.0 c.in_default.in_default-own.rest.1 c.behind-r-in_default.ensures
+pub loop-t-smaller : goal.loop-t-smaller
+loop-t-smaller c = behind_less _ _ c.tag_at.ensures.0 c.in_default.in_default-own.rest.1 c.behind-t-in_default.ensures
 
-pub loop-r-preserved : goal.loop-r-preserved
-loop-r-preserved c = piece_past _ _ _ c.tag_at.ensures.0 c.in_default.in_default-own.rest.1 c.in_default.in_default-own.rest.0.1 c.behind-r-in_default.ensures ∙ c.loop-r.invariant
+pub loop-t-preserved : goal.loop-t-preserved
+loop-t-preserved c = piece_past _ _ _ c.tag_at.ensures.0 c.in_default.in_default-own.rest.1 c.in_default.in_default-own.rest.0.1 c.behind-t-in_default.ensures ∙ c.loop-t.invariant

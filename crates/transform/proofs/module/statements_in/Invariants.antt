@@ -6,8 +6,8 @@ use Rattle.page.specs.Tree.{module_items_in}
 use Rattle.transform.specs.Run.{items_from}
 use Rattle.transform.proofs.module.statements_in.Given as goal
 
-abbrev pub invariant-loop-r : goal.invariant-loop-r
-invariant-loop-r l = (items_from (module_items_in (read l.t)) ≡ items_from (module_items_in (read l.s))) × (length l.t ≤ length l.s)
+abbrev pub invariant-loop-t : goal.invariant-loop-t
+invariant-loop-t l = (items_from (module_items_in (read l.t)) ≡ items_from (module_items_in (read l.s))) × (length l.t ≤ length l.s)
 
-abbrev pub decreases-loop-r : goal.decreases-loop-r
-decreases-loop-r l = length l.t
+abbrev pub decreases-loop-t : goal.decreases-loop-t
+decreases-loop-t l = length l.t

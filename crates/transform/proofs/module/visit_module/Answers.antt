@@ -18,22 +18,22 @@ visit_item-cur-requires c = let e = c.tag_at.ensures.0 in let i = c.loop-page.in
     room_part _ _ _ _ c.requires i.0 (omega (arith, l, i.1.0)) (turn_10_room _ _ _ _ e _ _ _ _ i.1.1 c.body.ensures c.put_place-a.ensures c.in-16.is c.requires.low)
 
 pub loop-page-smaller-in-16 : goal.loop-page-smaller-in-16
-loop-page-smaller-in-16 c = behind_less _ _ c.tag_at.ensures.0 (λ z. omega (arith, c.in-16.is)) c.behind-r.ensures
+loop-page-smaller-in-16 c = behind_less _ _ c.tag_at.ensures.0 (λ z. omega (arith, c.in-16.is)) c.behind-t.ensures
 
 pub loop-page-preserved-in-16 : goal.loop-page-preserved-in-16
-loop-page-preserved-in-16 c = let e = c.tag_at.ensures.0 in let i = c.loop-page.invariant in let l = behind_less _ _ e (λ z. omega (arith, c.in-16.is)) c.behind-r.ensures in
-    (c.visit_item-cur.auto.scratch ∙ i.0, (omega (arith, l, i.1.0), turn_10_on _ _ _ _ e _ _ _ _ i.1.1 c.body.ensures c.put_place-a.ensures c.in-16.is c.behind-r.ensures c.visit_item-cur.ensures))
+loop-page-preserved-in-16 c = let e = c.tag_at.ensures.0 in let i = c.loop-page.invariant in let l = behind_less _ _ e (λ z. omega (arith, c.in-16.is)) c.behind-t.ensures in
+    (c.visit_item-cur.auto.scratch ∙ i.0, (omega (arith, l, i.1.0), turn_10_on _ _ _ _ e _ _ _ _ i.1.1 c.body.ensures c.put_place-a.ensures c.in-16.is c.behind-t.ensures c.visit_item-cur.ensures))
 
 pub visit_item-cur-requires-in-17 : goal.visit_item-cur-requires-in-17
 visit_item-cur-requires-in-17 c = let e = c.tag_at.ensures.0 in let i = c.loop-page.invariant in let l = body_less _ _ e (λ z. omega (arith, c.in-17.is)) c.body-in-17.ensures in
     room_part _ _ _ _ c.requires i.0 (omega (arith, l, i.1.0)) (turn_11_room _ _ _ _ e _ _ _ _ i.1.1 c.body-in-17.ensures c.in-17.is c.requires.low)
 
 pub loop-page-smaller-in-17 : goal.loop-page-smaller-in-17
-loop-page-smaller-in-17 c = behind_less _ _ c.tag_at.ensures.0 (λ z. omega (arith, c.in-17.is)) c.behind-r-in-17.ensures
+loop-page-smaller-in-17 c = behind_less _ _ c.tag_at.ensures.0 (λ z. omega (arith, c.in-17.is)) c.behind-t-in-17.ensures
 
 pub loop-page-preserved-in-17 : goal.loop-page-preserved-in-17
-loop-page-preserved-in-17 c = let e = c.tag_at.ensures.0 in let i = c.loop-page.invariant in let l = behind_less _ _ e (λ z. omega (arith, c.in-17.is)) c.behind-r-in-17.ensures in
-    (c.visit_item-cur-in-17.auto.scratch ∙ i.0, (omega (arith, l, i.1.0), turn_11_on _ _ _ _ e _ _ _ _ i.1.1 c.body-in-17.ensures c.in-17.is c.behind-r-in-17.ensures c.visit_item-cur-in-17.ensures))
+loop-page-preserved-in-17 c = let e = c.tag_at.ensures.0 in let i = c.loop-page.invariant in let l = behind_less _ _ e (λ z. omega (arith, c.in-17.is)) c.behind-t-in-17.ensures in
+    (c.visit_item-cur-in-17.auto.scratch ∙ i.0, (omega (arith, l, i.1.0), turn_11_on _ _ _ _ e _ _ _ _ i.1.1 c.body-in-17.ensures c.in-17.is c.behind-t-in-17.ensures c.visit_item-cur-in-17.ensures))
 
 pub put_place-a-requires-in-18 : goal.put_place-a-requires-in-18
 put_place-a-requires-in-18 c = let e = c.tag_at.ensures.0 in let i = c.loop-page.invariant in turn_12_place _ _ _ _ e _ _ _ _ i.1.1 c.in-18.is c.requires.low
@@ -43,11 +43,11 @@ visit_item-cur-requires-in-18 c = let e = c.tag_at.ensures.0 in let i = c.loop-p
     room_part _ _ _ _ c.requires i.0 (omega (arith, l, i.1.0)) (turn_12_room _ _ _ _ e _ _ _ _ i.1.1 c.body-in-18.ensures c.put_place-a-in-18.ensures c.in-18.is c.requires.low)
 
 pub loop-page-smaller-in-18 : goal.loop-page-smaller-in-18
-loop-page-smaller-in-18 c = behind_less _ _ c.tag_at.ensures.0 (λ z. omega (arith, c.in-18.is)) c.behind-r-in-18.ensures
+loop-page-smaller-in-18 c = behind_less _ _ c.tag_at.ensures.0 (λ z. omega (arith, c.in-18.is)) c.behind-t-in-18.ensures
 
 pub loop-page-preserved-in-18 : goal.loop-page-preserved-in-18
-loop-page-preserved-in-18 c = let e = c.tag_at.ensures.0 in let i = c.loop-page.invariant in let l = behind_less _ _ e (λ z. omega (arith, c.in-18.is)) c.behind-r-in-18.ensures in
-    (c.visit_item-cur-in-18.auto.scratch ∙ i.0, (omega (arith, l, i.1.0), turn_12_on _ _ _ _ e _ _ _ _ i.1.1 c.body-in-18.ensures c.put_place-a-in-18.ensures c.in-18.is c.behind-r-in-18.ensures c.visit_item-cur-in-18.ensures))
+loop-page-preserved-in-18 c = let e = c.tag_at.ensures.0 in let i = c.loop-page.invariant in let l = behind_less _ _ e (λ z. omega (arith, c.in-18.is)) c.behind-t-in-18.ensures in
+    (c.visit_item-cur-in-18.auto.scratch ∙ i.0, (omega (arith, l, i.1.0), turn_12_on _ _ _ _ e _ _ _ _ i.1.1 c.body-in-18.ensures c.put_place-a-in-18.ensures c.in-18.is c.behind-t-in-18.ensures c.visit_item-cur-in-18.ensures))
 
 pub shape_of-scratch-in-256 : goal.shape_of-scratch-in-256
 shape_of-scratch-in-256 c = c.loop-page.invariant.0
@@ -65,8 +65,8 @@ pub leaf-cur-requires : goal.leaf-cur-requires
 leaf-cur-requires c = let n = c.in_default.in_default-own.rest in turn_13_room _ _ _ _ c.tag_at.ensures.0 _ _ _ _ c.loop-page.invariant.1.1 n.1 n.0.0.0.1 n.0.0.1 n.0.1 c.requires.low
 
 pub loop-page-smaller : goal.loop-page-smaller
-loop-page-smaller c = behind_less _ _ c.tag_at.ensures.0 c.in_default.in_default-own.rest.1 c.behind-r-in_default.ensures
+loop-page-smaller c = behind_less _ _ c.tag_at.ensures.0 c.in_default.in_default-own.rest.1 c.behind-t-in_default.ensures
 
 pub loop-page-preserved : goal.loop-page-preserved
-loop-page-preserved c = let e = c.tag_at.ensures.0 in let i = c.loop-page.invariant in let n = c.in_default.in_default-own.rest in let l = behind_less _ _ e n.1 c.behind-r-in_default.ensures in
-    (i.0, (omega (arith, l, i.1.0), turn_13_on _ _ _ _ e _ _ _ _ i.1.1 n.1 n.0.0.0.1 n.0.0.1 n.0.1 c.behind-r-in_default.ensures c.leaf-cur.ensures))
+loop-page-preserved c = let e = c.tag_at.ensures.0 in let i = c.loop-page.invariant in let n = c.in_default.in_default-own.rest in let l = behind_less _ _ e n.1 c.behind-t-in_default.ensures in
+    (i.0, (omega (arith, l, i.1.0), turn_13_on _ _ _ _ e _ _ _ _ i.1.1 n.1 n.0.0.0.1 n.0.0.1 n.0.1 c.behind-t-in_default.ensures c.leaf-cur.ensures))

@@ -1,31 +1,21 @@
 -- The measures of the cycle: the bytes left, eight a byte, and within one slice a rank. Assumes nothing.
-use Prim.Native.Nat.{ℕ, ◌+◌, ◌≤◌}
-use lib.ListN.{length}
-use mathlib.Core.Path.{refl, ◌∙◌, sym, ◌≡◌, ap}
+use mathlib.Core.Path.{refl, ◌∙◌, sym}
 use native.Mathlib.Omega.{arith}
 use Rattle.field.proofs.FrontLaws.{body_less, behind_less}
 use Rattle.visits.proofs.FieldLaws.{room_part, room_is, kept_since, act_kept}
 use Rattle.visits.proofs.ExprLaws.{expr_literal, see_element, see_fragment, array_begin, array_inner, array_close, array_done, source_begin, source_inner, source_close, source_done, literal_room, literal_done, held_nothing, held_expr, spread_begin, spread_inner, spread_close, spread_on, hole_room, hole_on, item_room, item_on, items_end, piece_room, piece_on, piece_element_room, piece_element_on, piece_fragment_room, piece_fragment_on, pieces_past, pieces_end}
-use Rattle.spec.specs.Pass.{none, raw, Mid}
+use Rattle.spec.specs.Pass.{none, raw}
 use Rattle.found.specs.Finds.{part}
-use Rattle.walk.specs.See.{at, act, World, Low}
-use Rattle.walk.proofs.SeeLaws.{low_is, see_grows, see_none, lift_numbered, lift_wrap, lift_begun_if, lift_wrap_if}
+use Rattle.walk.specs.See.{at}
+use Rattle.walk.proofs.SeeLaws.{low_is, lift_numbered, lift_wrap, lift_begun_if, lift_wrap_if}
 use Rattle.visits.proofs.VisitLaws.{found_raw, left_room, left_done, rest_untagged, found_nothing, found_tag, expr_no_tag, found_given, null_room, null_done, fragment_null, fragment_several, fragment_element, fragment_fragment, fragment_spread, fragment_only, given_recorded, given_paged, given_done, element_recorded, element_paged, element_done, template_recorded, template_start, template_parts, template_end, template_visited}
 use Rattle.visits.specs.Visiting.{fragment_mid}
 use native.Mathlib.Nat.{le_refl}
 use Rattle.visits.proofs.PartLaws.{templates_kept, page_kept, front_room, held_room, back_page, back_room, attr_on, attrs_past, attrs_end, element_call, element_bare, inner_shorter, attrs_room, inner_room, inner_done, jsx_template, jsx_call, template_room, template_inside, template_page, template_low, template_done, parts_direct, parts_room, container_room, container_page, container_low, container_on, element_room as to_parts_element_room, element_on as to_parts_element_on, fragment_room as to_parts_fragment_room, fragment_on as to_parts_fragment_on, parts_past, parts_end}
-use mathlib.Core.Bool.{Bool, true, false, not}
-use Rattle.field.specs.Bytes.{Bytes}
-use Rattle.field.specs.Row.{read}
-use Rattle.page.specs.Page as P
-use Rattle.page.specs.Tree.{value_in}
-use Rattle.spec.specs.Transform.{value}
-use Rattle.decisions.specs.At.{opts, element_at}
+use mathlib.Core.Bool.{false}
 use Rattle.strings.proofs.FrontSizes.{behind_le}
-use Rattle.walk.specs.declared.state.Walk.{Walk}
-use Rattle.walk.specs.Plan.{key_held}
-use Rattle.walk.proofs.ActLaws.{act_grows, is_none}
-use Rattle.visits.proofs.CallLaws.{stands_by, lacks_by, found_stands, Call, call_of, call_is, name_plain, key_left, props_left, child_left, found_left, children_left, attributes_left, named_left, name_left, call_left, grew, front_grew, front_past, child_grew, closed_grew, begin_room, name_room, props_begin_room, props_room, front_room as to_call_front_room, found_room, child_room, closed_room, begun_on, name_on, props_begun_on, front_on, child_on, closed_on, props_on, found_on, key_room, key_on, held_room as to_call_held_room, no_key, bare_lacks, bare_room, bare_on, call_low, call_done, seen_templates, seen_page, prop_front_room, prop_held_room, prop_back_page, prop_back_room, prop_on, spread_begin as to_props_spread_begin, spread_inner as to_props_spread_inner, spread_close as to_props_spread_close, spread_on as to_props_spread_on, props_end}
+use Rattle.visits.proofs.CallLaws.{seen_templates, seen_page, prop_front_room, prop_held_room, prop_back_page, prop_back_room, prop_on, spread_begin as to_props_spread_begin, spread_inner as to_props_spread_inner, spread_close as to_props_spread_close, spread_on as to_props_spread_on, props_end}
+use Rattle.visits.proofs.CallSteps.{begin_asked, name_asked, bare_asked, bare_close_asked, bare_done, props_begin_asked, props_asked, front_asked, found_asked, child_asked, closed_asked, keyless_asked, keyless_done, key_asked, held_asked, keyed_asked, keyed_done}
 use Rattle.visits.proofs.EntryLaws.{entering_start, text_room, text_on, joined_room, joined_on, expr_run, expr_room, expr_on, element_run, element_room, element_on, fragment_run, fragment_room, fragment_on, other_on, last_run, entering_end}
 use Rattle.visits.proofs.FoundLaws.{alone, unspliced, found_short, element_short, items_short, nothing_done, item_done, text_room as to_found_text_room, text_done, hole_room as to_found_hole_room, hole_done, element_room as to_found_element_room, element_done as to_found_element_done, run_room, run_done, expr_room as to_found_expr_room, expr_done, items_room, items_done, merged_begin, merged_room, merged_end, merged_done, many_begin, many_room, many_end, many_done, empty_begin, empty_end, empty_done}
 use Rattle.records.proofs.ReadLaws.{behind_shorter}
@@ -87,17 +77,17 @@ on_found-found_of-f-requires t c = omega (arith, c.requires.short)
 pub on_found-leave-requires : goal.on_found-leave-requires
 on_found-leave-requires t c = left_room (raw (found_raw c.args.skip.now c.args.props.now c.args.s.now) none) c.args.templates.now c.args.page.now c.args.st (found_nothing c.args.skip.now c.args.props.now c.args.s.now c.found_of-f.result (c.found_of-f.ensures.1 c.args.props.now) (at c.args.templates.now c.args.page.now c.args.st) c.in-Nothing.is) c.requires.low
 
-pub on_found-place-c-requires : goal.on_found-place-c-requires
-on_found-place-c-requires t c = c.found_of-f.ensures.0
+pub on_found-part-c-requires : goal.on_found-part-c-requires
+on_found-part-c-requires t c = c.found_of-f.ensures.0
 
 pub on_found-leave-requires-then-is_tag : goal.on_found-leave-requires-then-is_tag
-on_found-leave-requires-then-is_tag t c = left_room (raw (found_raw c.args.skip.now c.args.props.now c.args.s.now) none) c.args.templates.now c.args.page.now c.args.st (found_tag c.args.skip.now c.args.props.now c.args.s.now c.found_of-f.result (c.found_of-f.ensures.1 c.args.props.now) (at c.args.templates.now c.args.page.now c.args.st) c.in-Expr.is c.place-c.ensures c.is_tag.ensures c.if-is_tag.true) c.requires.low
+on_found-leave-requires-then-is_tag t c = left_room (raw (found_raw c.args.skip.now c.args.props.now c.args.s.now) none) c.args.templates.now c.args.page.now c.args.st (found_tag c.args.skip.now c.args.props.now c.args.s.now c.found_of-f.result (c.found_of-f.ensures.1 c.args.props.now) (at c.args.templates.now c.args.page.now c.args.st) c.in-Expr.is c.part-c.ensures c.is_tag.ensures c.if-is_tag.true) c.requires.low
 
 pub on_found-returns-then-is_tag : goal.on_found-returns-then-is_tag
-on_found-returns-then-is_tag t c = left_done (raw (found_raw c.args.skip.now c.args.props.now c.args.s.now) none) c.args.templates.now c.args.page.now c.args.st (found_tag c.args.skip.now c.args.props.now c.args.s.now c.found_of-f.result (c.found_of-f.ensures.1 c.args.props.now) (at c.args.templates.now c.args.page.now c.args.st) c.in-Expr.is c.place-c.ensures c.is_tag.ensures c.if-is_tag.true) _ _ c.leave-then-is_tag.ensures
+on_found-returns-then-is_tag t c = left_done (raw (found_raw c.args.skip.now c.args.props.now c.args.s.now) none) c.args.templates.now c.args.page.now c.args.st (found_tag c.args.skip.now c.args.props.now c.args.s.now c.found_of-f.result (c.found_of-f.ensures.1 c.args.props.now) (at c.args.templates.now c.args.page.now c.args.st) c.in-Expr.is c.part-c.ensures c.is_tag.ensures c.if-is_tag.true) _ _ c.leave-then-is_tag.ensures
 
 pub on_found-on_given-requires : goal.on_found-on_given-requires
-on_found-on_given-requires t c = let u = (expr_no_tag c.args.skip.now c.args.props.now c.args.s.now c.found_of-f.result (c.found_of-f.ensures.1 c.args.props.now) (at c.args.templates.now c.args.page.now c.args.st) c.in-Expr.is c.place-c.ensures c.is_tag.ensures c.if-is_tag.false) in (
+on_found-on_given-requires t c = let u = (expr_no_tag c.args.skip.now c.args.props.now c.args.s.now c.found_of-f.result (c.found_of-f.ensures.1 c.args.props.now) (at c.args.templates.now c.args.page.now c.args.st) c.in-Expr.is c.part-c.ensures c.is_tag.ensures c.if-is_tag.false) in (
   omega (arith, c.decreases),
   (
     (record { within = c.found_of-f.ensures.0; finds = c.found_of-f.ensures.1 c.args.props.now }, u),
@@ -126,60 +116,60 @@ pub on_found-returns-in-Nothing : goal.on_found-returns-in-Nothing
 on_found-returns-in-Nothing t c = left_done (raw (found_raw c.args.skip.now c.args.props.now c.args.s.now) none) c.args.templates.now c.args.page.now c.args.st (found_nothing c.args.skip.now c.args.props.now c.args.s.now c.found_of-f.result (c.found_of-f.ensures.1 c.args.props.now) (at c.args.templates.now c.args.page.now c.args.st) c.in-Nothing.is) _ _ c.leave.ensures
 
 pub on_found-returns-else-is_tag : goal.on_found-returns-else-is_tag
-on_found-returns-else-is_tag t c = c.on_given.ensures ∙ sym (found_given c.args.skip.now c.args.props.now c.args.s.now c.found_of-f.result (c.found_of-f.ensures.1 c.args.props.now) (at c.args.templates.now c.args.page.now c.args.st) (expr_no_tag c.args.skip.now c.args.props.now c.args.s.now c.found_of-f.result (c.found_of-f.ensures.1 c.args.props.now) (at c.args.templates.now c.args.page.now c.args.st) c.in-Expr.is c.place-c.ensures c.is_tag.ensures c.if-is_tag.false))
+on_found-returns-else-is_tag t c = c.on_given.ensures ∙ sym (found_given c.args.skip.now c.args.props.now c.args.s.now c.found_of-f.result (c.found_of-f.ensures.1 c.args.props.now) (at c.args.templates.now c.args.page.now c.args.st) (expr_no_tag c.args.skip.now c.args.props.now c.args.s.now c.found_of-f.result (c.found_of-f.ensures.1 c.args.props.now) (at c.args.templates.now c.args.page.now c.args.st) c.in-Expr.is c.part-c.ensures c.is_tag.ensures c.if-is_tag.false))
 
 pub on_found-returns-in_default : goal.on_found-returns-in_default
 on_found-returns-in_default t c = c.on_given-in_default.ensures ∙ sym (found_given c.args.skip.now c.args.props.now c.args.s.now c.found_of-f.result (c.found_of-f.ensures.1 c.args.props.now) (at c.args.templates.now c.args.page.now c.args.st) (rest_untagged c.found_of-f.result.kind (part c.args.s.now c.found_of-f.result) (opened c.in_default.in_default-own.keys3)))
 
 pub on_fragment-leaf-requires : goal.on_fragment-leaf-requires
-on_fragment-leaf-requires t c = null_room (fragment_mid c.args.skip.now c.args.props.now c.args.s.now) c.args.templates.now c.args.page.now c.args.st (fragment_null c.args.skip.now c.args.props.now c.args.s.now (at c.args.templates.now c.args.page.now c.args.st) c.child_count.ensures c.in-0.is) c.requires.low
+on_fragment-leaf-requires t c = null_room (fragment_mid c.args.skip.now c.args.props.now c.args.s.now) c.args.templates.now c.args.page.now c.args.st (fragment_null c.args.skip.now c.args.props.now c.args.s.now (at c.args.templates.now c.args.page.now c.args.st) c.child_count.ensures c.in-Zero.is) c.requires.low
 
 pub on_fragment-on_jsx-requires : goal.on_fragment-on_jsx-requires
 on_fragment-on_jsx-requires t c = let l = body_less _ _ c.tag_at.ensures.0 (λ z. omega (arith, c.in-48.is, z)) c.body-b.ensures in (
-  omega (arith, c.decreases, l, c.children_at-a.ensures.1),
+  omega (arith, c.decreases, l, c.children_at-a.ensures.within),
   record {
     desk = c.requires.desk;
-    short = omega (arith, c.requires.short, l, c.children_at-a.ensures.1);
-    low = low_is (sym (fragment_element c.args.skip.now c.args.props.now c.args.s.now (at c.args.templates.now c.args.page.now c.args.st) c.child_count.ensures c.in-1.is c.children_at-a.ensures.0 c.tag_at.ensures.0 c.body-b.ensures c.in-48.is)) c.requires.low;
+    short = omega (arith, c.requires.short, l, c.children_at-a.ensures.within);
+    low = low_is (sym (fragment_element c.args.skip.now c.args.props.now c.args.s.now (at c.args.templates.now c.args.page.now c.args.st) c.child_count.ensures c.in-One.is c.children_at-a.ensures.first c.tag_at.ensures.0 c.body-b.ensures c.in-48.is)) c.requires.low;
   },
 )
 
 pub on_fragment-on_found-requires : goal.on_fragment-on_found-requires
 on_fragment-on_found-requires t c = let l = body_less _ _ c.tag_at.ensures.0 (λ z. omega (arith, c.in-49.is, z)) c.body-b.ensures in (
-  omega (arith, c.decreases, l, c.children_at-a.ensures.1),
+  omega (arith, c.decreases, l, c.children_at-a.ensures.within),
   record {
     desk = c.requires.desk;
-    short = omega (arith, c.requires.short, l, c.children_at-a.ensures.1);
-    low = low_is (sym (fragment_fragment c.args.skip.now c.args.props.now c.args.s.now (at c.args.templates.now c.args.page.now c.args.st) c.child_count.ensures c.in-1.is c.children_at-a.ensures.0 c.tag_at.ensures.0 c.body-b.ensures c.in-49.is)) c.requires.low;
+    short = omega (arith, c.requires.short, l, c.children_at-a.ensures.within);
+    low = low_is (sym (fragment_fragment c.args.skip.now c.args.props.now c.args.s.now (at c.args.templates.now c.args.page.now c.args.st) c.child_count.ensures c.in-One.is c.children_at-a.ensures.first c.tag_at.ensures.0 c.body-b.ensures c.in-49.is)) c.requires.low;
   },
 )
 
 pub on_fragment-leave-requires : goal.on_fragment-leave-requires
-on_fragment-leave-requires t c = left_room (fragment_mid c.args.skip.now c.args.props.now c.args.s.now) c.args.templates.now c.args.page.now c.args.st (fragment_spread c.args.skip.now c.args.props.now c.args.s.now (at c.args.templates.now c.args.page.now c.args.st) c.child_count.ensures c.in-1.is c.children_at-a.ensures.0 c.tag_at.ensures.0 c.body-b.ensures c.in-97.is) c.requires.low
+on_fragment-leave-requires t c = left_room (fragment_mid c.args.skip.now c.args.props.now c.args.s.now) c.args.templates.now c.args.page.now c.args.st (fragment_spread c.args.skip.now c.args.props.now c.args.s.now (at c.args.templates.now c.args.page.now c.args.st) c.child_count.ensures c.in-One.is c.children_at-a.ensures.first c.tag_at.ensures.0 c.body-b.ensures c.in-97.is) c.requires.low
 
 pub on_fragment-on_template-requires : goal.on_fragment-on_template-requires
-on_fragment-on_template-requires t c = (omega (arith, c.decreases), record { desk = c.requires.desk; short = c.requires.short; low = low_is (sym (fragment_only c.args.skip.now c.args.props.now c.args.s.now (at c.args.templates.now c.args.page.now c.args.st) c.child_count.ensures c.in-1.is c.children_at-a.ensures.0 c.tag_at.ensures.0 c.body-b.ensures c.in_default-tag_at.in_default-tag_at-own.rest.0.0.1 c.in_default-tag_at.in_default-tag_at-own.rest.0.1 c.in_default-tag_at.in_default-tag_at-own.rest.1)) c.requires.low })
+on_fragment-on_template-requires t c = (omega (arith, c.decreases), record { desk = c.requires.desk; short = c.requires.short; low = low_is (sym (fragment_only c.args.skip.now c.args.props.now c.args.s.now (at c.args.templates.now c.args.page.now c.args.st) c.child_count.ensures c.in-One.is c.children_at-a.ensures.first c.tag_at.ensures.0 c.body-b.ensures c.in_default.in_default-own.rest.0.0.1 c.in_default.in_default-own.rest.0.1 c.in_default.in_default-own.rest.1)) c.requires.low })
 
-pub on_fragment-on_template-requires-in_default : goal.on_fragment-on_template-requires-in_default
-on_fragment-on_template-requires-in_default t c = (omega (arith, c.decreases), record { desk = c.requires.desk; short = c.requires.short; low = low_is (sym (fragment_several c.args.skip.now c.args.props.now c.args.s.now (at c.args.templates.now c.args.page.now c.args.st) c.child_count.ensures c.in_default.in_default-own.rest.0.1 c.in_default.in_default-own.rest.1)) c.requires.low })
+pub on_fragment-on_template-requires-in-More : goal.on_fragment-on_template-requires-in-More
+on_fragment-on_template-requires-in-More t c = (omega (arith, c.decreases), record { desk = c.requires.desk; short = c.requires.short; low = low_is (sym (fragment_several c.args.skip.now c.args.props.now c.args.s.now (at c.args.templates.now c.args.page.now c.args.st) c.child_count.ensures c.in-More.is)) c.requires.low })
 
-pub on_fragment-returns-in-0 : goal.on_fragment-returns-in-0
-on_fragment-returns-in-0 t c = null_done (fragment_mid c.args.skip.now c.args.props.now c.args.s.now) c.args.templates.now c.args.page.now c.args.st (fragment_null c.args.skip.now c.args.props.now c.args.s.now (at c.args.templates.now c.args.page.now c.args.st) c.child_count.ensures c.in-0.is) _ _ c.leaf.ensures
+pub on_fragment-returns-in-Zero : goal.on_fragment-returns-in-Zero
+on_fragment-returns-in-Zero t c = null_done (fragment_mid c.args.skip.now c.args.props.now c.args.s.now) c.args.templates.now c.args.page.now c.args.st (fragment_null c.args.skip.now c.args.props.now c.args.s.now (at c.args.templates.now c.args.page.now c.args.st) c.child_count.ensures c.in-Zero.is) _ _ c.leaf.ensures
 
 pub on_fragment-returns-in-48 : goal.on_fragment-returns-in-48
-on_fragment-returns-in-48 t c = c.on_jsx.ensures ∙ sym (fragment_element c.args.skip.now c.args.props.now c.args.s.now (at c.args.templates.now c.args.page.now c.args.st) c.child_count.ensures c.in-1.is c.children_at-a.ensures.0 c.tag_at.ensures.0 c.body-b.ensures c.in-48.is)
+on_fragment-returns-in-48 t c = c.on_jsx.ensures ∙ sym (fragment_element c.args.skip.now c.args.props.now c.args.s.now (at c.args.templates.now c.args.page.now c.args.st) c.child_count.ensures c.in-One.is c.children_at-a.ensures.first c.tag_at.ensures.0 c.body-b.ensures c.in-48.is)
 
 pub on_fragment-returns-in-49 : goal.on_fragment-returns-in-49
-on_fragment-returns-in-49 t c = c.on_found.ensures ∙ sym (fragment_fragment c.args.skip.now c.args.props.now c.args.s.now (at c.args.templates.now c.args.page.now c.args.st) c.child_count.ensures c.in-1.is c.children_at-a.ensures.0 c.tag_at.ensures.0 c.body-b.ensures c.in-49.is)
+on_fragment-returns-in-49 t c = c.on_found.ensures ∙ sym (fragment_fragment c.args.skip.now c.args.props.now c.args.s.now (at c.args.templates.now c.args.page.now c.args.st) c.child_count.ensures c.in-One.is c.children_at-a.ensures.first c.tag_at.ensures.0 c.body-b.ensures c.in-49.is)
 
 pub on_fragment-returns-in-97 : goal.on_fragment-returns-in-97
-on_fragment-returns-in-97 t c = left_done (fragment_mid c.args.skip.now c.args.props.now c.args.s.now) c.args.templates.now c.args.page.now c.args.st (fragment_spread c.args.skip.now c.args.props.now c.args.s.now (at c.args.templates.now c.args.page.now c.args.st) c.child_count.ensures c.in-1.is c.children_at-a.ensures.0 c.tag_at.ensures.0 c.body-b.ensures c.in-97.is) _ _ c.leave.ensures
-
-pub on_fragment-returns-in_default-tag_at : goal.on_fragment-returns-in_default-tag_at
-on_fragment-returns-in_default-tag_at t c = c.on_template.ensures ∙ sym (fragment_only c.args.skip.now c.args.props.now c.args.s.now (at c.args.templates.now c.args.page.now c.args.st) c.child_count.ensures c.in-1.is c.children_at-a.ensures.0 c.tag_at.ensures.0 c.body-b.ensures c.in_default-tag_at.in_default-tag_at-own.rest.0.0.1 c.in_default-tag_at.in_default-tag_at-own.rest.0.1 c.in_default-tag_at.in_default-tag_at-own.rest.1)
+on_fragment-returns-in-97 t c = left_done (fragment_mid c.args.skip.now c.args.props.now c.args.s.now) c.args.templates.now c.args.page.now c.args.st (fragment_spread c.args.skip.now c.args.props.now c.args.s.now (at c.args.templates.now c.args.page.now c.args.st) c.child_count.ensures c.in-One.is c.children_at-a.ensures.first c.tag_at.ensures.0 c.body-b.ensures c.in-97.is) _ _ c.leave.ensures
 
 pub on_fragment-returns-in_default : goal.on_fragment-returns-in_default
-on_fragment-returns-in_default t c = c.on_template-in_default.ensures ∙ sym (fragment_several c.args.skip.now c.args.props.now c.args.s.now (at c.args.templates.now c.args.page.now c.args.st) c.child_count.ensures c.in_default.in_default-own.rest.0.1 c.in_default.in_default-own.rest.1)
+on_fragment-returns-in_default t c = c.on_template.ensures ∙ sym (fragment_only c.args.skip.now c.args.props.now c.args.s.now (at c.args.templates.now c.args.page.now c.args.st) c.child_count.ensures c.in-One.is c.children_at-a.ensures.first c.tag_at.ensures.0 c.body-b.ensures c.in_default.in_default-own.rest.0.0.1 c.in_default.in_default-own.rest.0.1 c.in_default.in_default-own.rest.1)
+
+pub on_fragment-returns-in-More : goal.on_fragment-returns-in-More
+on_fragment-returns-in-More t c = c.on_template-in-More.ensures ∙ sym (fragment_several c.args.skip.now c.args.props.now c.args.s.now (at c.args.templates.now c.args.page.now c.args.st) c.child_count.ensures c.in-More.is)
 
 pub on_given-record_found-k-requires : goal.on_given-record_found-k-requires
 on_given-record_found-k-requires t c = (c.requires.1.desk, (c.requires.1.short, given_recorded c.args.skip.now c.args.props.now c.args.s.now c.args.f c.requires.0.0 c.requires.0.1 c.args.templates.now c.args.page.now c.args.st c.records_of.ensures c.requires.1.low))
@@ -229,21 +219,21 @@ pub on_items-close-cur-requires : goal.on_items-close-cur-requires
 on_items-close-cur-requires t c = spread_close _ _ _ _ c.tag_at.ensures.0 _ _ _ c.loop-p.invariant.1.1 c.in-119.is c.body.ensures c.begin.ensures c.on_expr-x.ensures c.requires.low
 
 pub on_items-loop-p-smaller-in-119 : goal.on_items-loop-p-smaller-in-119
-on_items-loop-p-smaller-in-119 t c = behind_less _ _ c.tag_at.ensures.0 (λ z. omega (arith, c.in-119.is)) c.behind-r.ensures
+on_items-loop-p-smaller-in-119 t c = behind_less _ _ c.tag_at.ensures.0 (λ z. omega (arith, c.in-119.is)) c.behind-t.ensures
 
 pub on_items-loop-p-preserved-in-119 : goal.on_items-loop-p-preserved-in-119
-on_items-loop-p-preserved-in-119 t c = let e = c.tag_at.ensures.0 in let i = c.loop-p.invariant in let l = behind_less _ _ e (λ z. omega (arith, c.in-119.is)) c.behind-r.ensures in
-    (c.on_expr-x.auto.scratch ∙ i.0, (omega (arith, l, i.1.0), spread_on _ _ _ _ e _ _ _ i.1.1 c.in-119.is c.body.ensures c.begin.ensures c.on_expr-x.ensures c.behind-r.ensures c.close-cur.ensures))
+on_items-loop-p-preserved-in-119 t c = let e = c.tag_at.ensures.0 in let i = c.loop-p.invariant in let l = behind_less _ _ e (λ z. omega (arith, c.in-119.is)) c.behind-t.ensures in
+    (c.on_expr-x.auto.scratch ∙ i.0, (omega (arith, l, i.1.0), spread_on _ _ _ _ e _ _ _ i.1.1 c.in-119.is c.body.ensures c.begin.ensures c.on_expr-x.ensures c.behind-t.ensures c.close-cur.ensures))
 
 pub on_items-leaf-cur-requires : goal.on_items-leaf-cur-requires
 on_items-leaf-cur-requires t c = hole_room _ _ _ _ c.tag_at.ensures.0 _ _ _ c.loop-p.invariant.1.1 c.in-120.is c.requires.low
 
 pub on_items-loop-p-smaller-in-120 : goal.on_items-loop-p-smaller-in-120
-on_items-loop-p-smaller-in-120 t c = behind_less _ _ c.tag_at.ensures.0 (λ z. omega (arith, c.in-120.is)) c.behind-r-in-120.ensures
+on_items-loop-p-smaller-in-120 t c = behind_less _ _ c.tag_at.ensures.0 (λ z. omega (arith, c.in-120.is)) c.behind-t-in-120.ensures
 
 pub on_items-loop-p-preserved-in-120 : goal.on_items-loop-p-preserved-in-120
-on_items-loop-p-preserved-in-120 t c = let e = c.tag_at.ensures.0 in let i = c.loop-p.invariant in let l = behind_less _ _ e (λ z. omega (arith, c.in-120.is)) c.behind-r-in-120.ensures in
-    (i.0, (omega (arith, l, i.1.0), hole_on _ _ _ _ e _ _ _ i.1.1 c.in-120.is c.behind-r-in-120.ensures c.leaf-cur.ensures))
+on_items-loop-p-preserved-in-120 t c = let e = c.tag_at.ensures.0 in let i = c.loop-p.invariant in let l = behind_less _ _ e (λ z. omega (arith, c.in-120.is)) c.behind-t-in-120.ensures in
+    (i.0, (omega (arith, l, i.1.0), hole_on _ _ _ _ e _ _ _ i.1.1 c.in-120.is c.behind-t-in-120.ensures c.leaf-cur.ensures))
 
 pub on_items-shape_of-scratch-in-256 : goal.on_items-shape_of-scratch-in-256
 on_items-shape_of-scratch-in-256 t c = c.loop-p.invariant.0
@@ -261,11 +251,11 @@ pub on_items-on_expr-cur-requires : goal.on_items-on_expr-cur-requires
 on_items-on_expr-cur-requires t c = let i = c.loop-p.invariant in (omega (arith, i.1.0, c.decreases), room_part _ _ _ _ c.requires i.0 i.1.0 (item_room _ _ _ _ c.tag_at.ensures.0 _ i.1.1 c.in_default.in_default-own.rest.1 c.in_default.in_default-own.rest.0.0.1 c.in_default.in_default-own.rest.0.1 c.requires.low))
 
 pub on_items-loop-p-smaller : goal.on_items-loop-p-smaller
-on_items-loop-p-smaller t c = behind_less _ _ c.tag_at.ensures.0 c.in_default.in_default-own.rest.1 c.behind-r-in_default.ensures
+on_items-loop-p-smaller t c = behind_less _ _ c.tag_at.ensures.0 c.in_default.in_default-own.rest.1 c.behind-t-in_default.ensures
 
 pub on_items-loop-p-preserved : goal.on_items-loop-p-preserved
-on_items-loop-p-preserved t c = let e = c.tag_at.ensures.0 in let i = c.loop-p.invariant in let l = behind_less _ _ e c.in_default.in_default-own.rest.1 c.behind-r-in_default.ensures in
-    (c.on_expr-cur.auto.scratch ∙ i.0, (omega (arith, l, i.1.0), item_on _ _ _ _ e _ i.1.1 c.in_default.in_default-own.rest.1 c.in_default.in_default-own.rest.0.0.1 c.in_default.in_default-own.rest.0.1 c.behind-r-in_default.ensures c.on_expr-cur.ensures))
+on_items-loop-p-preserved t c = let e = c.tag_at.ensures.0 in let i = c.loop-p.invariant in let l = behind_less _ _ e c.in_default.in_default-own.rest.1 c.behind-t-in_default.ensures in
+    (c.on_expr-cur.auto.scratch ∙ i.0, (omega (arith, l, i.1.0), item_on _ _ _ _ e _ i.1.1 c.in_default.in_default-own.rest.1 c.in_default.in_default-own.rest.0.0.1 c.in_default.in_default-own.rest.0.1 c.behind-t-in_default.ensures c.on_expr-cur.ensures))
 
 pub on_jsx-record_serialize-k-requires : goal.on_jsx-record_serialize-k-requires
 on_jsx-record_serialize-k-requires t c = (c.requires.desk, (c.requires.short, element_recorded c.args.skip.now c.args.props.now c.args.b.now c.args.templates.now c.args.page.now c.args.st c.records_of.ensures c.requires.low))
@@ -296,33 +286,33 @@ pub on_pieces-leaf-cur-requires : goal.on_pieces-leaf-cur-requires
 on_pieces-leaf-cur-requires t c = piece_room _ _ _ _ c.tag_at.ensures.0 _ _ _ c.loop-page.invariant.1.1 c.in-32.is c.body.ensures c.requires.low
 
 pub on_pieces-loop-page-smaller-in-32 : goal.on_pieces-loop-page-smaller-in-32
-on_pieces-loop-page-smaller-in-32 t c = behind_less _ _ c.tag_at.ensures.0 (λ z. omega (arith, c.in-32.is)) c.behind-r.ensures
+on_pieces-loop-page-smaller-in-32 t c = behind_less _ _ c.tag_at.ensures.0 (λ z. omega (arith, c.in-32.is)) c.behind-t.ensures
 
 pub on_pieces-loop-page-preserved-in-32 : goal.on_pieces-loop-page-preserved-in-32
-on_pieces-loop-page-preserved-in-32 t c = let e = c.tag_at.ensures.0 in let i = c.loop-page.invariant in let l = behind_less _ _ e (λ z. omega (arith, c.in-32.is)) c.behind-r.ensures in
-    (i.0, (omega (arith, l, i.1.0), piece_on _ _ _ _ e _ _ _ i.1.1 c.in-32.is c.body.ensures c.behind-r.ensures c.leaf-cur.ensures))
+on_pieces-loop-page-preserved-in-32 t c = let e = c.tag_at.ensures.0 in let i = c.loop-page.invariant in let l = behind_less _ _ e (λ z. omega (arith, c.in-32.is)) c.behind-t.ensures in
+    (i.0, (omega (arith, l, i.1.0), piece_on _ _ _ _ e _ _ _ i.1.1 c.in-32.is c.body.ensures c.behind-t.ensures c.leaf-cur.ensures))
 
 pub on_pieces-on_jsx-cur-requires : goal.on_pieces-on_jsx-cur-requires
 on_pieces-on_jsx-cur-requires t c = let e = c.tag_at.ensures.0 in let i = c.loop-page.invariant in let l = body_less _ _ e (λ z. omega (arith, c.in-48.is)) c.body-in-48.ensures in
     (omega (arith, l, i.1.0, c.decreases), room_part _ _ _ _ c.requires i.0 (omega (arith, l, i.1.0)) (piece_element_room _ _ _ _ e _ i.1.1 c.body-in-48.ensures c.in-48.is c.requires.low))
 
 pub on_pieces-loop-page-smaller-in-48 : goal.on_pieces-loop-page-smaller-in-48
-on_pieces-loop-page-smaller-in-48 t c = behind_less _ _ c.tag_at.ensures.0 (λ z. omega (arith, c.in-48.is)) c.behind-r-in-48.ensures
+on_pieces-loop-page-smaller-in-48 t c = behind_less _ _ c.tag_at.ensures.0 (λ z. omega (arith, c.in-48.is)) c.behind-t-in-48.ensures
 
 pub on_pieces-loop-page-preserved-in-48 : goal.on_pieces-loop-page-preserved-in-48
-on_pieces-loop-page-preserved-in-48 t c = let e = c.tag_at.ensures.0 in let i = c.loop-page.invariant in let l = behind_less _ _ e (λ z. omega (arith, c.in-48.is)) c.behind-r-in-48.ensures in
-    (c.on_jsx-cur.auto.scratch ∙ i.0, (omega (arith, l, i.1.0), piece_element_on _ _ _ _ e _ i.1.1 c.body-in-48.ensures c.in-48.is c.behind-r-in-48.ensures c.on_jsx-cur.ensures))
+on_pieces-loop-page-preserved-in-48 t c = let e = c.tag_at.ensures.0 in let i = c.loop-page.invariant in let l = behind_less _ _ e (λ z. omega (arith, c.in-48.is)) c.behind-t-in-48.ensures in
+    (c.on_jsx-cur.auto.scratch ∙ i.0, (omega (arith, l, i.1.0), piece_element_on _ _ _ _ e _ i.1.1 c.body-in-48.ensures c.in-48.is c.behind-t-in-48.ensures c.on_jsx-cur.ensures))
 
 pub on_pieces-on_fragment-cur-requires : goal.on_pieces-on_fragment-cur-requires
 on_pieces-on_fragment-cur-requires t c = let e = c.tag_at.ensures.0 in let i = c.loop-page.invariant in let l = body_less _ _ e (λ z. omega (arith, c.in-49.is)) c.body-in-49.ensures in
     (omega (arith, l, i.1.0, c.decreases), room_part _ _ _ _ c.requires i.0 (omega (arith, l, i.1.0)) (piece_fragment_room _ _ _ _ e _ i.1.1 c.body-in-49.ensures c.in-49.is c.requires.low))
 
 pub on_pieces-loop-page-smaller-in-49 : goal.on_pieces-loop-page-smaller-in-49
-on_pieces-loop-page-smaller-in-49 t c = behind_less _ _ c.tag_at.ensures.0 (λ z. omega (arith, c.in-49.is)) c.behind-r-in-49.ensures
+on_pieces-loop-page-smaller-in-49 t c = behind_less _ _ c.tag_at.ensures.0 (λ z. omega (arith, c.in-49.is)) c.behind-t-in-49.ensures
 
 pub on_pieces-loop-page-preserved-in-49 : goal.on_pieces-loop-page-preserved-in-49
-on_pieces-loop-page-preserved-in-49 t c = let e = c.tag_at.ensures.0 in let i = c.loop-page.invariant in let l = behind_less _ _ e (λ z. omega (arith, c.in-49.is)) c.behind-r-in-49.ensures in
-    (c.on_fragment-cur.auto.scratch ∙ i.0, (omega (arith, l, i.1.0), piece_fragment_on _ _ _ _ e _ i.1.1 c.body-in-49.ensures c.in-49.is c.behind-r-in-49.ensures c.on_fragment-cur.ensures))
+on_pieces-loop-page-preserved-in-49 t c = let e = c.tag_at.ensures.0 in let i = c.loop-page.invariant in let l = behind_less _ _ e (λ z. omega (arith, c.in-49.is)) c.behind-t-in-49.ensures in
+    (c.on_fragment-cur.auto.scratch ∙ i.0, (omega (arith, l, i.1.0), piece_fragment_on _ _ _ _ e _ i.1.1 c.body-in-49.ensures c.in-49.is c.behind-t-in-49.ensures c.on_fragment-cur.ensures))
 
 pub on_pieces-shape_of-scratch-in-256 : goal.on_pieces-shape_of-scratch-in-256
 on_pieces-shape_of-scratch-in-256 t c = c.loop-page.invariant.0
@@ -337,11 +327,11 @@ pub on_pieces-returns-in-256 : goal.on_pieces-returns-in-256
 on_pieces-returns-in-256 t c = pieces_end _ _ _ _ c.tag_at.ensures.0 _ c.loop-page.invariant.1.1 (c.tag_at.ensures.1 c.in-256.is)
 
 pub on_pieces-loop-page-smaller : goal.on_pieces-loop-page-smaller
-on_pieces-loop-page-smaller t c = behind_less _ _ c.tag_at.ensures.0 c.in_default.in_default-own.rest.1 c.behind-r-in_default.ensures
+on_pieces-loop-page-smaller t c = behind_less _ _ c.tag_at.ensures.0 c.in_default.in_default-own.rest.1 c.behind-t-in_default.ensures
 
 pub on_pieces-loop-page-preserved : goal.on_pieces-loop-page-preserved
-on_pieces-loop-page-preserved t c = let e = c.tag_at.ensures.0 in let i = c.loop-page.invariant in let n = c.in_default.in_default-own.rest in let l = behind_less _ _ e n.1 c.behind-r-in_default.ensures in
-    (i.0, (omega (arith, l, i.1.0), pieces_past _ _ _ _ e _ i.1.1 n.1 n.0.0.0.1 n.0.0.1 n.0.1 c.behind-r-in_default.ensures))
+on_pieces-loop-page-preserved t c = let e = c.tag_at.ensures.0 in let i = c.loop-page.invariant in let n = c.in_default.in_default-own.rest in let l = behind_less _ _ e n.1 c.behind-t-in_default.ensures in
+    (i.0, (omega (arith, l, i.1.0), pieces_past _ _ _ _ e _ i.1.1 n.1 n.0.0.0.1 n.0.0.1 n.0.1 c.behind-t-in_default.ensures))
 
 pub on_template-record_fragment-k-requires : goal.on_template-record_fragment-k-requires
 on_template-record_fragment-k-requires t c = (c.requires.desk, (c.requires.short, template_recorded c.args.skip.now c.args.props.now c.args.s.now c.args.templates.now c.args.page.now c.args.st c.records_of.ensures c.requires.low))
@@ -391,17 +381,17 @@ to_attrs-gap_back-cur-requires t c = let w = at c.loop-a.templates c.loop-a.page
     (back_page _ _ _ _ c.tag_at.ensures.0 w c.loop-a.invariant.1.1 c.in-80.is c.body-a.ensures c.attribute_gap-gap.ensures c.attribute_front-x.ensures (c.held_at.ensures.0 c.args.skip.now c.args.props.now) c.on_held-y.ensures, back_room _ _ _ _ c.tag_at.ensures.0 w c.loop-a.invariant.1.1 c.in-80.is c.body-a.ensures c.attribute_gap-gap.ensures c.attribute_front-x.ensures (c.held_at.ensures.0 c.args.skip.now c.args.props.now) c.on_held-y.ensures c.requires.low)
 
 pub to_attrs-loop-a-smaller-in-80 : goal.to_attrs-loop-a-smaller-in-80
-to_attrs-loop-a-smaller-in-80 t c = behind_less _ _ c.tag_at.ensures.0 (λ q. omega (arith, c.in-80.is)) c.behind-r.ensures
+to_attrs-loop-a-smaller-in-80 t c = behind_less _ _ c.tag_at.ensures.0 (λ q. omega (arith, c.in-80.is)) c.behind-t.ensures
 
 pub to_attrs-loop-a-preserved-in-80 : goal.to_attrs-loop-a-preserved-in-80
 to_attrs-loop-a-preserved-in-80 t c = let w = at c.loop-a.templates c.loop-a.page c.loop-a.cur in
-    (c.on_held-y.auto.scratch ∙ c.loop-a.invariant.0, (omega (arith, behind_less _ _ c.tag_at.ensures.0 (λ q. omega (arith, c.in-80.is)) c.behind-r.ensures, c.loop-a.invariant.1.0), attr_on _ _ _ _ c.tag_at.ensures.0 w c.loop-a.invariant.1.1 c.in-80.is c.body-a.ensures c.attribute_gap-gap.ensures c.attribute_front-x.ensures (c.held_at.ensures.0 c.args.skip.now c.args.props.now) c.on_held-y.ensures c.behind-r.ensures c.gap_back-cur.ensures))
+    (c.on_held-y.auto.scratch ∙ c.loop-a.invariant.0, (omega (arith, behind_less _ _ c.tag_at.ensures.0 (λ q. omega (arith, c.in-80.is)) c.behind-t.ensures, c.loop-a.invariant.1.0), attr_on _ _ _ _ c.tag_at.ensures.0 w c.loop-a.invariant.1.1 c.in-80.is c.body-a.ensures c.attribute_gap-gap.ensures c.attribute_front-x.ensures (c.held_at.ensures.0 c.args.skip.now c.args.props.now) c.on_held-y.ensures c.behind-t.ensures c.gap_back-cur.ensures))
 
 pub to_attrs-loop-a-smaller : goal.to_attrs-loop-a-smaller
-to_attrs-loop-a-smaller t c = behind_less _ _ c.tag_at.ensures.0 (λ q. omega (arith, c.in-83.is)) c.behind-r-in-83.ensures
+to_attrs-loop-a-smaller t c = behind_less _ _ c.tag_at.ensures.0 (λ q. omega (arith, c.in-83.is)) c.behind-t-in-83.ensures
 
 pub to_attrs-loop-a-preserved : goal.to_attrs-loop-a-preserved
-to_attrs-loop-a-preserved t c = (c.loop-a.invariant.0, (omega (arith, behind_less _ _ c.tag_at.ensures.0 (λ q. omega (arith, c.in-83.is)) c.behind-r-in-83.ensures, c.loop-a.invariant.1.0), attrs_past _ _ _ _ c.tag_at.ensures.0 _ c.loop-a.invariant.1.1 c.in-83.is c.behind-r-in-83.ensures))
+to_attrs-loop-a-preserved t c = (c.loop-a.invariant.0, (omega (arith, behind_less _ _ c.tag_at.ensures.0 (λ q. omega (arith, c.in-83.is)) c.behind-t-in-83.ensures, c.loop-a.invariant.1.0), attrs_past _ _ _ _ c.tag_at.ensures.0 _ c.loop-a.invariant.1.1 c.in-83.is c.behind-t-in-83.ensures))
 
 pub to_attrs-shape_of-scratch-in_default : goal.to_attrs-shape_of-scratch-in_default
 to_attrs-shape_of-scratch-in_default t c = c.loop-a.invariant.0
@@ -422,21 +412,21 @@ pub to_entries-join_text-run-requires : goal.to_entries-join_text-run-requires
 to_entries-join_text-run-requires t c = text_room _ _ _ c.loop-page.invariant.1.1 _ c.tag_at.ensures.0 c.body.ensures c.in-96.is c.requires.low
 
 pub to_entries-loop-page-smaller-in-96 : goal.to_entries-loop-page-smaller-in-96
-to_entries-loop-page-smaller-in-96 t c = behind_less _ _ c.tag_at.ensures.0 (λ z. omega (arith, z, c.in-96.is)) c.behind-r.ensures
+to_entries-loop-page-smaller-in-96 t c = behind_less _ _ c.tag_at.ensures.0 (λ z. omega (arith, z, c.in-96.is)) c.behind-t.ensures
 
 pub to_entries-loop-page-preserved-in-96 : goal.to_entries-loop-page-preserved-in-96
-to_entries-loop-page-preserved-in-96 t c = let i = c.loop-page.invariant in let tag = c.tag_at.ensures.0 in let l = behind_less _ _ tag (λ z. omega (arith, z, c.in-96.is)) c.behind-r.ensures in
-    (i.0, (omega (arith, l, i.1.0), text_on _ _ _ i.1.1 _ tag c.body.ensures c.in-96.is c.behind-r.ensures c.join_text-run.ensures))
+to_entries-loop-page-preserved-in-96 t c = let i = c.loop-page.invariant in let tag = c.tag_at.ensures.0 in let l = behind_less _ _ tag (λ z. omega (arith, z, c.in-96.is)) c.behind-t.ensures in
+    (i.0, (omega (arith, l, i.1.0), text_on _ _ _ i.1.1 _ tag c.body.ensures c.in-96.is c.behind-t.ensures c.join_text-run.ensures))
 
 pub to_entries-join_container-run-requires : goal.to_entries-join_container-run-requires
 to_entries-join_container-run-requires t c = joined_room _ _ _ c.loop-page.invariant.1.1 _ c.tag_at.ensures.0 c.body-c.ensures c.in-82.is c.joins.ensures c.if-joins.true c.requires.low
 
 pub to_entries-loop-page-smaller-then-joins : goal.to_entries-loop-page-smaller-then-joins
-to_entries-loop-page-smaller-then-joins t c = behind_less _ _ c.tag_at.ensures.0 (λ z. omega (arith, z, c.in-82.is)) c.behind-r-then-joins.ensures
+to_entries-loop-page-smaller-then-joins t c = behind_less _ _ c.tag_at.ensures.0 (λ z. omega (arith, z, c.in-82.is)) c.behind-t-then-joins.ensures
 
 pub to_entries-loop-page-preserved-then-joins : goal.to_entries-loop-page-preserved-then-joins
-to_entries-loop-page-preserved-then-joins t c = let i = c.loop-page.invariant in let tag = c.tag_at.ensures.0 in let l = behind_less _ _ tag (λ z. omega (arith, z, c.in-82.is)) c.behind-r-then-joins.ensures in
-    (i.0, (omega (arith, l, i.1.0), joined_on _ _ _ i.1.1 _ tag c.body-c.ensures c.in-82.is c.joins.ensures c.if-joins.true c.behind-r-then-joins.ensures c.join_container-run.ensures))
+to_entries-loop-page-preserved-then-joins t c = let i = c.loop-page.invariant in let tag = c.tag_at.ensures.0 in let l = behind_less _ _ tag (λ z. omega (arith, z, c.in-82.is)) c.behind-t-then-joins.ensures in
+    (i.0, (omega (arith, l, i.1.0), joined_on _ _ _ i.1.1 _ tag c.body-c.ensures c.in-82.is c.joins.ensures c.if-joins.true c.behind-t-then-joins.ensures c.join_container-run.ensures))
 
 pub to_entries-flush-a-requires : goal.to_entries-flush-a-requires
 to_entries-flush-a-requires t c = expr_run _ _ _ c.loop-page.invariant.1.1 _ c.tag_at.ensures.0 c.body-c.ensures c.in-82.is c.joins.ensures c.if-joins.false c.requires.low
@@ -446,11 +436,11 @@ to_entries-on_expr-cur-requires t c = let i = c.loop-page.invariant in let tag =
     (omega (arith, l, i.1.0, c.decreases), record { desk = omega (arith, i.0, c.requires.desk); short = omega (arith, l, i.1.0, c.requires.short); low = expr_room _ _ _ i.1.1 _ tag c.body-c.ensures c.in-82.is c.joins.ensures c.if-joins.false c.flush-a.ensures c.requires.low })
 
 pub to_entries-loop-page-smaller-else-joins : goal.to_entries-loop-page-smaller-else-joins
-to_entries-loop-page-smaller-else-joins t c = behind_less _ _ c.tag_at.ensures.0 (λ z. omega (arith, z, c.in-82.is)) c.behind-r-else-joins.ensures
+to_entries-loop-page-smaller-else-joins t c = behind_less _ _ c.tag_at.ensures.0 (λ z. omega (arith, z, c.in-82.is)) c.behind-t-else-joins.ensures
 
 pub to_entries-loop-page-preserved-else-joins : goal.to_entries-loop-page-preserved-else-joins
-to_entries-loop-page-preserved-else-joins t c = let i = c.loop-page.invariant in let tag = c.tag_at.ensures.0 in let l = behind_less _ _ tag (λ z. omega (arith, z, c.in-82.is)) c.behind-r-else-joins.ensures in
-    (c.on_expr-cur.auto.scratch ∙ i.0, (omega (arith, l, i.1.0), expr_on _ _ _ i.1.1 _ tag c.body-c.ensures c.in-82.is c.joins.ensures c.if-joins.false c.flush-a.ensures c.behind-r-else-joins.ensures c.on_expr-cur.ensures))
+to_entries-loop-page-preserved-else-joins t c = let i = c.loop-page.invariant in let tag = c.tag_at.ensures.0 in let l = behind_less _ _ tag (λ z. omega (arith, z, c.in-82.is)) c.behind-t-else-joins.ensures in
+    (c.on_expr-cur.auto.scratch ∙ i.0, (omega (arith, l, i.1.0), expr_on _ _ _ i.1.1 _ tag c.body-c.ensures c.in-82.is c.joins.ensures c.if-joins.false c.flush-a.ensures c.behind-t-else-joins.ensures c.on_expr-cur.ensures))
 
 pub to_entries-flush-a-requires-in-48 : goal.to_entries-flush-a-requires-in-48
 to_entries-flush-a-requires-in-48 t c = element_run _ _ _ c.loop-page.invariant.1.1 _ c.tag_at.ensures.0 c.in-48.is c.requires.low
@@ -460,11 +450,11 @@ to_entries-to_jsx-cur-requires t c = let i = c.loop-page.invariant in let tag = 
     (omega (arith, l, i.1.0, c.decreases), record { desk = omega (arith, i.0, c.requires.desk); short = omega (arith, l, i.1.0, c.requires.short); low = element_room _ _ _ i.1.1 _ tag c.body-in-48.ensures c.in-48.is c.flush-a-in-48.ensures c.requires.low })
 
 pub to_entries-loop-page-smaller-in-48 : goal.to_entries-loop-page-smaller-in-48
-to_entries-loop-page-smaller-in-48 t c = behind_less _ _ c.tag_at.ensures.0 (λ z. omega (arith, z, c.in-48.is)) c.behind-r-in-48.ensures
+to_entries-loop-page-smaller-in-48 t c = behind_less _ _ c.tag_at.ensures.0 (λ z. omega (arith, z, c.in-48.is)) c.behind-t-in-48.ensures
 
 pub to_entries-loop-page-preserved-in-48 : goal.to_entries-loop-page-preserved-in-48
-to_entries-loop-page-preserved-in-48 t c = let i = c.loop-page.invariant in let tag = c.tag_at.ensures.0 in let l = behind_less _ _ tag (λ z. omega (arith, z, c.in-48.is)) c.behind-r-in-48.ensures in
-    (c.to_jsx-cur.auto.scratch ∙ i.0, (omega (arith, l, i.1.0), element_on _ _ _ i.1.1 _ tag c.body-in-48.ensures c.in-48.is c.flush-a-in-48.ensures c.behind-r-in-48.ensures c.to_jsx-cur.ensures))
+to_entries-loop-page-preserved-in-48 t c = let i = c.loop-page.invariant in let tag = c.tag_at.ensures.0 in let l = behind_less _ _ tag (λ z. omega (arith, z, c.in-48.is)) c.behind-t-in-48.ensures in
+    (c.to_jsx-cur.auto.scratch ∙ i.0, (omega (arith, l, i.1.0), element_on _ _ _ i.1.1 _ tag c.body-in-48.ensures c.in-48.is c.flush-a-in-48.ensures c.behind-t-in-48.ensures c.to_jsx-cur.ensures))
 
 pub to_entries-flush-a-requires-in-49 : goal.to_entries-flush-a-requires-in-49
 to_entries-flush-a-requires-in-49 t c = fragment_run _ _ _ c.loop-page.invariant.1.1 _ c.tag_at.ensures.0 c.in-49.is c.requires.low
@@ -478,11 +468,11 @@ to_entries-to_found-cur-requires t c = let i = c.loop-page.invariant in let tag 
     (omega (arith, l, i.1.0, c.decreases), (record { within = c.found_of.ensures.0; finds = c.found_of.ensures.1 c.args.props.now }, record { desk = omega (arith, i.0, c.requires.desk); short = omega (arith, l, i.1.0, c.requires.short); low = fragment_room _ _ _ i.1.1 _ tag c.body-b.ensures c.in-49.is c.flush-a-in-49.ensures c.requires.low }))
 
 pub to_entries-loop-page-smaller-in-49 : goal.to_entries-loop-page-smaller-in-49
-to_entries-loop-page-smaller-in-49 t c = behind_less _ _ c.tag_at.ensures.0 (λ z. omega (arith, z, c.in-49.is)) c.behind-r-in-49.ensures
+to_entries-loop-page-smaller-in-49 t c = behind_less _ _ c.tag_at.ensures.0 (λ z. omega (arith, z, c.in-49.is)) c.behind-t-in-49.ensures
 
 pub to_entries-loop-page-preserved-in-49 : goal.to_entries-loop-page-preserved-in-49
-to_entries-loop-page-preserved-in-49 t c = let i = c.loop-page.invariant in let tag = c.tag_at.ensures.0 in let l = behind_less _ _ tag (λ z. omega (arith, z, c.in-49.is)) c.behind-r-in-49.ensures in
-    (c.to_found-cur.auto.scratch ∙ i.0, (omega (arith, l, i.1.0), fragment_on _ _ _ i.1.1 _ tag c.body-b.ensures c.in-49.is c.flush-a-in-49.ensures c.behind-r-in-49.ensures c.to_found-cur.ensures))
+to_entries-loop-page-preserved-in-49 t c = let i = c.loop-page.invariant in let tag = c.tag_at.ensures.0 in let l = behind_less _ _ tag (λ z. omega (arith, z, c.in-49.is)) c.behind-t-in-49.ensures in
+    (c.to_found-cur.auto.scratch ∙ i.0, (omega (arith, l, i.1.0), fragment_on _ _ _ i.1.1 _ tag c.body-b.ensures c.in-49.is c.flush-a-in-49.ensures c.behind-t-in-49.ensures c.to_found-cur.ensures))
 
 pub to_entries-flush-requires : goal.to_entries-flush-requires
 to_entries-flush-requires t c = last_run _ _ _ c.loop-page.invariant.1.1 (c.tag_at.ensures.1 c.in-256.is) c.requires.low
@@ -500,88 +490,88 @@ pub to_entries-returns-in-256 : goal.to_entries-returns-in-256
 to_entries-returns-in-256 t c = entering_end _ _ _ c.loop-page.invariant.1.1 (c.tag_at.ensures.1 c.in-256.is) c.flush.ensures
 
 pub to_entries-loop-page-smaller : goal.to_entries-loop-page-smaller
-to_entries-loop-page-smaller t c = behind_less _ _ c.tag_at.ensures.0 c.in_default.in_default-own.rest.1 c.behind-r-in_default.ensures
+to_entries-loop-page-smaller t c = behind_less _ _ c.tag_at.ensures.0 c.in_default.in_default-own.rest.1 c.behind-t-in_default.ensures
 
 pub to_entries-loop-page-preserved : goal.to_entries-loop-page-preserved
-to_entries-loop-page-preserved t c = let i = c.loop-page.invariant in let tag = c.tag_at.ensures.0 in let z = c.in_default.in_default-own.rest in (i.0, (omega (arith, behind_less _ _ tag z.1 c.behind-r-in_default.ensures, i.1.0), other_on _ _ _ i.1.1 _ tag c.behind-r-in_default.ensures z.1 z.0.0.0.0.1 z.0.0.0.1 z.0.0.1 z.0.1))
+to_entries-loop-page-preserved t c = let i = c.loop-page.invariant in let tag = c.tag_at.ensures.0 in let z = c.in_default.in_default-own.rest in (i.0, (omega (arith, behind_less _ _ tag z.1 c.behind-t-in_default.ensures, i.1.0), other_on _ _ _ i.1.1 _ tag c.behind-t-in_default.ensures z.1 z.0.0.0.0.1 z.0.0.0.1 z.0.0.1 z.0.1))
 
-pub to_found-place-u-requires : goal.to_found-place-u-requires
-to_found-place-u-requires t c = c.requires.0.within
+pub to_found-part-u-requires : goal.to_found-part-u-requires
+to_found-part-u-requires t c = c.requires.0.within
 
 pub to_found-text_leaf-requires : goal.to_found-text_leaf-requires
-to_found-text_leaf-requires t c = to_found_text_room c.requires.0 c.place-u.ensures _ _ _ _ c.in-Text.is c.body.ensures c.requires.1.low
+to_found-text_leaf-requires t c = to_found_text_room c.requires.0 c.part-u.ensures _ _ _ _ c.in-Text.is c.body.ensures c.requires.1.low
 
 pub to_found-to_jsx-requires : goal.to_found-to_jsx-requires
-to_found-to_jsx-requires t c = (omega (arith, element_short c.requires.0 c.place-u.ensures c.in-Element.is c.body-in-Element.ensures, c.decreases), to_found_element_room c.requires.0 c.place-u.ensures _ _ _ _ c.in-Element.is c.body-in-Element.ensures c.requires.1)
+to_found-to_jsx-requires t c = (omega (arith, element_short c.requires.0 c.part-u.ensures c.in-Element.is c.body-in-Element.ensures, c.decreases), to_found_element_room c.requires.0 c.part-u.ensures _ _ _ _ c.in-Element.is c.body-in-Element.ensures c.requires.1)
 
 pub to_found-begin_template-a-requires : goal.to_found-begin_template-a-requires
-to_found-begin_template-a-requires t c = merged_begin c.requires.0 c.place-u.ensures _ _ _ _ c.in-Template.is c.requires.1.low
+to_found-begin_template-a-requires t c = merged_begin c.requires.0 c.part-u.ensures _ _ _ _ c.in-Template.is c.requires.1.low
 
 pub to_found-to_parts-c-requires : goal.to_found-to_parts-c-requires
-to_found-to_parts-c-requires t c = (omega (arith, found_short c.requires.0 c.place-u.ensures, c.decreases), merged_room c.requires.0 c.place-u.ensures _ _ _ _ c.in-Template.is c.begin_template-a.ensures c.requires.1)
+to_found-to_parts-c-requires t c = (omega (arith, found_short c.requires.0 c.part-u.ensures, c.decreases), merged_room c.requires.0 c.part-u.ensures _ _ _ _ c.in-Template.is c.begin_template-a.ensures c.requires.1)
 
 pub to_found-close-requires : goal.to_found-close-requires
-to_found-close-requires t c = merged_end c.requires.0 c.place-u.ensures _ _ _ _ c.in-Template.is c.begin_template-a.ensures c.to_parts-c.ensures c.requires.1.low
+to_found-close-requires t c = merged_end c.requires.0 c.part-u.ensures _ _ _ _ c.in-Template.is c.begin_template-a.ensures c.to_parts-c.ensures c.requires.1.low
 
 pub to_found-to_entries-requires : goal.to_found-to_entries-requires
-to_found-to_entries-requires t c = (omega (arith, found_short c.requires.0 c.place-u.ensures, c.decreases), run_room c.requires.0 c.place-u.ensures _ _ _ _ c.in-Run.is c.requires.1)
+to_found-to_entries-requires t c = (omega (arith, found_short c.requires.0 c.part-u.ensures, c.decreases), run_room c.requires.0 c.part-u.ensures _ _ _ _ c.in-Run.is c.requires.1)
 
 pub to_found-on_items-requires : goal.to_found-on_items-requires
-to_found-on_items-requires t c = (omega (arith, items_short c.requires.0 c.place-u.ensures c.body-then-tag_at-eq118.ensures, c.decreases), items_room c.requires.0 c.place-u.ensures _ _ _ _ c.in-Expr.is c.if-splice.true c.tag_at.ensures.0 (eq-eqb c.tag_at.result 118 c.if-tag_at-eq118.true) c.body-then-tag_at-eq118.ensures c.requires.1)
+to_found-on_items-requires t c = (omega (arith, items_short c.requires.0 c.part-u.ensures c.body-then-tag_at-eq118.ensures, c.decreases), items_room c.requires.0 c.part-u.ensures _ _ _ _ c.in-Expr.is c.if-splice.true c.tag_at.ensures.0 (eq-eqb c.tag_at.result 118 c.if-tag_at-eq118.true) c.body-then-tag_at-eq118.ensures c.requires.1)
 
 pub to_found-returns-then-tag_at-eq118 : goal.to_found-returns-then-tag_at-eq118
-to_found-returns-then-tag_at-eq118 t c = items_done c.requires.0 c.place-u.ensures _ _ _ _ c.in-Expr.is c.if-splice.true c.tag_at.ensures.0 (eq-eqb c.tag_at.result 118 c.if-tag_at-eq118.true) c.body-then-tag_at-eq118.ensures c.on_items.ensures
+to_found-returns-then-tag_at-eq118 t c = items_done c.requires.0 c.part-u.ensures _ _ _ _ c.in-Expr.is c.if-splice.true c.tag_at.ensures.0 (eq-eqb c.tag_at.result 118 c.if-tag_at-eq118.true) c.body-then-tag_at-eq118.ensures c.on_items.ensures
 
 pub to_found-on_expr-requires : goal.to_found-on_expr-requires
-to_found-on_expr-requires t c = (omega (arith, found_short c.requires.0 c.place-u.ensures, c.decreases), to_found_expr_room c.requires.0 c.place-u.ensures _ _ _ _ c.in-Expr.is (elim c.else-splice.branch [ to_found-else-splice-via-then-splice+else-tag_at-eq118 w ↦ λ e. alone _ _ w.tag_at.ensures.0 (ne_eqb w.tag_at.result 118 w.if-tag_at-eq118.false) | to_found-else-splice-via-else-splice w ↦ unspliced w.if-splice.false ]) c.requires.1)
+to_found-on_expr-requires t c = (omega (arith, found_short c.requires.0 c.part-u.ensures, c.decreases), to_found_expr_room c.requires.0 c.part-u.ensures _ _ _ _ c.in-Expr.is (elim c.else-splice.branch [ to_found-else-splice-via-then-splice+else-tag_at-eq118 w ↦ λ e. alone _ _ w.tag_at.ensures.0 (ne_eqb w.tag_at.result 118 w.if-tag_at-eq118.false) | to_found-else-splice-via-else-splice w ↦ unspliced w.if-splice.false ]) c.requires.1)
 
 pub to_found-begin_if-a-requires : goal.to_found-begin_if-a-requires
-to_found-begin_if-a-requires t c = many_begin c.requires.0 c.place-u.ensures _ _ _ _ c.in-Many.is c.requires.1.low
+to_found-begin_if-a-requires t c = many_begin c.requires.0 c.part-u.ensures _ _ _ _ c.in-Many.is c.requires.1.low
 
 pub to_found-to_entries-c-requires : goal.to_found-to_entries-c-requires
-to_found-to_entries-c-requires t c = (omega (arith, found_short c.requires.0 c.place-u.ensures, c.decreases), many_room c.requires.0 c.place-u.ensures _ _ _ _ c.in-Many.is c.begin_if-a.ensures c.requires.1)
+to_found-to_entries-c-requires t c = (omega (arith, found_short c.requires.0 c.part-u.ensures, c.decreases), many_room c.requires.0 c.part-u.ensures _ _ _ _ c.in-Many.is c.begin_if-a.ensures c.requires.1)
 
 pub to_found-close_if-requires : goal.to_found-close_if-requires
-to_found-close_if-requires t c = many_end c.requires.0 c.place-u.ensures _ _ _ _ c.in-Many.is c.begin_if-a.ensures c.to_entries-c.ensures c.requires.1.low
+to_found-close_if-requires t c = many_end c.requires.0 c.part-u.ensures _ _ _ _ c.in-Many.is c.begin_if-a.ensures c.to_entries-c.ensures c.requires.1.low
 
 pub to_found-begin_if-a-requires-in-Empty : goal.to_found-begin_if-a-requires-in-Empty
-to_found-begin_if-a-requires-in-Empty t c = empty_begin c.requires.0 c.place-u.ensures _ _ _ _ c.in-Empty.is c.requires.1.low
+to_found-begin_if-a-requires-in-Empty t c = empty_begin c.requires.0 c.part-u.ensures _ _ _ _ c.in-Empty.is c.requires.1.low
 
 pub to_found-close_if-requires-in-Empty : goal.to_found-close_if-requires-in-Empty
-to_found-close_if-requires-in-Empty t c = empty_end c.requires.0 c.place-u.ensures _ _ _ _ c.in-Empty.is c.begin_if-a-in-Empty.ensures c.requires.1.low
+to_found-close_if-requires-in-Empty t c = empty_end c.requires.0 c.part-u.ensures _ _ _ _ c.in-Empty.is c.begin_if-a-in-Empty.ensures c.requires.1.low
 
 pub to_found-hole_leaf-requires : goal.to_found-hole_leaf-requires
-to_found-hole_leaf-requires t c = to_found_hole_room c.requires.0 c.place-u.ensures _ _ _ _ c.in-Hole.is c.requires.1.low
+to_found-hole_leaf-requires t c = to_found_hole_room c.requires.0 c.part-u.ensures _ _ _ _ c.in-Hole.is c.requires.1.low
 
 pub to_found-returns-in-Nothing : goal.to_found-returns-in-Nothing
-to_found-returns-in-Nothing t c = nothing_done c.requires.0 c.place-u.ensures _ _ _ _ c.in-Nothing.is
+to_found-returns-in-Nothing t c = nothing_done c.requires.0 c.part-u.ensures _ _ _ _ c.in-Nothing.is
 
 pub to_found-returns-in-Text : goal.to_found-returns-in-Text
-to_found-returns-in-Text t c = text_done c.requires.0 c.place-u.ensures _ _ _ _ c.in-Text.is c.body.ensures c.text_leaf.ensures
+to_found-returns-in-Text t c = text_done c.requires.0 c.part-u.ensures _ _ _ _ c.in-Text.is c.body.ensures c.text_leaf.ensures
 
 pub to_found-returns-in-Element : goal.to_found-returns-in-Element
-to_found-returns-in-Element t c = to_found_element_done c.requires.0 c.place-u.ensures _ _ _ _ c.in-Element.is c.body-in-Element.ensures c.to_jsx.ensures
+to_found-returns-in-Element t c = to_found_element_done c.requires.0 c.part-u.ensures _ _ _ _ c.in-Element.is c.body-in-Element.ensures c.to_jsx.ensures
 
 pub to_found-returns-in-Template : goal.to_found-returns-in-Template
-to_found-returns-in-Template t c = merged_done c.requires.0 c.place-u.ensures _ _ _ _ c.in-Template.is c.begin_template-a.ensures c.to_parts-c.ensures c.close.ensures
+to_found-returns-in-Template t c = merged_done c.requires.0 c.part-u.ensures _ _ _ _ c.in-Template.is c.begin_template-a.ensures c.to_parts-c.ensures c.close.ensures
 
 pub to_found-returns-in-Run : goal.to_found-returns-in-Run
-to_found-returns-in-Run t c = run_done c.requires.0 c.place-u.ensures _ _ _ _ c.in-Run.is c.to_entries.ensures
+to_found-returns-in-Run t c = run_done c.requires.0 c.part-u.ensures _ _ _ _ c.in-Run.is c.to_entries.ensures
 
 pub to_found-returns-else-splice : goal.to_found-returns-else-splice
-to_found-returns-else-splice t c = expr_done c.requires.0 c.place-u.ensures _ _ _ _ c.in-Expr.is (elim c.else-splice.branch [ to_found-else-splice-via-then-splice+else-tag_at-eq118 w ↦ λ e. alone _ _ w.tag_at.ensures.0 (ne_eqb w.tag_at.result 118 w.if-tag_at-eq118.false) | to_found-else-splice-via-else-splice w ↦ unspliced w.if-splice.false ]) c.on_expr.ensures
+to_found-returns-else-splice t c = expr_done c.requires.0 c.part-u.ensures _ _ _ _ c.in-Expr.is (elim c.else-splice.branch [ to_found-else-splice-via-then-splice+else-tag_at-eq118 w ↦ λ e. alone _ _ w.tag_at.ensures.0 (ne_eqb w.tag_at.result 118 w.if-tag_at-eq118.false) | to_found-else-splice-via-else-splice w ↦ unspliced w.if-splice.false ]) c.on_expr.ensures
 
 pub to_found-returns-in-Many : goal.to_found-returns-in-Many
-to_found-returns-in-Many t c = many_done c.requires.0 c.place-u.ensures _ _ _ _ c.in-Many.is c.begin_if-a.ensures c.to_entries-c.ensures c.close_if.ensures
+to_found-returns-in-Many t c = many_done c.requires.0 c.part-u.ensures _ _ _ _ c.in-Many.is c.begin_if-a.ensures c.to_entries-c.ensures c.close_if.ensures
 
 pub to_found-returns-in-Empty : goal.to_found-returns-in-Empty
-to_found-returns-in-Empty t c = empty_done c.requires.0 c.place-u.ensures _ _ _ _ c.in-Empty.is c.begin_if-a-in-Empty.ensures c.close_if-in-Empty.ensures
+to_found-returns-in-Empty t c = empty_done c.requires.0 c.part-u.ensures _ _ _ _ c.in-Empty.is c.begin_if-a-in-Empty.ensures c.close_if-in-Empty.ensures
 
 pub to_found-returns-in-Hole : goal.to_found-returns-in-Hole
-to_found-returns-in-Hole t c = hole_done c.requires.0 c.place-u.ensures _ _ _ _ c.in-Hole.is c.hole_leaf.ensures
+to_found-returns-in-Hole t c = hole_done c.requires.0 c.part-u.ensures _ _ _ _ c.in-Hole.is c.hole_leaf.ensures
 
 pub to_found-returns-in-Item : goal.to_found-returns-in-Item
-to_found-returns-in-Item t c = item_done c.requires.0 c.place-u.ensures _ _ _ _ c.in-Item.is
+to_found-returns-in-Item t c = item_done c.requires.0 c.part-u.ensures _ _ _ _ c.in-Item.is
 
 pub to_gaps-returns-then-rest-eq0 : goal.to_gaps-returns-then-rest-eq0
 to_gaps-returns-then-rest-eq0 t c = element_bare _ _ _ c.is_serializable.ensures _ c.if-is_serializable.true c.behind-rest.ensures c.if-rest-eq0.true
@@ -684,31 +674,31 @@ to_parts-close_if-cur-requires t c = let e = lift_begun_if c.loop-c.templates c.
     (container_page _ _ _ _ c.tag_at.ensures.0 _ c.loop-c.invariant.1.1 c.in-82.is c.body-c.ensures c.is_wrapped-wrapped.ensures (c.gap_held.ensures.0 c.args.skip.now c.args.props.now) e c.on_held-y.ensures, container_low _ _ _ _ c.tag_at.ensures.0 _ c.loop-c.invariant.1.1 c.in-82.is c.body-c.ensures c.is_wrapped-wrapped.ensures (c.gap_held.ensures.0 c.args.skip.now c.args.props.now) e c.on_held-y.ensures c.requires.low)
 
 pub to_parts-loop-c-smaller-in-82 : goal.to_parts-loop-c-smaller-in-82
-to_parts-loop-c-smaller-in-82 t c = behind_less _ _ c.tag_at.ensures.0 (λ q. omega (arith, c.in-82.is)) c.behind-r.ensures
+to_parts-loop-c-smaller-in-82 t c = behind_less _ _ c.tag_at.ensures.0 (λ q. omega (arith, c.in-82.is)) c.behind-t.ensures
 
 pub to_parts-loop-c-preserved-in-82 : goal.to_parts-loop-c-preserved-in-82
 to_parts-loop-c-preserved-in-82 t c = let e = lift_begun_if c.loop-c.templates c.is_wrapped-wrapped.result c.loop-c.page c.loop-c.cur c.begin_if-x.result c.begin_if-x.ensures in
-    (c.on_held-y.auto.scratch ∙ c.loop-c.invariant.0, (omega (arith, behind_less _ _ c.tag_at.ensures.0 (λ q. omega (arith, c.in-82.is)) c.behind-r.ensures, c.loop-c.invariant.1.0), container_on _ _ _ _ c.tag_at.ensures.0 _ c.loop-c.invariant.1.1 c.in-82.is c.body-c.ensures c.is_wrapped-wrapped.ensures (c.gap_held.ensures.0 c.args.skip.now c.args.props.now) e c.on_held-y.ensures c.behind-r.ensures (lift_wrap_if c.on_held-y.new.templates c.on_held-y.new.page _ c.on_held-y.result _ c.is_wrapped-wrapped.result 0x92 c.loop-c.cur.page c.close_if-cur.ensures)))
+    (c.on_held-y.auto.scratch ∙ c.loop-c.invariant.0, (omega (arith, behind_less _ _ c.tag_at.ensures.0 (λ q. omega (arith, c.in-82.is)) c.behind-t.ensures, c.loop-c.invariant.1.0), container_on _ _ _ _ c.tag_at.ensures.0 _ c.loop-c.invariant.1.1 c.in-82.is c.body-c.ensures c.is_wrapped-wrapped.ensures (c.gap_held.ensures.0 c.args.skip.now c.args.props.now) e c.on_held-y.ensures c.behind-t.ensures (lift_wrap_if c.on_held-y.new.templates c.on_held-y.new.page _ c.on_held-y.result _ c.is_wrapped-wrapped.result 0x92 c.loop-c.cur.page c.close_if-cur.ensures)))
 
 pub to_parts-to_gaps-cur-requires : goal.to_parts-to_gaps-cur-requires
 to_parts-to_gaps-cur-requires t c = let b = body_less _ _ c.tag_at.ensures.0 (λ q. omega (arith, c.in-48.is)) c.body.ensures in
     (omega (arith, b, c.loop-c.invariant.1.0, c.decreases), record { desk = omega (arith, c.loop-c.invariant.0, c.requires.desk); short = omega (arith, b, c.loop-c.invariant.1.0, c.requires.short); low = to_parts_element_room _ _ _ _ c.tag_at.ensures.0 _ c.loop-c.invariant.1.1 c.in-48.is c.body.ensures c.requires.low })
 
 pub to_parts-loop-c-smaller-in-48 : goal.to_parts-loop-c-smaller-in-48
-to_parts-loop-c-smaller-in-48 t c = behind_less _ _ c.tag_at.ensures.0 (λ q. omega (arith, c.in-48.is)) c.behind-r-in-48.ensures
+to_parts-loop-c-smaller-in-48 t c = behind_less _ _ c.tag_at.ensures.0 (λ q. omega (arith, c.in-48.is)) c.behind-t-in-48.ensures
 
 pub to_parts-loop-c-preserved-in-48 : goal.to_parts-loop-c-preserved-in-48
-to_parts-loop-c-preserved-in-48 t c = (c.to_gaps-cur.auto.scratch ∙ c.loop-c.invariant.0, (omega (arith, behind_less _ _ c.tag_at.ensures.0 (λ q. omega (arith, c.in-48.is)) c.behind-r-in-48.ensures, c.loop-c.invariant.1.0), to_parts_element_on _ _ _ _ c.tag_at.ensures.0 _ c.loop-c.invariant.1.1 c.in-48.is c.body.ensures c.behind-r-in-48.ensures c.to_gaps-cur.ensures))
+to_parts-loop-c-preserved-in-48 t c = (c.to_gaps-cur.auto.scratch ∙ c.loop-c.invariant.0, (omega (arith, behind_less _ _ c.tag_at.ensures.0 (λ q. omega (arith, c.in-48.is)) c.behind-t-in-48.ensures, c.loop-c.invariant.1.0), to_parts_element_on _ _ _ _ c.tag_at.ensures.0 _ c.loop-c.invariant.1.1 c.in-48.is c.body.ensures c.behind-t-in-48.ensures c.to_gaps-cur.ensures))
 
 pub to_parts-to_parts-cur-requires : goal.to_parts-to_parts-cur-requires
 to_parts-to_parts-cur-requires t c = let b = body_less _ _ c.tag_at.ensures.0 (λ q. omega (arith, c.in-49.is)) c.body-in-49.ensures in
     (omega (arith, b, c.loop-c.invariant.1.0, c.decreases), record { desk = omega (arith, c.loop-c.invariant.0, c.requires.desk); short = omega (arith, b, c.loop-c.invariant.1.0, c.requires.short); low = to_parts_fragment_room _ _ _ _ c.tag_at.ensures.0 _ c.loop-c.invariant.1.1 c.in-49.is c.body-in-49.ensures c.requires.low })
 
 pub to_parts-loop-c-smaller-in-49 : goal.to_parts-loop-c-smaller-in-49
-to_parts-loop-c-smaller-in-49 t c = behind_less _ _ c.tag_at.ensures.0 (λ q. omega (arith, c.in-49.is)) c.behind-r-in-49.ensures
+to_parts-loop-c-smaller-in-49 t c = behind_less _ _ c.tag_at.ensures.0 (λ q. omega (arith, c.in-49.is)) c.behind-t-in-49.ensures
 
 pub to_parts-loop-c-preserved-in-49 : goal.to_parts-loop-c-preserved-in-49
-to_parts-loop-c-preserved-in-49 t c = (c.to_parts-cur.auto.scratch ∙ c.loop-c.invariant.0, (omega (arith, behind_less _ _ c.tag_at.ensures.0 (λ q. omega (arith, c.in-49.is)) c.behind-r-in-49.ensures, c.loop-c.invariant.1.0), to_parts_fragment_on _ _ _ _ c.tag_at.ensures.0 _ c.loop-c.invariant.1.1 c.in-49.is c.body-in-49.ensures c.behind-r-in-49.ensures c.to_parts-cur.ensures))
+to_parts-loop-c-preserved-in-49 t c = (c.to_parts-cur.auto.scratch ∙ c.loop-c.invariant.0, (omega (arith, behind_less _ _ c.tag_at.ensures.0 (λ q. omega (arith, c.in-49.is)) c.behind-t-in-49.ensures, c.loop-c.invariant.1.0), to_parts_fragment_on _ _ _ _ c.tag_at.ensures.0 _ c.loop-c.invariant.1.1 c.in-49.is c.body-in-49.ensures c.behind-t-in-49.ensures c.to_parts-cur.ensures))
 
 pub to_parts-shape_of-scratch-in-256 : goal.to_parts-shape_of-scratch-in-256
 to_parts-shape_of-scratch-in-256 t c = c.loop-c.invariant.0
@@ -723,10 +713,10 @@ pub to_parts-returns-in-256 : goal.to_parts-returns-in-256
 to_parts-returns-in-256 t c = parts_end _ _ _ _ c.tag_at.ensures.0 _ c.loop-c.invariant.1.1 (c.tag_at.ensures.1 c.in-256.is)
 
 pub to_parts-loop-c-smaller : goal.to_parts-loop-c-smaller
-to_parts-loop-c-smaller t c = behind_less _ _ c.tag_at.ensures.0 c.in_default.in_default-own.rest.1 c.behind-r-in_default.ensures
+to_parts-loop-c-smaller t c = behind_less _ _ c.tag_at.ensures.0 c.in_default.in_default-own.rest.1 c.behind-t-in_default.ensures
 
 pub to_parts-loop-c-preserved : goal.to_parts-loop-c-preserved
-to_parts-loop-c-preserved t c = let n = c.in_default.in_default-own.rest in (c.loop-c.invariant.0, (omega (arith, behind_less _ _ c.tag_at.ensures.0 n.1 c.behind-r-in_default.ensures, c.loop-c.invariant.1.0), parts_past _ _ _ _ c.tag_at.ensures.0 _ c.loop-c.invariant.1.1 n.1 n.0.0.0.1 n.0.0.1 n.0.1 c.behind-r-in_default.ensures))
+to_parts-loop-c-preserved t c = let n = c.in_default.in_default-own.rest in (c.loop-c.invariant.0, (omega (arith, behind_less _ _ c.tag_at.ensures.0 n.1 c.behind-t-in_default.ensures, c.loop-c.invariant.1.0), parts_past _ _ _ _ c.tag_at.ensures.0 _ c.loop-c.invariant.1.1 n.1 n.0.0.0.1 n.0.0.1 n.0.1 c.behind-t-in_default.ensures))
 
 pub to_props-loop-a-init : goal.to_props-loop-a-init
 to_props-loop-a-init t c = (refl, le_refl _, refl)
@@ -751,13 +741,13 @@ to_props-gap_back-cur-requires t c = (
 )
 
 pub to_props-loop-a-smaller-in-80 : goal.to_props-loop-a-smaller-in-80
-to_props-loop-a-smaller-in-80 t c = behind_less _ _ c.tag_at.ensures.0 (λ z. omega (arith, c.in-80.is)) c.behind-r.ensures
+to_props-loop-a-smaller-in-80 t c = behind_less _ _ c.tag_at.ensures.0 (λ z. omega (arith, c.in-80.is)) c.behind-t.ensures
 
 pub to_props-loop-a-preserved-in-80 : goal.to_props-loop-a-preserved-in-80
 to_props-loop-a-preserved-in-80 t c = (
   c.on_held-y.auto.scratch ∙ c.loop-a.invariant.0,
-  omega (arith, (behind_less _ _ c.tag_at.ensures.0 (λ z. omega (arith, c.in-80.is)) c.behind-r.ensures), c.loop-a.invariant.1),
-  prop_on _ _ _ _ _ c.tag_at.ensures.0 _ c.loop-a.invariant.2 c.in-80.is c.body-a.ensures c.property_gap-gap.ensures c.property_front-x.ensures (c.held_at.ensures.0 _ _) c.on_held-y.ensures c.behind-r.ensures c.gap_back-cur.ensures,
+  omega (arith, (behind_less _ _ c.tag_at.ensures.0 (λ z. omega (arith, c.in-80.is)) c.behind-t.ensures), c.loop-a.invariant.1),
+  prop_on _ _ _ _ _ c.tag_at.ensures.0 _ c.loop-a.invariant.2 c.in-80.is c.body-a.ensures c.property_gap-gap.ensures c.property_front-x.ensures (c.held_at.ensures.0 _ _) c.on_held-y.ensures c.behind-t.ensures c.gap_back-cur.ensures,
 )
 
 pub to_props-begin-requires : goal.to_props-begin-requires
@@ -777,13 +767,13 @@ pub to_props-close-cur-requires : goal.to_props-close-cur-requires
 to_props-close-cur-requires t c = to_props_spread_close _ _ _ _ _ c.tag_at.ensures.0 _ c.loop-a.invariant.2 c.in-83.is c.body.ensures c.begin.ensures c.on_expr-x.ensures c.requires.low
 
 pub to_props-loop-a-smaller : goal.to_props-loop-a-smaller
-to_props-loop-a-smaller t c = behind_less _ _ c.tag_at.ensures.0 (λ z. omega (arith, c.in-83.is)) c.behind-r-in-83.ensures
+to_props-loop-a-smaller t c = behind_less _ _ c.tag_at.ensures.0 (λ z. omega (arith, c.in-83.is)) c.behind-t-in-83.ensures
 
 pub to_props-loop-a-preserved : goal.to_props-loop-a-preserved
 to_props-loop-a-preserved t c = (
   c.on_expr-x.auto.scratch ∙ c.loop-a.invariant.0,
-  omega (arith, (behind_less _ _ c.tag_at.ensures.0 (λ z. omega (arith, c.in-83.is)) c.behind-r-in-83.ensures), c.loop-a.invariant.1),
-  to_props_spread_on _ _ _ _ _ c.tag_at.ensures.0 _ c.loop-a.invariant.2 c.in-83.is c.body.ensures c.begin.ensures c.on_expr-x.ensures c.behind-r-in-83.ensures c.close-cur.ensures,
+  omega (arith, (behind_less _ _ c.tag_at.ensures.0 (λ z. omega (arith, c.in-83.is)) c.behind-t-in-83.ensures), c.loop-a.invariant.1),
+  to_props_spread_on _ _ _ _ _ c.tag_at.ensures.0 _ c.loop-a.invariant.2 c.in-83.is c.body.ensures c.begin.ensures c.on_expr-x.ensures c.behind-t-in-83.ensures c.close-cur.ensures,
 )
 
 pub to_props-shape_of-scratch-in_default : goal.to_props-shape_of-scratch-in_default
@@ -799,395 +789,71 @@ pub to_props-returns-in_default : goal.to_props-returns-in_default
 to_props-returns-in_default t c = props_end _ _ _ _ _ c.tag_at.ensures.0 _ c.loop-a.invariant.2 c.in_default.in_default-own.rest.0.1 c.in_default.in_default-own.rest.1
 
 pub to_call-begin-requires : goal.to_call-begin-requires
-to_call-begin-requires t c =
-    let whole : World = act (element_at c.args.skip.now c.args.props.now c.args.b.now).to_call_expr (at c.args.templates.now c.args.page.now c.args.st) in
-    let low : Low whole.st = c.requires.low in
-    let call_by : Bool → Call = λ s. call_of c.args.skip.now c.args.props.now c.args.b.now c.behind-rest.result.now (not c.is_component-norm.result) s in
-    let given : Mid = ((call_by true).found c.args.st.first).value in
-    let call_starts : (s : Bool) → is_none given ≡ not s → call_left (call_by s) (at c.args.templates.now c.args.page.now c.args.st) ≡ whole = λ s h. let a = c.args in call_is a.skip.now a.props.now a.b.now c.behind-rest.ensures c.is_component-norm.ensures (at a.templates.now a.page.now a.st) s h in
-    begin_room _ _ _ _ _ low (call_starts (stands_by given) (lacks_by given))
+to_call-begin-requires t c = begin_asked _ _ _ _ _ _ c.behind-rest.ensures c.is_component-norm.ensures c.requires.low
 
 pub to_call-name_expr-n-requires : goal.to_call-name_expr-n-requires
-to_call-name_expr-n-requires t c =
-    let whole : World = act (element_at c.args.skip.now c.args.props.now c.args.b.now).to_call_expr (at c.args.templates.now c.args.page.now c.args.st) in
-    let low : Low whole.st = c.requires.low in
-    let call_by : Bool → Call = λ s. call_of c.args.skip.now c.args.props.now c.args.b.now c.behind-rest.result.now (not c.is_component-norm.result) s in
-    let given : Mid = ((call_by true).found c.args.st.first).value in
-    let call_place : ℕ = c.args.st.page in
-    let call_starts : (s : Bool) → is_none given ≡ not s → call_left (call_by s) (at c.args.templates.now c.args.page.now c.args.st) ≡ whole = λ s h. let a = c.args in call_is a.skip.now a.props.now a.b.now c.behind-rest.ensures c.is_component-norm.ensures (at a.templates.now a.page.now a.st) s h in
-    let name_begins : (s : Bool) → is_none given ≡ not s → name_left (call_by s) call_place (at c.args.templates.now c.args.page.now c.begin.result) ≡ whole = λ s h. begun_on (call_by s) _ _ _ _ _ c.begin.ensures (call_starts s h) in
-    name_room _ _ _ _ _ low _ (name_begins (stands_by given) (lacks_by given))
+to_call-name_expr-n-requires t c = name_asked _ _ _ _ _ _ c.behind-rest.ensures c.is_component-norm.ensures c.begin.ensures c.requires.low
 
 pub to_call-leaf-z-requires : goal.to_call-leaf-z-requires
-to_call-leaf-z-requires t c =
-    let whole : World = act (element_at c.args.skip.now c.args.props.now c.args.b.now).to_call_expr (at c.args.templates.now c.args.page.now c.args.st) in
-    let low : Low whole.st = c.requires.low in
-    let call_by : Bool → Call = λ s. call_of c.args.skip.now c.args.props.now c.args.b.now c.behind-rest.result.now (not c.is_component-norm.result) s in
-    let given : Mid = ((call_by true).found c.args.st.first).value in
-    let call_place : ℕ = c.args.st.page in
-    let call_starts : (s : Bool) → is_none given ≡ not s → call_left (call_by s) (at c.args.templates.now c.args.page.now c.args.st) ≡ whole = λ s h. let a = c.args in call_is a.skip.now a.props.now a.b.now c.behind-rest.ensures c.is_component-norm.ensures (at a.templates.now a.page.now a.st) s h in
-    let name_begins : (s : Bool) → is_none given ≡ not s → name_left (call_by s) call_place (at c.args.templates.now c.args.page.now c.begin.result) ≡ whole = λ s h. begun_on (call_by s) _ _ _ _ _ c.begin.ensures (call_starts s h) in
-    let name_ends : (s : Bool) → is_none given ≡ not s → named_left (call_by s) call_place (at c.args.templates.now c.name_expr-n.new.page c.name_expr-n.result) ≡ whole = λ s h. name_on (call_by s) _ _ _ _ _ _ _ (name_plain _) c.name_expr-n.ensures (name_begins s h) in
-    let name_bare : length c.behind-rest.result.now ≡ 0 → named_left (call_by false) call_place (at c.args.templates.now c.name_expr-n.new.page c.name_expr-n.result) ≡ whole = λ h. let a = c.args in name_ends false (bare_lacks a.skip.now a.props.now a.b.now c.behind-rest.result.now (not c.is_component-norm.result) h a.st.first) in
-    let a = c.args in bare_room a.skip.now a.props.now a.b.now _ (not c.is_component-norm.result) c.if-rest-eq0.true _ _ _ _ _ (name_bare c.if-rest-eq0.true) low
+to_call-leaf-z-requires t c = bare_asked _ _ _ _ _ _ c.behind-rest.ensures c.is_component-norm.ensures c.begin.ensures c.name_expr-n.ensures c.if-rest-eq0.true c.requires.low
 
 pub to_call-close-requires : goal.to_call-close-requires
-to_call-close-requires t c =
-    let whole : World = act (element_at c.args.skip.now c.args.props.now c.args.b.now).to_call_expr (at c.args.templates.now c.args.page.now c.args.st) in
-    let low : Low whole.st = c.requires.low in
-    let call_by : Bool → Call = λ s. call_of c.args.skip.now c.args.props.now c.args.b.now c.behind-rest.result.now (not c.is_component-norm.result) s in
-    let given : Mid = ((call_by true).found c.args.st.first).value in
-    let call_place : ℕ = c.args.st.page in
-    let props_place : ℕ = c.name_expr-n.result.page in
-    let call_starts : (s : Bool) → is_none given ≡ not s → call_left (call_by s) (at c.args.templates.now c.args.page.now c.args.st) ≡ whole = λ s h. let a = c.args in call_is a.skip.now a.props.now a.b.now c.behind-rest.ensures c.is_component-norm.ensures (at a.templates.now a.page.now a.st) s h in
-    let name_begins : (s : Bool) → is_none given ≡ not s → name_left (call_by s) call_place (at c.args.templates.now c.args.page.now c.begin.result) ≡ whole = λ s h. begun_on (call_by s) _ _ _ _ _ c.begin.ensures (call_starts s h) in
-    let name_ends : (s : Bool) → is_none given ≡ not s → named_left (call_by s) call_place (at c.args.templates.now c.name_expr-n.new.page c.name_expr-n.result) ≡ whole = λ s h. name_on (call_by s) _ _ _ _ _ _ _ (name_plain _) c.name_expr-n.ensures (name_begins s h) in
-    let name_bare : length c.behind-rest.result.now ≡ 0 → named_left (call_by false) call_place (at c.args.templates.now c.name_expr-n.new.page c.name_expr-n.result) ≡ whole = λ h. let a = c.args in name_ends false (bare_lacks a.skip.now a.props.now a.b.now c.behind-rest.result.now (not c.is_component-norm.result) h a.st.first) in
-    let null_ends : key_left call_place none (at c.args.templates.now c.leaf-z.new.page c.leaf-z.result) ≡ whole = let a = c.args in let h = c.if-rest-eq0.true in bare_on a.skip.now a.props.now a.b.now c.behind-rest.result.now (not c.is_component-norm.result) h _ _ _ _ _ (name_bare h) _ _ c.leaf-z.ensures in
-    let named_past : call_place + 3 ≤ props_place = omega (arith, ap (λ (x : Walk). x.page) c.begin.ensures, grew (see_grows _ _) c.name_expr-n.ensures) in (
-      omega (arith, named_past, grew (see_grows _ _) c.leaf-z.ensures),
-      call_low _ _ _ refl _ _ null_ends _ _ _ (sym (see_none _)) low,
-    )
+to_call-close-requires t c = bare_close_asked _ _ _ _ _ _ c.behind-rest.ensures c.is_component-norm.ensures c.begin.ensures c.name_expr-n.ensures c.if-rest-eq0.true c.leaf-z.ensures c.requires.low
 
 pub to_call-returns-then-rest-eq0 : goal.to_call-returns-then-rest-eq0
-to_call-returns-then-rest-eq0 t c =
-    let whole : World = act (element_at c.args.skip.now c.args.props.now c.args.b.now).to_call_expr (at c.args.templates.now c.args.page.now c.args.st) in
-    let call_by : Bool → Call = λ s. call_of c.args.skip.now c.args.props.now c.args.b.now c.behind-rest.result.now (not c.is_component-norm.result) s in
-    let given : Mid = ((call_by true).found c.args.st.first).value in
-    let call_place : ℕ = c.args.st.page in
-    let call_starts : (s : Bool) → is_none given ≡ not s → call_left (call_by s) (at c.args.templates.now c.args.page.now c.args.st) ≡ whole = λ s h. let a = c.args in call_is a.skip.now a.props.now a.b.now c.behind-rest.ensures c.is_component-norm.ensures (at a.templates.now a.page.now a.st) s h in
-    let name_begins : (s : Bool) → is_none given ≡ not s → name_left (call_by s) call_place (at c.args.templates.now c.args.page.now c.begin.result) ≡ whole = λ s h. begun_on (call_by s) _ _ _ _ _ c.begin.ensures (call_starts s h) in
-    let name_ends : (s : Bool) → is_none given ≡ not s → named_left (call_by s) call_place (at c.args.templates.now c.name_expr-n.new.page c.name_expr-n.result) ≡ whole = λ s h. name_on (call_by s) _ _ _ _ _ _ _ (name_plain _) c.name_expr-n.ensures (name_begins s h) in
-    let name_bare : length c.behind-rest.result.now ≡ 0 → named_left (call_by false) call_place (at c.args.templates.now c.name_expr-n.new.page c.name_expr-n.result) ≡ whole = λ h. let a = c.args in name_ends false (bare_lacks a.skip.now a.props.now a.b.now c.behind-rest.result.now (not c.is_component-norm.result) h a.st.first) in
-    let null_ends : key_left call_place none (at c.args.templates.now c.leaf-z.new.page c.leaf-z.result) ≡ whole = let a = c.args in let h = c.if-rest-eq0.true in bare_on a.skip.now a.props.now a.b.now c.behind-rest.result.now (not c.is_component-norm.result) h _ _ _ _ _ (name_bare h) _ _ c.leaf-z.ensures in
-    call_done _ _ _ refl _ _ null_ends _ _ _ (sym (see_none _)) _ _ c.close.ensures
+to_call-returns-then-rest-eq0 t c = bare_done _ _ _ _ _ _ c.behind-rest.ensures c.is_component-norm.ensures c.begin.ensures c.name_expr-n.ensures c.if-rest-eq0.true c.leaf-z.ensures c.close.ensures
 
 pub to_call-begin-requires-2 : goal.to_call-begin-requires-2
-to_call-begin-requires-2 t c =
-    let whole : World = act (element_at c.args.skip.now c.args.props.now c.args.b.now).to_call_expr (at c.args.templates.now c.args.page.now c.args.st) in
-    let low : Low whole.st = c.requires.low in
-    let call_by : Bool → Call = λ s. call_of c.args.skip.now c.args.props.now c.args.b.now c.behind-rest.result.now (not c.is_component-norm.result) s in
-    let given : Mid = ((call_by true).found c.args.st.first).value in
-    let call_place : ℕ = c.args.st.page in
-    let call_starts : (s : Bool) → is_none given ≡ not s → call_left (call_by s) (at c.args.templates.now c.args.page.now c.args.st) ≡ whole = λ s h. let a = c.args in call_is a.skip.now a.props.now a.b.now c.behind-rest.ensures c.is_component-norm.ensures (at a.templates.now a.page.now a.st) s h in
-    let name_begins : (s : Bool) → is_none given ≡ not s → name_left (call_by s) call_place (at c.args.templates.now c.args.page.now c.begin.result) ≡ whole = λ s h. begun_on (call_by s) _ _ _ _ _ c.begin.ensures (call_starts s h) in
-    let name_ends : (s : Bool) → is_none given ≡ not s → named_left (call_by s) call_place (at c.args.templates.now c.name_expr-n.new.page c.name_expr-n.result) ≡ whole = λ s h. name_on (call_by s) _ _ _ _ _ _ _ (name_plain _) c.name_expr-n.ensures (name_begins s h) in
-    props_begin_room _ _ _ _ _ low _ (name_ends (stands_by given) (lacks_by given))
+to_call-begin-requires-2 t c = props_begin_asked _ _ _ _ _ _ c.behind-rest.ensures c.is_component-norm.ensures c.begin.ensures c.name_expr-n.ensures c.requires.low
 
 pub to_call-to_props-x-requires : goal.to_call-to_props-x-requires
-to_call-to_props-x-requires t c =
-    let whole : World = act (element_at c.args.skip.now c.args.props.now c.args.b.now).to_call_expr (at c.args.templates.now c.args.page.now c.args.st) in
-    let low : Low whole.st = c.requires.low in
-    let rest_short : length c.behind-rest.result.now ≤ length c.args.b.now = behind_le c.args.b.now c.behind-rest.ensures in
-    let call_by : Bool → Call = λ s. call_of c.args.skip.now c.args.props.now c.args.b.now c.behind-rest.result.now (not c.is_component-norm.result) s in
-    let given : Mid = ((call_by true).found c.args.st.first).value in
-    let call_place : ℕ = c.args.st.page in
-    let props_place : ℕ = c.name_expr-n.result.page in
-    let call_starts : (s : Bool) → is_none given ≡ not s → call_left (call_by s) (at c.args.templates.now c.args.page.now c.args.st) ≡ whole = λ s h. let a = c.args in call_is a.skip.now a.props.now a.b.now c.behind-rest.ensures c.is_component-norm.ensures (at a.templates.now a.page.now a.st) s h in
-    let name_begins : (s : Bool) → is_none given ≡ not s → name_left (call_by s) call_place (at c.args.templates.now c.args.page.now c.begin.result) ≡ whole = λ s h. begun_on (call_by s) _ _ _ _ _ c.begin.ensures (call_starts s h) in
-    let name_ends : (s : Bool) → is_none given ≡ not s → named_left (call_by s) call_place (at c.args.templates.now c.name_expr-n.new.page c.name_expr-n.result) ≡ whole = λ s h. name_on (call_by s) _ _ _ _ _ _ _ (name_plain _) c.name_expr-n.ensures (name_begins s h) in
-    let props_begin : (s : Bool) → is_none given ≡ not s → attributes_left (call_by s) call_place props_place (at c.args.templates.now c.name_expr-n.new.page c.begin-2.result) ≡ whole = λ s h. props_begun_on (call_by s) _ _ _ _ _ _ c.begin-2.ensures (name_ends s h) in
-    let n = rest_short in (
-      omega (arith, n, c.decreases),
-      record {
-        desk = c.requires.desk;
-        short = omega (arith, n, c.requires.short);
-        low = props_room _ _ _ _ _ low _ _ (props_begin (stands_by given) (lacks_by given));
-      },
-    )
+to_call-to_props-x-requires t c = let n = behind_le c.args.b.now c.behind-rest.ensures in (
+  omega (arith, n, c.decreases),
+  record { desk = c.requires.desk; short = omega (arith, n, c.requires.short); low = props_asked _ _ _ _ _ _ c.behind-rest.ensures c.is_component-norm.ensures c.begin.ensures c.name_expr-n.ensures c.begin-2.ensures c.requires.low },
+)
 
 pub to_call-found_of-f-requires : goal.to_call-found_of-f-requires
-to_call-found_of-f-requires t c =
-    let rest_short : length c.behind-rest.result.now ≤ length c.args.b.now = behind_le c.args.b.now c.behind-rest.ensures in
-    omega (arith, rest_short, c.requires.short)
+to_call-found_of-f-requires t c = omega (arith, behind_le c.args.b.now c.behind-rest.ensures, c.requires.short)
 
 pub to_call-children_front-y-requires : goal.to_call-children_front-y-requires
-to_call-children_front-y-requires t c =
-    let whole : World = act (element_at c.args.skip.now c.args.props.now c.args.b.now).to_call_expr (at c.args.templates.now c.args.page.now c.args.st) in
-    let low : Low whole.st = c.requires.low in
-    let call_by : Bool → Call = λ s. call_of c.args.skip.now c.args.props.now c.args.b.now c.behind-rest.result.now (not c.is_component-norm.result) s in
-    let given : Mid = ((call_by true).found c.args.st.first).value in
-    let call_place : ℕ = c.args.st.page in
-    let props_place : ℕ = c.name_expr-n.result.page in
-    let filled_templates : Bytes = c.to_props-x.new.templates in
-    let filled_page : Bytes = c.to_props-x.new.page in
-    let call_starts : (s : Bool) → is_none given ≡ not s → call_left (call_by s) (at c.args.templates.now c.args.page.now c.args.st) ≡ whole = λ s h. let a = c.args in call_is a.skip.now a.props.now a.b.now c.behind-rest.ensures c.is_component-norm.ensures (at a.templates.now a.page.now a.st) s h in
-    let name_begins : (s : Bool) → is_none given ≡ not s → name_left (call_by s) call_place (at c.args.templates.now c.args.page.now c.begin.result) ≡ whole = λ s h. begun_on (call_by s) _ _ _ _ _ c.begin.ensures (call_starts s h) in
-    let name_ends : (s : Bool) → is_none given ≡ not s → named_left (call_by s) call_place (at c.args.templates.now c.name_expr-n.new.page c.name_expr-n.result) ≡ whole = λ s h. name_on (call_by s) _ _ _ _ _ _ _ (name_plain _) c.name_expr-n.ensures (name_begins s h) in
-    let props_begin : (s : Bool) → is_none given ≡ not s → attributes_left (call_by s) call_place props_place (at c.args.templates.now c.name_expr-n.new.page c.begin-2.result) ≡ whole = λ s h. props_begun_on (call_by s) _ _ _ _ _ _ c.begin-2.ensures (name_ends s h) in
-    let props_end : (s : Bool) → is_none given ≡ not s → children_left (call_by s) call_place props_place (at filled_templates filled_page c.to_props-x.result) ≡ whole = λ s h. props_on (call_by s) _ _ _ _ _ c.to_props-x.ensures (props_begin s h) in
-    let call : Call = call_by c.is_found-stands.result in
-    let children_stand : is_none given ≡ not c.is_found-stands.result = let a = c.args in found_stands a.skip.now a.props.now _ _ c.found_of-f.result.kind _ (c.found_of-f.ensures.1 a.props.now) ∙ ap not (sym c.is_found-stands.ensures) in
-    to_call_front_room call _ _ _ _ low _ _ (props_end c.is_found-stands.result children_stand)
+to_call-children_front-y-requires t c = front_asked _ _ _ _ _ _ c.behind-rest.ensures c.is_component-norm.ensures c.begin.ensures c.name_expr-n.ensures c.begin-2.ensures c.to_props-x.ensures c.found_of-f.result.kind _ (c.found_of-f.ensures.1 c.args.props.now) c.is_found-stands.ensures c.requires.low
 
 pub to_call-to_found-z-requires : goal.to_call-to_found-z-requires
-to_call-to_found-z-requires t c =
-    let whole : World = act (element_at c.args.skip.now c.args.props.now c.args.b.now).to_call_expr (at c.args.templates.now c.args.page.now c.args.st) in
-    let low : Low whole.st = c.requires.low in
-    let rest_short : length c.behind-rest.result.now ≤ length c.args.b.now = behind_le c.args.b.now c.behind-rest.ensures in
-    let call_by : Bool → Call = λ s. call_of c.args.skip.now c.args.props.now c.args.b.now c.behind-rest.result.now (not c.is_component-norm.result) s in
-    let given : Mid = ((call_by true).found c.args.st.first).value in
-    let call_place : ℕ = c.args.st.page in
-    let props_place : ℕ = c.name_expr-n.result.page in
-    let children_place : ℕ = c.to_props-x.result.page in
-    let filled_templates : Bytes = c.to_props-x.new.templates in
-    let filled_page : Bytes = c.to_props-x.new.page in
-    let call_starts : (s : Bool) → is_none given ≡ not s → call_left (call_by s) (at c.args.templates.now c.args.page.now c.args.st) ≡ whole = λ s h. let a = c.args in call_is a.skip.now a.props.now a.b.now c.behind-rest.ensures c.is_component-norm.ensures (at a.templates.now a.page.now a.st) s h in
-    let name_begins : (s : Bool) → is_none given ≡ not s → name_left (call_by s) call_place (at c.args.templates.now c.args.page.now c.begin.result) ≡ whole = λ s h. begun_on (call_by s) _ _ _ _ _ c.begin.ensures (call_starts s h) in
-    let name_ends : (s : Bool) → is_none given ≡ not s → named_left (call_by s) call_place (at c.args.templates.now c.name_expr-n.new.page c.name_expr-n.result) ≡ whole = λ s h. name_on (call_by s) _ _ _ _ _ _ _ (name_plain _) c.name_expr-n.ensures (name_begins s h) in
-    let props_begin : (s : Bool) → is_none given ≡ not s → attributes_left (call_by s) call_place props_place (at c.args.templates.now c.name_expr-n.new.page c.begin-2.result) ≡ whole = λ s h. props_begun_on (call_by s) _ _ _ _ _ _ c.begin-2.ensures (name_ends s h) in
-    let props_end : (s : Bool) → is_none given ≡ not s → children_left (call_by s) call_place props_place (at filled_templates filled_page c.to_props-x.result) ≡ whole = λ s h. props_on (call_by s) _ _ _ _ _ c.to_props-x.ensures (props_begin s h) in
-    let call : Call = call_by c.is_found-stands.result in
-    let children_stand : is_none given ≡ not c.is_found-stands.result = let a = c.args in found_stands a.skip.now a.props.now _ _ c.found_of-f.result.kind _ (c.found_of-f.ensures.1 a.props.now) ∙ ap not (sym c.is_found-stands.ensures) in
-    let children_begin : found_left call call_place props_place children_place (at filled_templates c.children_front-y.new.page c.children_front-y.result) ≡ whole = front_on call _ _ _ _ _ _ _ _ c.children_front-y.ensures (props_end c.is_found-stands.result children_stand) in
-    let n = rest_short in
-    let f = c.found_of-f.ensures in (
-      omega (arith, n, c.decreases),
-      (
-        record { within = f.0; finds = f.1 c.args.props.now },
-        record {
-          desk = omega (arith, c.to_props-x.auto.scratch, c.requires.desk);
-          short = omega (arith, n, c.requires.short);
-          low = found_room _ _ _ _ _ low _ _ _ children_begin;
-        },
-      ),
-    )
+to_call-to_found-z-requires t c = let n = behind_le c.args.b.now c.behind-rest.ensures in (
+  omega (arith, n, c.decreases),
+  (
+    record { within = c.found_of-f.ensures.0; finds = c.found_of-f.ensures.1 c.args.props.now },
+    record { desk = omega (arith, c.to_props-x.auto.scratch, c.requires.desk); short = omega (arith, n, c.requires.short); low = found_asked _ _ _ _ _ _ c.behind-rest.ensures c.is_component-norm.ensures c.begin.ensures c.name_expr-n.ensures c.begin-2.ensures c.to_props-x.ensures c.found_of-f.result.kind _ (c.found_of-f.ensures.1 c.args.props.now) c.is_found-stands.ensures c.children_front-y.ensures c.requires.low },
+  ),
+)
 
 pub to_call-close_if-c-requires : goal.to_call-close_if-c-requires
-to_call-close_if-c-requires t c =
-    let whole : World = act (element_at c.args.skip.now c.args.props.now c.args.b.now).to_call_expr (at c.args.templates.now c.args.page.now c.args.st) in
-    let low : Low whole.st = c.requires.low in
-    let call_by : Bool → Call = λ s. call_of c.args.skip.now c.args.props.now c.args.b.now c.behind-rest.result.now (not c.is_component-norm.result) s in
-    let given : Mid = ((call_by true).found c.args.st.first).value in
-    let call_place : ℕ = c.args.st.page in
-    let props_place : ℕ = c.name_expr-n.result.page in
-    let children_place : ℕ = c.to_props-x.result.page in
-    let filled_templates : Bytes = c.to_props-x.new.templates in
-    let filled_page : Bytes = c.to_props-x.new.page in
-    let found_templates : Bytes = c.to_found-z.new.templates in
-    let found_page : Bytes = c.to_found-z.new.page in
-    let call_starts : (s : Bool) → is_none given ≡ not s → call_left (call_by s) (at c.args.templates.now c.args.page.now c.args.st) ≡ whole = λ s h. let a = c.args in call_is a.skip.now a.props.now a.b.now c.behind-rest.ensures c.is_component-norm.ensures (at a.templates.now a.page.now a.st) s h in
-    let name_begins : (s : Bool) → is_none given ≡ not s → name_left (call_by s) call_place (at c.args.templates.now c.args.page.now c.begin.result) ≡ whole = λ s h. begun_on (call_by s) _ _ _ _ _ c.begin.ensures (call_starts s h) in
-    let name_ends : (s : Bool) → is_none given ≡ not s → named_left (call_by s) call_place (at c.args.templates.now c.name_expr-n.new.page c.name_expr-n.result) ≡ whole = λ s h. name_on (call_by s) _ _ _ _ _ _ _ (name_plain _) c.name_expr-n.ensures (name_begins s h) in
-    let props_begin : (s : Bool) → is_none given ≡ not s → attributes_left (call_by s) call_place props_place (at c.args.templates.now c.name_expr-n.new.page c.begin-2.result) ≡ whole = λ s h. props_begun_on (call_by s) _ _ _ _ _ _ c.begin-2.ensures (name_ends s h) in
-    let props_end : (s : Bool) → is_none given ≡ not s → children_left (call_by s) call_place props_place (at filled_templates filled_page c.to_props-x.result) ≡ whole = λ s h. props_on (call_by s) _ _ _ _ _ c.to_props-x.ensures (props_begin s h) in
-    let call : Call = call_by c.is_found-stands.result in
-    let children_stand : is_none given ≡ not c.is_found-stands.result = let a = c.args in found_stands a.skip.now a.props.now _ _ c.found_of-f.result.kind _ (c.found_of-f.ensures.1 a.props.now) ∙ ap not (sym c.is_found-stands.ensures) in
-    let children_begin : found_left call call_place props_place children_place (at filled_templates c.children_front-y.new.page c.children_front-y.result) ≡ whole = front_on call _ _ _ _ _ _ _ _ c.children_front-y.ensures (props_end c.is_found-stands.result children_stand) in
-    let children_found : child_left call call_place props_place children_place (at found_templates found_page c.to_found-z.result) ≡ whole = found_on call _ _ _ _ _ _ c.to_found-z.ensures children_begin in
-    let child_past : c.is_found-stands.result ≡ true → children_place + 3 ≤ c.to_found-z.result.page = λ h. omega (arith, front_past c.is_found-stands.result _ _ _ _ c.children_front-y.ensures h, grew (act_grows _ _) c.to_found-z.ensures) in
-    (child_past, child_room _ _ _ _ _ low _ _ _ children_found)
+to_call-close_if-c-requires t c = child_asked _ _ _ _ _ _ c.behind-rest.ensures c.is_component-norm.ensures c.begin.ensures c.name_expr-n.ensures c.begin-2.ensures c.to_props-x.ensures c.found_of-f.result.kind _ (c.found_of-f.ensures.1 c.args.props.now) c.is_found-stands.ensures c.children_front-y.ensures c.to_found-z.ensures c.requires.low
 
 pub to_call-close_props-d-requires : goal.to_call-close_props-d-requires
-to_call-close_props-d-requires t c =
-    let whole : World = act (element_at c.args.skip.now c.args.props.now c.args.b.now).to_call_expr (at c.args.templates.now c.args.page.now c.args.st) in
-    let low : Low whole.st = c.requires.low in
-    let call_by : Bool → Call = λ s. call_of c.args.skip.now c.args.props.now c.args.b.now c.behind-rest.result.now (not c.is_component-norm.result) s in
-    let given : Mid = ((call_by true).found c.args.st.first).value in
-    let call_place : ℕ = c.args.st.page in
-    let props_place : ℕ = c.name_expr-n.result.page in
-    let children_place : ℕ = c.to_props-x.result.page in
-    let filled_templates : Bytes = c.to_props-x.new.templates in
-    let filled_page : Bytes = c.to_props-x.new.page in
-    let found_templates : Bytes = c.to_found-z.new.templates in
-    let found_page : Bytes = c.to_found-z.new.page in
-    let call_starts : (s : Bool) → is_none given ≡ not s → call_left (call_by s) (at c.args.templates.now c.args.page.now c.args.st) ≡ whole = λ s h. let a = c.args in call_is a.skip.now a.props.now a.b.now c.behind-rest.ensures c.is_component-norm.ensures (at a.templates.now a.page.now a.st) s h in
-    let name_begins : (s : Bool) → is_none given ≡ not s → name_left (call_by s) call_place (at c.args.templates.now c.args.page.now c.begin.result) ≡ whole = λ s h. begun_on (call_by s) _ _ _ _ _ c.begin.ensures (call_starts s h) in
-    let name_ends : (s : Bool) → is_none given ≡ not s → named_left (call_by s) call_place (at c.args.templates.now c.name_expr-n.new.page c.name_expr-n.result) ≡ whole = λ s h. name_on (call_by s) _ _ _ _ _ _ _ (name_plain _) c.name_expr-n.ensures (name_begins s h) in
-    let props_begin : (s : Bool) → is_none given ≡ not s → attributes_left (call_by s) call_place props_place (at c.args.templates.now c.name_expr-n.new.page c.begin-2.result) ≡ whole = λ s h. props_begun_on (call_by s) _ _ _ _ _ _ c.begin-2.ensures (name_ends s h) in
-    let props_end : (s : Bool) → is_none given ≡ not s → children_left (call_by s) call_place props_place (at filled_templates filled_page c.to_props-x.result) ≡ whole = λ s h. props_on (call_by s) _ _ _ _ _ c.to_props-x.ensures (props_begin s h) in
-    let filled_past : props_place + 3 ≤ children_place = omega (arith, ap (λ (x : Walk). x.page) c.begin-2.ensures, grew (see_grows _ _) c.to_props-x.ensures) in
-    let call : Call = call_by c.is_found-stands.result in
-    let children_stand : is_none given ≡ not c.is_found-stands.result = let a = c.args in found_stands a.skip.now a.props.now _ _ c.found_of-f.result.kind _ (c.found_of-f.ensures.1 a.props.now) ∙ ap not (sym c.is_found-stands.ensures) in
-    let children_begin : found_left call call_place props_place children_place (at filled_templates c.children_front-y.new.page c.children_front-y.result) ≡ whole = front_on call _ _ _ _ _ _ _ _ c.children_front-y.ensures (props_end c.is_found-stands.result children_stand) in
-    let children_found : child_left call call_place props_place children_place (at found_templates found_page c.to_found-z.result) ≡ whole = found_on call _ _ _ _ _ _ c.to_found-z.ensures children_begin in
-    let found_past : children_place ≤ c.to_found-z.result.page = omega (arith, front_grew c.is_found-stands.result _ _ _ _ c.children_front-y.ensures, grew (act_grows _ _) c.to_found-z.ensures) in
-    let children_end : props_left call call_place props_place (at found_templates c.close_if-c.new.page c.close_if-c.result) ≡ whole = child_on call _ _ _ _ _ _ _ _ _ c.close_if-c.ensures children_found in
-    let childed_past : props_place + 3 ≤ c.close_if-c.result.page = omega (arith, filled_past, found_past, child_grew c.is_found-stands.result _ _ _ _ c.to_found-z.result _ c.close_if-c.ensures) in
-    (childed_past, closed_room _ _ _ _ _ low _ _ children_end)
+to_call-close_props-d-requires t c = closed_asked _ _ _ _ _ _ c.behind-rest.ensures c.is_component-norm.ensures c.begin.ensures c.name_expr-n.ensures c.begin-2.ensures c.to_props-x.ensures c.found_of-f.result.kind _ (c.found_of-f.ensures.1 c.args.props.now) c.is_found-stands.ensures c.children_front-y.ensures c.to_found-z.ensures c.close_if-c.ensures c.requires.low
 
 pub to_call-close-requires-then-a-eq0 : goal.to_call-close-requires-then-a-eq0
-to_call-close-requires-then-a-eq0 t c =
-    let whole : World = act (element_at c.args.skip.now c.args.props.now c.args.b.now).to_call_expr (at c.args.templates.now c.args.page.now c.args.st) in
-    let low : Low whole.st = c.requires.low in
-    let call_by : Bool → Call = λ s. call_of c.args.skip.now c.args.props.now c.args.b.now c.behind-rest.result.now (not c.is_component-norm.result) s in
-    let given : Mid = ((call_by true).found c.args.st.first).value in
-    let call_place : ℕ = c.args.st.page in
-    let props_place : ℕ = c.name_expr-n.result.page in
-    let children_place : ℕ = c.to_props-x.result.page in
-    let filled_templates : Bytes = c.to_props-x.new.templates in
-    let filled_page : Bytes = c.to_props-x.new.page in
-    let found_templates : Bytes = c.to_found-z.new.templates in
-    let found_page : Bytes = c.to_found-z.new.page in
-    let call_starts : (s : Bool) → is_none given ≡ not s → call_left (call_by s) (at c.args.templates.now c.args.page.now c.args.st) ≡ whole = λ s h. let a = c.args in call_is a.skip.now a.props.now a.b.now c.behind-rest.ensures c.is_component-norm.ensures (at a.templates.now a.page.now a.st) s h in
-    let name_begins : (s : Bool) → is_none given ≡ not s → name_left (call_by s) call_place (at c.args.templates.now c.args.page.now c.begin.result) ≡ whole = λ s h. begun_on (call_by s) _ _ _ _ _ c.begin.ensures (call_starts s h) in
-    let name_ends : (s : Bool) → is_none given ≡ not s → named_left (call_by s) call_place (at c.args.templates.now c.name_expr-n.new.page c.name_expr-n.result) ≡ whole = λ s h. name_on (call_by s) _ _ _ _ _ _ _ (name_plain _) c.name_expr-n.ensures (name_begins s h) in
-    let props_begin : (s : Bool) → is_none given ≡ not s → attributes_left (call_by s) call_place props_place (at c.args.templates.now c.name_expr-n.new.page c.begin-2.result) ≡ whole = λ s h. props_begun_on (call_by s) _ _ _ _ _ _ c.begin-2.ensures (name_ends s h) in
-    let props_end : (s : Bool) → is_none given ≡ not s → children_left (call_by s) call_place props_place (at filled_templates filled_page c.to_props-x.result) ≡ whole = λ s h. props_on (call_by s) _ _ _ _ _ c.to_props-x.ensures (props_begin s h) in
-    let named_past : call_place + 3 ≤ props_place = omega (arith, ap (λ (x : Walk). x.page) c.begin.ensures, grew (see_grows _ _) c.name_expr-n.ensures) in
-    let filled_past : props_place + 3 ≤ children_place = omega (arith, ap (λ (x : Walk). x.page) c.begin-2.ensures, grew (see_grows _ _) c.to_props-x.ensures) in
-    let call : Call = call_by c.is_found-stands.result in
-    let children_stand : is_none given ≡ not c.is_found-stands.result = let a = c.args in found_stands a.skip.now a.props.now _ _ c.found_of-f.result.kind _ (c.found_of-f.ensures.1 a.props.now) ∙ ap not (sym c.is_found-stands.ensures) in
-    let children_begin : found_left call call_place props_place children_place (at filled_templates c.children_front-y.new.page c.children_front-y.result) ≡ whole = front_on call _ _ _ _ _ _ _ _ c.children_front-y.ensures (props_end c.is_found-stands.result children_stand) in
-    let children_found : child_left call call_place props_place children_place (at found_templates found_page c.to_found-z.result) ≡ whole = found_on call _ _ _ _ _ _ c.to_found-z.ensures children_begin in
-    let found_past : children_place ≤ c.to_found-z.result.page = omega (arith, front_grew c.is_found-stands.result _ _ _ _ c.children_front-y.ensures, grew (act_grows _ _) c.to_found-z.ensures) in
-    let children_end : props_left call call_place props_place (at found_templates c.close_if-c.new.page c.close_if-c.result) ≡ whole = child_on call _ _ _ _ _ _ _ _ _ c.close_if-c.ensures children_found in
-    let childed_past : props_place + 3 ≤ c.close_if-c.result.page = omega (arith, filled_past, found_past, child_grew c.is_found-stands.result _ _ _ _ c.to_found-z.result _ c.close_if-c.ensures) in
-    let props_close : key_left call_place call.key (at found_templates c.close_props-d.new.page c.close_props-d.result) ≡ whole = closed_on call _ _ _ _ _ _ _ _ c.close_props-d.ensures children_end in
-    let closed_past : call_place + 3 ≤ c.close_props-d.result.page = omega (arith, named_past, childed_past, closed_grew props_place _ _ c.close_if-c.result _ c.close_props-d.ensures) in
-    let a = c.args in (
-      closed_past,
-      call_low _ _ _ (no_key a.skip.now a.props.now _ c.if-a-eq0.true (c.key_at-a.ensures.0 a.skip.now a.props.now)) _ _ props_close _ _ _ (sym (see_none _)) low,
-    )
+to_call-close-requires-then-a-eq0 t c = keyless_asked _ _ _ _ _ _ c.behind-rest.ensures c.is_component-norm.ensures c.begin.ensures c.name_expr-n.ensures c.begin-2.ensures c.to_props-x.ensures c.found_of-f.result.kind _ (c.found_of-f.ensures.1 c.args.props.now) c.is_found-stands.ensures c.children_front-y.ensures c.to_found-z.ensures c.close_if-c.ensures c.close_props-d.ensures c.key_at-a.result.now (c.key_at-a.ensures.0 c.args.skip.now c.args.props.now) c.if-a-eq0.true c.requires.low
 
 pub to_call-returns-then-a-eq0 : goal.to_call-returns-then-a-eq0
-to_call-returns-then-a-eq0 t c =
-    let whole : World = act (element_at c.args.skip.now c.args.props.now c.args.b.now).to_call_expr (at c.args.templates.now c.args.page.now c.args.st) in
-    let call_by : Bool → Call = λ s. call_of c.args.skip.now c.args.props.now c.args.b.now c.behind-rest.result.now (not c.is_component-norm.result) s in
-    let given : Mid = ((call_by true).found c.args.st.first).value in
-    let call_place : ℕ = c.args.st.page in
-    let props_place : ℕ = c.name_expr-n.result.page in
-    let children_place : ℕ = c.to_props-x.result.page in
-    let filled_templates : Bytes = c.to_props-x.new.templates in
-    let filled_page : Bytes = c.to_props-x.new.page in
-    let found_templates : Bytes = c.to_found-z.new.templates in
-    let found_page : Bytes = c.to_found-z.new.page in
-    let call_starts : (s : Bool) → is_none given ≡ not s → call_left (call_by s) (at c.args.templates.now c.args.page.now c.args.st) ≡ whole = λ s h. let a = c.args in call_is a.skip.now a.props.now a.b.now c.behind-rest.ensures c.is_component-norm.ensures (at a.templates.now a.page.now a.st) s h in
-    let name_begins : (s : Bool) → is_none given ≡ not s → name_left (call_by s) call_place (at c.args.templates.now c.args.page.now c.begin.result) ≡ whole = λ s h. begun_on (call_by s) _ _ _ _ _ c.begin.ensures (call_starts s h) in
-    let name_ends : (s : Bool) → is_none given ≡ not s → named_left (call_by s) call_place (at c.args.templates.now c.name_expr-n.new.page c.name_expr-n.result) ≡ whole = λ s h. name_on (call_by s) _ _ _ _ _ _ _ (name_plain _) c.name_expr-n.ensures (name_begins s h) in
-    let props_begin : (s : Bool) → is_none given ≡ not s → attributes_left (call_by s) call_place props_place (at c.args.templates.now c.name_expr-n.new.page c.begin-2.result) ≡ whole = λ s h. props_begun_on (call_by s) _ _ _ _ _ _ c.begin-2.ensures (name_ends s h) in
-    let props_end : (s : Bool) → is_none given ≡ not s → children_left (call_by s) call_place props_place (at filled_templates filled_page c.to_props-x.result) ≡ whole = λ s h. props_on (call_by s) _ _ _ _ _ c.to_props-x.ensures (props_begin s h) in
-    let call : Call = call_by c.is_found-stands.result in
-    let children_stand : is_none given ≡ not c.is_found-stands.result = let a = c.args in found_stands a.skip.now a.props.now _ _ c.found_of-f.result.kind _ (c.found_of-f.ensures.1 a.props.now) ∙ ap not (sym c.is_found-stands.ensures) in
-    let children_begin : found_left call call_place props_place children_place (at filled_templates c.children_front-y.new.page c.children_front-y.result) ≡ whole = front_on call _ _ _ _ _ _ _ _ c.children_front-y.ensures (props_end c.is_found-stands.result children_stand) in
-    let children_found : child_left call call_place props_place children_place (at found_templates found_page c.to_found-z.result) ≡ whole = found_on call _ _ _ _ _ _ c.to_found-z.ensures children_begin in
-    let children_end : props_left call call_place props_place (at found_templates c.close_if-c.new.page c.close_if-c.result) ≡ whole = child_on call _ _ _ _ _ _ _ _ _ c.close_if-c.ensures children_found in
-    let props_close : key_left call_place call.key (at found_templates c.close_props-d.new.page c.close_props-d.result) ≡ whole = closed_on call _ _ _ _ _ _ _ _ c.close_props-d.ensures children_end in
-    let a = c.args in call_done _ _ _ (no_key a.skip.now a.props.now _ c.if-a-eq0.true (c.key_at-a.ensures.0 a.skip.now a.props.now)) _ _ props_close _ _ _ (sym (see_none _)) _ _ c.close-then-a-eq0.ensures
+to_call-returns-then-a-eq0 t c = keyless_done _ _ _ _ _ _ c.behind-rest.ensures c.is_component-norm.ensures c.begin.ensures c.name_expr-n.ensures c.begin-2.ensures c.to_props-x.ensures c.found_of-f.result.kind _ (c.found_of-f.ensures.1 c.args.props.now) c.is_found-stands.ensures c.children_front-y.ensures c.to_found-z.ensures c.close_if-c.ensures c.close_props-d.ensures c.key_at-a.result.now (c.key_at-a.ensures.0 c.args.skip.now c.args.props.now) c.if-a-eq0.true c.close-then-a-eq0.ensures
 
 pub to_call-key_front-k-requires : goal.to_call-key_front-k-requires
-to_call-key_front-k-requires t c =
-    let whole : World = act (element_at c.args.skip.now c.args.props.now c.args.b.now).to_call_expr (at c.args.templates.now c.args.page.now c.args.st) in
-    let low : Low whole.st = c.requires.low in
-    let call_by : Bool → Call = λ s. call_of c.args.skip.now c.args.props.now c.args.b.now c.behind-rest.result.now (not c.is_component-norm.result) s in
-    let given : Mid = ((call_by true).found c.args.st.first).value in
-    let call_place : ℕ = c.args.st.page in
-    let props_place : ℕ = c.name_expr-n.result.page in
-    let children_place : ℕ = c.to_props-x.result.page in
-    let filled_templates : Bytes = c.to_props-x.new.templates in
-    let filled_page : Bytes = c.to_props-x.new.page in
-    let found_templates : Bytes = c.to_found-z.new.templates in
-    let found_page : Bytes = c.to_found-z.new.page in
-    let call_starts : (s : Bool) → is_none given ≡ not s → call_left (call_by s) (at c.args.templates.now c.args.page.now c.args.st) ≡ whole = λ s h. let a = c.args in call_is a.skip.now a.props.now a.b.now c.behind-rest.ensures c.is_component-norm.ensures (at a.templates.now a.page.now a.st) s h in
-    let name_begins : (s : Bool) → is_none given ≡ not s → name_left (call_by s) call_place (at c.args.templates.now c.args.page.now c.begin.result) ≡ whole = λ s h. begun_on (call_by s) _ _ _ _ _ c.begin.ensures (call_starts s h) in
-    let name_ends : (s : Bool) → is_none given ≡ not s → named_left (call_by s) call_place (at c.args.templates.now c.name_expr-n.new.page c.name_expr-n.result) ≡ whole = λ s h. name_on (call_by s) _ _ _ _ _ _ _ (name_plain _) c.name_expr-n.ensures (name_begins s h) in
-    let props_begin : (s : Bool) → is_none given ≡ not s → attributes_left (call_by s) call_place props_place (at c.args.templates.now c.name_expr-n.new.page c.begin-2.result) ≡ whole = λ s h. props_begun_on (call_by s) _ _ _ _ _ _ c.begin-2.ensures (name_ends s h) in
-    let props_end : (s : Bool) → is_none given ≡ not s → children_left (call_by s) call_place props_place (at filled_templates filled_page c.to_props-x.result) ≡ whole = λ s h. props_on (call_by s) _ _ _ _ _ c.to_props-x.ensures (props_begin s h) in
-    let call : Call = call_by c.is_found-stands.result in
-    let children_stand : is_none given ≡ not c.is_found-stands.result = let a = c.args in found_stands a.skip.now a.props.now _ _ c.found_of-f.result.kind _ (c.found_of-f.ensures.1 a.props.now) ∙ ap not (sym c.is_found-stands.ensures) in
-    let children_begin : found_left call call_place props_place children_place (at filled_templates c.children_front-y.new.page c.children_front-y.result) ≡ whole = front_on call _ _ _ _ _ _ _ _ c.children_front-y.ensures (props_end c.is_found-stands.result children_stand) in
-    let children_found : child_left call call_place props_place children_place (at found_templates found_page c.to_found-z.result) ≡ whole = found_on call _ _ _ _ _ _ c.to_found-z.ensures children_begin in
-    let children_end : props_left call call_place props_place (at found_templates c.close_if-c.new.page c.close_if-c.result) ≡ whole = child_on call _ _ _ _ _ _ _ _ _ c.close_if-c.ensures children_found in
-    let props_close : key_left call_place call.key (at found_templates c.close_props-d.new.page c.close_props-d.result) ≡ whole = closed_on call _ _ _ _ _ _ _ _ c.close_props-d.ensures children_end in
-    let a = c.args in key_room a.skip.now a.props.now _ _ (value_in (read c.key_at-a.result.now)) (c.key_at-a.ensures.0 a.skip.now a.props.now) _ _ _ _ props_close low
+to_call-key_front-k-requires t c = key_asked _ _ _ _ _ _ c.behind-rest.ensures c.is_component-norm.ensures c.begin.ensures c.name_expr-n.ensures c.begin-2.ensures c.to_props-x.ensures c.found_of-f.result.kind _ (c.found_of-f.ensures.1 c.args.props.now) c.is_found-stands.ensures c.children_front-y.ensures c.to_found-z.ensures c.close_if-c.ensures c.close_props-d.ensures c.key_at-a.result.now (c.key_at-a.ensures.0 c.args.skip.now c.args.props.now) c.requires.low
 
 pub to_call-on_held-l-requires : goal.to_call-on_held-l-requires
-to_call-on_held-l-requires t c =
-    let whole : World = act (element_at c.args.skip.now c.args.props.now c.args.b.now).to_call_expr (at c.args.templates.now c.args.page.now c.args.st) in
-    let low : Low whole.st = c.requires.low in
-    let rest_short : length c.behind-rest.result.now ≤ length c.args.b.now = behind_le c.args.b.now c.behind-rest.ensures in
-    let call_by : Bool → Call = λ s. call_of c.args.skip.now c.args.props.now c.args.b.now c.behind-rest.result.now (not c.is_component-norm.result) s in
-    let given : Mid = ((call_by true).found c.args.st.first).value in
-    let call_place : ℕ = c.args.st.page in
-    let props_place : ℕ = c.name_expr-n.result.page in
-    let children_place : ℕ = c.to_props-x.result.page in
-    let filled_templates : Bytes = c.to_props-x.new.templates in
-    let filled_page : Bytes = c.to_props-x.new.page in
-    let found_templates : Bytes = c.to_found-z.new.templates in
-    let found_page : Bytes = c.to_found-z.new.page in
-    let call_starts : (s : Bool) → is_none given ≡ not s → call_left (call_by s) (at c.args.templates.now c.args.page.now c.args.st) ≡ whole = λ s h. let a = c.args in call_is a.skip.now a.props.now a.b.now c.behind-rest.ensures c.is_component-norm.ensures (at a.templates.now a.page.now a.st) s h in
-    let name_begins : (s : Bool) → is_none given ≡ not s → name_left (call_by s) call_place (at c.args.templates.now c.args.page.now c.begin.result) ≡ whole = λ s h. begun_on (call_by s) _ _ _ _ _ c.begin.ensures (call_starts s h) in
-    let name_ends : (s : Bool) → is_none given ≡ not s → named_left (call_by s) call_place (at c.args.templates.now c.name_expr-n.new.page c.name_expr-n.result) ≡ whole = λ s h. name_on (call_by s) _ _ _ _ _ _ _ (name_plain _) c.name_expr-n.ensures (name_begins s h) in
-    let props_begin : (s : Bool) → is_none given ≡ not s → attributes_left (call_by s) call_place props_place (at c.args.templates.now c.name_expr-n.new.page c.begin-2.result) ≡ whole = λ s h. props_begun_on (call_by s) _ _ _ _ _ _ c.begin-2.ensures (name_ends s h) in
-    let props_end : (s : Bool) → is_none given ≡ not s → children_left (call_by s) call_place props_place (at filled_templates filled_page c.to_props-x.result) ≡ whole = λ s h. props_on (call_by s) _ _ _ _ _ c.to_props-x.ensures (props_begin s h) in
-    let call : Call = call_by c.is_found-stands.result in
-    let children_stand : is_none given ≡ not c.is_found-stands.result = let a = c.args in found_stands a.skip.now a.props.now _ _ c.found_of-f.result.kind _ (c.found_of-f.ensures.1 a.props.now) ∙ ap not (sym c.is_found-stands.ensures) in
-    let children_begin : found_left call call_place props_place children_place (at filled_templates c.children_front-y.new.page c.children_front-y.result) ≡ whole = front_on call _ _ _ _ _ _ _ _ c.children_front-y.ensures (props_end c.is_found-stands.result children_stand) in
-    let children_found : child_left call call_place props_place children_place (at found_templates found_page c.to_found-z.result) ≡ whole = found_on call _ _ _ _ _ _ c.to_found-z.ensures children_begin in
-    let children_end : props_left call call_place props_place (at found_templates c.close_if-c.new.page c.close_if-c.result) ≡ whole = child_on call _ _ _ _ _ _ _ _ _ c.close_if-c.ensures children_found in
-    let props_close : key_left call_place call.key (at found_templates c.close_props-d.new.page c.close_props-d.result) ≡ whole = closed_on call _ _ _ _ _ _ _ _ c.close_props-d.ensures children_end in
-    let key_value : P.Value = value_in (read c.key_at-a.result.now) in
-    let key_begins : key_left call_place (key_held (value (opts c.args.skip.now c.args.props.now) key_value)) (at found_templates c.key_front-k.new.page c.key_front-k.result) ≡ whole = let a = c.args in key_on a.skip.now a.props.now _ _ key_value (c.key_at-a.ensures.0 a.skip.now a.props.now) _ _ _ _ props_close _ _ c.key_front-k.ensures in
-    let a = c.args in let n = rest_short in
-    let h = c.key_held.ensures in let d = c.key_at-a.ensures.1 in (
-      omega (arith, h.1, d, n, c.decreases),
-      record {
-        desk = omega (arith, c.to_found-z.auto.scratch, c.to_props-x.auto.scratch, c.requires.desk);
-        short = omega (arith, h.1, d, n, c.requires.short);
-        low = to_call_held_room _ _ _ (h.0 a.skip.now a.props.now) _ _ key_begins low;
-      },
-    )
+to_call-on_held-l-requires t c = let n = behind_le c.args.b.now c.behind-rest.ensures in let h = c.key_held.ensures.1 in let d = c.key_at-a.ensures.1 in (
+  omega (arith, h, d, n, c.decreases),
+  record {
+    desk = omega (arith, c.to_found-z.auto.scratch, c.to_props-x.auto.scratch, c.requires.desk);
+    short = omega (arith, h, d, n, c.requires.short);
+    low = held_asked _ _ _ _ _ _ c.behind-rest.ensures c.is_component-norm.ensures c.begin.ensures c.name_expr-n.ensures c.begin-2.ensures c.to_props-x.ensures c.found_of-f.result.kind _ (c.found_of-f.ensures.1 c.args.props.now) c.is_found-stands.ensures c.children_front-y.ensures c.to_found-z.ensures c.close_if-c.ensures c.close_props-d.ensures c.key_at-a.result.now (c.key_at-a.ensures.0 c.args.skip.now c.args.props.now) c.key_front-k.ensures (c.key_held.ensures.0 c.args.skip.now c.args.props.now) c.requires.low;
+  },
+)
 
 pub to_call-close-requires-2 : goal.to_call-close-requires-2
-to_call-close-requires-2 t c =
-    let whole : World = act (element_at c.args.skip.now c.args.props.now c.args.b.now).to_call_expr (at c.args.templates.now c.args.page.now c.args.st) in
-    let low : Low whole.st = c.requires.low in
-    let call_by : Bool → Call = λ s. call_of c.args.skip.now c.args.props.now c.args.b.now c.behind-rest.result.now (not c.is_component-norm.result) s in
-    let given : Mid = ((call_by true).found c.args.st.first).value in
-    let call_place : ℕ = c.args.st.page in
-    let props_place : ℕ = c.name_expr-n.result.page in
-    let children_place : ℕ = c.to_props-x.result.page in
-    let filled_templates : Bytes = c.to_props-x.new.templates in
-    let filled_page : Bytes = c.to_props-x.new.page in
-    let found_templates : Bytes = c.to_found-z.new.templates in
-    let found_page : Bytes = c.to_found-z.new.page in
-    let call_starts : (s : Bool) → is_none given ≡ not s → call_left (call_by s) (at c.args.templates.now c.args.page.now c.args.st) ≡ whole = λ s h. let a = c.args in call_is a.skip.now a.props.now a.b.now c.behind-rest.ensures c.is_component-norm.ensures (at a.templates.now a.page.now a.st) s h in
-    let name_begins : (s : Bool) → is_none given ≡ not s → name_left (call_by s) call_place (at c.args.templates.now c.args.page.now c.begin.result) ≡ whole = λ s h. begun_on (call_by s) _ _ _ _ _ c.begin.ensures (call_starts s h) in
-    let name_ends : (s : Bool) → is_none given ≡ not s → named_left (call_by s) call_place (at c.args.templates.now c.name_expr-n.new.page c.name_expr-n.result) ≡ whole = λ s h. name_on (call_by s) _ _ _ _ _ _ _ (name_plain _) c.name_expr-n.ensures (name_begins s h) in
-    let props_begin : (s : Bool) → is_none given ≡ not s → attributes_left (call_by s) call_place props_place (at c.args.templates.now c.name_expr-n.new.page c.begin-2.result) ≡ whole = λ s h. props_begun_on (call_by s) _ _ _ _ _ _ c.begin-2.ensures (name_ends s h) in
-    let props_end : (s : Bool) → is_none given ≡ not s → children_left (call_by s) call_place props_place (at filled_templates filled_page c.to_props-x.result) ≡ whole = λ s h. props_on (call_by s) _ _ _ _ _ c.to_props-x.ensures (props_begin s h) in
-    let named_past : call_place + 3 ≤ props_place = omega (arith, ap (λ (x : Walk). x.page) c.begin.ensures, grew (see_grows _ _) c.name_expr-n.ensures) in
-    let filled_past : props_place + 3 ≤ children_place = omega (arith, ap (λ (x : Walk). x.page) c.begin-2.ensures, grew (see_grows _ _) c.to_props-x.ensures) in
-    let call : Call = call_by c.is_found-stands.result in
-    let children_stand : is_none given ≡ not c.is_found-stands.result = let a = c.args in found_stands a.skip.now a.props.now _ _ c.found_of-f.result.kind _ (c.found_of-f.ensures.1 a.props.now) ∙ ap not (sym c.is_found-stands.ensures) in
-    let children_begin : found_left call call_place props_place children_place (at filled_templates c.children_front-y.new.page c.children_front-y.result) ≡ whole = front_on call _ _ _ _ _ _ _ _ c.children_front-y.ensures (props_end c.is_found-stands.result children_stand) in
-    let children_found : child_left call call_place props_place children_place (at found_templates found_page c.to_found-z.result) ≡ whole = found_on call _ _ _ _ _ _ c.to_found-z.ensures children_begin in
-    let found_past : children_place ≤ c.to_found-z.result.page = omega (arith, front_grew c.is_found-stands.result _ _ _ _ c.children_front-y.ensures, grew (act_grows _ _) c.to_found-z.ensures) in
-    let children_end : props_left call call_place props_place (at found_templates c.close_if-c.new.page c.close_if-c.result) ≡ whole = child_on call _ _ _ _ _ _ _ _ _ c.close_if-c.ensures children_found in
-    let childed_past : props_place + 3 ≤ c.close_if-c.result.page = omega (arith, filled_past, found_past, child_grew c.is_found-stands.result _ _ _ _ c.to_found-z.result _ c.close_if-c.ensures) in
-    let props_close : key_left call_place call.key (at found_templates c.close_props-d.new.page c.close_props-d.result) ≡ whole = closed_on call _ _ _ _ _ _ _ _ c.close_props-d.ensures children_end in
-    let closed_past : call_place + 3 ≤ c.close_props-d.result.page = omega (arith, named_past, childed_past, closed_grew props_place _ _ c.close_if-c.result _ c.close_props-d.ensures) in
-    let key_value : P.Value = value_in (read c.key_at-a.result.now) in
-    let key_begins : key_left call_place (key_held (value (opts c.args.skip.now c.args.props.now) key_value)) (at found_templates c.key_front-k.new.page c.key_front-k.result) ≡ whole = let a = c.args in key_on a.skip.now a.props.now _ _ key_value (c.key_at-a.ensures.0 a.skip.now a.props.now) _ _ _ _ props_close _ _ c.key_front-k.ensures in
-    let visited_past : call_place + 3 ≤ c.on_held-l.result.page = omega (arith, closed_past, grew (see_grows _ _) c.key_front-k.ensures, grew (see_grows _ _) c.on_held-l.ensures) in
-    let a = c.args in (
-      visited_past,
-      call_low _ _ _ (c.key_held.ensures.0 a.skip.now a.props.now) _ _ key_begins _ _ _ c.on_held-l.ensures low,
-    )
+to_call-close-requires-2 t c = keyed_asked _ _ _ _ _ _ c.behind-rest.ensures c.is_component-norm.ensures c.begin.ensures c.name_expr-n.ensures c.begin-2.ensures c.to_props-x.ensures c.found_of-f.result.kind _ (c.found_of-f.ensures.1 c.args.props.now) c.is_found-stands.ensures c.children_front-y.ensures c.to_found-z.ensures c.close_if-c.ensures c.close_props-d.ensures c.key_at-a.result.now (c.key_at-a.ensures.0 c.args.skip.now c.args.props.now) c.key_front-k.ensures (c.key_held.ensures.0 c.args.skip.now c.args.props.now) c.on_held-l.ensures c.requires.low
 
 pub to_call-returns : goal.to_call-returns
-to_call-returns t c =
-    let whole : World = act (element_at c.args.skip.now c.args.props.now c.args.b.now).to_call_expr (at c.args.templates.now c.args.page.now c.args.st) in
-    let call_by : Bool → Call = λ s. call_of c.args.skip.now c.args.props.now c.args.b.now c.behind-rest.result.now (not c.is_component-norm.result) s in
-    let given : Mid = ((call_by true).found c.args.st.first).value in
-    let call_place : ℕ = c.args.st.page in
-    let props_place : ℕ = c.name_expr-n.result.page in
-    let children_place : ℕ = c.to_props-x.result.page in
-    let filled_templates : Bytes = c.to_props-x.new.templates in
-    let filled_page : Bytes = c.to_props-x.new.page in
-    let found_templates : Bytes = c.to_found-z.new.templates in
-    let found_page : Bytes = c.to_found-z.new.page in
-    let call_starts : (s : Bool) → is_none given ≡ not s → call_left (call_by s) (at c.args.templates.now c.args.page.now c.args.st) ≡ whole = λ s h. let a = c.args in call_is a.skip.now a.props.now a.b.now c.behind-rest.ensures c.is_component-norm.ensures (at a.templates.now a.page.now a.st) s h in
-    let name_begins : (s : Bool) → is_none given ≡ not s → name_left (call_by s) call_place (at c.args.templates.now c.args.page.now c.begin.result) ≡ whole = λ s h. begun_on (call_by s) _ _ _ _ _ c.begin.ensures (call_starts s h) in
-    let name_ends : (s : Bool) → is_none given ≡ not s → named_left (call_by s) call_place (at c.args.templates.now c.name_expr-n.new.page c.name_expr-n.result) ≡ whole = λ s h. name_on (call_by s) _ _ _ _ _ _ _ (name_plain _) c.name_expr-n.ensures (name_begins s h) in
-    let props_begin : (s : Bool) → is_none given ≡ not s → attributes_left (call_by s) call_place props_place (at c.args.templates.now c.name_expr-n.new.page c.begin-2.result) ≡ whole = λ s h. props_begun_on (call_by s) _ _ _ _ _ _ c.begin-2.ensures (name_ends s h) in
-    let props_end : (s : Bool) → is_none given ≡ not s → children_left (call_by s) call_place props_place (at filled_templates filled_page c.to_props-x.result) ≡ whole = λ s h. props_on (call_by s) _ _ _ _ _ c.to_props-x.ensures (props_begin s h) in
-    let call : Call = call_by c.is_found-stands.result in
-    let children_stand : is_none given ≡ not c.is_found-stands.result = let a = c.args in found_stands a.skip.now a.props.now _ _ c.found_of-f.result.kind _ (c.found_of-f.ensures.1 a.props.now) ∙ ap not (sym c.is_found-stands.ensures) in
-    let children_begin : found_left call call_place props_place children_place (at filled_templates c.children_front-y.new.page c.children_front-y.result) ≡ whole = front_on call _ _ _ _ _ _ _ _ c.children_front-y.ensures (props_end c.is_found-stands.result children_stand) in
-    let children_found : child_left call call_place props_place children_place (at found_templates found_page c.to_found-z.result) ≡ whole = found_on call _ _ _ _ _ _ c.to_found-z.ensures children_begin in
-    let children_end : props_left call call_place props_place (at found_templates c.close_if-c.new.page c.close_if-c.result) ≡ whole = child_on call _ _ _ _ _ _ _ _ _ c.close_if-c.ensures children_found in
-    let props_close : key_left call_place call.key (at found_templates c.close_props-d.new.page c.close_props-d.result) ≡ whole = closed_on call _ _ _ _ _ _ _ _ c.close_props-d.ensures children_end in
-    let key_value : P.Value = value_in (read c.key_at-a.result.now) in
-    let key_begins : key_left call_place (key_held (value (opts c.args.skip.now c.args.props.now) key_value)) (at found_templates c.key_front-k.new.page c.key_front-k.result) ≡ whole = let a = c.args in key_on a.skip.now a.props.now _ _ key_value (c.key_at-a.ensures.0 a.skip.now a.props.now) _ _ _ _ props_close _ _ c.key_front-k.ensures in
-    let a = c.args in call_done _ _ _ (c.key_held.ensures.0 a.skip.now a.props.now) _ _ key_begins _ _ _ c.on_held-l.ensures _ _ c.close-2.ensures
+to_call-returns t c = keyed_done _ _ _ _ _ _ c.behind-rest.ensures c.is_component-norm.ensures c.begin.ensures c.name_expr-n.ensures c.begin-2.ensures c.to_props-x.ensures c.found_of-f.result.kind _ (c.found_of-f.ensures.1 c.args.props.now) c.is_found-stands.ensures c.children_front-y.ensures c.to_found-z.ensures c.close_if-c.ensures c.close_props-d.ensures c.key_at-a.result.now (c.key_at-a.ensures.0 c.args.skip.now c.args.props.now) c.key_front-k.ensures (c.key_held.ensures.0 c.args.skip.now c.args.props.now) c.on_held-l.ensures c.close-2.ensures

@@ -10,7 +10,7 @@ use Rattle.spec.specs.Output as O
 use Rattle.spec.specs.Attributes as A
 use Rattle.walk.specs.See.{at, see, wrap}
 use Rattle.walk.proofs.LeafLaws.{done_world}
-use Rattle.walk.proofs.ArmLaws.{back_nothing, back_true, back_string, back_null, back_attr, back_choice, back_low, seen_low}
+use Rattle.walk.proofs.ArmLaws.{back_nothing, back_plain, back_choice, back_low, seen_low}
 use Rattle.walk.proofs.attribute.gap_back.Goals as goal
 
 pub name_leaf-x-requires : goal.name_leaf-x-requires
@@ -26,22 +26,7 @@ close-requires c = let a = c.args in let n = attr_name_in (read a.a.now) in
 pub close-requires-in-True : goal.close-requires-in-True
 close-requires-in-True c = let a = c.args in let n = attr_name_in (read a.a.now) in
     let w = at [] a.page.now a.st in
-    back_low a.tag (λ (b : Bytes). b) a.gap n A.absent w a.p a.tag w (back_true a.tag (λ (b : Bytes). b) a.gap n A.absent w a.p c.in-True.is) c.requires
-
-pub close-requires-in-String : goal.close-requires-in-String
-close-requires-in-String c = let a = c.args in let n = attr_name_in (read a.a.now) in
-    let w = at [] a.page.now a.st in
-    back_low a.tag (λ (b : Bytes). b) a.gap n A.absent w a.p a.tag w (back_string a.tag (λ (b : Bytes). b) a.gap n A.absent w a.p c.in-String.is) c.requires
-
-pub close-requires-in-Null : goal.close-requires-in-Null
-close-requires-in-Null c = let a = c.args in let n = attr_name_in (read a.a.now) in
-    let w = at [] a.page.now a.st in
-    back_low a.tag (λ (b : Bytes). b) a.gap n A.absent w a.p a.tag w (back_null a.tag (λ (b : Bytes). b) a.gap n A.absent w a.p c.in-Null.is) c.requires
-
-pub close-requires-in-Attr : goal.close-requires-in-Attr
-close-requires-in-Attr c = let a = c.args in let n = attr_name_in (read a.a.now) in
-    let w = at [] a.page.now a.st in
-    back_low a.tag (λ (b : Bytes). b) a.gap n A.absent w a.p a.tag w (back_attr a.tag (λ (b : Bytes). b) a.gap n A.absent w a.p c.in-Attr.is) c.requires
+    back_low a.tag (λ (b : Bytes). b) a.gap n A.absent w a.p a.tag w (back_plain a.tag (λ (b : Bytes). b) a.gap n A.absent w a.p c.in-True.is) c.requires
 
 pub returns-in-Nothing : goal.returns-in-Nothing
 returns-in-Nothing c = let a = c.args in let n = attr_name_in (read a.a.now) in
@@ -56,19 +41,4 @@ returns-in-Choice c = let a = c.args in let n = attr_name_in (read a.a.now) in
 pub returns-in-True : goal.returns-in-True
 returns-in-True c = let a = c.args in let n = attr_name_in (read a.a.now) in
     let w = at [] a.page.now a.st in
-    done_world (back_true a.tag (λ (b : Bytes). b) a.gap n A.absent w a.p c.in-True.is).1 c.close-in-True.ensures
-
-pub returns-in-String : goal.returns-in-String
-returns-in-String c = let a = c.args in let n = attr_name_in (read a.a.now) in
-    let w = at [] a.page.now a.st in
-    done_world (back_string a.tag (λ (b : Bytes). b) a.gap n A.absent w a.p c.in-String.is).1 c.close-in-String.ensures
-
-pub returns-in-Null : goal.returns-in-Null
-returns-in-Null c = let a = c.args in let n = attr_name_in (read a.a.now) in
-    let w = at [] a.page.now a.st in
-    done_world (back_null a.tag (λ (b : Bytes). b) a.gap n A.absent w a.p c.in-Null.is).1 c.close-in-Null.ensures
-
-pub returns-in-Attr : goal.returns-in-Attr
-returns-in-Attr c = let a = c.args in let n = attr_name_in (read a.a.now) in
-    let w = at [] a.page.now a.st in
-    done_world (back_attr a.tag (λ (b : Bytes). b) a.gap n A.absent w a.p c.in-Attr.is).1 c.close-in-Attr.ensures
+    done_world (back_plain a.tag (λ (b : Bytes). b) a.gap n A.absent w a.p c.in-True.is).1 c.close-in-True.ensures

@@ -14,11 +14,11 @@ returns-in_default c = let a = c.args in let w = at [] a.page.now a.st in
     done_as w (key_none (opts [] []) (value_in (read a.a.now)) c.value_at.ensures (absent_other c.in_default.is)) (sym (see_none w))
 
 pub attr_string_leaf-requires : goal.attr_string_leaf-requires
-attr_string_leaf-requires c = let a = c.args in low_as (at [] a.page.now a.st) (key_51 (opts [] []) a.a.now c.value_at.ensures c.in-Field.is c.if-tag-eq81.true c.behind.ensures c.body.ensures) c.requires
+attr_string_leaf-requires c = let a = c.args in low_as (at [] a.page.now a.st) (key_51 (opts [] []) a.a.now c.value_at.ensures c.in-Some.is c.in-String.is c.behind.ensures c.body.ensures) c.requires
 
-pub returns-then-tag-eq81 : goal.returns-then-tag-eq81
-returns-then-tag-eq81 c = let a = c.args in done_as (at [] a.page.now a.st) (key_51 (opts [] []) a.a.now c.value_at.ensures c.in-Field.is c.if-tag-eq81.true c.behind.ensures c.body.ensures) c.attr_string_leaf.ensures
+pub returns-in-String : goal.returns-in-String
+returns-in-String c = let a = c.args in done_as (at [] a.page.now a.st) (key_51 (opts [] []) a.a.now c.value_at.ensures c.in-Some.is c.in-String.is c.behind.ensures c.body.ensures) c.attr_string_leaf.ensures
 
-pub returns : goal.returns
-returns c = let a = c.args in let w = at [] a.page.now a.st in
-    done_as w (key_none (opts [] []) (value_in (read a.a.now)) c.value_at.ensures (field_other c.in-Field.is c.if-tag-eq81.false)) (sym (see_none w))
+pub returns-in-Container : goal.returns-in-Container
+returns-in-Container c = let a = c.args in let w = at [] a.page.now a.st in
+    done_as w (key_none (opts [] []) (value_in (read a.a.now)) c.value_at.ensures (field_other c.in-Some.is c.in-Container.is)) (sym (see_none w))

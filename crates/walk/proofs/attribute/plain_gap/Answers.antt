@@ -11,16 +11,16 @@ pub returns-in_default : goal.returns-in_default
 returns-in_default c = plain_true _ c.value_at.ensures _ c.in_default.is c.is_boolean.ensures c.if-is_boolean.false
 
 pub returns-then-is_key : goal.returns-then-is_key
-returns-then-is_key c = plain_key _ c.value_at.ensures c.in-Field.is _ c.if-tag-eq81.true c.is_key.ensures c.if-is_key.true
+returns-then-is_key c = plain_key _ c.value_at.ensures c.in-Some.is _ c.in-String.is c.is_key.ensures c.if-is_key.true
 
 pub returns-then-is_ref : goal.returns-then-is_ref
-returns-then-is_ref c = plain_ref _ c.value_at.ensures c.in-Field.is _ c.if-tag-eq81.true c.is_key.ensures c.if-is_key.false c.is_ref.ensures c.if-is_ref.true
+returns-then-is_ref c = plain_ref _ c.value_at.ensures c.in-Some.is _ c.in-String.is c.is_key.ensures c.if-is_key.false c.is_ref.ensures c.if-is_ref.true
 
-pub returns-then-tag-eq81 : goal.returns-then-tag-eq81
-returns-then-tag-eq81 c = plain_string _ c.value_at.ensures c.in-Field.is _ c.if-tag-eq81.true c.is_key.ensures c.if-is_key.false c.is_ref.ensures c.if-is_ref.false
+pub returns-else-is_ref : goal.returns-else-is_ref
+returns-else-is_ref c = plain_string _ c.value_at.ensures c.in-Some.is _ c.in-String.is c.is_key.ensures c.if-is_key.false c.is_ref.ensures c.if-is_ref.false
 
-pub returns-then-tag-eq82 : goal.returns-then-tag-eq82
-returns-then-tag-eq82 c = c.container_gap.ensures ∙ plain_container _ c.value_at.ensures c.in-Field.is _ c.if-tag-eq82.true (c.body.ensures ∙ ap body_of c.behind.ensures)
+pub returns-in-Container : goal.returns-in-Container
+returns-in-Container c = c.container_gap.ensures ∙ plain_container _ c.value_at.ensures c.in-Some.is _ c.in-Container.is (c.body.ensures ∙ ap body_of c.behind.ensures)
 
-pub returns : goal.returns
-returns c = plain_tag _ c.value_at.ensures c.in-Field.is _ c.if-tag-eq81.false c.if-tag-eq82.false
+pub returns-in-Element : goal.returns-in-Element
+returns-in-Element c = plain_tag _ c.value_at.ensures c.in-Some.is _ c.in-Element.is

@@ -6,4 +6,4 @@ pub returns-in_default : goal.returns-in_default
 returns-in_default c = sets_absent _ c.value_at.ensures _ _ c.in_default.is
 
 pub returns : goal.returns
-returns c = sets_field _ c.value_at.ensures c.in-Field.is _ _ c.is_key.ensures
+returns c = sets_field _ c.value_at.ensures c.in-Some.is _ _ c.is_key.ensures

@@ -8,8 +8,8 @@ use Rattle.walk.proofs.attribute.string_at.Goals as goal
 pub returns-in_default : goal.returns-in_default
 returns-in_default c = λ skip props. text_absent _ c.value_at.ensures (opts skip props) c.in_default.is
 
-pub returns-then-tag-eq81 : goal.returns-then-tag-eq81
-returns-then-tag-eq81 c = λ skip props. text_string _ c.value_at.ensures c.in-Field.is (opts skip props) c.if-tag-eq81.true (c.body.ensures ∙ ap body_of c.behind.ensures)
+pub returns-in-String : goal.returns-in-String
+returns-in-String c = λ skip props. text_string _ c.value_at.ensures c.in-Some.is (opts skip props) c.in-String.is (c.body.ensures ∙ ap body_of c.behind.ensures)
 
-pub returns : goal.returns
-returns c = λ skip props. text_other _ c.value_at.ensures c.in-Field.is (opts skip props) c.if-tag-eq81.false
+pub returns-in-Container : goal.returns-in-Container
+returns-in-Container c = λ skip props. text_other _ c.value_at.ensures c.in-Some.is (opts skip props) c.in-Container.is

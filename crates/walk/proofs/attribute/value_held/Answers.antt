@@ -10,11 +10,11 @@ use Rattle.walk.proofs.attribute.value_held.Goals as goal
 pub returns-in_default : goal.returns-in_default
 returns-in_default c = (λ skip props. held_absent _ c.value_at.ensures (opts skip props) c.in_default.is, omega arith)
 
-pub returns-then-tag-eq82 : goal.returns-then-tag-eq82
-returns-then-tag-eq82 c = (λ skip props. held_container _ c.value_at.ensures c.in-Field.is (opts skip props) c.if-tag-eq82.true (c.body.ensures ∙ ap body_of c.behind-v.ensures), body_behind_le _ c.behind-v.ensures c.body.ensures)
+pub returns-in-Container : goal.returns-in-Container
+returns-in-Container c = (λ skip props. held_container _ c.value_at.ensures c.in-Some.is (opts skip props) c.in-Container.is (c.body.ensures ∙ ap body_of c.behind.ensures), body_behind_le _ c.behind.ensures c.body.ensures)
 
-pub returns-then-tag-eq81 : goal.returns-then-tag-eq81
-returns-then-tag-eq81 c = (λ skip props. held_string _ c.value_at.ensures c.in-Field.is (opts skip props) c.if-tag-eq81.true, omega arith)
+pub returns-in-String : goal.returns-in-String
+returns-in-String c = (λ skip props. held_string _ c.value_at.ensures c.in-Some.is (opts skip props) c.in-String.is, omega arith)
 
-pub returns : goal.returns
-returns c = (λ skip props. held_tag _ c.value_at.ensures c.in-Field.is (opts skip props) c.if-tag-eq81.false c.if-tag-eq82.false c.behind-v.ensures, behind_le _ c.behind-v.ensures)
+pub returns-in-Element : goal.returns-in-Element
+returns-in-Element c = (λ skip props. held_tag _ c.value_at.ensures c.in-Some.is (opts skip props) c.in-Element.is c.behind-in-Element.ensures, behind_le _ c.behind-in-Element.ensures)

@@ -1,8 +1,0 @@
-use Rattle.decisions.proofs.IndexLaws.{listed_series, listed_chain}
-use Rattle.decisions.proofs.index.lists_namespaced.Goals as goal
-
-pub returns-then-list-le4096 : goal.returns-then-list-le4096
-returns-then-list-le4096 c = listed_series _ _ c.if-list-le4096.true c.series_has_namespaced.ensures
-
-pub returns : goal.returns
-returns c = listed_chain _ _ c.if-list-le4096.false c.hash_namespaced-h.ensures.0 c.two_at.ensures.0 c.chain_has_namespaced.ensures

@@ -1,2 +1,0 @@
--- Laws of what is read.
-pub mod ReadLaws
