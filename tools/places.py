@@ -106,7 +106,7 @@ def point_3():
 
 def point_4():
     yield from grep(r"as usize\) \* 256|/ 256 % 256|% 256\) as u8|% 65536\) as u16|% 4294967296\) as u32|n \* 256 \+ b")
-    yield from grep(r"\bfn (letter|small|same_bytes|letters_are|low|wide|less|either|at_most|at_most_15|graver|number_of|is_entered|print_what|is_digit|is_upper|is_within|is_zero|either|bit|boolean_in|starts_with_lf)\b")
+    yield from grep(r"\bfn (letter|small|same_bytes|letters_are|low|wide|less|either|at_most|at_most_15|graver|number_of|is_entered|print_what|is_digit|is_upper|is_within|is_zero|bit|boolean_in|starts_with_lf)\b")
     yield from grep(r"c \+ 32\b|b'A' <= |97 <= c|65 <= c|48 <= c|b'0' <= ")
     yield from grep(r"Verdict::Refused\(e\) => (return )?Verdict::Refused\(e\)|return Verdict::Refused\(e\);")
 
