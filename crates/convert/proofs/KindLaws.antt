@@ -10,7 +10,7 @@ use mathlib.Core.List.{[], ◌∷◌, ◌++◌}
 use lib.Dec.{eqb, leb}
 use lib.ListN.{length, drop, get_or, drop_of_length-le}
 use lib.Seq.{drop-cons}
-use borrow.Author.Tests.{eq-eqb, ne_eqb}
+use borrow.Author.Tests.{eq-eqb, ne_eqb, le-leb}
 use Rattle.field.specs.Bytes.{Bytes, pick, same}
 use Rattle.field.specs.Row.{Row, end, loose, field, Inside, only_bytes, fields_after, counted, inside, opened, read, Ended}
 use Rattle.field.specs.Front.{tag_of_front, body_of, behind_of}
@@ -166,25 +166,15 @@ marks_on k i h m t {b} {r} {m'} {v} eb em ev er =
 pub put_on : {o o' a : Bytes} {n n' : ℕ} → Wrote o n a o' n' → (b : Bytes) → put o' n' b ≡ put o n (a ++ b)
 put_on {o} {o'} {a} {n} {n'} w b = ap₂ (λ (x : Bytes) (y : ℕ). put x y b) w.out_is w.end_is ∙ put_put o n a b
 
-pub and_on : (c : Bool) (k : ℕ) (ks : Bytes) → ((c && leb 1 k) && all_clear ks) ≡ (c && all_clear (k ∷ ks))
-unfolding all_clear
-and_on true k ks = refl
-and_on false k ks = refl
-
-pub clear_none : (c : Bool) → (c && all_clear []) ≡ c
-unfolding all_clear
-clear_none true = refl
-clear_none false = refl
-
 -- what is written and what is left to write are all
-pub record Marking (o : Bytes) (at gaps : ℕ) (s out t : Bytes) (m : Markup) (i a : ℕ) (clear : Bool) : Type 0 where
+pub record Marking (o : Bytes) (at gaps : ℕ) (s out t : Bytes) (m : Markup) (i a : ℕ) : Type 0 where
   pub within : i ≤ gaps
   pub place_is : a ≡ at + i
   pub same_size : length out ≡ length o
   pub left_is : put out a (kind_marks (gaps - i) m t) ≡ put o at (kind_marks gaps M.Outside s)
-  pub clear_left : (clear && all_clear (kind_marks (gaps - i) m t)) ≡ all_clear (kind_marks gaps M.Outside s)
+  pub clear_left : all_clear (kind_marks (gaps - i) m t) ≡ all_clear (kind_marks gaps M.Outside s)
 
-pub marking_begins : (o : Bytes) (at gaps : ℕ) (s : Bytes) → Marking o at gaps s o s M.Outside 0 at true
+pub marking_begins : (o : Bytes) (at gaps : ℕ) (s : Bytes) → Marking o at gaps s o s M.Outside 0 at
 marking_begins o at gaps s =
     let z : gaps - 0 ≡ gaps = omega arith in
     record {
@@ -195,21 +185,32 @@ marking_begins o at gaps s =
       clear_left = ap (λ (x : ℕ). all_clear (kind_marks x M.Outside s)) z;
     }
 
-module _ {o s out t : Bytes} {at gaps i a : ℕ} {m : Markup} {clear : Bool} (k : Marking o at gaps s out t m i a clear) where
-  pub marking_on : i < gaps → {b r out' : Bytes} {m' : Markup} {v a' : ℕ} → b ≡ body_of t → m' ≡ all_passed m b → v ≡ kind_number m' → Wrote out a (v ∷ []) out' a' → r ≡ behind_of t
-      → Marking o at gaps s out' r m' (i + 1) a' (clear && leb 1 v)
-  marking_on h {b} {r} {out'} {m'} {v} {a'} eb em ev w er =
-      let e : kind_marks (gaps - i) m t ≡ v ∷ kind_marks (gaps - (i + 1)) m' r = marks_on gaps i h m t eb em ev er in
-      let rest : Bytes = kind_marks (gaps - (i + 1)) m' r in
-      record {
-        within = omega arith;
-        place_is = omega (arith, w.end_is, k.place_is);
-        same_size = wrote_length w ∙ k.same_size;
-        left_is = put_on w rest ∙ ap (put out a) (sym e) ∙ k.left_is;
-        clear_left = and_on clear v rest ∙ ap (λ (x : Bytes). clear && all_clear x) (sym e) ∙ k.clear_left;
-      }
+module _ {o s out t : Bytes} {at gaps i a : ℕ} {m : Markup} (k : Marking o at gaps s out t m i a) where
+  module _ (h : i < gaps) {b : Bytes} {m' : Markup} {v : ℕ} (eb : b ≡ body_of t) (em : m' ≡ all_passed m b) (ev : v ≡ kind_number m') where
+    pub marking_on : (v ≡ 0 → ⊥) → {r out' : Bytes} {a' : ℕ} → Wrote out a (v ∷ []) out' a' → r ≡ behind_of t → Marking o at gaps s out' r m' (i + 1) a'
+    unfolding all_clear
+    marking_on z {r} {out'} {a'} w er =
+        let e : kind_marks (gaps - i) m t ≡ v ∷ kind_marks (gaps - (i + 1)) m' r = marks_on gaps i h m t eb em ev er in
+        let rest : Bytes = kind_marks (gaps - (i + 1)) m' r in
+        let c : all_clear (v ∷ rest) ≡ all_clear rest = ap (λ (x : Bool). x && all_clear rest) (le-leb 1 v (omega (arith, z))) in
+        record {
+          within = omega arith;
+          place_is = omega (arith, w.end_is, k.place_is);
+          same_size = wrote_length w ∙ k.same_size;
+          left_is = put_on w rest ∙ ap (put out a) (sym e) ∙ k.left_is;
+          clear_left = sym c ∙ ap all_clear (sym e) ∙ k.clear_left;
+        }
 
-  pub marking_ends : gaps ≤ i → Wrote o at (kind_marks gaps M.Outside s) out a × (clear ≡ all_clear (kind_marks gaps M.Outside s))
+    -- a gap of no kind
+    pub marking_stops : v ≡ 0 → all_clear (kind_marks gaps M.Outside s) ≡ false
+    unfolding all_clear
+    marking_stops z =
+        sym k.clear_left
+        ∙ ap all_clear (marks_on gaps i h m t eb em ev refl)
+        ∙ ap (λ (x : ℕ). leb 1 x && all_clear (kind_marks (gaps - (i + 1)) m' (behind_of t))) z
+
+  pub marking_ends : gaps ≤ i → Wrote o at (kind_marks gaps M.Outside s) out a × (all_clear (kind_marks gaps M.Outside s) ≡ true)
+  unfolding all_clear
   marking_ends h =
       let e : kind_marks (gaps - i) m t ≡ [] = marks_none gaps i h m t in
       let l : i ≡ gaps = omega (arith, k.within) in (
@@ -217,7 +218,7 @@ module _ {o s out t : Bytes} {at gaps i a : ℕ} {m : Markup} {clear : Bool} (k 
           out_is = sym (put_nil out a) ∙ ap (put out a) (sym e) ∙ k.left_is;
           end_is = k.place_is ∙ ap (λ (x : ℕ). at + x) (l ∙ sym (length_marks gaps M.Outside s));
         },
-        sym (clear_none clear) ∙ ap (λ (x : Bytes). clear && all_clear x) (sym e) ∙ k.clear_left,
+        sym k.clear_left ∙ ap all_clear e,
       )
 
 -- ---- kinds compared

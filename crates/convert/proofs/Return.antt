@@ -83,7 +83,7 @@ or_or true b c h g = absurd (false_true (sym h))
 or_or false true c h g = absurd (false_true (sym h))
 or_or false false c h g = g
 
-narrow : (c : Expect) (y : Row) → SaneBy (held 2) y → good 2 c y ≡ Fine → has_wide y ≡ false
+pub narrow : (c : Expect) (y : Row) → SaneBy (held 2) y → good 2 c y ≡ Fine → has_wide y ≡ false
 unfolding has_wide
 narrow c end s g = refl
 narrow c (loose b) s g = refl

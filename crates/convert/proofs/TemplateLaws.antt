@@ -2,12 +2,13 @@
 -- `raise_wrote`, `lower_wrote`. Assumes nothing.
 use mathlib.Core.Path.{◌≡◌, refl, sym, ap, ap₂, ◌∙◌, subst}
 use mathlib.Core.Bool.{Bool, true, false, ◌&&◌, ◌||◌, not}
-use Prim.Native.Nat.{ℕ, ◌+◌, ◌-◌, ◌<◌, ◌^◌}
+use Prim.Native.Nat.{ℕ, ◌+◌, ◌-◌, ◌≤◌, ◌<◌, ◌^◌}
 use native.Mathlib.Omega.{arith}
 use mathlib.Core.List.{[], ◌++◌, append-nil, append_assoc}
 use lib.Dec.{T, leb, ltb}
 use lib.ListN.{length, take, drop, length-append, length-take, length-drop, take-append-drop}
 use lib.Seq.{take_all}
+use borrow.Author.Tests.{le-leb, lt-leb}
 use Rattle.field.specs.Bytes.{Bytes, AllBytes, same}
 use Rattle.field.specs.Number.{big_endian, number_of}
 use Rattle.field.specs.Row.{Row, end, loose, field, field_bytes, bytes, long_body, Inside, only_bytes, fields_after, counted, counted_front, inside, opened, read, Ended}
@@ -21,7 +22,9 @@ use Rattle.page.specs.Refusal.{Fine}
 use Rattle.outs.specs.Templates.{check_records, check_templates}
 use Rattle.outs.specs.declared.Kind.{Kind}
 use Rattle.outs.specs.declared.Kind.TheVariants.{Old, New}
-use Rattle.convert.specs.Flat.{kind_marks, all_clear, gaps_in, strings_at, kinds_at, rewritten_body, body_clear, rewritten_tag, BodyFits, rewritten_bytes, all_bodies_clear, some_body_long, RewritesBody, Rewrites}
+use Rattle.convert.specs.Flat.{kind_marks, all_clear, gaps_in, strings_at, kinds_at, rewritten_body, body_clear, rewritten_tag, BodyFits, rewritten_bytes, all_bodies_clear, some_body_long, WroteBody, RewritesBody, WroteAll}
+use Rattle.std.specs.Prelude.{Option}
+use Rattle.convert.specs.declared.templates.Rewritten.{Rewritten}
 use Rattle.convert.specs.declared.kinds.Markup.{Markup}
 use Rattle.convert.specs.declared.kinds.Markup.TheVariants as M
 use Rattle.convert.proofs.KindLaws.{length_marks, put_on}
@@ -61,17 +64,17 @@ sound_read k s a h = record { fine = h; shaped = read_shaped s; short = not_true
 -- ---- the loop
 
 -- what is written and what is left to write are all
-pub record Keeps (k : Kind) (s o t out : Bytes) (n : ℕ) (long clear : Bool) : Type 0 where
+pub record Keeps (k : Kind) (s o t out : Bytes) (n : ℕ) (long : Bool) : Type 0 where
   pub all : AllBytes t
   pub fine : check_records k (read t) ≡ Fine
   pub same_size : length out ≡ length o
   pub left_is : put out n (rewritten_bytes k (read t)) ≡ put o 0 (rewritten_bytes k (read s))
   pub size_left : n + length (rewritten_bytes k (read t)) ≡ length (rewritten_bytes k (read s))
   pub long_left : (long || some_body_long k (read t)) ≡ some_body_long k (read s)
-  pub clear_left : (clear && all_bodies_clear k (read t)) ≡ all_bodies_clear k (read s)
+  pub clear_left : all_bodies_clear k (read t) ≡ all_bodies_clear k (read s)
   pub low : length (rewritten_bytes k (read s)) < 2 ^ 64
 
-pub keeps_begins : (k : Kind) (s o : Bytes) → AllBytes s → check_templates k s ≡ Fine → length s < 2 ^ 63 → Keeps k s o s o 0 false true
+pub keeps_begins : (k : Kind) (s o : Bytes) → AllBytes s → check_templates k s ≡ Fine → length s < 2 ^ 63 → Keeps k s o s o 0 false
 unfolding check_templates
 keeps_begins k s o a h l =
     record {
@@ -89,11 +92,7 @@ or_assoc : (a b c : Bool) → ((a || b) || c) ≡ (a || (b || c))
 or_assoc true b c = refl
 or_assoc false b c = refl
 
-and_assoc : (a b c : Bool) → ((a && b) && c) ≡ (a && (b && c))
-and_assoc true b c = refl
-and_assoc false b c = refl
-
-module _ {k : Kind} {s o t out : Bytes} {n : ℕ} {long clear : Bool} (g : Keeps k s o t out n long clear) where
+module _ {k : Kind} {s o t out : Bytes} {n : ℕ} {long : Bool} (g : Keeps k s o t out n long) where
   module _ {u : ℕ} (e : u ≡ tag_of_front t) (h : u ≡ 256 → ⊥) where
     p : InFront t u
     p = in_front t u e h g.all
@@ -121,8 +120,8 @@ module _ {k : Kind} {s o t out : Bytes} {n : ℕ} {long clear : Bool} (g : Keeps
         subst (λ (x : Bytes). BodyFits k x × (n + length (field_bytes (rewritten_tag k) (rewritten_body k x)) < 2 ^ 64)) (sym q)
         (subst (BodyFits k) p.body_is (fits k u p.front p.inner (read (behind_of t)) fine_here), omega (arith, size_next, g.size_left, g.low))
 
-    keeps_here : {out' : Bytes} {n' : ℕ} {l c : Bool} → RewritesBody k (body_of t) out n out' n' l c → Keeps k s o (behind_of t) out' n' (long || l) (clear && c)
-    keeps_here {out'} {n'} {l} {c} w =
+    keeps_here : {out' : Bytes} {r : Rewritten} → WroteBody k (body_of t) out n out' r → Keeps k s o (behind_of t) out' r.place (long || r.long)
+    keeps_here {out'} {r} w =
         let rest : Row = read (behind_of t) in
         record {
           all = (parts_at t u e h g.all).behind_all;
@@ -130,22 +129,26 @@ module _ {k : Kind} {s o t out : Bytes} {n : ℕ} {long clear : Bool} (g : Keeps
           same_size = wrote_length w.wrote ∙ g.same_size;
           left_is = put_on w.wrote (rewritten_bytes k rest) ∙ ap (put out n) (sym bytes_next) ∙ g.left_is;
           size_left = omega (arith, w.wrote.end_is, size_next, g.size_left);
-          long_left = or_assoc long l (some_body_long k rest) ∙ ap (λ (x : Bool). long || (x || some_body_long k rest)) w.long_is ∙ ap (λ (x : Bool). long || x) (sym long_next) ∙ g.long_left;
-          clear_left = and_assoc clear c (all_bodies_clear k rest) ∙ ap (λ (x : Bool). clear && (x && all_bodies_clear k rest)) w.clear_is ∙ ap (λ (x : Bool). clear && x) (sym clear_next) ∙ g.clear_left;
+          long_left = or_assoc long r.long (some_body_long k rest) ∙ ap (λ (x : Bool). long || (x || some_body_long k rest)) w.long_is ∙ ap (λ (x : Bool). long || x) (sym long_next) ∙ g.long_left;
+          clear_left = sym (ap (λ (x : Bool). x && all_bodies_clear k rest) w.clear_is) ∙ sym clear_next ∙ g.clear_left;
           low = g.low;
         }
 
-    pub keeps_on : {w r out' : Bytes} {n' : ℕ} {l c : Bool} → w ≡ body_of t → RewritesBody k w out n out' n' l c → r ≡ behind_of t → Keeps k s o r out' n' (long || l) (clear && c)
-    keeps_on {w} {r} {out'} {n'} {l} {c} qw d qr =
-        subst (λ (x : Bytes). Keeps k s o x out' n' (long || l) (clear && c)) (sym qr) (keeps_here (subst (λ (x : Bytes). RewritesBody k x out n out' n' l c) qw d))
+    pub keeps_on : {w l out' : Bytes} {r : Rewritten} → w ≡ body_of t → WroteBody k w out n out' r → l ≡ behind_of t → Keeps k s o l out' r.place (long || r.long)
+    keeps_on {w} {l} {out'} {r} qw d ql =
+        subst (λ (x : Bytes). Keeps k s o x out' r.place (long || r.long)) (sym ql) (keeps_here (subst (λ (x : Bytes). WroteBody k x out n out' r) qw d))
 
-  pub keeps_end : Ended (read t) → Rewrites k (read s) o out n long clear
+    -- the other form cannot say this record
+    pub keeps_stops : {w : Bytes} → w ≡ body_of t → body_clear k w ≡ false → all_bodies_clear k (read s) ≡ false
+    keeps_stops {w} qw d = sym g.clear_left ∙ clear_next ∙ ap (λ (x : Bytes). body_clear k x && all_bodies_clear k (read (behind_of t))) (sym qw) ∙ ap (λ (x : Bool). x && all_bodies_clear k (read (behind_of t))) d
+
+  pub keeps_end : Ended (read t) → WroteAll k (read s) o out (record { place = n; long = long })
   keeps_end i =
       record {
         out_is = sym (put_nil out n) ∙ ap (put out n) (sym (none_left (read t) i)) ∙ g.left_is;
         bytes_is = omega (arith, g.size_left, ap length (none_left (read t) i));
         long_is = sym (or_false long) ∙ ap (λ (x : Bool). long || x) (sym (none_long (read t) i)) ∙ g.long_left;
-        clear_is = sym (and_true clear) ∙ ap (λ (x : Bool). clear && x) (sym (all_clear_left (read t) i)) ∙ g.clear_left;
+        clear_is = sym g.clear_left ∙ all_clear_left (read t) i;
       }
     where
       none_left : (x : Row) → Ended x → rewritten_bytes k x ≡ []
@@ -166,10 +169,6 @@ module _ {k : Kind} {s o t out : Bytes} {n : ℕ} {long clear : Bool} (g : Keeps
       or_false : (b : Bool) → (b || false) ≡ b
       or_false true = refl
       or_false false = refl
-
-      and_true : (b : Bool) → (b && true) ≡ b
-      and_true true = refl
-      and_true false = refl
 
 -- ---- writing a record
 
@@ -207,11 +206,11 @@ module _ (w : Bytes) where
       ∙ append_assoc (big_endian 4 m []) (big_endian 2 v [] ++ ks) d
       ∙ ap (λ (x : Bytes). big_endian 4 m [] ++ x) (append_assoc (big_endian 2 v []) ks d))
 
-  pub raise_wrote : {o o₁ o₂ o₃ o₄ o₅ : Bytes} {at a b c m e n g : ℕ} {clear : Bool} → n ≡ number_of (take 8 (take 2 w)) → g ≡ gaps_in (take (length w - 2) (drop 2 w)) → Wrote o at (head 0x84 (6 + g + length (take (length w - 2) (drop 2 w)))) o₁ a → Wrote o₁ a (big_endian 4 n []) o₂ b → Wrote o₂ b (big_endian 2 g []) o₃ c
-      → Wrote o₃ c (kind_marks g M.Outside (take (length w - 2) (drop 2 w))) o₄ m × (clear ≡ all_clear (kind_marks g M.Outside (take (length w - 2) (drop 2 w)))) → Wrote o₄ m (take (length w - 2) (drop 2 w)) o₅ e
-      → RewritesBody Old w o at o₅ e (ltb 65535 (6 + g + length (take (length w - 2) (drop 2 w)))) clear
+  pub raise_wrote : {o o₁ o₂ o₃ o₄ o₅ : Bytes} {at a b c m e n g : ℕ} → n ≡ number_of (take 8 (take 2 w)) → g ≡ gaps_in (take (length w - 2) (drop 2 w)) → Wrote o at (head 0x84 (6 + g + length (take (length w - 2) (drop 2 w)))) o₁ a → Wrote o₁ a (big_endian 4 n []) o₂ b → Wrote o₂ b (big_endian 2 g []) o₃ c
+      → Wrote o₃ c (kind_marks g M.Outside (take (length w - 2) (drop 2 w))) o₄ m × (all_clear (kind_marks g M.Outside (take (length w - 2) (drop 2 w))) ≡ true) → Wrote o₄ m (take (length w - 2) (drop 2 w)) o₅ e
+      → WroteBody Old w o at o₅ (record { place = e; long = ltb 65535 (6 + g + length (take (length w - 2) (drop 2 w))) })
   unfolding body_clear
-  raise_wrote {o} {o₁} {o₂} {o₃} {o₄} {o₅} {at} {a} {b} {c} {m} {e} {n} {g} {clear} en eg w₁ w₂ w₃ w₄ w₅ =
+  raise_wrote {o} {o₁} {o₂} {o₃} {o₄} {o₅} {at} {a} {b} {c} {m} {e} {n} {g} en eg w₁ w₂ w₃ w₄ w₅ =
       let s : Bytes = take (length w - 2) (drop 2 w) in
       let es : s ≡ drop 2 w = part_rest 2 w in
       let eg' : g ≡ gaps_in (drop 2 w) = eg ∙ ap gaps_in es in
@@ -221,8 +220,14 @@ module _ (w : Bytes) where
       record {
         wrote = wrote_field 0x84 (subst (λ (x : ℕ). Wrote o at (head 0x84 x) o₁ a) l w₁) body;
         long_is = ap (ltb 65535) l;
-        clear_is = w₄.1 ∙ ap₂ (λ (x : ℕ) (y : Bytes). all_clear (kind_marks x M.Outside y)) eg' es;
+        clear_is = sym (ap₂ (λ (x : ℕ) (y : Bytes). all_clear (kind_marks x M.Outside y)) eg' es) ∙ w₄.1;
       }
+
+  pub raise_stops : {g : ℕ} → g ≡ gaps_in (take (length w - 2) (drop 2 w)) → all_clear (kind_marks g M.Outside (take (length w - 2) (drop 2 w))) ≡ false → body_clear Old w ≡ false
+  unfolding body_clear
+  raise_stops {g} eg h =
+      let es : take (length w - 2) (drop 2 w) ≡ drop 2 w = part_rest 2 w in
+      sym (ap₂ (λ (x : ℕ) (y : Bytes). all_clear (kind_marks x M.Outside y)) (eg ∙ ap gaps_in es) es) ∙ h
 
 -- 84 to 80
 module _ (w : Bytes) where
@@ -236,26 +241,47 @@ module _ (w : Bytes) where
       let k : take (length w - f) (drop f w) ≡ strings_at w = part_rest f w ∙ ap (λ (x : ℕ). drop x w) q in
       omega (arith, length_field_bytes 0x80 (rewritten_body New w), new_length w, ap length k)
 
-  pub lower_wrote : {o o₁ o₂ o₃ : Bytes} {at a b e n : ℕ} {sk : Bool} (f : ℕ) → f ≡ counted_front 4 w → n ≡ number_of (take 8 (take 4 w)) → Wrote o at (head 0x80 (2 + length (take (length w - f) (drop f w)))) o₁ a → Wrote o₁ a (big_endian 2 n []) o₂ b → Wrote o₂ b (take (length w - f) (drop f w)) o₃ e
-      → sk ≡ same (take (f - 6) (drop 6 w)) (kind_marks (length (take (f - 6) (drop 6 w))) M.Outside (take (length w - f) (drop f w)))
-      → RewritesBody New w o at o₃ e (ltb 65535 (2 + length (take (length w - f) (drop f w)))) (leb n 65535 && sk)
-  unfolding body_clear rewritten_body
-  lower_wrote {o} {o₁} {o₂} {o₃} {at} {a} {b} {e} {n} {sk} f q en w₁ w₂ w₃ es =
-      let s : Bytes = take (length w - f) (drop f w) in
-      let ks : s ≡ strings_at w = part_rest f w ∙ ap (λ (x : ℕ). drop x w) q in
-      let kk : take (f - 6) (drop 6 w) ≡ kinds_at w = ap (λ (x : ℕ). take (x - 6) (drop 6 w)) q in
-      let en' : n ≡ number_of (take 4 w) = en ∙ ap number_of (take_all 8 (take 4 w) (omega (arith, length-take 4 w))) in
-      let l : 2 + length s ≡ length (rewritten_body New w) = omega (arith, new_length w, ap length ks) in
-      let p : big_endian 2 n [] ++ s ≡ rewritten_body New w = ap₂ (λ (x : ℕ) (y : Bytes). big_endian 2 x [] ++ y) en' ks in
-      record {
-        wrote = wrote_field 0x80 (subst (λ (x : ℕ). Wrote o at (head 0x80 x) o₁ a) l w₁) (wrote_is p (wrote_then w₂ w₃));
-        long_is = ap (ltb 65535) l;
-        clear_is = ap₂ (λ (x : ℕ) (y : Bool). leb x 65535 && y) en' (es ∙ ap₂ (λ (x y : Bytes). same x (kind_marks (length x) M.Outside y)) kk ks);
-      }
+  -- what the tests of an 84 say
+  module _ (f n : ℕ) (sk : Bool) (q : f ≡ counted_front 4 w) (en : n ≡ number_of (take 8 (take 4 w)))
+      (es : sk ≡ same (take (f - 6) (drop 6 w)) (kind_marks (length (take (f - 6) (drop 6 w))) M.Outside (take (length w - f) (drop f w)))) where
+    strings_are : take (length w - f) (drop f w) ≡ strings_at w
+    strings_are = part_rest f w ∙ ap (λ (x : ℕ). drop x w) q
+
+    number_is : n ≡ number_of (take 4 w)
+    number_is = en ∙ ap number_of (take_all 8 (take 4 w) (omega (arith, length-take 4 w)))
+
+    pub lower_clear : body_clear New w ≡ (leb n 65535 && sk)
+    unfolding body_clear
+    lower_clear =
+        let kk : take (f - 6) (drop 6 w) ≡ kinds_at w = ap (λ (x : ℕ). take (x - 6) (drop 6 w)) q in
+        sym (ap₂ (λ (x : ℕ) (y : Bool). leb x 65535 && y) number_is (es ∙ ap₂ (λ (x y : Bytes). same x (kind_marks (length x) M.Outside y)) kk strings_are))
+
+    pub lower_number_stops : 65535 < n → body_clear New w ≡ false
+    lower_number_stops h = lower_clear ∙ ap (λ (x : Bool). x && sk) (lt-leb n 65535 h)
+
+    pub lower_kinds_stop : sk ≡ false → body_clear New w ≡ false
+    lower_kinds_stop h = lower_clear ∙ ap (λ (x : Bool). leb n 65535 && x) h ∙ none (leb n 65535)
+      where
+        none : (b : Bool) → (b && false) ≡ false
+        none true = refl
+        none false = refl
+
+    pub lower_wrote : n ≤ 65535 → sk ≡ true → {o o₁ o₂ o₃ : Bytes} {at a b e : ℕ} → Wrote o at (head 0x80 (2 + length (take (length w - f) (drop f w)))) o₁ a → Wrote o₁ a (big_endian 2 n []) o₂ b → Wrote o₂ b (take (length w - f) (drop f w)) o₃ e
+        → WroteBody New w o at o₃ (record { place = e; long = ltb 65535 (2 + length (take (length w - f) (drop f w))) })
+    unfolding rewritten_body
+    lower_wrote h k {o} {o₁} {o₂} {o₃} {at} {a} {b} {e} w₁ w₂ w₃ =
+        let s : Bytes = take (length w - f) (drop f w) in
+        let l : 2 + length s ≡ length (rewritten_body New w) = omega (arith, new_length w, ap length strings_are) in
+        let p : big_endian 2 n [] ++ s ≡ rewritten_body New w = ap₂ (λ (x : ℕ) (y : Bytes). big_endian 2 x [] ++ y) number_is strings_are in
+        record {
+          wrote = wrote_field 0x80 (subst (λ (x : ℕ). Wrote o at (head 0x80 x) o₁ a) l w₁) (wrote_is p (wrote_then w₂ w₃));
+          long_is = ap (ltb 65535) l;
+          clear_is = lower_clear ∙ ap₂ (λ (x y : Bool). x && y) (le-leb n 65535 h) k;
+        }
 
 -- by what a record comes from
 pub room_of : {k l : Kind} (w : Bytes) (at : ℕ) → k ≡ l → BodyFits k w × (at + length (field_bytes (rewritten_tag k) (rewritten_body k w)) < 2 ^ 64) → BodyFits l w × (at + length (field_bytes (rewritten_tag l) (rewritten_body l w)) < 2 ^ 64)
 room_of {k} {l} w at e p = subst (λ (x : Kind). BodyFits x w × (at + length (field_bytes (rewritten_tag x) (rewritten_body x w)) < 2 ^ 64)) e p
 
-pub rewrites_of : {k l : Kind} {w o o' : Bytes} {n n' : ℕ} {long clear : Bool} → k ≡ l → RewritesBody k w o n o' n' long clear → RewritesBody l w o n o' n' long clear
-rewrites_of {k} {l} {w} {o} {o'} {n} {n'} {long} {clear} e p = subst (λ (x : Kind). RewritesBody x w o n o' n' long clear) e p
+pub rewrites_of : {k l : Kind} (w o : Bytes) (n : ℕ) (o' : Bytes) (r : Option Rewritten) → k ≡ l → RewritesBody k w o n o' r → RewritesBody l w o n o' r
+rewrites_of w o n o' r e q = subst (λ (x : Kind). RewritesBody x w o n o' r) e q

@@ -1,7 +1,7 @@
 -- Templates as the code goes over them, record by record: what is written of each, whether it may be, and the strings by their bytes.
 -- Nothing here needs belief. Assumes nothing: these are definitions.
-use Rattle.std.specs.Prelude.{ℕ, zero, suc, ◌-◌, ◌≤◌, ◌<◌, ◌≡◌, Bool, true, false, ◌&&◌, ◌||◌, [], ◌∷◌, ◌++◌, eqb, leb, ltb, length, take, drop, replicate, get_or, Result, Ok, Err}
-use Rattle.field.specs.Bytes.{Bytes, pick, same}
+use Rattle.std.specs.Prelude.{ℕ, zero, suc, ◌-◌, ◌≤◌, ◌<◌, ◌≡◌, Bool, true, false, ◌&&◌, ◌||◌, [], ◌∷◌, ◌++◌, eqb, leb, ltb, length, take, drop, get_or, Option, Some, None, Result, Ok, Err}
+use Rattle.field.specs.Bytes.{Bytes, same}
 use Rattle.field.specs.Number.{number_of, big_endian}
 use Rattle.field.specs.Row.{Row, end, loose, field, field_bytes, bytes, counted_front, read}
 use Rattle.field.specs.Front.{body_of, behind_of}
@@ -9,11 +9,12 @@ use Rattle.field.specs.Put.{put, Wrote}
 use Rattle.outs.specs.declared.Kind.{Kind}
 use Rattle.outs.specs.declared.Kind.TheVariants.{Old, New}
 use Rattle.convert.specs.Kinds.{all_passed}
-use Rattle.convert.specs.Convert.{Outcome, number, bytes_of_templates, bytes_of_page, templates_left, page_left}
+use Rattle.convert.specs.Convert.{Outcome, refused, upgraded, downgraded, number, bytes_of_templates, bytes_of_page, templates_left, page_left}
 use Rattle.page.specs.Refusal.{refusal_number}
 use Rattle.convert.specs.declared.Unconverted.{Unconverted}
 use Rattle.convert.specs.declared.Unconverted.TheVariants.{Refused, Unsayable}
 use Rattle.convert.specs.declared.Converted.{Converted}
+use Rattle.convert.specs.declared.templates.Rewritten.{Rewritten}
 use Rattle.convert.specs.declared.kinds.Markup.{Markup}
 use Rattle.convert.specs.declared.kinds.Markup.TheVariants as M
 
@@ -112,36 +113,52 @@ some_body_long k end = false
 some_body_long k (loose b) = false
 some_body_long k (field t f i r) = ltb 65535 (length (rewritten_body k (f ++ bytes i))) || some_body_long k r
 
--- what a record leaves in a lent buffer, and what is answered
-pub record RewritesBody (k : Kind) (w o : Bytes) (n : ℕ) (o' : Bytes) (n' : ℕ) (long clear : Bool) : Type 0 where
-  pub wrote : Wrote o n (field_bytes (rewritten_tag k) (rewritten_body k w)) o' n'
-  pub long_is : long ≡ ltb 65535 (length (rewritten_body k w))
-  pub clear_is : clear ≡ body_clear k w
+-- what the kinds of gaps leave in a lent buffer, and what is answered: nothing where a gap is of none
+abbrev pub Marks : Bytes → (o : Bytes) (at : ℕ) (o' : Bytes) → Option ℕ → Type 0
+Marks ks o at o' None = all_clear ks ≡ false
+Marks ks o at o' (Some e) = Wrote o at ks o' e × (all_clear ks ≡ true)
+
+-- the same of a record
+pub record WroteBody (k : Kind) (w o : Bytes) (n : ℕ) (o' : Bytes) (r : Rewritten) : Type 0 where
+  pub wrote : Wrote o n (field_bytes (rewritten_tag k) (rewritten_body k w)) o' r.place
+  pub long_is : r.long ≡ ltb 65535 (length (rewritten_body k w))
+  pub clear_is : body_clear k w ≡ true
+
+abbrev pub RewritesBody : Kind → (w o : Bytes) (n : ℕ) (o' : Bytes) → Option Rewritten → Type 0
+RewritesBody k w o n o' None = body_clear k w ≡ false
+RewritesBody k w o n o' (Some r) = WroteBody k w o n o' r
 
 -- the same of all records, from the front of the buffer on
-pub record Rewrites (k : Kind) (x : Row) (o o' : Bytes) (n : ℕ) (long clear : Bool) : Type 0 where
+pub record WroteAll (k : Kind) (x : Row) (o o' : Bytes) (r : Rewritten) : Type 0 where
   pub out_is : o' ≡ put o 0 (rewritten_bytes k x)
-  pub bytes_is : n ≡ length (rewritten_bytes k x)
-  pub long_is : long ≡ some_body_long k x
-  pub clear_is : clear ≡ all_bodies_clear k x
+  pub bytes_is : r.place ≡ length (rewritten_bytes k x)
+  pub long_is : r.long ≡ some_body_long k x
+  pub clear_is : all_bodies_clear k x ≡ true
+
+abbrev pub Rewrites : Kind → Row → (o o' : Bytes) → Option Rewritten → Type 0
+Rewrites k x o o' None = all_bodies_clear k x ≡ false
+Rewrites k x o o' (Some r) = WroteAll k x o o' r
 
 -- ---- the answer
 
--- 17, 11, 12 and 13, or 0
-unfoldable pub due : (clear long templates_fit page_fits : Bool) → ℕ
-due clear long t p = pick clear (pick long 11 (pick t (pick p 0 13) 12)) 17
+abbrev pub other : Kind → Kind
+other Old = New
+other New = Old
+
+-- how many bytes the number of a call has
+abbrev pub width : Kind → ℕ
+width Old = 2
+width New = 4
+
+-- from one form into the other
+abbrev pub turned : Kind → (templates page : Bytes) (templates_room page_room : ℕ) → Outcome
+turned Old t p tr pr = upgraded t p tr pr
+turned New t p tr pr = downgraded t p tr pr
 
 -- the number of a reason: of a refusal its own, and 17 where the other form cannot say it
 abbrev pub unconverted_number : Unconverted → ℕ
 unconverted_number (Refused r) = refusal_number r
 unconverted_number Unsayable = 17
-
-abbrev pub number_due : Result (Unit {0}) Unconverted → ℕ
-number_due (Ok u) = 0
-number_due (Err e) = unconverted_number e
-
-abbrev pub zeros : Bytes → Bytes
-zeros b = replicate (length b) 0
 
 -- an outcome as it is answered and left in both lent buffers
 pub record Converts (o : Outcome) (t p : Bytes) (a : Converted) (t' p' : Bytes) : Type 0 where
@@ -151,10 +168,12 @@ pub record Converts (o : Outcome) (t p : Bytes) (a : Converted) (t' p' : Bytes) 
   pub templates_is : t' ≡ templates_left o t
   pub page_is : p' ≡ page_left o p
 
--- the same where both buffers are written already: kept, or cleared
-pub record Finishes (n : ℕ) (tn pn : ℕ) (t p : Bytes) (a : Converted) (t' p' : Bytes) : Type 0 where
-  pub number_is : a.number ≡ n
-  pub templates_bytes_is : a.templates_bytes ≡ pick (eqb n 0) tn 0
-  pub page_bytes_is : a.page_bytes ≡ pick (eqb n 0) pn 0
-  pub templates_is : t' ≡ pick (eqb n 0) t (zeros t)
-  pub page_is : p' ≡ pick (eqb n 0) p (zeros p)
+-- why there is none
+pub record Fails (o : Outcome) (t p : Bytes) (e : Unconverted) (t' p' : Bytes) : Type 0 where
+  pub reason_is : o ≡ refused (unconverted_number e)
+  pub templates_size : length t' ≡ length t
+  pub page_size : length p' ≡ length p
+
+abbrev pub Attempts : Outcome → (t p : Bytes) → Result Converted Unconverted → (t' p' : Bytes) → Type 0
+Attempts o t p (Ok a) t' p' = Converts o t p a t' p'
+Attempts o t p (Err e) t' p' = Fails o t p e t' p'

@@ -2,12 +2,11 @@
 ghost use Rattle.std.specs.Prelude.{◌≡◌, ◌+◌, ◌<◌, ◌≤◌, ◌^◌, ◌∷◌, [], length};
 ghost use Rattle.field.specs.Bytes.{same};
 ghost use Rattle.field.specs.Row.{read};
-ghost use Rattle.field.specs.Put.{Wrote};
 ghost use Rattle.convert.specs.Kinds.{passed, all_passed};
-ghost use Rattle.convert.specs.Flat.{NoSign, kind_number, kind_marks, all_clear, fields_in};
+ghost use Rattle.convert.specs.Flat.{NoSign, Marks, kind_number, kind_marks, fields_in};
 ghost use Rattle.convert.specs.declared.kinds.Markup.TheVariants as M;
 
-use field::reader::{behind, body, tag_at};
+use field::reader::{Fields, behind, body};
 use field::writer::put_byte;
 
 // Where a text leaves us: outside tags; right behind a `<`; in an opening tag, the last byte no space, or a space; in a closing tag; or its signs
@@ -73,7 +72,8 @@ fn sign_at(s: &[u8], at: usize) -> usize
     s.len()
 }
 
-// Of a run without signs the last byte alone counts, unless it stands right behind a `<`. So a run is passed at once.
+// Of a run without signs the last byte alone counts, unless it stands right behind a `<`. So a run is passed at once, and no `for` over the
+// bytes would be plainer.
 pub fn pass_all(m: Markup, s: &[u8]) -> Markup
     ensures { result ≡ all_passed m s.now }
 {
@@ -100,6 +100,7 @@ pub fn pass_all(m: Markup, s: &[u8]) -> Markup
     q
 }
 
+// The byte of a gap's kind in an 84, or 0 for a gap of none: an Option would have it compared with the bytes of an 84 by way of a default.
 #[tactic(auto, unfolding(crate::specs::Flat::kind_number))]
 pub fn kind_of(m: Markup) -> u8
     ensures { result ≡ kind_number m }
@@ -115,39 +116,31 @@ pub fn kind_of(m: Markup) -> u8
 pub fn count_fields(s: &[u8]) -> usize
     ensures { result ≡ fields_in (read s.now) }
 {
-    let mut t = s;
     let mut n: usize = 0;
-    while tag_at(t) != 256 {
+    for _ in Fields(s) {
         n += 1;
-        t = behind(t);
     }
     n
 }
 
-// The place behind the kinds, and whether every gap is of one.
-#[derive(Clone, Copy)]
-pub struct Marked {
-    pub place: usize,
-    pub clear: bool,
-}
-
-// The kinds behind the first strings of a row.
-pub fn put_kinds(out: &mut [u8], at: usize, s: &[u8], gaps: usize) -> Marked
+// The kinds behind the first strings of a row: the place behind them, where every gap is of one.
+pub fn put_kinds(out: &mut [u8], at: usize, s: &[u8], gaps: usize) -> Option<usize>
     requires { at + gaps < 2 ^ 64 }
-    ensures { Wrote out.old at (kind_marks gaps M.Outside s.now) out.new result.place × (result.clear ≡ all_clear (kind_marks gaps M.Outside s.now)) }
+    ensures { Marks (kind_marks gaps M.Outside s.now) out.old at out.new result }
 {
     let mut t = s;
     let mut m = Markup::Outside;
     let mut a = at;
-    let mut clear = true;
     for _ in 0..gaps {
         m = pass_all(m, body(t));
         let k = kind_of(m);
+        if k == 0 {
+            return None;
+        }
         a = put_byte(out, a, k);
-        clear &= 1 <= k;
         t = behind(t);
     }
-    Marked { place: a, clear }
+    Some(a)
 }
 
 // Whether the kinds of a record are those that its strings give.

@@ -2,16 +2,10 @@
 // `renumber`. What is written, and every byte lent, is what specs/Convert.antt says.
 #![tactic(auto)]
 
-ghost use Rattle.std.specs.Prelude.{◌≡◌, leb, length, true, not};
-ghost use Rattle.field.specs.Row.{read};
-ghost use Rattle.page.specs.Refusal.{Fine};
-ghost use Rattle.outs.specs.Held.{read_out};
-ghost use Rattle.outs.specs.PageOut.{check_page_out};
-ghost use Rattle.outs.specs.Templates.{check_templates};
-ghost use Rattle.outs.specs.Renumber.{renumbered, has_wide};
-ghost use Rattle.outs.specs.declared.Kind.TheVariants as K;
-ghost use Rattle.convert.specs.Convert.{refused, raised, lowered, written, upgraded, downgraded};
-ghost use Rattle.convert.specs.Flat.{due, zeros, unconverted_number, number_due, Finishes, Converts};
+ghost use Rattle.std.specs.Prelude.{◌≡◌, length};
+ghost use Rattle.convert.specs.Convert.{upgraded, downgraded};
+ghost use Rattle.convert.specs.Flat.{other, width, turned, unconverted_number, Attempts, Converts};
+ghost use Rattle.convert.specs.declared.Unconverted.TheVariants as U;
 
 mod kinds;
 mod templates;
@@ -32,12 +26,6 @@ pub struct Converted {
     pub page_bytes: usize,
 }
 
-fn clear(b: &mut [u8])
-    ensures { b.new ≡ zeros b.old }
-{
-    b.fill(0);
-}
-
 // Why nothing is converted: what is refused of the inputs or of what is written, or that the other form cannot say it.
 #[derive(Clone, Copy)]
 pub enum Unconverted {
@@ -56,108 +44,90 @@ impl From<Unconverted> for u32 {
     }
 }
 
-// A refusal: its number, and zeros.
-fn refuse(e: Unconverted, templates: &mut [u8], page: &mut [u8]) -> Converted
-    ensures { Converts (refused (unconverted_number e)) templates.old page.old result templates.new page.new }
-{
-    clear(templates);
-    clear(page);
-    Converted {
-        number: u32::from(e),
-        templates_bytes: 0,
-        page_bytes: 0,
+impl From<Refusal> for Unconverted {
+    ghost from_gives = { λ r e. e ≡ U.Refused r };
+
+    fn from(r: Refusal) -> Unconverted {
+        Unconverted::Refused(r)
     }
 }
 
-// 17, then 11, 12 and 13.
-fn check_due(
-    clear: bool,
-    long: bool,
-    t: usize,
-    templates_room: usize,
-    p: usize,
-    page_room: usize,
-) -> Result<(), Unconverted>
-    ensures { number_due result ≡ due clear long (leb t templates_room) (leb p page_room) }
+fn other(form: Kind) -> Kind
+    ensures { result ≡ other form }
 {
-    if !clear {
+    match form {
+        Kind::Old => Kind::New,
+        Kind::New => Kind::Old,
+    }
+}
+
+// How many bytes the number of a call has.
+fn width(form: Kind) -> usize
+    ensures { result ≡ width form }
+{
+    match form {
+        Kind::Old => 2,
+        Kind::New => 4,
+    }
+}
+
+// From one form into the other. Where nothing is converted, what the outs hold is left to the caller.
+fn convert<'a>(
+    from: Kind,
+    templates: &'a [u8],
+    page: &'a [u8],
+    templates_out: &mut [u8],
+    page_out: &mut [u8],
+) -> Result<Converted, Unconverted>
+    ensures { Attempts (turned from templates.now page.now (length templates_out.old) (length page_out.old)) templates_out.old page_out.old result templates_out.new page_out.new }
+{
+    check_templates(templates, from)?;
+    check_page_out(page, width(from))?;
+    let Some(x) = rewrite_templates(templates, from, templates_out) else {
+        return Err(Unconverted::Unsayable);
+    };
+    let y = renumber(page, width(from), width(other(from)), page_out);
+    if y.wide {
         return Err(Unconverted::Unsayable);
     }
-    if long {
+    if x.long | y.long {
         return Err(Unconverted::Refused(Refusal::OutputTooLong));
     }
-    if templates_room < t {
+    if templates_out.len() < x.place {
         return Err(Unconverted::Refused(Refusal::TemplatesTooSmall));
     }
-    if page_room < p {
+    if page_out.len() < y.bytes {
         return Err(Unconverted::Refused(Refusal::PageTooSmall));
     }
-    Ok(())
+    Ok(Converted {
+        number: 0,
+        templates_bytes: x.place,
+        page_bytes: y.bytes,
+    })
 }
 
-// What was written stays, or is cleared.
-fn finish(
-    checked: Result<(), Unconverted>,
-    t: usize,
-    p: usize,
-    templates: &mut [u8],
-    page: &mut [u8],
+// The same as it is answered: a refusal is its number, and zeros.
+fn answer<'a>(
+    from: Kind,
+    templates: &'a [u8],
+    page: &'a [u8],
+    templates_out: &mut [u8],
+    page_out: &mut [u8],
 ) -> Converted
-    ensures { Finishes (number_due checked) t p templates.old page.old result templates.new page.new }
+    ensures { Converts (turned from templates.now page.now (length templates_out.old) (length page_out.old)) templates_out.old page_out.old result templates_out.new page_out.new }
 {
-    match checked {
-        Ok(()) => Converted {
-            number: 0,
-            templates_bytes: t,
-            page_bytes: p,
-        },
-        Err(e) => refuse(e, templates, page),
+    match convert(from, templates, page, templates_out, page_out) {
+        Ok(converted) => converted,
+        Err(e) => {
+            templates_out.fill(0);
+            page_out.fill(0);
+            Converted {
+                number: u32::from(e),
+                templates_bytes: 0,
+                page_bytes: 0,
+            }
+        }
     }
-}
-
-// Inputs that are fine.
-fn upgrade_checked<'a>(
-    templates: &'a [u8],
-    page: &'a [u8],
-    templates_out: &mut [u8],
-    page_out: &mut [u8],
-) -> Converted
-    requires { (check_templates K.Old templates.now ≡ Fine) × (check_page_out 2 page.now ≡ Fine) }
-    ensures { Converts (written (length templates_out.old) (length page_out.old) (raised (read templates.now)) true (renumbered 4 (read_out 2 page.now))) templates_out.old page_out.old result templates_out.new page_out.new }
-{
-    let x = rewrite_templates(templates, Kind::Old, templates_out);
-    let y = renumber(page, 2, 4, page_out);
-    let checked = check_due(
-        x.clear,
-        x.long | y.long,
-        x.place,
-        templates_out.len(),
-        y.bytes,
-        page_out.len(),
-    );
-    finish(checked, x.place, y.bytes, templates_out, page_out)
-}
-
-fn downgrade_checked<'a>(
-    templates: &'a [u8],
-    page: &'a [u8],
-    templates_out: &mut [u8],
-    page_out: &mut [u8],
-) -> Converted
-    requires { (check_templates K.New templates.now ≡ Fine) × (check_page_out 4 page.now ≡ Fine) }
-    ensures { Converts (written (length templates_out.old) (length page_out.old) (lowered (read templates.now)) (not (has_wide (read_out 4 page.now))) (renumbered 2 (read_out 4 page.now))) templates_out.old page_out.old result templates_out.new page_out.new }
-{
-    let x = rewrite_templates(templates, Kind::New, templates_out);
-    let y = renumber(page, 4, 2, page_out);
-    let checked = check_due(
-        x.clear & !y.wide,
-        x.long | y.long,
-        x.place,
-        templates_out.len(),
-        y.bytes,
-        page_out.len(),
-    );
-    finish(checked, x.place, y.bytes, templates_out, page_out)
 }
 
 // Up: 84s from 80s, numbers of four bytes from two.
@@ -169,13 +139,7 @@ pub fn upgrade<'a>(
 ) -> Converted
     ensures { Converts (upgraded templates.now page.now (length templates_out.old) (length page_out.old)) templates_out.old page_out.old result templates_out.new page_out.new }
 {
-    match check_templates(templates, Kind::Old) {
-        Err(r) => refuse(Unconverted::Refused(r), templates_out, page_out),
-        Ok(()) => match check_page_out(page, 2) {
-            Err(r) => refuse(Unconverted::Refused(r), templates_out, page_out),
-            Ok(()) => upgrade_checked(templates, page, templates_out, page_out),
-        },
-    }
+    answer(Kind::Old, templates, page, templates_out, page_out)
 }
 
 // Down: 80s from 84s, numbers of two bytes from four.
@@ -187,11 +151,5 @@ pub fn downgrade<'a>(
 ) -> Converted
     ensures { Converts (downgraded templates.now page.now (length templates_out.old) (length page_out.old)) templates_out.old page_out.old result templates_out.new page_out.new }
 {
-    match check_templates(templates, Kind::New) {
-        Err(r) => refuse(Unconverted::Refused(r), templates_out, page_out),
-        Ok(()) => match check_page_out(page, 4) {
-            Err(r) => refuse(Unconverted::Refused(r), templates_out, page_out),
-            Ok(()) => downgrade_checked(templates, page, templates_out, page_out),
-        },
-    }
+    answer(Kind::New, templates, page, templates_out, page_out)
 }

@@ -7,18 +7,20 @@ ghost use Rattle.outs.specs.declared.Kind.TheVariants as K;
 ghost use Rattle.convert.specs.Flat.{gaps_in, BodyFits, rewritten_tag, rewritten_body, RewritesBody, Rewrites};
 
 use crate::kinds::{are_kinds, count_fields, put_kinds};
-use field::reader::{behind, body, tag_at};
+use field::reader::Fields;
 use field::writer::{put_bytes, put_four, put_head, put_two};
 use outs::Kind;
 use page::number::number_in;
 
-// The place behind what is written, whether some body is over 65,535 bytes, and whether the other form can say all: every gap is of a kind,
-// kinds are those of the strings, and numbers have room.
+// The largest number that two bytes say.
+const LARGEST: usize = 65535;
+
+// The place behind what is written, and whether some body is over 65,535 bytes. There is none where the other form cannot say it: a gap is of no
+// kind, the kinds are not those of the strings, or a number has no room.
 #[derive(Clone, Copy)]
 pub struct Rewritten {
     pub place: usize,
     pub long: bool,
-    pub clear: bool,
 }
 
 // One gap fewer than strings.
@@ -29,9 +31,9 @@ fn count_gaps(s: &[u8]) -> usize
 }
 
 // An 84 from the body of an 80.
-fn raise_record(out: &mut [u8], at: usize, w: &[u8]) -> Rewritten
+fn raise_record(out: &mut [u8], at: usize, w: &[u8]) -> Option<Rewritten>
     requires { BodyFits K.Old w.now × (at + length (field_bytes (rewritten_tag K.Old) (rewritten_body K.Old w.now)) < 2 ^ 64) }
-    ensures { RewritesBody K.Old w.now out.old at out.new result.place result.long result.clear }
+    ensures { RewritesBody K.Old w.now out.old at out.new result }
 {
     let number = number_in(&w[..2]) as usize;
     let strings = &w[2..];
@@ -40,38 +42,42 @@ fn raise_record(out: &mut [u8], at: usize, w: &[u8]) -> Rewritten
     let a = put_head(out, at, 0x84, len);
     let b = put_four(out, a, number);
     let c = put_two(out, b, gaps);
-    let m = put_kinds(out, c, strings, gaps);
-    let e = put_bytes(out, m.place, strings);
-    Rewritten {
+    let d = put_kinds(out, c, strings, gaps)?;
+    let e = put_bytes(out, d, strings);
+    Some(Rewritten {
         place: e,
         long: 65535 < len,
-        clear: m.clear,
-    }
+    })
 }
 
 // An 80 from the body of an 84.
-fn lower_record(out: &mut [u8], at: usize, w: &[u8]) -> Rewritten
+fn lower_record(out: &mut [u8], at: usize, w: &[u8]) -> Option<Rewritten>
     requires { BodyFits K.New w.now × (at + length (field_bytes (rewritten_tag K.New) (rewritten_body K.New w.now)) < 2 ^ 64) }
-    ensures { RewritesBody K.New w.now out.old at out.new result.place result.long result.clear }
+    ensures { RewritesBody K.New w.now out.old at out.new result }
 {
     let number = number_in(&w[..4]) as usize;
     let front = 6 + number_in(&w[4..6]) as usize;
     let kinds = &w[6..front];
     let strings = &w[front..];
+    if LARGEST < number {
+        return None;
+    }
+    if !are_kinds(kinds, strings) {
+        return None;
+    }
     let len = 2 + strings.len();
     let a = put_head(out, at, 0x80, len);
     let b = put_two(out, a, number);
     let e = put_bytes(out, b, strings);
-    Rewritten {
+    Some(Rewritten {
         place: e,
         long: 65535 < len,
-        clear: (number <= 65535) & are_kinds(kinds, strings),
-    }
+    })
 }
 
-fn rewrite_record(from: Kind, out: &mut [u8], at: usize, w: &[u8]) -> Rewritten
+fn rewrite_record(from: Kind, out: &mut [u8], at: usize, w: &[u8]) -> Option<Rewritten>
     requires { BodyFits from w.now × (at + length (field_bytes (rewritten_tag from) (rewritten_body from w.now)) < 2 ^ 64) }
-    ensures { RewritesBody from w.now out.old at out.new result.place result.long result.clear }
+    ensures { RewritesBody from w.now out.old at out.new result }
 {
     match from {
         Kind::Old => raise_record(out, at, w),
@@ -80,24 +86,16 @@ fn rewrite_record(from: Kind, out: &mut [u8], at: usize, w: &[u8]) -> Rewritten
 }
 
 // All records of templates that are fine.
-pub fn rewrite_templates(s: &[u8], from: Kind, out: &mut [u8]) -> Rewritten
+pub fn rewrite_templates(s: &[u8], from: Kind, out: &mut [u8]) -> Option<Rewritten>
     requires { check_templates from s.now ≡ Fine }
-    ensures { Rewrites from (read s.now) out.old out.new result.place result.long result.clear }
+    ensures { Rewrites from (read s.now) out.old out.new result }
 {
-    let mut t = s;
     let mut n: usize = 0;
     let mut long = false;
-    let mut clear = true;
-    while tag_at(t) != 256 {
-        let w = rewrite_record(from, out, n, body(t));
+    for record in Fields(s) {
+        let w = rewrite_record(from, out, n, record.body)?;
         n = w.place;
         long |= w.long;
-        clear &= w.clear;
-        t = behind(t);
     }
-    Rewritten {
-        place: n,
-        long,
-        clear,
-    }
+    Some(Rewritten { place: n, long })
 }

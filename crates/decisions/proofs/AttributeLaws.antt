@@ -1,7 +1,7 @@
 -- What the code of src/attribute.rt learns at each return and at each turn of a loop. Main statements: `first_40`, `second_40`,
--- `listed_here`, `listed_on`, `named_40`, `named_42`, `named_other`, `never_named`, `never_boolean`, `value_is_51` and the like.
--- Assumes nothing.
-use Rattle.std.specs.Prelude.{Some, None}
+-- `listed_here`, `listed_on`, `asked_key` and the like, `value_is_51` and the like. Assumes nothing.
+use Rattle.std.specs.Prelude.{Option, Some, None}
+use denote.Ref.{Bor}
 use mathlib.Core.Path.{◌≡◌, refl, sym, ap, ◌∙◌}
 use mathlib.Core.Bool.{Bool, true, false, ◌||◌}
 use Prim.Native.Nat.{ℕ}
@@ -17,9 +17,9 @@ use Rattle.names.proofs.NamespacedLaws.{colon_free}
 use Rattle.names.proofs.NameLaws.{namespaced_never_is, namespaced_never_boolean}
 use Rattle.page.specs.Page as P
 use Rattle.page.specs.Tree.{texts_in, first_in, second_in, Contained, nothing_contained, contained, contained_value, element_in, fragment_in, attr_name_in, value_in, value_behind}
-use Rattle.decisions.specs.At.{value_of}
+use Rattle.decisions.specs.At.{IdentAt, value_of}
 use Rattle.decisions.specs.declared.attribute.Value.TheVariants as Held
-use Rattle.decisions.proofs.Series.{tested, texts_none, texts_20, texts_40, attr_name_40, attr_name_42, attr_name_other, value_in_at, value_51, value_52, value_30, value_31, value_other, fragment_is}
+use Rattle.decisions.proofs.Series.{tested, texts_none, texts_past, texts_20, texts_40, attr_name_40, attr_name_42, attr_name_other, value_in_at, value_51, value_52, value_30, value_31, value_other, fragment_is}
 
 -- ---- the first and the second name
 
@@ -54,57 +54,56 @@ module _ (s : Bytes) (t : ℕ) (e : t ≡ tag_of_front s) (k : t ≡ 0x20) (x : 
   pub listed_on : v ≡ false → {r : Bytes} → r ≡ behind_of s → among x (texts_in 0x20 (read r)) ≡ among x (texts_in 0x20 (read s))
   listed_on h {r} u = sym (in_front ∙ rw (h, u))
 
+pub listed_past : (x s : Bytes) (t : ℕ) (e : t ≡ tag_of_front s) → (t ≡ 256 → ⊥) → (t ≡ 0x20 → ⊥) → {r : Bytes} → r ≡ behind_of s → among x (texts_in 0x20 (read r)) ≡ among x (texts_in 0x20 (read s))
+listed_past x s t e h k u = ap (λ (b : Bytes). among x (texts_in 0x20 (read b))) u ∙ sym (ap (among x) (texts_past s t e 0x20 h k))
+
 pub listed_none : (x s : Bytes) → Ended (read s) → false ≡ among x (texts_in 0x20 (read s))
 unfolding among
 listed_none x s i = sym (ap (among x) (texts_none (read s) i 0x20))
 
 -- ---- what is asked of an attribute's name: g is the question
 
-module _ (s : Bytes) (t : ℕ) (e : t ≡ tag_of_front s) (g : Bytes → Bool) where
-  pub named_40 : t ≡ 0x40 → {b : Bytes} → b ≡ body_of s → {norm m : Bool} → norm ≡ m → {v : Bool} → v ≡ g (pick m (normalize_dom_attr_name b) b) → v ≡ g (get_attr_name (attr_name_in (read s)) norm)
-  unfolding get_attr_name
-  named_40 k {b} q {norm} {m} z {v} h = h ∙ rw (z, attr_name_40 s t e k, q)
-
-  pub named_42 : t ≡ 0x42 → {b : Bytes} → b ≡ body_of s → {x : Bytes} → x ≡ first_in (texts_in 0x40 (read b)) → {y : Bytes} → y ≡ second_in (texts_in 0x40 (read b)) → {v : Bool} → v ≡ g (normalize_dom_attr_name (x ++ (58 ∷ y))) → v ≡ g (get_attr_name (attr_name_in (read s)) false)
-  unfolding get_attr_name
-  named_42 k {b} q {x} a {y} c {v} h = h ∙ rw (a, c, attr_name_42 s t e k, q)
-
-  pub named_other : (t ≡ 0x40 → ⊥) → (t ≡ 0x42 → ⊥) → {v : Bool} → v ≡ g [] → v ≡ g (get_attr_name (attr_name_in (read s)) false)
-  unfolding get_attr_name
-  named_other a b {v} h = h ∙ rw (attr_name_other s t e a b)
-
 no_name : (norm : Bool) → get_attr_name (A.ident []) norm ≡ []
 unfolding get_attr_name plain_name
 no_name true = normalize_plain [] refl
 no_name false = refl
 
--- a namespaced name and a missing one are not what is asked for
-module _ (s : Bytes) (t : ℕ) (e : t ≡ tag_of_front s) (n : t ≡ 0x40 → ⊥) where
-  never : (g : Bytes → Bool) → g [] ≡ false → ((x y : Bytes) → g (normalize_dom_attr_name (x ++ (58 ∷ y))) ≡ false) → (norm : Bool) → false ≡ g (get_attr_name (attr_name_in (read s)) norm)
-  unfolding get_attr_name
-  never g h k norm =
-      tested t 0x42
-      (λ z. sym (ap (λ (a : A.AttrName). g (get_attr_name a norm)) (attr_name_42 s t e z) ∙ k (first_in (texts_in 0x40 (read (body_of s)))) (second_in (texts_in 0x40 (read (body_of s))))))
-      λ m. sym (ap (λ (a : A.AttrName). g (get_attr_name a norm)) (attr_name_other s t e n m) ∙ (ap g (no_name norm) ∙ h))
+pub not_ident : (s : Bytes) (t : ℕ) → t ≡ tag_of_front s → (t ≡ 0x40 → ⊥) → (b : Bytes) → attr_name_in (read s) ≡ A.ident b → b ≡ []
+not_ident s t e n b h =
+    tested t 0x42
+    (λ k. let q : A.namespaced (first_in (texts_in 0x40 (read (body_of s)))) (second_in (texts_in 0x40 (read (body_of s)))) ≡ A.ident b = sym (attr_name_42 s t e k) ∙ h in cc)
+    (λ m. let q : A.ident [] ≡ A.ident b = sym (attr_name_other s t e n m) ∙ h in cc)
 
-  pub never_named : (x : Bytes) → colon_free x ≡ true → same (ascii "href") x ≡ false → same [] x ≡ false → (norm : Bool) → false ≡ same (get_attr_name (attr_name_in (read s)) norm) x
-  never_named x a b c norm = never (λ (v : Bytes). same v x) c (namespaced_never_is x a b) norm
+-- it is asked of an identifier alone: neither a missing name nor anything namespaced is what is asked for
+asked : (g : Bytes → Bool) → g [] ≡ false → (norm : Bool) → ((x y : Bytes) → g (normalize_dom_attr_name (x ++ (58 ∷ y))) ≡ false) →
+    (n : A.AttrName) (o : Option (Bor Bytes)) → IdentAt n o →
+    {r : Bool} → (o ≡ None → r ≡ false) → ((b : Bor Bytes) → o ≡ Some b → r ≡ g (pick norm (normalize_dom_attr_name b.now) b.now)) → r ≡ g (get_attr_name n norm)
+unfolding get_attr_name
+asked g z norm k n (Some b) e f h = rw e (h b refl)
+asked g z norm k (A.ident m) None e f h = f refl ∙ sym (ap (λ (x : Bytes). g (get_attr_name (A.ident x) norm)) (e m refl) ∙ (ap g (no_name norm) ∙ z))
+asked g z norm k (A.namespaced x y) None e f h = f refl ∙ sym (k x y)
 
-  pub never_key : (norm : Bool) → false ≡ same (get_attr_name (attr_name_in (read s)) norm) (ascii "key")
+asked_as : (x : Bytes) → colon_free x ≡ true → same (ascii "href") x ≡ false → same [] x ≡ false → (norm : Bool) →
+    (n : A.AttrName) (o : Option (Bor Bytes)) → IdentAt n o →
+    {r : Bool} → (o ≡ None → r ≡ false) → ((b : Bor Bytes) → o ≡ Some b → r ≡ same (pick norm (normalize_dom_attr_name b.now) b.now) x) → r ≡ same (get_attr_name n norm) x
+asked_as x c d z norm = asked (λ v. same v x) z norm (namespaced_never_is x c d)
+
+module _ (n : A.AttrName) (o : Option (Bor Bytes)) (e : IdentAt n o) {r : Bool} (f : o ≡ None → r ≡ false) where
+  pub asked_key : (norm : Bool) → ((b : Bor Bytes) → o ≡ Some b → r ≡ same (pick norm (normalize_dom_attr_name b.now) b.now) (ascii "key")) → r ≡ same (get_attr_name n norm) (ascii "key")
   unfolding colon_free same
-  never_key norm = never_named (ascii "key") refl refl refl norm
+  asked_key norm h = asked_as (ascii "key") refl refl refl norm n o e f h
 
-  pub never_ref : false ≡ same (get_attr_name (attr_name_in (read s)) true) (ascii "ref")
+  pub asked_ref : ((b : Bor Bytes) → o ≡ Some b → r ≡ same (normalize_dom_attr_name b.now) (ascii "ref")) → r ≡ same (get_attr_name n true) (ascii "ref")
   unfolding colon_free same
-  never_ref = never_named (ascii "ref") refl refl refl true
+  asked_ref h = asked_as (ascii "ref") refl refl refl true n o e f h
 
-  pub never_inner_html : false ≡ same (get_attr_name (attr_name_in (read s)) false) (ascii "dangerouslySetInnerHTML")
+  pub asked_inner_html : ((b : Bor Bytes) → o ≡ Some b → r ≡ same b.now (ascii "dangerouslySetInnerHTML")) → r ≡ same (get_attr_name n false) (ascii "dangerouslySetInnerHTML")
   unfolding colon_free same
-  never_inner_html = never_named (ascii "dangerouslySetInnerHTML") refl refl refl false
+  asked_inner_html h = asked_as (ascii "dangerouslySetInnerHTML") refl refl refl false n o e f h
 
-  pub never_boolean : false ≡ is_boolean_attr (get_attr_name (attr_name_in (read s)) true)
-  unfolding is_boolean_attr boolean_names among same colon_free
-  never_boolean = never is_boolean_attr refl namespaced_never_boolean true
+  pub asked_boolean : ((b : Bor Bytes) → o ≡ Some b → r ≡ is_boolean_attr (normalize_dom_attr_name b.now)) → r ≡ is_boolean_attr (get_attr_name n true)
+  unfolding is_boolean_attr boolean_names among same
+  asked_boolean h = asked is_boolean_attr refl true namespaced_never_boolean n o e f h
 
 -- ---- values
 

@@ -191,18 +191,17 @@ module _ (b list : Bytes) (k : ℕ) (left : Bytes) (u : Built b list k left) (t 
       }
 
   -- a name, of which an entry is made
-  module _ (m : t ≡ 0x20) {h : ℕ} (d : h ≡ hash (body_of left)) {o : Bytes} (w : o ≡ linked b h k (length list - length left)) where
+  module _ (m : t ≡ 0x20) {h : ℕ} (d : h ≡ hash (body_of left)) (p : ℕ) (y : p + length left ≡ length list) {o : Bytes} (w : o ≡ linked b h k p) where
     head_low : h < 1024
     head_low = subst (λ (x : ℕ). x < 1024) (sym d) (hash_low 0 (body_of left) (omega arith))
 
-    link_more : Links b h k (length list - length left) o
-    link_more = subst (Links b h k (length list - length left)) (sym w) (links b h k (length list - length left) u.size head_low (few b list k left u t e f) (omega (arith, u.short)) (omega (arith, u.heads h head_low, few b list k left u t e f)))
+    link_more : Links b h k p o
+    link_more = subst (Links b h k p) (sym w) (links b h k p u.size head_low (few b list k left u t e f) (omega (arith, u.short, y)) (omega (arith, u.heads h head_low, few b list k left u t e f)))
 
     name_new : name_at o k ≡ body_of left
     unfolding name_at
     name_new =
-        let p : ℕ = length list - length left in
-        let z : length u.passed ≡ p = omega (arith, ap length u.list_is, length-append u.passed left) in
+        let z : length u.passed ≡ p = omega (arith, ap length u.list_is, length-append u.passed left, y) in
         ap body_of
         (ap (λ (x : ℕ). drop (7512 + x) o) link_more.place_new
         ∙ sym (drop-drop p 7512 o)
@@ -222,17 +221,17 @@ module _ (b list : Bytes) (k : ℕ) (left : Bytes) (u : Built b list k left) (t 
     listed_more : (n : Bytes) → (among n (chain 1366 o (two_at o (2 * hash n))) || among n (texts_in 0x20 (read r))) ≡ (among n (chain 1366 b (two_at b (2 * hash n))) || among n (texts_in 0x20 (read left)))
     unfolding among
     listed_more n =
-        let y : Bool = among n (texts_in 0x20 (read r)) in
+        let x : Bool = among n (texts_in 0x20 (read r)) in
         tested (hash n) h
         (λ z.
-        ap (λ (g : ℕ). among n (chain 1366 o (two_at o (2 * g))) || y) z
-        ∙ ap (λ (x : List Bytes). among n x || y) chain_new
-        ∙ or_swap (same n (body_of left)) (among n (chain 1366 b (two_at b (2 * h)))) y
-        ∙ ap (λ (g : ℕ). among n (chain 1366 b (two_at b (2 * g))) || (same n (body_of left) || y)) (sym z)
+        ap (λ (g : ℕ). among n (chain 1366 o (two_at o (2 * g))) || x) z
+        ∙ ap (λ (l : List Bytes). among n l || x) chain_new
+        ∙ or_swap (same n (body_of left)) (among n (chain 1366 b (two_at b (2 * h)))) x
+        ∙ ap (λ (g : ℕ). among n (chain 1366 b (two_at b (2 * g))) || (same n (body_of left) || x)) (sym z)
         ∙ ap (λ (x : List Bytes). among n (chain 1366 b (two_at b (2 * hash n))) || among n x) (sym texts_more))
         (λ z.
-        ap (λ (x : List Bytes). among n x || y) (chain_old (hash n) (hash_low 0 n (omega arith)) z)
-        ∙ ap (λ (x : Bool). among n (chain 1366 b (two_at b (2 * hash n))) || (x || y)) (sym (other_hash n (body_of left) (λ a. z (a ∙ sym d))))
+        ap (λ (l : List Bytes). among n l || x) (chain_old (hash n) (hash_low 0 n (omega arith)) z)
+        ∙ ap (λ (v : Bool). among n (chain 1366 b (two_at b (2 * hash n))) || (v || x)) (sym (other_hash n (body_of left) (λ a. z (a ∙ sym d))))
         ∙ ap (λ (x : List Bytes). among n (chain 1366 b (two_at b (2 * hash n))) || among n x) (sym texts_more))
 
     pub built_more : Built o list (k + 1) r

@@ -167,6 +167,10 @@ module _ (s : Bytes) (t : ℕ) (e : t ≡ tag_of_front s) where
 abbrev pub tags_in : Bytes → P.Children → ℕ
 tags_in k cs = serializable_count (children (opts k []) cs)
 
+-- of those that were passed, at most one
+abbrev pub passed : Bool → ℕ
+passed tagged = pick tagged 1 0
+
 contained_passed : (k : Bytes) (c : Contained) (cs : P.Children) → tags_in k (contained_child c cs) ≡ tags_in k cs
 unfolding children serializable_count contained_child
 contained_passed k nothing_contained cs = refl

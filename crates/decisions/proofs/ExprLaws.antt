@@ -1,6 +1,8 @@
 -- What the code of src/expr.rt learns: the shape of an expression by its tag.
--- Main statements: `boolean_first`, `shape_70` and the like. Assumes nothing.
-use mathlib.Core.Path.{◌≡◌, refl, sym, ap, ◌∙◌}
+-- Main statements: `boolean_first`, `number_front`, `shape_70` and the like. Assumes nothing.
+use Rattle.std.specs.Prelude.{Option, Some, None}
+use Rattle.std.specs.Option.{unwrap_or}
+use mathlib.Core.Path.{◌≡◌, refl, sym, ap, ◌∙◌, subst}
 use mathlib.Core.Bool.{Bool, false}
 use mathlib.Core.Logic.{◌⊎◌, ⊎_elim}
 use Prim.Native.Nat.{ℕ, ◌≤◌, ◌<◌}
@@ -9,11 +11,15 @@ use mathlib.Core.List.{[], ◌∷◌}
 use lib.Dec.{eqb}
 use lib.ListN.{length, get_or}
 use Rattle.field.specs.Bytes.{Bytes}
-use Rattle.field.specs.Row.{read, Ended}
-use Rattle.field.specs.Front.{tag_of_front, body_of}
+use Rattle.field.specs.Row.{read, Ended, Inside, only_bytes, fields_after, counted, inside, opened, Next, nothing, no_field, next, next_of, built}
+use Rattle.field.specs.Front.{tag_of_front, body_of, body_by}
+use Rattle.field.specs.Fields.{FieldAt}
+use Rattle.field.specs.declared.reader.Field.{Field}
+use Rattle.field.proofs.RowLaws.{read_step}
+use Rattle.page.specs.Number.{number_in}
 use Rattle.page.specs.Page.{Expr}
 use Rattle.page.specs.Tree.{boolean_in, contained, contained_in, expr_in}
-use Rattle.decisions.specs.At.{shape_by, shape_of_contained}
+use Rattle.decisions.specs.At.{number_at, shape_by, shape_of_contained}
 use Rattle.decisions.specs.declared.expr.Shape.TheVariants as Form
 use Rattle.decisions.proofs.Series.{contained_none, contained_field, expr_70, expr_71, expr_72, expr_74, expr_75, expr_76, expr_79, expr_7a, expr_7b, expr_30, expr_31, expr_other}
 
@@ -28,6 +34,27 @@ pub boolean_none : (s : Bytes) → length s ≤ 0 → false ≡ boolean_in s
 unfolding boolean_in
 boolean_none [] h = refl
 boolean_none (c ∷ s) h = absurd (omega arith)
+
+-- ---- numbers
+
+body_none : (s : Bytes) → Ended (read s) → body_of s ≡ []
+unfolding body_of built opened
+body_none s i = on (next_of s) (subst Ended (read_step s) i)
+  where
+    on : (n : Next) → Ended (built read s n) → body_by n ≡ []
+    on nothing e = refl
+    on no_field e = refl
+    on (next t w r) e = in_field (inside t) e
+      where
+        in_field : (c : Inside) → Ended (opened c read t w r) → w ≡ []
+        in_field only_bytes e = absurd e
+        in_field (fields_after n) e = absurd e
+        in_field (counted n) e = absurd e
+
+-- where no field stands, g is read
+pub number_front : (s : Bytes) (r : Option Field) → FieldAt s r → {f : Field} (g : Field) → number_in g.tag g.body.now ≡ number_in 256 [] → f ≡ unwrap_or r g → number_in f.tag f.body.now ≡ number_at s
+number_front s None e g n h = rw (h, ← e.no_tag, body_none s e.ended) n
+number_front s (Some f) e g n h = rw (h, e.tag_is, e.body_is)
 
 -- ---- shapes
 

@@ -4,7 +4,8 @@
 use Rattle.names.specs.Table.{read_as}
 use mathlib.Core.Path.{◌≡◌, refl, sym, ap, ◌∙◌}
 use mathlib.Core.Bool.{Bool, true, false, ◌&&◌, ◌||◌, false≢true, and-false, or-false, or_assoc}
-use Prim.Native.Nat.{ℕ, zero, suc, ◌+◌, ◌-◌, ◌*◌, ◌%◌, ◌≤◌, ◌<◌}
+use Rattle.std.specs.Prelude.{Option, Some, None}
+use Prim.Native.Nat.{ℕ, zero, suc, min, ◌+◌, ◌-◌, ◌*◌, ◌%◌, ◌≤◌, ◌<◌}
 use native.Mathlib.Numerals.{add-one}
 use native.Mathlib.Omega.{arith}
 use mathlib.Core.List.{List, [], ◌∷◌, ◌++◌}
@@ -21,7 +22,7 @@ use Rattle.names.proofs.CompareLaws.{same_eq, same_refl}
 use Rattle.names.proofs.ListLaws.{refuted}
 use Rattle.names.proofs.NamespacedLaws.{namespaced_xlink, namespaced_other}
 use Rattle.page.specs.Tree.{texts_in}
-use Rattle.decisions.specs.Index.{hash_from, hash, two_at, name_at, chain, hashed, gathered, names_of}
+use Rattle.decisions.specs.Index.{before_at, link_of, hash_from, hash, two_at, name_at, chain, hashed, gathered, names_of}
 
 pub among_append : (n : Bytes) (xs ys : List Bytes) → among n (xs ++ ys) ≡ (among n xs || among n ys)
 unfolding among
@@ -107,43 +108,38 @@ module _ (x : ℕ) (s : Bytes) (i : ℕ) where
   read_end true h = small_end h
   read_end false h = hash_end h
 
--- ---- a chain, entry by entry: k - 1 is the entry, f entries may be left
+-- ---- a chain, entry by entry: f entries may be left
 
-chain_front : (f k : ℕ) (b : Bytes) → 0 < f → (k ≡ 0 → ⊥) → chain f b k ≡ name_at b (k - 1) ∷ chain (f - 1) b (two_at b (2044 + 4 * k))
+chain_front : (f k : ℕ) (b : Bytes) → 0 < f → chain f b (suc k) ≡ name_at b k ∷ chain (f - 1) b (before_at b k)
 unfolding chain
-chain_front zero k b g z = absurd (omega arith)
-chain_front (suc f) zero b g z = absurd (z refl)
-chain_front (suc f) (suc k) b g z =
-    let l : suc f - 1 ≡ f = omega arith in
-    let e : suc k - 1 ≡ k = omega arith in
-    let p : 2044 + 4 * suc k ≡ 2048 + 4 * k = omega arith in
-    rw (l, e, p)
+chain_front zero k b g = absurd (omega arith)
+chain_front (suc f) k b g = let l : suc f - 1 ≡ f = omega arith in rw l
 
 chain_zero : (n b : Bytes) (f : ℕ) → false ≡ among n (chain f b 0)
 unfolding among chain
 chain_zero n b zero = refl
 chain_zero n b (suc f) = refl
 
-module _ (n b : Bytes) (f k : ℕ) where
-  pub chain_spent : f ≤ 0 → false ≡ among n (chain f b k)
+module _ (n b : Bytes) (f : ℕ) where
+  pub chain_spent : (k : ℕ) → f ≤ 0 → false ≡ among n (chain f b k)
   unfolding among chain
-  chain_spent h =
+  chain_spent k h =
       let z : f ≡ 0 = omega arith in
       rw z
 
-  pub chain_none : k ≡ 0 → false ≡ among n (chain f b k)
-  chain_none h = rw h (chain_zero n b f)
+  pub chain_none : {o : Option ℕ} → o ≡ None → false ≡ among n (chain f b (link_of o))
+  chain_none z = rw z (chain_zero n b f)
 
-  module _ (g : 0 < f) (z : k ≡ 0 → ⊥) {m : Bytes} (q : m ≡ name_at b (k - 1)) {v : Bool} (e : v ≡ same n m) where
-    in_front : among n (chain f b k) ≡ (v || among n (chain (f - 1) b (two_at b (2044 + 4 * k))))
+  module _ {o : Option ℕ} {k : ℕ} (z : o ≡ Some k) (g : 0 < f) {m : Bytes} (q : m ≡ name_at b k) {v : Bool} (e : v ≡ same n m) where
+    in_front : among n (chain f b (link_of o)) ≡ (v || among n (chain (f - 1) b (before_at b k)))
     unfolding among
-    in_front = ap (among n) (chain_front f k b g z) ∙ rw (e, q)
+    in_front = rw z (ap (among n) (chain_front f k b g) ∙ rw (e, q))
 
-    pub chain_here : v ≡ true → true ≡ among n (chain f b k)
+    pub chain_here : v ≡ true → true ≡ among n (chain f b (link_of o))
     chain_here h = sym (in_front ∙ rw h)
 
-    pub chain_on : v ≡ false → {p : ℕ} → p ≡ two_at b (2044 + 4 * k) → among n (chain (f - 1) b p) ≡ among n (chain f b k)
-    chain_on h {p} u = sym (in_front ∙ rw (h, u))
+    pub chain_on : v ≡ false → (p : Option ℕ) → link_of p ≡ before_at b k → among n (chain (f - 1) b (link_of p)) ≡ among n (chain f b (link_of o))
+    chain_on h p u = sym (in_front ∙ rw (h, u))
 
 -- ---- two bytes
 
@@ -156,15 +152,16 @@ module _ (b : Bytes) (i : ℕ) where
   unfolding two_at
   two_past h = rw (le-ltb (i + 1) (length b) h)
 
--- an entry's name, from its place on
-module _ (b : Bytes) (k : ℕ) {w : ℕ} (q : w ≡ two_at b (2050 + 4 * k)) where
-  pub name_within : {m : Bytes} → m ≡ body_of (take (length b - (7512 + w)) (drop (7512 + w) b)) → m ≡ name_at b k
-  unfolding name_at
-  name_within {m} e = e ∙ rw (take_all (length b - (7512 + w)) (drop (7512 + w) b) (omega (arith, length-drop (7512 + w) b)), q)
-
-  pub name_past : length b ≤ 7512 + w → [] ≡ name_at b k
-  unfolding name_at body_of next_of
-  name_past h = rw (← q, drop_of_length-le b h)
+-- an entry's name, from its place on, where that is within
+pub name_here : (b : Bytes) (k : ℕ) {w : ℕ} → w ≡ two_at b (2050 + 4 * k) → {p : ℕ} → p ≡ min (7512 + w) (length b) → body_of (take (length b - p) (drop p b)) ≡ name_at b k
+unfolding name_at
+name_here b k {w} q {p} e =
+    let past : drop p b ≡ drop (7512 + w) b = on (ltb (7512 + w) (length b)) refl in
+    ap body_of (take_all (length b - p) (drop p b) (omega (arith, length-drop p b)) ∙ past ∙ ap (λ (n : ℕ). drop (7512 + n) b) q)
+  where
+    on : (c : Bool) → ltb (7512 + w) (length b) ≡ c → drop p b ≡ drop (7512 + w) b
+    on true h = let z : p ≡ 7512 + w = omega (arith, e, ltb-true (7512 + w) (length b) h) in rw z
+    on false h = let z : length b ≤ 7512 + w = ltb-false (7512 + w) (length b) h in drop_of_length-le b (omega (arith, e, z)) ∙ sym (drop_of_length-le b z)
 
 -- ---- what the code finds
 
@@ -190,5 +187,5 @@ module _ (n b : Bytes) where
   pub listed_series : length b ≤ 4096 → {v : Bool} → v ≡ among n (texts_in 0x20 (read b)) → v ≡ among n (names_of b)
   listed_series h e = e ∙ ap (among n) (sym (listed_plain b h))
 
-  pub listed_chain : 4096 < length b → {h : ℕ} → h ≡ hash n → {l : ℕ} → l ≡ two_at b (2 * h) → {v : Bool} → v ≡ among n (chain 1366 b l) → v ≡ among n (names_of b)
-  listed_chain g {h} p {l} q e = e ∙ rw (q, p) (sym (listed_indexed n b g))
+  pub listed_chain : 4096 < length b → {v : Bool} → v ≡ among n (chain 1366 b (two_at b (2 * hash n))) → v ≡ among n (names_of b)
+  listed_chain g e = e ∙ sym (listed_indexed n b g)

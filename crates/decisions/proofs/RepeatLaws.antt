@@ -1,10 +1,16 @@
 -- Names as they are read for HTML, letter by letter. Main statements: `left_starts`, `reads_sign`, `reads_letter`, `ident_whole`, `pair_other`,
 -- `attr_40`; what the loops over attributes keep. Assumes nothing.
-use Rattle.std.specs.Prelude.{Option, Some, None}
-use Rattle.std.specs.Option.{is_some}
-use Rattle.decisions.specs.declared.repeats.Spelled.{Spelled}
+use Rattle.std.specs.Prelude.{Option, Some, None, option_map, MatchOption, IfSome}
+use Rattle.std.specs.Iterator.{YieldsFirst, YieldsFirstBy, YieldsThen}
+use Rattle.std.specs.List.{slice_get, list_any, AllZip}
+use Rattle.std.specs.Option.{is_some, unwrap_or, option_copied}
+use Rattle.std.proofs.lemmas.Grind.{get_or_default_zero}
+use Rattle.std.proofs.lemmas.Iterator.{YieldsList}
+use Rattle.std.proofs.lemmas.Iterator.Consumers.{YieldsList-from_first}
+use Rattle.std.proofs.lemmas.Option.{unwrap_or-slice_get}
+use denote.Ref.{Bor}
 use Rattle.std.specs.Char.{is_ascii_uppercase}
-use mathlib.Core.Path.{◌≡◌, refl, sym, ap, subst, ◌∙◌}
+use mathlib.Core.Path.{◌≡◌, refl, sym, ap, ap₂, subst, ◌∙◌}
 use mathlib.Core.Bool.{Bool, true, false, ◌&&◌, ◌||◌, not, and-false, and-eq-true_iff, or-false, false≢true}
 use Prim.Native.Nat.{ℕ, suc, ◌+◌, ◌-◌, ◌*◌, ◌/◌, ◌%◌, ◌≤◌, ◌<◌, ◌^◌}
 use native.Mathlib.Nat.{mod-lt, mul-le-mul_right}
@@ -12,23 +18,28 @@ use native.Mathlib.Numerals.{add-one}
 use native.Mathlib.Omega.{arith}
 use mathlib.Core.List.{List, [], ◌∷◌, ◌++◌, append-nil, append_assoc, cons≢nil}
 use lib.Dec.{eqb, leb, ltb}
-use lib.ListN.{length, length-set, length-replicate, replicate, get_or, set, take, drop, drop_of_length-le, take-append-drop}
-use lib.Seq.{drop-cons, take-suc, take-nil, get_or-set_same, get_or-set_other}
+use lib.ListN.{length, length-append, length-set, get_or-append, length-replicate, replicate, get_or, set, take, drop, drop_of_length-le, take-append-drop}
+use lib.Seq.{take_at, get_or-append_seam, get_or-set_same, get_or-set_other}
 use borrow.Author.Tests.{eqb-true, eqb-false, leb-true, ltb-true, ltb-false, eq-eqb, ne_eqb, lt-ltb, le-ltb}
 use Rattle.field.specs.Bytes.{Bytes, ascii, pick, same, among}
-use Rattle.field.specs.Row.{read}
+use Rattle.field.specs.Row.{read, Ended}
+use Rattle.field.specs.Fields.{GivesField, Steps, IsFront, IsEnd}
+use Rattle.field.specs.declared.reader.Field.{Field}
+use Rattle.field.specs.declared.reader.Fields.{Fields}
 use Rattle.field.specs.Front.{tag_of_front, body_of, behind_of}
 use Rattle.field.proofs.FrontLaws.{behind_less}
+use Rattle.decisions.specs.declared.repeats.Attributes.{Attributes}
 use Rattle.names.specs.Names.{ident, namespaced, get_attr_name, normalize_dom_attr_name, renamed, hyphenated_names, kept_names, parted, capital, small_letter, small_letters}
 use Rattle.names.specs.Table.{signed, spelled_letter, spelled}
 use Rattle.names.proofs.MarkLaws.{spelled_none}
 use Rattle.names.proofs.NormalizeLaws.{over_lists, normalize_ind}
 use Rattle.names.proofs.CompareLaws.{same_eq, capital_above, length_small, letter_at}
-use Rattle.decisions.specs.Repeats.{joined, sign_read, behind, left_in, Front, html_name, html_names, repeats, hash_on, name_hash, low_half, high_half, key_by, last_letter, letter_key, Keyed, untold, told, noted_at}
+use Rattle.decisions.specs.Repeats.{joined, IsPlain, letters, sign_read, behind, left_in, html_name, html_names, name_in, names_in, repeats, hash_on, name_hash, low_half, high_half, key_by, last_letter, letter_key}
+use Rattle.decisions.specs.declared.repeats.Spelled.{Spelled}
 use Rattle.names.proofs.NamespacedLaws.{namespaced_xlink, namespaced_other}
-use Rattle.page.specs.Tree.{texts_in, first_in, second_in, attributes_in, attr_name_in}
+use Rattle.page.specs.Tree.{attributes_in, attr_name_in}
 use Rattle.decisions.proofs.IndexLaws.{among_append}
-use Rattle.decisions.proofs.Series.{attr_name_40, attr_name_42, attr_name_other, attributes_50, attributes_53, attributes_other}
+use Rattle.decisions.proofs.Series.{tested, attributes_none, attributes_50, attributes_53, attributes_other}
 
 -- ---- the sign before a letter
 
@@ -81,6 +92,17 @@ left_plain (c ∷ p) = rw (left_plain p) (on (capital c))
     on true = refl
     on false = refl
 
+-- a name as it stands, and one that has a sign or a second part besides
+module _ {n : Bytes} {x : Spelled} (p : IsPlain n x) where
+  pub plain_letters : letters x ≡ left_in None n None false
+  plain_letters = rw (p.sign, p.first, p.second, p.behind_sign)
+
+  pub plain_signed : (s : Option ℕ) → left_in s x.first.now (option_map (λ q. q.now) x.second) x.behind_sign ≡ left_in s n None false
+  plain_signed s = rw (p.first, p.second, p.behind_sign)
+
+  pub plain_paired : (q : Bytes) → left_in x.sign x.first.now (Some q) x.behind_sign ≡ left_in None n (Some q) false
+  plain_paired q = rw (p.sign, p.first, p.behind_sign)
+
 -- ---- one letter further
 
 module _ (s : Option ℕ) (q : Option Bytes) (b : Bool) where
@@ -104,26 +126,32 @@ module _ (s : Option ℕ) (q : Option Bytes) (b : Bool) where
   reads_letter [] h e = absurd (h refl)
   reads_letter (c ∷ p) h e = ap (λ (t : Option ℕ). behind t (small_letter c ∷ left_in s p q false)) e
 
--- ---- two names, one letter further
+pub shorter : {x : Bytes} {a : ℕ} {l : Bytes} → x ≡ a ∷ l → length l < length x
+shorter e = rw e (omega arith)
 
-pub same_on : {x y : Bytes} {a b : ℕ} {l m : Bytes} → x ≡ a ∷ l → y ≡ b ∷ m → a ≡ b → same l m ≡ same x y
-unfolding same
-same_on {a = a} {b = b} e f h = rw (e, f, eq-eqb a b h)
+-- ---- two names, letter by letter
 
-pub same_off : {x y : Bytes} {a b : ℕ} {l m : Bytes} → x ≡ a ∷ l → y ≡ b ∷ m → (a ≡ b → ⊥) → same x y ≡ false
-unfolding same
-same_off {a = a} {b = b} e f h = rw (e, f, ne_eqb a b h)
+abbrev Reads : Spelled → Option ℕ → Spelled → Type 0
+Reads = YieldsFirst letters
 
-pub same_longer : {x y : Bytes} {a : ℕ} {l : Bytes} → x ≡ a ∷ l → y ≡ [] → same x y ≡ false
+-- o and p: what was read last
+ends_same : (eq : ℕ → ℕ → Bool) → ((a b : ℕ) → eq a b ≡ eqb a b) → (x y : Spelled) (o p : Option ℕ) (u v : Spelled) → Reads x o u → Reads y p v →
+    {r : Bool} → MatchOption o (MatchOption p (r ≡ true) (λ _. r ≡ false)) (λ a. (r ≡ false) × IfSome p (λ b. eq a b ≡ false)) → r ≡ same (letters x) (letters y)
 unfolding same
-same_longer e f = rw (e, f)
+ends_same eq q x y None None u v e f h = rw (e.0, f.0) h
+ends_same eq q x y None (Some b) u v e f h = rw (e.0, f) h
+ends_same eq q x y (Some a) None u v e f h = rw (e, f.0) h.0
+ends_same eq q x y (Some a) (Some b) u v e f h = rw (e, f, sym (q a b) ∙ h.1) h.0
 
-pub same_end : {x : Bytes} (y : Bytes) (r : Option (ℕ × Spelled)) → x ≡ [] → Front y r → (b : Bool) → is_some r ≡ not b → b ≡ same x y
+pub reads_same : (eq : ℕ → ℕ → Bool) → ((a b : ℕ) → eq a b ≡ eqb a b) → (xs ys : List ℕ) (x y : Spelled) (o p : Option ℕ) (u v : Spelled) → YieldsThen Reads x xs o u → YieldsThen Reads y ys p v → AllZip (λ a b. eq a b ≡ true) xs ys →
+    {r : Bool} → MatchOption o (MatchOption p (r ≡ true) (λ _. r ≡ false)) (λ a. (r ≡ false) × IfSome p (λ b. eq a b ≡ false)) → r ≡ same (letters x) (letters y)
 unfolding same
-same_end y None e f true h = sym (rw (e, f))
-same_end y None e f false h = absurd (false≢true h)
-same_end y (Some r) e f true h = absurd (false≢true (sym h))
-same_end y (Some r) e f false h = sym (rw (e, f.0))
+reads_same eq q [] [] x y o p u v e f z h = ends_same eq q x y o p u v (subst (λ t. Reads t o u) (sym e.1) e.2) (subst (λ t. Reads t p v) (sym f.1) f.2) h
+reads_same eq q [] (b ∷ ys) x y o p u v e f z h = absurd z
+reads_same eq q (a ∷ xs) [] x y o p u v e f z h = absurd z
+reads_same eq q (a ∷ xs) (b ∷ ys) x y o p u v e f z h = rw (e.1.1, f.1.1, sym (q a b) ∙ z.0) (reads_same eq q xs ys e.1.0 f.1.0 o p u v (e.0, e.1.2, e.2) (f.0, f.1.2, f.2) z.1 h)
+
+-- ---- its hash, one letter further
 
 pub hash_goes : {x : Bytes} {a : ℕ} {l : Bytes} (h : ℕ) → x ≡ a ∷ l → a < 256 → hash_on ((h * 37 + a + 1) % 4294967296) l ≡ hash_on h x
 unfolding hash_on
@@ -132,9 +160,6 @@ hash_goes {a = a} {l} h e k = sym (rw e (ap (λ (n : ℕ). hash_on (n % 42949672
 pub hash_ends : {x : Bytes} (h : ℕ) → x ≡ [] → h ≡ hash_on h x
 unfolding hash_on
 hash_ends h e = rw e
-
-pub shorter : {x : Bytes} {a : ℕ} {l : Bytes} → x ≡ a ∷ l → length l < length x
-shorter e = rw e (omega arith)
 
 -- ---- which name is read
 
@@ -149,17 +174,17 @@ small_twice (c ∷ w) = rw (small_twice w) (ap (λ (d : ℕ). d ∷ small_letter
 
 -- an identifier, by how it is spelled
 module _ (n : Bytes) where
-  pub ident_whole : {w : Bytes} → w ≡ normalize_dom_attr_name n → {l : Bytes} → l ≡ small_letters w → l ≡ html_name (ident n)
+  pub ident_whole : {w : Bytes} → w ≡ normalize_dom_attr_name n → {l : Bytes} → l ≡ left_in None w None false → l ≡ html_name (ident n)
   unfolding html_name get_attr_name
-  ident_whole h e = e ∙ ap small_letters h
+  ident_whole {w} h e = e ∙ left_plain w ∙ ap small_letters h
 
-  pub ident_signed : (s : ℕ) → spelled (Some s) n ≡ normalize_dom_attr_name n → left_in (Some s) n None false ≡ html_name (ident n)
+  pub ident_signed : (s : ℕ) → spelled (Some s) n ≡ normalize_dom_attr_name n → {l : Bytes} → l ≡ left_in (Some s) n None false → l ≡ html_name (ident n)
   unfolding html_name get_attr_name joined
-  ident_signed s h = left_starts (Some s) n None ∙ ap small_letters h
+  ident_signed s h e = e ∙ left_starts (Some s) n None ∙ ap small_letters h
 
-  pub ident_small : spelled None n ≡ normalize_dom_attr_name n → {l : Bytes} → l ≡ small_letters n → l ≡ html_name (ident n)
+  pub ident_small : spelled None n ≡ normalize_dom_attr_name n → {l : Bytes} → l ≡ left_in None n None false → l ≡ html_name (ident n)
   unfolding html_name get_attr_name
-  ident_small h e = e ∙ sym (small_twice n) ∙ ap small_letters (sym (spelled_none n) ∙ h)
+  ident_small h e = e ∙ left_plain n ∙ sym (small_twice n) ∙ ap small_letters (sym (spelled_none n) ∙ h)
 
 -- ns:name
 small_behind : (a b : Bytes) → small_letters (a ++ (58 ∷ b)) ≡ small_letters (a ++ (58 ∷ small_letters b))
@@ -168,24 +193,13 @@ small_behind [] b = rw (small_twice b)
 small_behind (c ∷ a) b = ap (λ (y : Bytes). small_letter c ∷ y) (small_behind a b)
 
 module _ (ns n : Bytes) {v : Bool} (e : v ≡ (same ns (ascii "xlink") && same n (ascii "href"))) where
-  pub pair_xlink : v ≡ true → {l : Bytes} → l ≡ small_letters (ascii "href") → l ≡ html_name (namespaced ns n)
+  pub pair_xlink : v ≡ true → {l : Bytes} → l ≡ left_in None (ascii "href") None false → l ≡ html_name (namespaced ns n)
   unfolding html_name get_attr_name
-  pair_xlink t h = h ∙ ap small_letters (sym (namespaced_xlink ns n (sym e ∙ t)))
+  pair_xlink t h = h ∙ left_plain (ascii "href") ∙ ap small_letters (sym (namespaced_xlink ns n (sym e ∙ t)))
 
-  pub pair_other : v ≡ false → left_in None ns (Some n) false ≡ html_name (namespaced ns n)
+  pub pair_other : v ≡ false → {l : Bytes} → l ≡ left_in None ns (Some n) false → l ≡ html_name (namespaced ns n)
   unfolding html_name get_attr_name joined
-  pair_other t = left_starts None ns (Some n) ∙ rw (spelled_none ns, namespaced_other ns n (sym e ∙ t)) (small_behind (small_letters ns) n)
-
--- an attribute by its fields
-module _ (a : Bytes) (t : ℕ) (e : t ≡ tag_of_front a) {l : Bytes} where
-  pub attr_40 : t ≡ 0x40 → {b : Bytes} → b ≡ body_of a → l ≡ html_name (ident b) → l ≡ html_name (attr_name_in (read a))
-  attr_40 k q h = h ∙ ap html_name (ap ident q ∙ sym (attr_name_40 a t e k))
-
-  pub attr_42 : t ≡ 0x42 → {b : Bytes} → b ≡ body_of a → {v w : Bytes} → v ≡ first_in (texts_in 0x40 (read b)) → w ≡ second_in (texts_in 0x40 (read b)) → l ≡ html_name (namespaced v w) → l ≡ html_name (attr_name_in (read a))
-  attr_42 k q x y h = h ∙ rw (x, y, q, attr_name_42 a t e k)
-
-  pub attr_other : (t ≡ 0x40 → ⊥) → (t ≡ 0x42 → ⊥) → l ≡ html_name (ident []) → l ≡ html_name (attr_name_in (read a))
-  attr_other k l h = h ∙ rw (attr_name_other a t e k l)
+  pair_other t h = h ∙ left_starts None ns (Some n) ∙ rw (spelled_none ns, namespaced_other ns n (sym e ∙ t)) (small_behind (small_letters ns) n)
 
 -- ---- attributes in a row
 
@@ -256,115 +270,64 @@ repeats_found (n ∷ ns) x ms h = rw (among_append n ns (x ∷ ms), same_turned 
     on false true k f = refl
     on false false k f = rw (f k) (on_true (among n ms))
 
--- the attribute at k, where k are in front of it
-module _ (N : List Bytes) (k : ℕ) (x : Bytes) (r : List Bytes) (e : drop k N ≡ x ∷ r) where
-  inside_list : k < length N
-  inside_list = on (ltb k (length N)) refl
-    where
-      on : (b : Bool) → ltb k (length N) ≡ b → k < length N
-      on true h = ltb-true k (length N) h
-      on false h = absurd (cons≢nil (sym e ∙ drop_of_length-le N {i = k} (ltb-false k (length N) h)))
+-- P are in front of what is left of N, and no two of them are one
+pub record Passed (N P left : List Bytes) : Type 0 where
+  pub all : N ≡ P ++ left
+  pub once : repeats P ≡ false
 
-  head_is : get_or N k [] ≡ x
-  head_is = ap (λ (l : List Bytes). get_or l 0 []) (sym (drop-cons N k [] inside_list) ∙ e)
+pub passed_none : (N : List Bytes) → Passed N [] N
+unfolding repeats
+passed_none N = record { all = refl; once = refl }
 
-  pub list_behind : drop (k + 1) N ≡ r
-  list_behind = rw add-one (ap (λ (l : List Bytes). drop 1 l) (sym (drop-cons N k [] inside_list) ∙ e))
+pub passed_all : {N P left : List Bytes} → Passed N P left → left ≡ [] → false ≡ repeats N
+passed_all {N} {P} {left} p e = sym (ap repeats (p.all ∙ ap (λ (l : List Bytes). P ++ l) e ∙ append-nil P) ∙ p.once)
 
-  pub list_front : take (k + 1) N ≡ take k N ++ (x ∷ [])
-  list_front = rw (add-one, take-suc N k [] inside_list, head_is)
+module _ {N P left : List Bytes} (p : Passed N P left) {x : Bytes} {r : List Bytes} (e : left ≡ x ∷ r) where
+  pub passed_found : {b : Bool} → b ≡ among x P → b ≡ true → true ≡ repeats N
+  passed_found h t = sym (ap repeats (p.all ∙ ap (λ (l : List Bytes). P ++ l) e) ∙ repeats_found P x r (sym h ∙ t))
 
-  pub none_repeats : {b : Bool} → b ≡ among x (take k N) → b ≡ false → repeats (take k N) ≡ false → repeats (take (k + 1) N) ≡ false
-  none_repeats h f g = rw (add-one, take-suc N k [] inside_list, head_is, repeats_more (take k N) x, ← h, f, g)
+  pub passed_one : among x P ≡ false → Passed N (P ++ (x ∷ [])) r
+  passed_one h = record { all = p.all ∙ ap (λ (l : List Bytes). P ++ l) e ∙ sym (append_assoc P (x ∷ []) r); once = repeats_more P x ∙ rw (h, p.once) }
 
-  pub one_repeats : {b : Bool} → b ≡ among x (take k N) → b ≡ true → true ≡ repeats N
-  one_repeats h t = sym (ap repeats (sym (take-append-drop k N) ∙ ap (λ (l : List Bytes). take k N ++ l) e) ∙ repeats_found (take k N) x r (sym h ∙ t))
-
-pub all_passed : (N : List Bytes) (k : ℕ) → drop k N ≡ [] → repeats (take k N) ≡ false → false ≡ repeats N
-all_passed N k e f = sym f ∙ ap repeats (sym (append-nil (take k N)) ∙ ap (λ (l : List Bytes). take k N ++ l) (sym e) ∙ take-append-drop k N)
-
--- ---- earlier_has, an attribute further
-
-next : (k i : ℕ) → i < k → k - i ≡ suc (k - (i + 1))
-next k i h = omega (arith, h)
-
-module _ (x : Bytes) (N : List Bytes) where
-  pub earlier_here : (k i : ℕ) (y : Bytes) (M : List Bytes) {b : Bool} → i < k → N ≡ y ∷ M → b ≡ same x y → b ≡ true → among x (take (k - i) N) ≡ true
-  unfolding among
-  earlier_here k i y M l e h t = rw (next k i l, e, ← h, t)
-
-  pub earlier_on : (k i : ℕ) (y : Bytes) (M : List Bytes) {b : Bool} → i < k → N ≡ y ∷ M → b ≡ same x y → b ≡ false → among x (take (k - (i + 1)) M) ≡ among x (take (k - i) N)
-  unfolding among
-  earlier_on k i y M l e h t = rw (next k i l, e, ← h, t)
-
-  pub earlier_none : (m : ℕ) → N ≡ [] → false ≡ among x (take m N)
-  unfolding among
-  earlier_none m e = rw (e, take-nil {A = Bytes} m)
-
-  pub earlier_end : (k i : ℕ) → k ≤ i → false ≡ among x (take (k - i) N)
-  unfolding among
-  earlier_end k i h = rw (let z : k - i ≡ 0 = omega (arith, h) in z)
+  -- the first of N, as many as P
+  pub passed_front : {k : ℕ} → k ≡ length P → take k N ≡ P
+  passed_front {k} h = ap (take k) p.all ∙ take_at P left k (sym h)
 
 -- ---- names that are noted
 
 -- each of ns is noted in a table under its key
-abbrev pub Noted : (Bytes → ℕ) → List ℕ → List Bytes → Type 0
-Noted key seen ns = (x : Bytes) → among x ns ≡ true → get_or seen (key x) 0 ≡ 1
+abbrev pub Noted : (Bytes → ℕ) → List Bool → List Bytes → Type 0
+Noted key seen ns = (x : Bytes) → among x ns ≡ true → get_or seen (key x) false ≡ true
 
-pub noted_none : (key : Bytes → ℕ) (seen : List ℕ) → Noted key seen []
+pub noted_none : (key : Bytes → ℕ) (seen : List Bool) → Noted key seen []
 unfolding among
 noted_none key seen x h = absurd (false≢true h)
 
-pub noted_more : (key : Bytes → ℕ) (seen : List ℕ) (ns : List Bytes) (y : Bytes) (i : ℕ) → i ≡ key y → i < length seen → Noted key seen ns → Noted key (set seen i 1) (ns ++ (y ∷ []))
+pub noted_more : (key : Bytes → ℕ) (seen : List Bool) (ns : List Bytes) (y : Bytes) {i : ℕ} → i ≡ key y → i < length seen → Noted key seen ns → Noted key (set seen i true) (ns ++ (y ∷ []))
 unfolding among
-noted_more key seen ns y i e l k x h = on (eqb (key x) i) refl
+noted_more key seen ns y {i} e l k x h = on (eqb (key x) i) refl
   where
     kept_name : eqb (key x) i ≡ false → (b : Bool) → same x y ≡ b → (among x ns || (b || false)) ≡ true → among x ns ≡ true
     kept_name f true g m = absurd (eqb-false (key x) i f (ap key (same_eq x y g) ∙ sym e))
     kept_name f false g m = sym (or-false (among x ns)) ∙ m
 
-    on : (b : Bool) → eqb (key x) i ≡ b → get_or (set seen i 1) (key x) 0 ≡ 1
-    on true f = rw (eqb-true (key x) i f) (get_or-set_same seen i 1 0 l)
-    on false f = get_or-set_other seen i (key x) 1 0 (eqb-false (key x) i f) ∙ k x (kept_name f (same x y) refl (sym (among_append x ns (y ∷ [])) ∙ h))
+    on : (b : Bool) → eqb (key x) i ≡ b → get_or (set seen i true) (key x) false ≡ true
+    on true f = rw (eqb-true (key x) i f) (get_or-set_same seen i true false l)
+    on false f = get_or-set_other seen i (key x) true false (eqb-false (key x) i f) ∙ k x (kept_name f (same x y) refl (sym (among_append x ns (y ∷ [])) ∙ h))
 
-pub not_noted : (key : Bytes → ℕ) (seen : List ℕ) (ns : List Bytes) (y : Bytes) (i : ℕ) → i ≡ key y → eqb (get_or seen i 0) 1 ≡ false → Noted key seen ns → among y ns ≡ false
-not_noted key seen ns y i e f k = on (among y ns) refl
+pub not_noted : (key : Bytes → ℕ) (seen : List Bool) (ns : List Bytes) (y : Bytes) {i : ℕ} → i ≡ key y → get_or seen i false ≡ false → Noted key seen ns → among y ns ≡ false
+not_noted key seen ns y {i} e f k = on (among y ns) refl
   where
     on : (b : Bool) → among y ns ≡ b → b ≡ false
     on false g = refl
-    on true g = absurd (eqb-false (get_or seen i 0) 1 f (rw e (k y g)))
+    on true g = absurd (false≢true (sym f ∙ rw e (k y g)))
 
--- under both halves of its hash, in tables of n bytes
+-- under both halves of its hash, in tables of n places
 abbrev pub low_key : ℕ → Bytes → ℕ
 low_key n x = low_half n (name_hash x)
 
 abbrev pub high_key : ℕ → Bytes → ℕ
 high_key n x = high_half n (name_hash x)
-
-pub may_not : (n : ℕ) (low high : List ℕ) (ns : List Bytes) (y : Bytes) (h : ℕ) {r : Bool} → Noted (low_key n) low ns → Noted (high_key n) high ns → h ≡ name_hash y → r ≡ (eqb (get_or low (low_half n h) 0) 1 && eqb (get_or high (high_half n h) 0) 1) → r ≡ false → among y ns ≡ false
-may_not n low high ns y h {r} a b e f g = on (eqb (get_or low (low_half n h) 0) 1) refl (eqb (get_or high (high_half n h) 0) 1) refl (sym f ∙ g)
-  where
-    on : (u : Bool) → eqb (get_or low (low_half n h) 0) 1 ≡ u → (v : Bool) → eqb (get_or high (high_half n h) 0) 1 ≡ v → (u && v) ≡ false → among y ns ≡ false
-    on true p true q z = absurd (false≢true (sym z))
-    on true p false q z = not_noted (high_key n) high ns y (high_half n h) (ap (high_half n) e) q b
-    on false p v q z = not_noted (low_key n) low ns y (low_half n h) (ap (low_half n) e) p a
-
-pub noted_next : (key : Bytes → ℕ) (seen seen' : List ℕ) (N : List Bytes) (k : ℕ) (x : Bytes) (r : List Bytes) (i : ℕ) → drop k N ≡ x ∷ r → i ≡ key x → i < length seen → seen' ≡ set seen i 1 → Noted key seen (take k N) → Noted key seen' (take (k + 1) N)
-noted_next key seen seen' N k x r i e f l g n =
-    let m : Noted key (set seen i 1) (take k N ++ (x ∷ [])) = noted_more key seen (take k N) x i f l n in
-    subst (λ (s : List ℕ). Noted key s (take (k + 1) N)) (sym g) (subst (λ (ns : List Bytes). Noted key (set seen i 1) ns) (sym (list_front N k x r e)) m)
-
-pub noted_length : (seen seen' : List ℕ) (i : ℕ) {n : ℕ} → seen' ≡ set seen i 1 → length seen ≡ n → length seen' ≡ n
-noted_length seen seen' i e h = rw (e, length-set seen i 1, h)
-
-pub half_low : (n h : ℕ) → 0 < n → low_half n h < n
-half_low n h p = mod-lt h p
-
-pub half_high : (n h : ℕ) → 0 < n → high_half n h < n
-half_high n h p = mod-lt (h / 65536) p
-
-pub table_length : (n : ℕ) {seen : List ℕ} → seen ≡ replicate n 0 → length seen ≡ n
-table_length n e = rw e (length-replicate {A = ℕ} n 0)
 
 -- ---- keys
 
@@ -445,118 +408,60 @@ pub key_sum_room : {x y z : ℕ} → x ≤ 151 → y ≤ 270 → z ≤ 155 → x
 key_sum_room {x} {y} {z} h k l = sum_room (x * y) (151 * y) z (mul-le-mul_right y h) (omega (arith, k)) l
 
 -- of one letter, and of more
-pub key_of_one : (n : Bytes) → length n ≡ 1 → letter_key n ≡ key_by (last_letter n) 1 (last_letter n)
+pub last_of_one : (n : Bytes) → length n ≡ 1 → last_letter n ≡ get_or n 0 0
+last_of_one n h = ap (λ (i : ℕ). get_or n i 0) (let z : length n - 1 ≡ 0 = omega (arith, h) in z)
+
+pub key_of_one : (n : Bytes) → length n ≡ 1 → letter_key n ≡ key_by (get_or n 0 0) 1 (get_or n 0 0)
 unfolding letter_key
 key_of_one [] h = absurd (omega (arith, h))
 key_of_one (c ∷ []) h = refl
 key_of_one (c ∷ d ∷ cs) h = absurd (omega (arith, h))
 
-pub key_of_more : (n : Bytes) → (length n ≡ 0 → ⊥) → (length n ≡ 1 → ⊥) → letter_key n ≡ key_by (get_or n 0 0) (get_or n (length n - 2) 0) (last_letter n)
+pub key_of_more : (n : Bytes) → 2 ≤ length n → letter_key n ≡ key_by (get_or n 0 0) (get_or n (length n - 2) 0) (last_letter n)
 unfolding letter_key
-key_of_more [] h k = absurd (h refl)
-key_of_more (c ∷ []) h k = absurd (k refl)
-key_of_more (c ∷ d ∷ cs) h k =
+key_of_more [] h = absurd (omega (arith, h))
+key_of_more (c ∷ []) h = absurd (omega (arith, h))
+key_of_more (c ∷ d ∷ cs) h =
     let n = c ∷ d ∷ cs in
     let e : length n - 1 ≡ suc (length n - 2) = omega arith in
     ap (λ (i : ℕ). key_by c (get_or (1 ∷ n) i 0) (last_letter n)) e
 
-module _ (a b : Bytes) (t : ℕ) (e : t ≡ tag_of_front a) (k : t ≡ 0x40) (q : b ≡ body_of a) where
-  pub keyed : 97 ≤ last_letter b → (m : ℕ) → m ≡ letter_key b → Keyed (html_name (attr_name_in (read a))) m
-  keyed h m g = told {k = m} (subst (λ (x : ℕ). x < 64) (sym g) (key_low b)) (g ∙ sym (key_normal b h) ∙ ap letter_key (attr_40 a t e k q refl))
+pub keyed : (a b : Bytes) → attr_name_in (read a) ≡ ident b → 97 ≤ last_letter b → (m : ℕ) → m ≡ letter_key b → (m < 64) × (m ≡ letter_key (name_in a))
+keyed a b e h m g = (subst (λ (x : ℕ). x < 64) (sym g) (key_low b), g ∙ sym (key_normal b h) ∙ ap (λ n. letter_key (html_name n)) (sym e))
 
-pub noted_in : (seen : List ℕ) (k : ℕ) → k < 64 → set seen k 1 ≡ noted_at seen k
-unfolding noted_at
-noted_in seen k h = rw (lt-ltb k 64 h)
+-- ---- the attributes in front
 
-pub noted_out : (seen : List ℕ) (k : ℕ) → 64 ≤ k → seen ≡ noted_at seen k
-unfolding noted_at
-noted_out seen k h = rw (le-ltb k 64 h)
+pub names_end : (s : Bytes) → Ended (read s) → names_in s ≡ []
+unfolding html_names
+names_end s i = ap html_names (attributes_none (read s) i)
 
--- ---- by_tables calls itself once
+-- of a row of which no attribute is the second field
+one_front : (s : Bytes) (t : ℕ) {w r : Bytes} → IsFront s t w r → names_in r ≡ [] → false ≡ repeats (names_in s)
+unfolding repeats among
+one_front s t f e =
+    tested t 0x50 (λ k. rw (names_at_50 s t f.tag_is k f.body_is f.behind_is, e)) λ a.
+    tested t 0x53 (λ k. rw (names_at_53 s t f.tag_is k f.behind_is, e)) λ b.
+    rw (names_none s t f.tag_is a b)
 
-pub falls_once : (b : Bool) {n : ℕ} → pick b 1 0 ≡ n → b ≡ true → pick false 1 0 < n
-falls_once true e h = omega (arith, e)
-falls_once false e h = absurd (false≢true h)
+no_second : (s : Bytes) (o : Option Field) (r : Bytes) → Steps s o r → ((f : Field) → o ≡ Some f → (f.tag ≡ 0x50 → ⊥) × (f.tag ≡ 0x53 → ⊥)) → names_in s ≡ []
+no_second s None r e h = names_end s e.ended
+no_second s (Some f) r e h = names_none s f.tag e.tag_is (h f refl).0 (h f refl).1
 
--- ---- by_keys
+pub one_only : (s : Fields) (xs : List Field) (o : Option Field) (u : Fields) → YieldsThen GivesField s xs o u → MatchOption o (length xs ≤ 1) (λ _. length xs ≡ 1) →
+    ((f : Field) → o ≡ Some f → (f.tag ≡ 0x50 → ⊥) × (f.tag ≡ 0x53 → ⊥)) → false ≡ repeats (names_in s.0.now)
+unfolding repeats
+one_only s [] None u e l h = rw (names_end s.0.now (subst (λ (t : Fields). GivesField t None u) (sym e.1) e.2).ended)
+one_only s [] (Some f) u e l h = absurd (omega (arith, l))
+one_only s (x ∷ []) o u e l h = one_front s.0.now x.tag e.1.1 (no_second e.1.0.0.now o u.0.now (subst (λ (t : Fields). GivesField t o u) (sym e.1.2) e.2) h)
+one_only s (x ∷ y ∷ xs) None u e l h = absurd (omega (arith, l))
+one_only s (x ∷ y ∷ xs) (Some f) u e l h = absurd (omega (arith, l))
 
-pub keys_none : (seen : List ℕ) → seen ≡ replicate 64 0 → length seen ≡ 64
-keys_none seen e = rw e (length-replicate {A = ℕ} 64 0)
+-- ---- earlier_has
 
-pub keys_length : (seen seen' : List ℕ) (k : ℕ) → seen' ≡ noted_at seen k → length seen ≡ 64 → length seen' ≡ 64
-unfolding noted_at
-keys_length seen seen' k e h = e_length (ltb k 64) ∙ h
-  where
-    on : (b : Bool) → length (pick b (set seen k 1) seen) ≡ length seen
-    on true = length-set seen k 1
-    on false = refl
+pub attributes_yield : (s : Attributes) → YieldsList (YieldsFirstBy (λ (a : Bor Bytes). name_in a.now) (λ (row : Attributes). names_in row.0.now)) (λ (a : Bor Bytes). name_in a.now) s (names_in s.0.now)
+attributes_yield s = YieldsList-from_first (λ (a : Bor Bytes). name_in a.now) (λ (row : Attributes). names_in row.0.now) (names_in s.0.now) refl
 
-    e_length : (b : Bool) → length seen' ≡ length seen
-    e_length b = ap length e ∙ on (ltb k 64)
-
--- a key that is not noted, where all names before it are
-pub key_may_not : (seen : List ℕ) (ns : List Bytes) (y : Bytes) (k : ℕ) → Noted letter_key seen ns → Keyed y k → (k < 64) × (eqb (get_or seen k 0) 1 ≡ false) → among y ns ≡ false
-key_may_not seen ns y k n untold g = absurd (let l : 64 < 64 = g.0 in omega (arith, l))
-key_may_not seen ns y k n (told l e) g = not_noted letter_key seen ns y k e g.1 n
-
-pub keys_next : (seen seen' : List ℕ) (N : List Bytes) (k : ℕ) (x : Bytes) (r : List Bytes) (i : ℕ) → drop k N ≡ x ∷ r → Keyed x i → i < 64 → length seen ≡ 64 → seen' ≡ noted_at seen i → Noted letter_key seen (take k N) → Noted letter_key seen' (take (k + 1) N)
-unfolding noted_at
-keys_next seen seen' N k x r i d untold f s g n = absurd (omega (arith, f))
-keys_next seen seen' N k x r i d (told l e) f s g n = noted_next letter_key seen seen' N k x r i d e (omega (arith, l, s)) (g ∙ rw (lt-ltb i 64 l)) n
-
--- ---- an attribute further: what both loops keep, of the names N of s and those of t, which are left
-
-pub record Passed (s : Bytes) (k : ℕ) (t : Bytes) : Type 0 where
-  pub shorter : k + length t ≤ length s
-  pub behind : drop k (html_names (attributes_in (read s))) ≡ html_names (attributes_in (read t))
-  pub once : repeats (take k (html_names (attributes_in (read s)))) ≡ false
-
-pub passed_none : (s : Bytes) → Passed s 0 s
-passed_none s = record { shorter = omega arith; behind = refl; once = repeats_none }
-
-module _ {s : Bytes} {k : ℕ} {t : Bytes} (m : Passed s k t) {u : ℕ} (e : u ≡ tag_of_front t) where
-  abbrev all_names : List Bytes
-  all_names = html_names (attributes_in (read s))
-
-  pub passed_all : (u ≡ 0x50 → ⊥) → (u ≡ 0x53 → ⊥) → false ≡ repeats all_names
-  passed_all h l = all_passed all_names k (m.behind ∙ names_none t u e h l) m.once
-
-  pub passed_spread : u ≡ 0x53 → {r : Bytes} → r ≡ behind_of t → Passed s k r
-  passed_spread h q = record { shorter = omega (arith, m.shorter, behind_less t u e (λ z. omega (arith, h, z)) q); behind = m.behind ∙ names_at_53 t u e h q; once = m.once }
-
-  module _ (h : u ≡ 0x50) {a : Bytes} (p : a ≡ body_of t) where
-    abbrev name : Bytes
-    name = html_name (attr_name_in (read a))
-
-    at_name : {r : Bytes} → r ≡ behind_of t → drop k all_names ≡ name ∷ html_names (attributes_in (read r))
-    at_name q = m.behind ∙ names_at_50 t u e h p q
-
-    pub passed_found : {b : Bool} → b ≡ among name (take k all_names) → b ≡ true → true ≡ repeats all_names
-    passed_found f g = one_repeats all_names k name (html_names (attributes_in (read (behind_of t)))) (at_name refl) f g
-
-    module _ {r : Bytes} (q : r ≡ behind_of t) where
-      pub passed_less : length r < length t
-      passed_less = behind_less t u e (λ z. omega (arith, h, z)) q
-
-      pub passed_room : k + 1 ≤ length s
-      passed_room = omega (arith, m.shorter, passed_less)
-
-      pub passed_one : {b : Bool} → b ≡ among name (take k all_names) → b ≡ false → Passed s (k + 1) r
-      passed_one f g = record { shorter = omega (arith, m.shorter, passed_less); behind = list_behind all_names k name (html_names (attributes_in (read r))) (at_name q); once = none_repeats all_names k name (html_names (attributes_in (read r))) (at_name q) f g m.once }
-
-      pub passed_noted : (key : Bytes → ℕ) (seen seen' : List ℕ) (i : ℕ) → i ≡ key name → i < length seen → seen' ≡ set seen i 1 → Noted key seen (take k all_names) → Noted key seen' (take (k + 1) all_names)
-      passed_noted key seen seen' i f l g n = noted_next key seen seen' all_names k name (html_names (attributes_in (read r))) i (at_name q) f l g n
-
-      pub passed_keyed : (seen seen' : List ℕ) (i : ℕ) → Keyed name i → i < 64 → length seen ≡ 64 → seen' ≡ noted_at seen i → Noted letter_key seen (take k all_names) → Noted letter_key seen' (take (k + 1) all_names)
-      passed_keyed seen seen' i f l z g n = keys_next seen seen' all_names k name (html_names (attributes_in (read r))) i (at_name q) f l z g n
-
--- ---- repeats: no attribute, or one
-
-module _ (s : Bytes) (t : ℕ) (e : t ≡ tag_of_front s) where
-  pub none_twice : (t ≡ 0x53 → ⊥) → (t ≡ 0x50 → ⊥) → false ≡ repeats (html_names (attributes_in (read s)))
-  unfolding repeats
-  none_twice a b = sym (ap repeats (names_none s t e b a))
-
-  pub one_once : t ≡ 0x50 → (r : Bytes) (u : ℕ) → r ≡ behind_of s → u ≡ tag_of_front r → (u ≡ 0x53 → ⊥) → (u ≡ 0x50 → ⊥) → false ≡ repeats (html_names (attributes_in (read s)))
-  unfolding repeats among
-  one_once k r u q f a b = sym (ap repeats (names_at_50 s t e k {b = body_of s} refl q ∙ ap (λ (l : List Bytes). html_name (attr_name_in (read (body_of s))) ∷ l) (names_none r u f b a)))
+pub any_among : (x : Bytes) (ns : List Bytes) → list_any (same x) ns ≡ among x ns
+unfolding among
+any_among x [] = refl
+any_among x (n ∷ ns) = ap (λ (b : Bool). same x n || b) (any_among x ns)

@@ -1,25 +1,31 @@
 -- Elements, attributes, expressions and children as they stand in bytes. Assumes nothing: these are definitions.
 use Rattle.std.specs.Prelude.{Bool, true, false, ◌&&◌, ◌||◌, not, ◌≡◌, List, [], T, length, Option, Some, None}
+use denote.Ref.{Bor}
 use Rattle.field.specs.Bytes.{Bytes, ascii, same, among, pick, null?}
 use Rattle.field.specs.Row.{Row, end, loose, field, read}
 use Rattle.field.specs.Front.{tag_of_front, body_of}
 use Rattle.text.specs.Text.{jsx_text_to_str}
+use Rattle.names.specs.Names as N
 use Rattle.names.specs.Names.{get_attr_name}
 use Rattle.page.specs.Number.{Number, render, number_in}
 use Rattle.page.specs.Check.{is_child}
 use Rattle.page.specs.Page as P
 use Rattle.page.specs.Page.{Options, Name, identifier, member, namespaced}
-use Rattle.page.specs.Tree.{name_by, attributes_in, children_in, Contained, nothing_contained, contained}
+use Rattle.page.specs.Tree.{texts_in, name_by, attributes_in, children_in, Contained, nothing_contained, contained}
 use Rattle.spec.specs.Attributes as A
 use Rattle.spec.specs.Attributes.{first_upper}
 use Rattle.spec.specs.Merge as M
 use Rattle.spec.specs.Merge.{becomes_template}
 use Rattle.spec.specs.Transform.{element_of, attributes, children}
 use Rattle.decisions.specs.Index.{names_of}
+use Rattle.decisions.specs.declared.attribute.AttrName.{AttrName}
+use Rattle.decisions.specs.declared.attribute.AttrName.TheVariants as AttrNamed
 use Rattle.decisions.specs.declared.attribute.Value.{Value}
 use Rattle.decisions.specs.declared.attribute.Value.TheVariants as Held
 use Rattle.decisions.specs.declared.children.Count.{Count}
 use Rattle.decisions.specs.declared.children.Count.TheVariants.{Zero, One, More}
+use Rattle.decisions.specs.declared.element.ElementName.{ElementName}
+use Rattle.decisions.specs.declared.element.ElementName.TheVariants as Named
 use Rattle.decisions.specs.declared.expr.Shape.{Shape}
 use Rattle.decisions.specs.declared.expr.Shape.TheVariants as Form
 
@@ -70,7 +76,21 @@ serializable_by skip (namespaced n m) f = false
 unfoldable pub serializable : Bytes → Bytes → Bool
 serializable skip b = serializable_by (names_of skip) (element_name (read b)) (forbids (attributes_in (behind_name (read b))))
 
--- ---- values and expressions as the code's enums have them
+-- ---- names, values and expressions as the code's enums have them
+
+abbrev pub element_named : ElementName → Name
+element_named (Named.Identifier n) = identifier n.now
+element_named (Named.Member ns) = member (texts_in 0x40 (read ns.now))
+element_named (Named.Namespaced ns n) = namespaced ns.now n.now
+
+abbrev pub attr_name : AttrName → N.AttrName
+attr_name (AttrNamed.Ident n) = N.ident n.now
+attr_name (AttrNamed.Namespaced ns n) = N.namespaced ns.now n.now
+
+-- the identifier that a name is; a missing name, which is one of no bytes, counts as none
+abbrev pub IdentAt : N.AttrName → Option (Bor Bytes) → Type 0
+IdentAt n None = (b : Bytes) → n ≡ N.ident b → b ≡ []
+IdentAt n (Some b) = n ≡ N.ident b.now
 
 unfoldable pub value_of : P.Value → Option Value
 value_of P.absent = None

@@ -2,7 +2,7 @@
 -- nothing: these are definitions.
 -- An index is longer than 4,096 bytes, which no series is: for each of 1,024 hashes the number of its last entry, in two bytes; 1,366
 -- entries of four bytes, the number of the entry before it and the name's place; then the series.
-use Rattle.std.specs.Prelude.{ℕ, zero, suc, ◌+◌, ◌*◌, ◌%◌, List, [], ◌∷◌, ◌++◌, eqb, leb, ltb, length, drop, get_or}
+use Rattle.std.specs.Prelude.{ℕ, zero, suc, ◌+◌, ◌*◌, ◌%◌, Option, Some, None, List, [], ◌∷◌, ◌++◌, eqb, leb, ltb, length, drop, get_or}
 use Rattle.field.specs.Bytes.{Bytes, pick}
 use Rattle.field.specs.Number.{big_endian}
 use Rattle.field.specs.Row.{read}
@@ -28,6 +28,11 @@ name_at b k = body_of (drop (7512 + two_at b (2050 + 4 * k)) b)
 
 abbrev pub before_at : Bytes → ℕ → ℕ
 before_at b k = two_at b (2048 + 4 * k)
+
+-- an entry in two bytes: its number and one, or 0 for none
+abbrev pub link_of : Option ℕ → ℕ
+link_of None = 0
+link_of (Some k) = suc k
 
 -- the names of an entry and of those before it; suc k stands for entry k, zero for none. The first argument falls at each
 unfoldable pub chain : ℕ → Bytes → ℕ → List Bytes

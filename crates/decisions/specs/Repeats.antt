@@ -1,10 +1,12 @@
 -- 02, A4: the names that attributes have in HTML, and whether one stands twice; and how the code reads such a name. Main definitions:
 -- `html_names`, `repeats`. Assumes nothing: these are definitions.
-use Rattle.std.specs.Prelude.{ℕ, suc, ◌+◌, ◌-◌, ◌*◌, ◌/◌, ◌%◌, ◌<◌, Bool, true, false, ◌||◌, ◌&&◌, not, ◌≡◌, List, [], ◌∷◌, ◌++◌, ltb, length, get_or, set, Option, Some, None, option_map}
+use Rattle.std.specs.Prelude.{ℕ, suc, ◌+◌, ◌-◌, ◌*◌, ◌/◌, ◌%◌, ◌<◌, Bool, true, false, ◌||◌, ◌&&◌, not, ◌≡◌, List, [], ◌∷◌, ◌++◌, length, get_or, Option, Some, None, option_map}
 use Rattle.field.specs.Bytes.{Bytes, pick, among}
 use Rattle.names.specs.Names.{AttrName, get_attr_name, capital, small_letter, small_letters}
 use Rattle.names.specs.Table.{spelled}
+use Rattle.field.specs.Row.{read}
 use Rattle.page.specs.Page as P
+use Rattle.page.specs.Tree.{attributes_in, attr_name_in}
 use Rattle.decisions.specs.declared.repeats.Spelled.{Spelled}
 
 -- normalised, in small letters
@@ -16,6 +18,13 @@ unfoldable pub html_names : P.Attributes → List Bytes
 html_names P.no_attributes = []
 html_names (P.attribute n v as') = html_name n ∷ html_names as'
 html_names (P.spread_attribute e as') = html_names as'
+
+-- of the attribute with these fields, and of the attributes in front of a row
+abbrev pub name_in : Bytes → Bytes
+name_in a = html_name (attr_name_in (read a))
+
+abbrev pub names_in : Bytes → List Bytes
+names_in s = html_names (attributes_in (read s))
 
 unfoldable pub repeats : List Bytes → Bool
 repeats [] = false
@@ -42,13 +51,15 @@ left_in s [] None b = []
 left_in s [] (Some q) b = 58 ∷ small_letters q
 left_in s (c ∷ p) q b = behind (sign_read s c b) (small_letter c ∷ left_in s p q false)
 
+-- a name as it stands
+pub record IsPlain (n : Bytes) (s : Spelled) : Type 0 where
+  pub sign : s.sign ≡ None
+  pub first : s.first.now ≡ n
+  pub second : s.second ≡ None
+  pub behind_sign : s.behind_sign ≡ false
+
 abbrev pub letters : Spelled → Bytes
 letters n = left_in n.sign n.first.now (option_map (λ q. q.now) n.second) n.behind_sign
-
--- the first of letters, and what is left behind it
-abbrev pub Front : Bytes → Option (ℕ × Spelled) → Type 0
-Front l None = l ≡ []
-Front l (Some r) = (l ≡ r.0 ∷ letters r.1) × (r.0 < 256)
 
 -- ---- hashes, by the codes of a name's bytes
 
@@ -79,10 +90,7 @@ last_letter n = get_or n (length n - 1) 0
 unfoldable pub letter_key : Bytes → ℕ
 letter_key n = key_by (get_or n 0 0) (get_or (1 ∷ n) (length n - 1) 0) (last_letter n)
 
--- a key of a name, or 64
-pub data Keyed (n : Bytes) : ℕ → Type 0 where
-  untold : Keyed n 64
-  told : {k : ℕ} → k < 64 → k ≡ letter_key n → Keyed n k
-
-unfoldable pub noted_at : List ℕ → ℕ → List ℕ
-noted_at seen k = pick (ltb k 64) (set seen k 1) seen
+-- a key of a name, where one is told
+abbrev pub Keyed : Bytes → Option ℕ → Type 0
+Keyed n None = Unit {0}
+Keyed n (Some k) = (k < 64) × (k ≡ letter_key n)

@@ -4,11 +4,11 @@ ghost use Rattle.field.specs.Bytes.{ascii, same, among};
 ghost use Rattle.field.specs.Row.{read};
 ghost use Rattle.names.specs.Names.{get_attr_name, is_boolean_attr};
 ghost use Rattle.page.specs.Tree.{texts_in, first_in, second_in, attr_name_in, value_in};
-ghost use Rattle.decisions.specs.At.{value_of};
+ghost use Rattle.decisions.specs.At.{attr_name, IdentAt, value_of};
 ghost use Rattle.decisions.specs.Index.{names_of};
 
 use crate::index::{lists, lists_namespaced};
-use field::reader::{behind, body, tag_at};
+use field::reader::{Field, Fields, behind, field_at};
 use names::{normalizes_to_boolean, normalizes_to_key, normalizes_to_ref, same_bytes};
 
 // What a value is, by the field that stands behind the name: 51, 52, 30 or 31.
@@ -20,43 +20,62 @@ pub enum Value {
     Fragment,
 }
 
-// The body of the first 40 of a series, empty where there is none.
-pub fn first_name(s: &[u8]) -> &[u8]
-    ensures { result.now ≡ first_in (texts_in 0x40 (read s.now)) }
+// The body of the next 40, empty where there is none.
+fn next_name<'a>(fields: &mut Fields<'a>) -> &'a [u8]
+    ensures first { result.now ≡ first_in (texts_in 0x40 (read fields.old.0.now)) }
+    ensures rest { first_in (texts_in 0x40 (read fields.new.0.now)) ≡ second_in (texts_in 0x40 (read fields.old.0.now)) }
 {
-    let mut t = s;
-    loop {
-        match tag_at(t) {
-            0x40 => {
-                return body(t);
-            }
-            256 => {
-                return &s[..0];
-            }
-            _ => {
-                t = behind(t);
-            }
+    while let Some(field) = fields.next() {
+        if field.tag == 0x40 {
+            return field.body;
         }
+    }
+    &[]
+}
+
+// The bodies of the first two 40s of a series.
+// No bytes stand for a missing one, as in the tree (first_in and second_in of page): with an Option each caller would put them again.
+// It is not merged into its callers, since few names are in two parts.
+#[inline(never)]
+pub fn two_names(s: &[u8]) -> (&[u8], &[u8])
+    ensures first { result.0.now ≡ first_in (texts_in 0x40 (read s.now)) }
+    ensures second { result.1.now ≡ second_in (texts_in 0x40 (read s.now)) }
+{
+    let mut fields = Fields(s);
+    let first = next_name(&mut fields);
+    let second = next_name(&mut fields);
+    (first, second)
+}
+
+// An attribute's name. A missing one is an identifier of no bytes, as in the tree.
+#[derive(Clone, Copy)]
+pub enum AttrName<'a> {
+    Ident(&'a [u8]),
+    Namespaced(&'a [u8], &'a [u8]),
+}
+
+#[inline(always)]
+pub fn attr_name_at(a: &[u8]) -> AttrName<'_>
+    ensures { attr_name result ≡ attr_name_in (read a.now) }
+{
+    match field_at(a) {
+        Some(Field { tag: 0x40, body }) => AttrName::Ident(body),
+        Some(Field { tag: 0x42, body }) => {
+            let (ns, n) = two_names(body);
+            AttrName::Namespaced(ns, n)
+        }
+        _ => AttrName::Ident(&[]),
     }
 }
 
-// The body of the second 40.
-pub fn second_name(s: &[u8]) -> &[u8]
-    ensures { result.now ≡ second_in (texts_in 0x40 (read s.now)) }
+// The identifier that an attribute's name is. No other name is what is asked for below: a namespaced one is not read for it.
+#[inline(always)]
+pub fn ident_at(a: &[u8]) -> Option<&[u8]>
+    ensures { IdentAt (attr_name_in (read a.now)) result }
 {
-    let mut t = s;
-    loop {
-        match tag_at(t) {
-            0x40 => {
-                return first_name(behind(t));
-            }
-            256 => {
-                return &s[..0];
-            }
-            _ => {
-                t = behind(t);
-            }
-        }
+    match field_at(a) {
+        Some(Field { tag: 0x40, body }) => Some(body),
+        _ => None,
     }
 }
 
@@ -64,16 +83,12 @@ pub fn second_name(s: &[u8]) -> &[u8]
 pub fn is_listed<'a>(props: &'a [u8], a: &'a [u8]) -> bool
     ensures { result ≡ among (get_attr_name (attr_name_in (read a.now)) false) (names_of props.now) }
 {
-    if props.len() == 0 {
+    if props.is_empty() {
         return false;
     }
-    match tag_at(a) {
-        0x40 => lists(props, body(a)),
-        0x42 => {
-            let b = body(a);
-            lists_namespaced(props, first_name(b), second_name(b))
-        }
-        _ => lists(props, &a[..0]),
+    match attr_name_at(a) {
+        AttrName::Ident(n) => lists(props, n),
+        AttrName::Namespaced(ns, n) => lists_namespaced(props, ns, n),
     }
 }
 
@@ -81,49 +96,40 @@ pub fn is_listed<'a>(props: &'a [u8], a: &'a [u8]) -> bool
 pub fn is_boolean(a: &[u8]) -> bool
     ensures { result ≡ is_boolean_attr (get_attr_name (attr_name_in (read a.now)) true) }
 {
-    if tag_at(a) == 0x40 {
-        return normalizes_to_boolean(body(a));
-    }
-    false
+    ident_at(a).is_some_and(|n| normalizes_to_boolean(n))
 }
 
 // Whether its name reads `key`, normalised or as written.
 pub fn is_key(a: &[u8], norm: bool) -> bool
     ensures { result ≡ same (get_attr_name (attr_name_in (read a.now)) norm) (ascii "key") }
 {
-    if tag_at(a) == 0x40 {
-        if norm {
-            return normalizes_to_key(body(a));
-        }
-        return same_bytes(body(a), b"key");
+    let name = ident_at(a);
+    if norm {
+        return name.is_some_and(|n| normalizes_to_key(n));
     }
-    false
+    name.is_some_and(|n| same_bytes(n, b"key"))
 }
 
 pub fn is_ref(a: &[u8]) -> bool
     ensures { result ≡ same (get_attr_name (attr_name_in (read a.now)) true) (ascii "ref") }
 {
-    if tag_at(a) == 0x40 {
-        return normalizes_to_ref(body(a));
-    }
-    false
+    ident_at(a).is_some_and(|n| normalizes_to_ref(n))
 }
 
 pub fn is_inner_html(a: &[u8]) -> bool
     ensures { result ≡ same (get_attr_name (attr_name_in (read a.now)) false) (ascii "dangerouslySetInnerHTML") }
 {
-    if tag_at(a) == 0x40 {
-        return same_bytes(body(a), b"dangerouslySetInnerHTML");
+    match ident_at(a) {
+        Some(n) => same_bytes(n, b"dangerouslySetInnerHTML"),
+        None => false,
     }
-    false
 }
 
 // None where nothing follows the name.
 pub fn value_at(a: &[u8]) -> Option<Value>
     ensures { result ≡ value_of (value_in (read a.now)) }
 {
-    let v = behind(a);
-    match tag_at(v) {
+    match field_at(behind(a))?.tag {
         0x51 => Some(Value::String),
         0x52 => Some(Value::Container),
         0x30 => Some(Value::Element),

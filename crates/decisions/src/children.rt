@@ -6,32 +6,30 @@ ghost use Rattle.page.specs.Tree.{children_in};
 ghost use Rattle.decisions.specs.At.{FirstChild, few, some_text, becomes};
 
 use crate::element::is_serializable;
-use field::reader::{behind, body, tag_at};
+use field::reader::{Fields, behind};
 use text::jsx_text::is_blank;
 
-fn is_child(tag: usize) -> bool
+fn is_child(tag: u8) -> bool
     ensures { result ≡ is_child tag }
 {
     matches!(tag, 0x60 | 0x52 | 0x30 | 0x31 | 0x61)
 }
 
-// From the first child on; empty where there is none.
+// What is left of a series from its first child on. No bytes may be left of it: it is measured and walked as it is.
 pub fn children_at(s: &[u8]) -> &[u8]
     ensures first { FirstChild s.now result.now }
     ensures within { length result.now ≤ length s.now }
     ensures place { result.now ≡ drop (length s.now - length result.now) s.now }
 {
-    let mut t = s;
-    loop {
-        let tag = tag_at(t);
-        if is_child(tag) {
-            return t;
+    let mut fields = Fields(s);
+    let mut left = s;
+    while let Some(field) = fields.next() {
+        if is_child(field.tag) {
+            return left;
         }
-        if tag == 256 {
-            return &s[..0];
-        }
-        t = behind(t);
+        left = fields.0;
     }
+    &[]
 }
 
 #[derive(Clone, Copy)]
@@ -45,12 +43,11 @@ pub enum Count {
 pub fn child_count(s: &[u8]) -> Count
     ensures { result ≡ few (children_in (read s.now)) }
 {
-    let a = children_at(s);
-    if a.len() == 0 {
+    let first = children_at(s);
+    if first.is_empty() {
         return Count::Zero;
     }
-    let b = children_at(behind(a));
-    if b.len() == 0 {
+    if children_at(behind(first)).is_empty() {
         return Count::One;
     }
     Count::More
@@ -60,25 +57,12 @@ pub fn child_count(s: &[u8]) -> Count
 fn has_text(s: &[u8]) -> bool
     ensures { result ≡ some_text (children_in (read s.now)) }
 {
-    let mut t = s;
-    loop {
-        match tag_at(t) {
-            0x60 => {
-                let r = behind(t);
-                if is_blank(body(t), false) {
-                    t = r;
-                } else {
-                    return true;
-                }
-            }
-            256 => {
-                return false;
-            }
-            _ => {
-                t = behind(t);
-            }
+    for field in Fields(s) {
+        if field.tag == 0x60 && !is_blank(field.body, false) {
+            return true;
         }
     }
+    false
 }
 
 // Whether several children of a call become one template. Texts are looked into only where one tag alone is serializable: a series of
@@ -86,31 +70,14 @@ fn has_text(s: &[u8]) -> bool
 pub fn becomes_template(skip: &[u8], s: &[u8]) -> bool
     ensures { result ≡ becomes skip.now (children_in (read s.now)) }
 {
-    let mut t = s;
-    let mut tags: usize = 0;
-    loop {
-        match tag_at(t) {
-            0x30 => {
-                let r = behind(t);
-                if is_serializable(skip, body(t)) {
-                    if tags == 1 {
-                        return true;
-                    }
-                    tags = 1;
-                    t = r;
-                } else {
-                    t = r;
-                }
+    let mut tagged = false;
+    for field in Fields(s) {
+        if field.tag == 0x30 && is_serializable(skip, field.body) {
+            if tagged {
+                return true;
             }
-            256 => {
-                if tags == 0 {
-                    return false;
-                }
-                return has_text(s);
-            }
-            _ => {
-                t = behind(t);
-            }
+            tagged = true;
         }
     }
+    tagged && has_text(s)
 }

@@ -3,11 +3,11 @@ ghost use Rattle.std.specs.Prelude.{◌≡◌};
 ghost use Rattle.field.specs.Row.{read};
 ghost use Rattle.page.specs.Tree.{attributes_in};
 ghost use Rattle.spec.specs.Attributes.{first_upper, is_component};
-ghost use Rattle.decisions.specs.At.{element_name, identifier_bytes, forbids, serializable};
+ghost use Rattle.decisions.specs.At.{element_name, element_named, identifier_bytes, forbids, serializable};
 
-use crate::attribute::is_inner_html;
+use crate::attribute::{is_inner_html, two_names};
 use crate::index::lists;
-use field::reader::{behind, body, tag_at};
+use field::reader::{Field, Fields, behind, field_at};
 
 pub fn is_upper(name: &[u8]) -> bool
     ensures { result ≡ first_upper name.now }
@@ -15,69 +15,75 @@ pub fn is_upper(name: &[u8]) -> bool
     name.first().is_some_and(|c| c.is_ascii_uppercase())
 }
 
-// The bytes of an identifier in front; empty for any other name.
+// An element's name. A missing one is an identifier of no bytes, as in the tree.
+#[derive(Clone, Copy)]
+pub enum ElementName<'a> {
+    Identifier(&'a [u8]),
+    // a row of 40s
+    Member(&'a [u8]),
+    Namespaced(&'a [u8], &'a [u8]),
+}
+
+#[inline(always)]
+pub fn element_name_at(b: &[u8]) -> ElementName<'_>
+    ensures { element_named result ≡ element_name (read b.now) }
+{
+    match field_at(b) {
+        Some(Field { tag: 0x40, body }) => ElementName::Identifier(body),
+        Some(Field { tag: 0x41, body }) => ElementName::Member(body),
+        Some(Field { tag: 0x42, body }) => {
+            let (ns, n) = two_names(body);
+            ElementName::Namespaced(ns, n)
+        }
+        _ => ElementName::Identifier(&[]),
+    }
+}
+
+// The bytes of an identifier. Any other name has none, as in identifier_bytes: with an Option each caller would put them again.
 pub fn identifier(b: &[u8]) -> &[u8]
     ensures { result.now ≡ identifier_bytes (element_name (read b.now)) }
 {
-    if tag_at(b) == 0x40 {
-        return body(b);
+    match field_at(b) {
+        Some(Field { tag: 0x40, body }) => body,
+        _ => &[],
     }
-    &b[..0]
 }
 
 // A spread, or dangerouslySetInnerHTML, among the attributes in front.
 fn keeps_from_serializing(s: &[u8]) -> bool
     ensures { result ≡ forbids (attributes_in (read s.now)) }
 {
-    let mut t = s;
-    loop {
-        match tag_at(t) {
+    for field in Fields(s) {
+        match field.tag {
             0x50 => {
-                if is_inner_html(body(t)) {
+                if is_inner_html(field.body) {
                     return true;
                 }
-                t = behind(t);
             }
-            0x53 => {
-                return true;
-            }
-            _ => {
-                return false;
-            }
+            0x53 => return true,
+            _ => return false,
         }
     }
+    false
 }
 
 // skip has the names of 02. They are looked at last: most options list none.
 pub fn is_serializable(skip: &[u8], b: &[u8]) -> bool
     ensures { result ≡ serializable skip.now b.now }
 {
-    match tag_at(b) {
-        0x41 => false,
-        0x42 => false,
-        _ => {
-            let n = identifier(b);
-            if is_upper(n) {
-                return false;
-            }
-            if keeps_from_serializing(behind(b)) {
-                return false;
-            }
-            if skip.len() == 0 {
-                return true;
-            }
-            !lists(skip, n)
-        }
-    }
+    let ElementName::Identifier(n) = element_name_at(b) else {
+        return false;
+    };
+    !is_upper(n) && !keeps_from_serializing(behind(b)) && !lists(skip, n)
 }
 
 // Names are treated as a component's where they are members or start with a capital.
 pub fn is_component(b: &[u8]) -> bool
     ensures { result ≡ is_component (element_name (read b.now)) }
 {
-    match tag_at(b) {
-        0x41 => true,
-        0x42 => false,
-        _ => is_upper(identifier(b)),
+    match element_name_at(b) {
+        ElementName::Identifier(n) => is_upper(n),
+        ElementName::Member(_) => true,
+        ElementName::Namespaced(..) => false,
     }
 }

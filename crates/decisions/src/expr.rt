@@ -2,11 +2,11 @@
 ghost use Rattle.std.specs.Prelude.{◌≡◌, ◌+◌, ◌<◌, ◌^◌, length};
 ghost use Rattle.field.specs.Put.{Wrote};
 ghost use Rattle.field.specs.Row.{read};
-ghost use Rattle.page.specs.Number.{number_bytes};
+ghost use Rattle.page.specs.Number.{number_in, number_bytes};
 ghost use Rattle.page.specs.Tree.{boolean_in, contained_in};
 ghost use Rattle.decisions.specs.At.{shape_of_contained, number_at, number_text};
 
-use field::reader::{body, tag_at};
+use field::reader::{Field, field_at};
 use page::number::{put_number, put_number_bytes};
 
 #[derive(Clone, Copy)]
@@ -34,17 +34,28 @@ pub fn boolean_in(s: &[u8]) -> bool
 pub fn shape_at(c: &[u8]) -> Shape
     ensures { result ≡ shape_of_contained (contained_in (read c.now)) }
 {
-    match tag_at(c) {
+    let Some(field) = field_at(c) else {
+        return Shape::Empty;
+    };
+    match field.tag {
         0x70 => Shape::String,
         0x71 | 0x7a => Shape::Number,
-        0x72 => Shape::Boolean(boolean_in(body(c))),
+        0x72 => Shape::Boolean(boolean_in(field.body)),
         0x74 => Shape::Literal,
         0x75 | 0x7b => Shape::Minus,
-        0x76 | 0x79 => Shape::Other,
-        0x30 | 0x31 => Shape::Other,
-        256 => Shape::Empty,
+        0x76 | 0x79 | 0x30 | 0x31 => Shape::Other,
         _ => Shape::Null,
     }
+}
+
+// The number in front, by its field. That of none is read as one of no bytes, as in the tree.
+fn number_field(c: &[u8]) -> Field<'_>
+    ensures { number_in result.tag result.body.now ≡ number_at c.now }
+{
+    field_at(c).unwrap_or(Field {
+        tag: 0x71,
+        body: &[],
+    })
 }
 
 // The text of the number in front.
@@ -52,7 +63,8 @@ pub fn put_number_at(out: &mut [u8], at: usize, c: &[u8]) -> usize
     requires { at + length (number_text c.now) < 2 ^ 63 }
     ensures { Wrote out.old at (number_text c.now) out.new result }
 {
-    put_number(out, at, tag_at(c), body(c))
+    let number = number_field(c);
+    put_number(out, at, usize::from(number.tag), number.body)
 }
 
 // Its body, as it came.
@@ -60,5 +72,6 @@ pub fn put_number_bytes_at(out: &mut [u8], at: usize, c: &[u8]) -> usize
     requires { at + 9 < 2 ^ 64 }
     ensures { Wrote out.old at (number_bytes (number_at c.now)) out.new result }
 {
-    put_number_bytes(out, at, tag_at(c), body(c))
+    let number = number_field(c);
+    put_number_bytes(out, at, usize::from(number.tag), number.body)
 }

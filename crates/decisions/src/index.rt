@@ -2,14 +2,14 @@
 ghost use Rattle.std.specs.Prelude.{◌≡◌, ◌∷◌, ◌++◌, ℕ, ◌+◌, ◌*◌, ◌<◌, ◌≤◌, length, get_or};
 ghost use Rattle.field.specs.Bytes.{Bytes, among, pick, same};
 ghost use Rattle.field.specs.Row.{read};
-ghost use Rattle.names.specs.Names.{normalize_dom_attr_name, small_letter};
+ghost use Rattle.names.specs.Names.{normalize_dom_attr_name};
 ghost use Rattle.names.specs.Table.{read_as};
 ghost use Rattle.page.specs.Tree.{texts_in};
-ghost use Rattle.decisions.specs.Index.{hash_from, hash, two_at, name_at, chain, names_of, linked};
+ghost use Rattle.decisions.specs.Index.{hash_from, hash, two_at, name_at, before_at, link_of, chain, names_of, linked};
 
-use field::reader::{behind, body, tag_at};
+use field::reader::{Fields, body};
 use field::writer::{put_bytes, put_two};
-use names::{namespaced_is, same_bytes, small_letter};
+use names::{letter, namespaced_is, same_bytes};
 
 // A name that is looked for, by the bytes that it stands for.
 trait Asked {
@@ -63,29 +63,12 @@ impl<'a> Asked for Namespaced<'a> {
 fn in_series<N: Asked>(list: &[u8], asked: &N) -> bool
     ensures { result ≡ among (N.bytes asked.now) (texts_in 0x20 (read list.now)) }
 {
-    let mut t = list;
-    loop {
-        match tag_at(t) {
-            0x20 => {
-                if asked.is(body(t)) {
-                    return true;
-                }
-                t = behind(t);
-            }
-            256 => {
-                return false;
-            }
-            _ => {
-                t = behind(t);
-            }
+    for field in Fields(list) {
+        if field.tag == 0x20 && asked.is(field.body) {
+            return true;
         }
     }
-}
-
-fn letter(c: u8, small: bool) -> u8
-    ensures { result ≡ pick small (small_letter c) c }
-{
-    if small { small_letter(c) } else { c }
+    false
 }
 
 // The hash of s, or of its small letters, behind what gave h.
@@ -122,34 +105,57 @@ fn two_at(b: &[u8], i: usize) -> usize
     0
 }
 
-// An entry's name.
-fn name_at(b: &[u8], k: usize) -> &[u8]
-    requires { k < 65536 }
-    ensures { result.now ≡ name_at b.now k }
-{
-    let p = 7512 + two_at(b, 2050 + 4 * k);
-    if p < b.len() {
-        return body(&b[p..]);
-    }
-    &b[..0]
+// An index. It stays bytes with its two tables in them: a series and an index are lent to the walks as one type.
+#[derive(Clone, Copy)]
+struct Index<'a>(&'a [u8]);
+
+// A name that is listed, and the entry before it that has its hash.
+#[derive(Clone, Copy)]
+struct Entry<'a> {
+    name: &'a [u8],
+    before: Option<usize>,
 }
 
-// Whether an entry or one before it has the name.
-fn in_chain<N: Asked>(b: &[u8], asked: &N, last: usize) -> bool
-    requires { last < 65536 }
-    ensures { result ≡ among (N.bytes asked.now) (chain 1366 b.now last) }
-{
-    let mut k = last;
-    for passed in 0..1366usize {
-        if k == 0 {
-            return false;
-        }
-        if asked.is(name_at(b, k - 1)) {
-            return true;
-        }
-        k = two_at(b, 2044 + 4 * k);
+impl<'a> Index<'a> {
+    // The entry in the two bytes at i, which hold its number and one.
+    fn link_at(self, i: usize) -> Option<usize>
+        requires { i < 300000 }
+        ensures value { link_of result ≡ two_at self.entry.0.now i }
+        ensures within { link_of result < 65536 }
+    {
+        two_at(self.0, i).checked_sub(1)
     }
-    false
+
+    fn entry(self, k: usize) -> Entry<'a>
+        requires { k < 65535 }
+        ensures name { result.name.now ≡ name_at self.entry.0.now k }
+        ensures before { link_of result.before ≡ before_at self.entry.0.now k }
+        ensures within { link_of result.before < 65536 }
+    {
+        let place = 7512 + two_at(self.0, 2050 + 4 * k);
+        Entry {
+            name: body(&self.0[place.min(self.0.len())..]),
+            before: self.link_at(2048 + 4 * k),
+        }
+    }
+
+    // Whether one of the names with that hash is it.
+    fn has<N: Asked>(self, asked: &N) -> bool
+        ensures { result ≡ among (N.bytes asked.now) (chain 1366 self.entry.0.now (two_at self.entry.0.now (2 * hash (N.bytes asked.now)))) }
+    {
+        let mut next = self.link_at(2 * asked.hash());
+        for passed in 0..1366usize {
+            let Some(k) = next else {
+                return false;
+            };
+            let entry = self.entry(k);
+            if asked.is(entry.name) {
+                return true;
+            }
+            next = entry.before;
+        }
+        false
+    }
 }
 
 // The names of a series that is not empty, or of an index.
@@ -157,20 +163,17 @@ fn finds<N: Asked>(list: &[u8], asked: &N) -> bool
     ensures { result ≡ among (N.bytes asked.now) (names_of list.now) }
 {
     if list.len() <= 4096 {
-        return in_series(list, asked);
+        in_series(list, asked)
+    } else {
+        Index(list).has(asked)
     }
-    let h = asked.hash();
-    in_chain(list, asked, two_at(list, 2 * h))
 }
 
 // Most options list nothing: that is seen before a call is made.
 pub fn lists(list: &[u8], name: &[u8]) -> bool
     ensures { result ≡ among name.now (names_of list.now) }
 {
-    if list.len() == 0 {
-        return false;
-    }
-    finds(list, &Written { name })
+    !list.is_empty() && finds(list, &Written { name })
 }
 
 // Whether ns:name, normalised, is listed.
@@ -197,22 +200,13 @@ pub fn index_names(list: &[u8], out: &mut [u8])
     ensures { (n : Bytes) → among n (names_of out.new) ≡ among n (texts_in 0x20 (read list.now)) }
 {
     put_bytes(out, 7512, list);
-    let mut t = list;
-    let mut k: usize = 0;
-    loop {
-        match tag_at(t) {
-            0x20 => {
-                let h = hash_on(0, body(t), false);
-                link(out, h, k, list.len() - t.len());
-                k += 1;
-                t = behind(t);
-            }
-            256 => {
-                return;
-            }
-            _ => {
-                t = behind(t);
-            }
+    let mut k = 0;
+    let mut place = 0;
+    for field in Fields(list) {
+        if field.tag == 0x20 {
+            link(out, hash_on(0, field.body, false), k, place);
+            k += 1;
         }
+        place += 3 + field.body.len();
     }
 }

@@ -1,5 +1,5 @@
 // What 000 decides by looking at an element, an attribute or a series of children, as total functions on the bytes that hold them: names,
-// values, shapes of expressions, is_serializable, and whether a call's children become a template. Nothing is written here.
+// values, shapes of expressions, is_serializable, and whether a call's children become a template; and the writers of a number as `expr` has it.
 #![tactic(auto)]
 
 pub mod attribute;
@@ -7,4 +7,5 @@ pub mod children;
 pub mod element;
 pub mod expr;
 pub mod index;
+pub mod options;
 pub mod repeats;

@@ -1,14 +1,15 @@
 // Document 02, A4: whether two attributes of an element have one name in HTML, compared in small letters. Nowhere is such a name written
 // out: it is read letter by letter, with the signs that normalising puts in, and two names are compared as they are read.
-ghost use Rattle.std.specs.Prelude.{◌≡◌, true, false, ◌&&◌, [], ◌+◌, ◌<◌, ◌^◌, length, get_or, set, take, replicate, eqb};
+ghost use Rattle.std.specs.Prelude.{◌≡◌, true, false, ◌+◌, ◌<◌, ◌^◌, length, take};
+ghost use Rattle.std.specs.Iterator.{YieldsFirst, YieldsFirstBy, item_count, at_most};
 ghost use Rattle.field.specs.Bytes.{same, among};
 ghost use Rattle.field.specs.Row.{read};
-ghost use Rattle.names.specs.Names.{ident, namespaced, small_letters};
+ghost use Rattle.names.specs.Names.{ident, namespaced};
 ghost use Rattle.page.specs.Tree.{attributes_in, attr_name_in};
-ghost use Rattle.decisions.specs.Repeats.{letters, sign_read, Front, html_name, html_names, repeats, name_hash, Keyed, key_by, noted_at};
+ghost use Rattle.decisions.specs.Repeats.{IsPlain, letters, sign_read, html_name, html_names, name_in, names_in, repeats, name_hash, Keyed, key_by};
 
-use crate::attribute::{first_name, second_name};
-use field::reader::{behind, body, tag_at};
+use crate::attribute::{AttrName, attr_name_at, ident_at};
+use field::reader::{Field, Fields};
 use names::{Spelling, is_xlink_href, small_letter, spelling_of};
 
 // A name as it is read for HTML, in small letters: each capital of the first part behind the sign, where there is one; then, where there
@@ -24,7 +25,7 @@ pub struct Spelled<'a> {
 
 impl<'a> Spelled<'a> {
     fn plain(name: &'a [u8]) -> Spelled<'a>
-        ensures { letters result ≡ small_letters name.now }
+        ensures { IsPlain name.now result }
     {
         Spelled {
             sign: None,
@@ -44,60 +45,45 @@ impl<'a> Spelled<'a> {
         None
     }
 
-    // The letter in front, and what is left behind it.
-    fn read(self) -> Option<(u8, Spelled<'a>)>
-        ensures { Front (letters self.entry) result }
-    {
-        let [c, rest @ ..] = self.first else {
-            let Some(second) = self.second else {
-                return None;
-            };
-            return Some((b':', Spelled::plain(second)));
-        };
-        if let Some(sign) = self.sign_before(*c) {
-            let left = Spelled {
-                behind_sign: true,
-                ..self
-            };
-            return Some((small_letter(sign), left));
-        }
-        let left = Spelled {
-            first: rest,
-            behind_sign: false,
-            ..self
-        };
-        Some((small_letter(*c), left))
-    }
-
     fn is(self, other: Spelled<'a>) -> bool
         ensures { result ≡ same (letters self.entry) (letters other.entry) }
     {
-        let mut x = self;
-        let mut y = other;
-        while let Some((a, left)) = x.read() {
-            let Some((b, other_left)) = y.read() else {
-                return false;
-            };
-            if a != b {
-                return false;
-            }
-            x = left;
-            y = other_left;
-        }
-        y.read().is_none()
+        self.eq(other)
     }
 
     // Of two names that are one, one number below 2^32.
     fn hash(self) -> usize
         ensures { result ≡ name_hash (letters self.entry) }
     {
-        let mut x = self;
         let mut h: usize = 0;
-        while let Some((a, left)) = x.read() {
-            h = (h * 37 + usize::from(a) + 1) % 4294967296;
-            x = left;
+        for c in self {
+            h = (h * 37 + usize::from(c) + 1) % 4294967296;
         }
         h
+    }
+}
+
+// Letter by letter.
+impl<'a> Iterator for Spelled<'a> {
+    type Item = u8;
+
+    ghost next_gives = { YieldsFirst letters };
+
+    ghost remaining = { item_count letters };
+
+    fn next(&mut self) -> Option<u8> {
+        let name = *self;
+        let [c, rest @ ..] = name.first else {
+            *self = Spelled::plain(name.second?);
+            return Some(b':');
+        };
+        if let Some(sign) = name.sign_before(*c) {
+            self.behind_sign = true;
+            return Some(small_letter(sign));
+        }
+        self.first = rest;
+        self.behind_sign = false;
+        Some(small_letter(*c))
     }
 }
 
@@ -109,9 +95,7 @@ fn of_ident(n: &[u8]) -> Spelled<'_>
         Spelling::Whole(w) => Spelled::plain(w),
         Spelling::Signed(sign) => Spelled {
             sign: Some(sign),
-            first: n,
-            second: None,
-            behind_sign: false,
+            ..Spelled::plain(n)
         },
         Spelling::Small => Spelled::plain(n),
     }
@@ -125,161 +109,96 @@ fn of_pair<'a>(ns: &'a [u8], name: &'a [u8]) -> Spelled<'a>
         return Spelled::plain(b"href");
     }
     Spelled {
-        sign: None,
-        first: ns,
         second: Some(name),
-        behind_sign: false,
+        ..Spelled::plain(ns)
     }
 }
 
 // That of the attribute with the fields a.
 fn of_attr(a: &[u8]) -> Spelled<'_>
-    ensures { letters result ≡ html_name (attr_name_in (read a.now)) }
+    ensures { letters result ≡ name_in a.now }
 {
-    match tag_at(a) {
-        0x40 => of_ident(body(a)),
-        0x42 => {
-            let b = body(a);
-            of_pair(first_name(b), second_name(b))
+    match attr_name_at(a) {
+        AttrName::Ident(n) => of_ident(n),
+        AttrName::Namespaced(ns, n) => of_pair(ns, n),
+    }
+}
+
+// The attributes in front of a row, each by the fields of its 50. A spread is passed over.
+#[derive(Clone, Copy)]
+struct Attributes<'a>(&'a [u8]);
+
+impl<'a> Iterator for Attributes<'a> {
+    type Item = &'a [u8];
+
+    ghost next_gives = { YieldsFirstBy (λ a. name_in a.now) (λ row. names_in row.0.now) };
+
+    ghost remaining = { λ row. at_most (length row.0.now) };
+
+    #[inline(always)]
+    fn next(&mut self) -> Option<&'a [u8]> {
+        let mut fields = Fields(self.0);
+        while let Some(field) = fields.next() {
+            match field.tag {
+                0x50 => {
+                    self.0 = fields.0;
+                    return Some(field.body);
+                }
+                0x53 => {}
+                _ => return None,
+            }
         }
-        _ => of_ident(&a[..0]),
+        None
     }
 }
 
 // Whether one of the first k attributes of s has the name of a.
 fn earlier_has<'a>(s: &'a [u8], k: usize, a: &'a [u8]) -> bool
-    ensures { result ≡ among (html_name (attr_name_in (read a.now))) (take k (html_names (attributes_in (read s.now)))) }
+    ensures { result ≡ among (name_in a.now) (take k (names_in s.now)) }
 {
     let name = of_attr(a);
-    let mut t = s;
-    let mut i: usize = 0;
-    while i < k {
-        match tag_at(t) {
-            0x50 => {
-                if name.is(of_attr(body(t))) {
-                    return true;
-                }
-                t = behind(t);
-                i += 1;
-            }
-            0x53 => {
-                t = behind(t);
-            }
-            _ => {
-                return false;
-            }
+    Attributes(s).take(k).any(|b| name.is(of_attr(b)))
+}
+
+// Whether two attributes in front of s have one name. Each name is noted as it comes, under both halves of its hash, and only for one whose
+// places are both taken are those before it gone through: so thousands of attributes cost no search for each.
+fn by_hashes<'a>(s: &'a [u8], low: &'a mut [bool], high: &'a mut [bool]) -> bool
+    requires { (0 < length low.old) × (0 < length high.old) }
+    ensures { result ≡ repeats (names_in s.now) }
+{
+    for (k, a) in Attributes(s).enumerate() {
+        let hash = of_attr(a).hash();
+        let i = hash % low.len();
+        let j = hash / 65536 % high.len();
+        if low[i] && high[j] && earlier_has(s, k, a) {
+            return true;
         }
+        low[i] = true;
+        high[j] = true;
     }
     false
 }
 
-// A name is noted under both halves of its hash.
-fn is_noted<'a>(low: &'a [u8], high: &'a [u8], i: usize, j: usize) -> bool
-    requires { (i < length low.now) × (j < length high.now) }
-    ensures { result ≡ (eqb (get_or low.now i 0) 1 && eqb (get_or high.now j 0) 1) }
-{
-    (low[i] == 1) & (high[j] == 1)
-}
-
-fn note(table: &mut [u8], i: usize)
-    requires { i < length table.old }
-    ensures { table.new ≡ set table.old i 1 }
-{
-    table[i] = 1;
-}
-
-// Whether one of the first k attributes of s has the name of a, where that may be.
-fn earlier_may<'a>(s: &'a [u8], k: usize, a: &'a [u8], may: bool) -> bool
-    requires { may ≡ false → among (html_name (attr_name_in (read a.now))) (take k (html_names (attributes_in (read s.now)))) ≡ false }
-    ensures { result ≡ among (html_name (attr_name_in (read a.now))) (take k (html_names (attributes_in (read s.now)))) }
-{
-    if may {
-        return earlier_has(s, k, a);
-    }
-    false
-}
-
-// Whether two attributes in front of s have one name. Each name is noted as it comes, and only for one whose places are both taken are
-// those before it gone through: so thousands of attributes cost no search for each.
-fn by_hashes<'a>(s: &'a [u8], low: &'a mut [u8], high: &'a mut [u8]) -> bool
-    requires { (0 < length low.old) × (length high.old ≡ length low.old) }
-    ensures { result ≡ repeats (html_names (attributes_in (read s.now))) }
-{
-    let n = low.len();
-    let mut t = s;
-    let mut k: usize = 0;
-    loop {
-        match tag_at(t) {
-            0x50 => {
-                let a = body(t);
-                let h = of_attr(a).hash();
-                let i = h % n;
-                let j = h / 65536 % n;
-                let may = is_noted(low, high, i, j);
-                if earlier_may(s, k, a, may) {
-                    return true;
-                }
-                note(low, i);
-                note(high, j);
-                t = behind(t);
-                k += 1;
-            }
-            0x53 => {
-                t = behind(t);
-            }
-            _ => {
-                return false;
-            }
-        }
-    }
-}
-
-// How many attributes stand in front of s. It only chooses the tables, so nothing is said of it.
-fn count(s: &[u8]) -> usize {
-    let mut t = s;
-    let mut k: usize = 0;
-    loop {
-        match tag_at(t) {
-            0x50 => {
-                t = behind(t);
-                k += 1;
-            }
-            0x53 => {
-                t = behind(t);
-            }
-            _ => {
-                return k;
-            }
-        }
-    }
-}
-
-// With two tables of N bytes.
+// With two tables of N places. It is not merged into its caller: so the tables stand in no frame of the walks, which nest.
+#[inline(never)]
 fn by_tables_of<const N: usize>(s: &[u8]) -> bool
     requires { (0 < N) × (N < 2 ^ 63) }
-    ensures { result ≡ repeats (html_names (attributes_in (read s.now))) }
+    ensures { result ≡ repeats (names_in s.now) }
 {
-    let mut low = [0; N];
-    let mut high = [0; N];
+    let mut low = [false; N];
+    let mut high = [false; N];
     by_hashes(s, &mut low, &mut high)
 }
 
-// The same with tables of its own, as large as so many attributes need: a table is cleared before it is used. It is not merged into its
-// caller: so the tables stand in no frame of the walks, which nest.
-#[inline(never)]
-fn by_tables(s: &[u8], k: usize, first: bool) -> bool
-    ensures { result ≡ repeats (html_names (attributes_in (read s.now))) }
+// The same with tables as large as so many attributes need: a table is cleared before it is used.
+fn by_tables(s: &[u8]) -> bool
+    ensures { result ≡ repeats (names_in s.now) }
 {
-    if first {
-        return by_tables(s, k, false);
+    match Attributes(s).count() {
+        0..=48 => by_tables_of::<512>(s),
+        49..=300 => by_tables_of::<4096>(s),
+        _ => by_tables_of::<65536>(s),
     }
-    if k <= 48 {
-        return by_tables_of::<512>(s);
-    }
-    if k <= 300 {
-        return by_tables_of::<4096>(s);
-    }
-    by_tables_of::<65536>(s)
 }
 
 // From the first letter c, the last but one p and the last d, a number below 64. In this form `className` and `class`, `htmlFor` and `for`,
@@ -287,102 +206,54 @@ fn by_tables(s: &[u8], k: usize, first: bool) -> bool
 fn key_by(c: u8, p: u8, d: u8) -> usize
     ensures { result ≡ key_by c p d }
 {
-    (((c % 32) as usize * 4 + 27) * (d as usize + 14) + (p % 32) as usize * 5) % 64
+    ((usize::from(c % 32) * 4 + 27) * (usize::from(d) + 14) + usize::from(p % 32) * 5) % 64
 }
 
-// A number below 64 that is one for names that are one, from letters as they are written; 64 where it is not told: where the last is no
-// small letter, since before a capital a hyphen may be put in.
-fn key_of(a: &[u8]) -> usize
-    ensures { Keyed (html_name (attr_name_in (read a.now))) result }
+// A number below 64 that is one for names that are one, from letters as they are written. It is not told where the last is no small letter,
+// since before a capital a hyphen may be put in.
+fn key_of(a: &[u8]) -> Option<usize>
+    ensures { Keyed (name_in a.now) result }
 {
-    if tag_at(a) != 0x40 {
-        return 64;
+    let name = ident_at(a)?;
+    let (before, last) = match name {
+        [] => return None,
+        [last] => (1, *last),
+        [.., before, last] => (*before, *last),
+    };
+    if last < b'a' {
+        return None;
     }
-    let n = body(a);
-    let l = n.len();
-    if l == 0 {
-        return 64;
-    }
-    let d = n[l - 1];
-    if d < 97 {
-        return 64;
-    }
-    if l == 1 {
-        return key_by(d, 1, d);
-    }
-    key_by(n[0], n[l - 2], d)
-}
-
-// Whether a name of that key may have come before.
-fn may_be(seen: &[u8; 64], key: usize) -> bool
-    requires { length seen.now ≡ 64 }
-    ensures { result ≡ false → (key < 64) × (eqb (get_or seen.now key 0) 1 ≡ false) }
-{
-    if 64 <= key {
-        return true;
-    }
-    seen[key] == 1
-}
-
-fn note_key(seen: &mut [u8; 64], key: usize)
-    requires { length seen.old ≡ 64 }
-    ensures { seen.new ≡ noted_at seen.old key }
-{
-    if key < 64 {
-        seen[key] = 1;
-    }
+    Some(key_by(name[0], before, last))
 }
 
 // Whether two attributes may have one name: by keys, which tell of most elements that none do.
-fn by_keys<'a>(s: &'a [u8], seen: &'a mut [u8; 64]) -> bool
-    requires { seen.old ≡ replicate 64 0 }
-    ensures { result ≡ false → repeats (html_names (attributes_in (read s.now))) ≡ false }
+fn may_repeat(s: &[u8]) -> bool
+    ensures { result ≡ false → repeats (names_in s.now) ≡ false }
 {
-    let mut t = s;
-    let mut k: usize = 0;
-    loop {
-        match tag_at(t) {
-            0x50 => {
-                let key = key_of(body(t));
-                if may_be(seen, key) {
-                    return true;
-                }
-                note_key(seen, key);
-                t = behind(t);
-                k += 1;
-            }
-            0x53 => {
-                t = behind(t);
-            }
-            _ => {
-                return false;
-            }
+    let mut seen = [false; 64];
+    for a in Attributes(s) {
+        let Some(key) = key_of(a) else {
+            return true;
+        };
+        if seen[key] {
+            return true;
         }
+        seen[key] = true;
     }
+    false
 }
 
-// Whether two attributes in front of s have one name. Most elements have none or one. With a spread no element is serialized.
+// Whether two attributes in front of s have one name. Most elements have none or one: then its second field is no attribute.
 pub fn repeats(s: &[u8]) -> bool
     ensures { result ≡ repeats (html_names (attributes_in (read s.now))) }
 {
-    let a = tag_at(s);
-    if a == 0x53 {
-        return by_tables(s, count(s), true);
+    match Fields(s).nth(1) {
+        Some(
+            Field {
+                tag: 0x50 | 0x53,
+                ..
+            },
+        ) => may_repeat(s) && by_tables(s),
+        _ => false,
     }
-    if a != 0x50 {
-        return false;
-    }
-    let r = behind(s);
-    let b = tag_at(r);
-    if b == 0x53 {
-        return by_tables(s, count(s), true);
-    }
-    if b != 0x50 {
-        return false;
-    }
-    let mut seen = [0; 64];
-    if by_keys(s, &mut seen) {
-        return by_tables(s, count(s), true);
-    }
-    false
 }

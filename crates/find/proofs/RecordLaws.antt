@@ -241,20 +241,11 @@ module _ {ts : Bytes} {ns ps : List ℕ} {w c p : ℕ} {s : Bytes} (a : Walking 
       pub has_seven : 7 ≤ length s
       has_seven = omega (arith, in_row.1, the_record.has_number)
 
-      pub end_in : y.end ≤ length s
-      end_in = in_row.1
-
       pub one_more : c + 1 ≤ length ts
       one_more = omega (arith, in_row.1, the_record.has_number, a.size, a.counted)
 
-      pub next_in : p + y.end ≤ length ts
-      next_in = omega (arith, in_row.1, a.size)
-
       rest_size : length (take (length s - y.end) (drop y.end s)) ≡ length s - y.end
       rest_size = length-take-le (length s - y.end) (drop y.end s) (omega (arith, length-drop y.end s))
-
-      pub rest_less : length (take (length s - y.end) (drop y.end s)) < length s
-      rest_less = omega (arith, rest_size, in_row.0, in_row.1)
 
       goes_on : (ps' : List ℕ) (w' : ℕ) → length ps' ≡ length ps → walk ns p (read s) (met ps w c) ≡ walk ns (p + y.end) (read (take (length s - y.end) (drop y.end s))) (met ps' w' (c + 1)) →
           Walking ts ns ps' w' (c + 1) (p + y.end) (take (length s - y.end) (drop y.end s))

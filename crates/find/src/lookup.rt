@@ -21,7 +21,8 @@ pub struct Places {
     pub places: [usize; 256],
 }
 
-// Record by record, until none waits for its place. A number is searched among those asked for, not each of them among the records.
+// Record by record, until none waits for its place. A number is searched among those asked for, not each of them among the records. By the
+// header, and not by the iterator over fields, since it is the place in the buffer that is answered.
 pub fn walk(templates: &[u8], numbers: &[u32]) -> Places
     requires { (check_templates New templates.now ≡ Fine) × ((rising numbers.now ≡ true) × (length numbers.now ≤ 256)) }
     ensures { Walked templates.now numbers.now result.number result.records result.places }

@@ -1,7 +1,7 @@
 -- What kinds and places say of entries, and how it joins. Main statements: `enters_by`, `then_enters`, `then_within`, `run_enters`,
 -- `run_within`, `moved`. Assumes nothing.
 use mathlib.Core.Path.{◌≡◌, refl, sym, ap, ◌∙◌, subst}
-use mathlib.Core.Bool.{Bool, true, false, not}
+use mathlib.Core.Bool.{Bool, true, false, not, true≢false, false≢true}
 use Prim.Native.Nat.{ℕ, ◌+◌, ◌≤◌}
 use native.Mathlib.Omega.{arith}
 use mathlib.Core.List.{List, [], ◌∷◌, ◌++◌, append-nil}
@@ -46,14 +46,14 @@ module _ (skip props : Bytes) where
     unfolding is_empty
     enters_none es b K.Nothing h x = absurd x
     enters_none es b K.Empty h x = x
-    enters_none es b K.Many h x = absurd (let z : ◌≡◌ {A = ℕ} 0 1 = cc in omega arith)
-    enters_none es b K.Run h x = absurd (let z : ◌≡◌ {A = ℕ} 0 1 = cc in omega arith)
-    enters_none es b K.Text h x = absurd (let z : ◌≡◌ {A = ℕ} 0 1 = cc in omega arith)
-    enters_none es b K.Element h x = absurd (let z : ◌≡◌ {A = ℕ} 0 1 = cc in omega arith)
-    enters_none es b K.Template h x = absurd (let z : ◌≡◌ {A = ℕ} 0 1 = cc in omega arith)
-    enters_none es b K.Expr h x = absurd (let z : ◌≡◌ {A = ℕ} 0 1 = cc in omega arith)
-    enters_none es b K.Item h x = absurd (let z : ◌≡◌ {A = ℕ} 0 1 = cc in omega arith)
-    enters_none es b K.Hole h x = absurd (let z : ◌≡◌ {A = ℕ} 0 1 = cc in omega arith)
+    enters_none es b K.Many h x = absurd (false≢true h)
+    enters_none es b K.Run h x = absurd (false≢true h)
+    enters_none es b K.Text h x = absurd (false≢true h)
+    enters_none es b K.Element h x = absurd (false≢true h)
+    enters_none es b K.Template h x = absurd (false≢true h)
+    enters_none es b K.Expr h x = absurd (false≢true h)
+    enters_none es b K.Item h x = absurd (false≢true h)
+    enters_none es b K.Hole h x = absurd (false≢true h)
 
     one : (es : List Entry) (e : Entry) → es ≡ e ∷ [] → 1 ≤ length es
     one es e h = omega (arith, ap length h)
@@ -61,7 +61,7 @@ module _ (skip props : Bytes) where
     enters_some : (es : List Entry) (b : Bytes) (k : Kind) → is_empty k ≡ false → Enters skip props R es k b → 1 ≤ length es
     unfolding is_empty
     enters_some es b K.Nothing h x = absurd x
-    enters_some es b K.Empty h x = absurd (let z : ◌≡◌ {A = ℕ} 0 1 = cc in omega arith)
+    enters_some es b K.Empty h x = absurd (true≢false h)
     enters_some es b K.Many h x = omega (arith, x.0)
     enters_some es b K.Run h x = some es b x
     enters_some es b K.Text h x = one es _ x
@@ -114,9 +114,9 @@ module _ (skip props s : Bytes) where
   module _ (a : Found) (xs : List Entry) (x : Enters skip props (Here skip props s) xs a.kind (part s a)) where
     run_by : (buf : Bytes) (run : Bool) → run ≡ not (null? buf) → Enters skip props (Here skip props s) (xs ++ run_entries buf) (run_found a run (length s)).kind (part s (run_found a run (length s)))
     unfolding run_entries
-    run_by [] true h = absurd (let z : ◌≡◌ {A = ℕ} 0 1 = cc in omega arith)
+    run_by [] true h = absurd (true≢false h)
     run_by [] false h = subst (λ (es : List Entry). Enters skip props (Here skip props s) es a.kind (part s a)) (sym (append-nil xs)) x
-    run_by (c ∷ buf) false h = absurd (let z : ◌≡◌ {A = ℕ} 0 1 = cc in omega arith)
+    run_by (c ∷ buf) false h = absurd (false≢true h)
     run_by (c ∷ buf) true h =
         then_enters skip props (Here skip props s) here_some s a (placed K.Run 0 (length s)) xs (still (string_node (c ∷ buf)) ∷ []) x
         (own (c ∷ buf) refl (take_all (length s) s (omega arith))) refl

@@ -6,11 +6,10 @@ use native.Mathlib.Omega.{arith}
 use mathlib.Core.List.{List, [], ◌∷◌}
 use lib.ListN.{length, take}
 use lib.Seq.{take_all}
-use denote.Enum.Declared.{tag_of}
-use types.Run.{OneOf, miss}
 use Rattle.field.specs.Bytes.{Bytes}
 use Rattle.field.specs.Row.{read}
-use Rattle.field.specs.Front.{tag_of_front, body_of}
+use Rattle.field.specs.Front.{tag_of_front}
+use Rattle.field.specs.Fields.{IsFront}
 use Rattle.page.specs.Tree.{expr_in}
 use Rattle.spec.specs.Merge.{Entry, array_found}
 use Rattle.spec.specs.Children as C
@@ -20,7 +19,6 @@ use Rattle.found.specs.Finds.{Within, part, placed, entries_at, expr_at, first_i
 use Rattle.found.specs.declared.Kind.{Kind}
 use Rattle.found.specs.declared.Kind.TheVariants as K
 use Rattle.found.specs.declared.Found.{Found}
-use Rattle.found.specs.contracts.Kind.{the_type}
 use Rattle.found.proofs.Places.{Stands, stands_room, stands_part, stands_of, length_part, body_in}
 use Rattle.found.proofs.ItemLaws.{item_77, item_78, item_other, sole_of}
 
@@ -38,23 +36,23 @@ flat_all skip props s l =
     subst (λ (b : Bytes). (C.flattened es ≡ array_found (entries_at skip props b)) × (2 ≤ length (entries_at skip props b))) (sym e) (several es l, l)
 
 -- where nothing is to be done
-kept : (skip props : Bytes) (es : List Entry) (k : Kind) (b : Bytes) → OneOf (0 ∷ 1 ∷ 3 ∷ 4 ∷ 5 ∷ 6 ∷ 7 ∷ 9 ∷ []) (tag_of the_type k) → Enters skip props (Runs skip props) es k b →
+kept : (skip props : Bytes) (es : List Entry) (k : Kind) (b : Bytes) → (k ≡ K.Many → ⊥) → (k ≡ K.Item → ⊥) → Enters skip props (Runs skip props) es k b →
     Finds skip props (C.flattened es) k b
 unfolding C.flattened sole sole_mid found_of
-kept skip props es K.Nothing b h x = absurd x
-kept skip props es K.Empty b h x = ap C.flattened x
-kept skip props es K.Many b h x = absurd (miss (0 ∷ 1 ∷ 3 ∷ 4 ∷ 5 ∷ 6 ∷ 7 ∷ 9 ∷ []) 2 tt h)
-kept skip props es K.Run b h x = record { run = x.run; found_is = ap C.flattened x.alone; among_all = x.among_all }
-kept skip props es K.Text b h x = ap C.flattened x
-kept skip props es K.Element b h x = (ap C.flattened x.0, x.1)
-kept skip props es K.Template b h x = ap C.flattened x
-kept skip props es K.Expr b h x = ap C.flattened x ∙ sole_of (opts skip props) (expr_in (read b))
-kept skip props es K.Item b h x = absurd (miss (0 ∷ 1 ∷ 3 ∷ 4 ∷ 5 ∷ 6 ∷ 7 ∷ 9 ∷ []) 8 tt h)
-kept skip props es K.Hole b h x = ap C.flattened x
+kept skip props es K.Nothing b h i x = absurd x
+kept skip props es K.Empty b h i x = ap C.flattened x
+kept skip props es K.Many b h i x = absurd (h refl)
+kept skip props es K.Run b h i x = record { run = x.run; found_is = ap C.flattened x.alone; among_all = x.among_all }
+kept skip props es K.Text b h i x = ap C.flattened x
+kept skip props es K.Element b h i x = (ap C.flattened x.0, x.1)
+kept skip props es K.Template b h i x = ap C.flattened x
+kept skip props es K.Expr b h i x = ap C.flattened x ∙ sole_of (opts skip props) (expr_in (read b))
+kept skip props es K.Item b h i x = absurd (i refl)
+kept skip props es K.Hole b h i x = ap C.flattened x
 
 module _ (s : Bytes) (f : Found) (w : Within f s) where
-  pub flat_rest : OneOf (0 ∷ 1 ∷ 3 ∷ 4 ∷ 5 ∷ 6 ∷ 7 ∷ 9 ∷ []) (tag_of the_type f.kind) → Within f s × Flattened s f f
-  flat_rest h = (w, λ skip props x. kept skip props (entries_at skip props s) f.kind (part s f) h x)
+  pub flat_rest : (f.kind ≡ K.Many → ⊥) → (f.kind ≡ K.Item → ⊥) → Within f s × Flattened s f f
+  flat_rest h i = (w, λ skip props x. kept skip props (entries_at skip props s) f.kind (part s f) h i x)
 
   pub flat_many : f.kind ≡ K.Many → {r : Found} → r ≡ placed K.Many 0 (length s) → Within r s × Flattened s f r
   flat_many h {r} q =
@@ -77,7 +75,7 @@ module _ (s : Bytes) (f : Found) (w : Within f s) where
         (several es m.0 ∙ ap array_found e, subst (λ (z : List Entry). 2 ≤ length z) e m.0),
   )
 
-  module _ (h : f.kind ≡ K.Item) {t : Bytes} (q : t ≡ part s f) (u : ℕ) (e : u ≡ tag_of_front t) where
+  module _ (h : f.kind ≡ K.Item) {t : Bytes} (q : t ≡ part s f) where
     item_alone : (skip props : Bytes) → Enters skip props (Runs skip props) (entries_at skip props s) f.kind (part s f) → C.flattened (entries_at skip props s) ≡ sole_mid (first_item skip props (read t))
     unfolding C.flattened sole
     item_alone skip props x =
@@ -87,22 +85,22 @@ module _ (s : Bytes) (f : Found) (w : Within f s) where
     stands_here : Stands s f.from t
     stands_here = subst (Stands s f.from) (sym q) (stands_of s f.from f.len w)
 
-    pub flat_77 : u ≡ 0x77 → {b : Bytes} → b ≡ body_of t → Within (placed K.Expr (f.from + 3) (length b)) s × Flattened s f (placed K.Expr (f.from + 3) (length b))
+    pub flat_77 : {u : ℕ} {b r : Bytes} → IsFront t u b r → u ≡ 0x77 → Within (placed K.Expr (f.from + 3) (length b)) s × Flattened s f (placed K.Expr (f.from + 3) (length b))
     unfolding sole_mid
-    flat_77 k {b} p =
-        let st : Stands s (f.from + 3) b = body_in s f.from t stands_here u e (λ z. omega arith) p in (
+    flat_77 {u} {b} g k =
+        let st : Stands s (f.from + 3) b = body_in s f.from t stands_here g in (
           stands_room s (f.from + 3) b st,
           λ skip props x.
               item_alone skip props x
-              ∙ (ap sole_mid (item_77 skip props t u e k p) ∙ ap (λ (y : Bytes). found_of (expr_at skip props y)) (sym (stands_part s (f.from + 3) b st))),
+              ∙ (ap sole_mid (item_77 skip props t u g.tag_is k g.body_is) ∙ ap (λ (y : Bytes). found_of (expr_at skip props y)) (sym (stands_part s (f.from + 3) b st))),
         )
 
-    pub flat_78 : u ≡ 0x78 → Within (placed K.Hole f.from f.len) s × Flattened s f (placed K.Hole f.from f.len)
+    pub flat_78 : {u : ℕ} → u ≡ tag_of_front t → u ≡ 0x78 → Within (placed K.Hole f.from f.len) s × Flattened s f (placed K.Hole f.from f.len)
     unfolding sole_mid
-    flat_78 k = (w, λ skip props x. item_alone skip props x ∙ ap sole_mid (item_78 skip props t u e k))
+    flat_78 {u} e k = (w, λ skip props x. item_alone skip props x ∙ ap sole_mid (item_78 skip props t u e k))
 
-    pub flat_other : (u ≡ 0x77 → ⊥) → (u ≡ 0x78 → ⊥) → Within (placed K.Expr f.from f.len) s × Flattened s f (placed K.Expr f.from f.len)
-    flat_other a b = (
+    pub flat_other : {u : ℕ} → u ≡ tag_of_front t → (u ≡ 0x77 → ⊥) → (u ≡ 0x78 → ⊥) → Within (placed K.Expr f.from f.len) s × Flattened s f (placed K.Expr f.from f.len)
+    flat_other {u} e a b = (
       w,
       λ skip props x.
           item_alone skip props x

@@ -6,12 +6,13 @@ use Prim.Native.Nat.{ℕ, ◌+◌, ◌-◌, ◌≤◌}
 use native.Mathlib.Omega.{arith}
 use mathlib.Core.List.{◌∷◌}
 use lib.Dec.{T}
-use lib.ListN.{length, take, drop, length-drop}
+use lib.ListN.{length, take, drop}
 use lib.Seq.{take_all}
 use borrow.Author.Tests.{ne_eqb}
 use Rattle.field.specs.Bytes.{Bytes, pick}
 use Rattle.field.specs.Row.{read, Ended}
 use Rattle.field.specs.Front.{tag_of_front, body_of, behind_of}
+use Rattle.field.specs.Fields.{IsFront}
 use Rattle.page.specs.Check.{is_child}
 use Rattle.page.specs.Page as P
 use Rattle.page.specs.Tree.{choose, Contained, nothing_contained, contained, contained_child, element_in, fragment_in, children_in, contained_in, expr_in}
@@ -20,16 +21,16 @@ use Rattle.spec.specs.Merge.{Child, becomes_template, nothing_found}
 use Rattle.spec.specs.Children.{found_of, flattened, one_child, many_children, children_to_expr}
 use Rattle.spec.specs.Transform.{children, fragment_of}
 use Rattle.decisions.specs.declared.children.Count.{Count}
-use Rattle.decisions.specs.declared.children.Count.TheVariants.{Zero, One, More}
-use Rattle.decisions.specs.At.{opts, few, is_none, becomes}
-use Rattle.decisions.proofs.Series.{tested, children_60, children_52, children_30, children_31, children_61, contained_none, contained_field}
+use Rattle.decisions.specs.declared.children.Count.TheVariants.{One, More}
+use Rattle.decisions.specs.At.{opts, few, is_none, becomes, FirstChild}
+use Rattle.decisions.proofs.Series.{tested, children_none, children_60, children_52, children_30, children_31, children_61, contained_none, contained_field}
 use Rattle.decisions.proofs.Laws.{child_element, child_fragment, becomes_is}
 use Rattle.found.proofs.ItemLaws.{how_many}
-use Rattle.found.specs.Finds.{Within, part, placed, kids, entries_at, found_at, expr_at, text_entry, element_entry, template_entry, Finds, Flattened, FirstAt}
+use Rattle.found.specs.Finds.{Within, part, placed, kids, entries_at, found_at, expr_at, text_entry, element_entry, template_entry, Finds, Flattened}
 use Rattle.found.specs.declared.Kind.{Kind}
 use Rattle.found.specs.declared.Kind.TheVariants as K
 use Rattle.found.specs.declared.Found.{Found}
-use Rattle.found.proofs.Places.{Stands, stands_room, stands_part, stands_of, body_in}
+use Rattle.found.proofs.Places.{Stands, stands_room, stands_part, tail_of, body_in}
 use Rattle.found.proofs.FlattenLaws.{flat_all}
 use Rattle.found.proofs.EnterLaws.{moved}
 use Rattle.found.proofs.WalkLaws.{Entered}
@@ -52,22 +53,6 @@ lone (P.empty_child cs) h = absurd (omega (arith, ap how_many h))
 lone (P.container_child e cs) h = absurd (omega (arith, ap how_many h))
 lone (P.tag_child t cs) h = absurd (omega (arith, ap how_many h))
 lone (P.spread_child e cs) h = absurd (omega (arith, ap how_many h))
-
-some_few : (cs : P.Children) → one_or_more cs ≡ Zero → ⊥
-some_few cs = on (is_none cs)
-  where
-    on : (b : Bool) → pick b One More ≡ Zero → ⊥
-    on true h = omega (arith, ap how_many h)
-    on false h = omega (arith, ap how_many h)
-
-none_few : (cs : P.Children) → few cs ≡ Zero → cs ≡ P.no_children
-unfolding few
-none_few P.no_children h = refl
-none_few (P.text_child b cs) h = absurd (some_few cs h)
-none_few (P.empty_child cs) h = absurd (some_few cs h)
-none_few (P.container_child e cs) h = absurd (some_few cs h)
-none_few (P.tag_child t cs) h = absurd (some_few cs h)
-none_few (P.spread_child e cs) h = absurd (some_few cs h)
 
 -- a child in front of others
 several : (o : P.Options) (c : Child) (cs : P.Children) → one_or_more cs ≡ More → children_to_expr (c ∷ children o cs) ≡ many_children (c ∷ children o cs)
@@ -97,27 +82,35 @@ few_held (contained e) cs = refl
 nowhere_given : (skip s : Bytes) → ((props : Bytes) → found_at skip props s ≡ nothing_found) → {r : Found} → r ≡ placed K.Nothing 0 0 → Given skip s r
 nowhere_given skip s h {r} e = subst (Given skip s) (sym e) (omega arith, h)
 
-module _ (skip s : Bytes) {n : Count} (c : n ≡ few (children_in (read s))) where
-  pub found_none : n ≡ Zero → {r : Found} → r ≡ placed K.Nothing 0 0 → Given skip s r
-  unfolding children children_to_expr
-  found_none h q =
-      nowhere_given skip s (λ props. ap (λ (cs : P.Children). children_to_expr (children (opts skip props) cs)) (none_few (children_in (read s)) (sym c ∙ h))) q
+-- no child: nothing stands from the first one on
+pub found_none : (skip s a : Bytes) → FirstChild s a → Ended (read a) → {r : Found} → r ≡ placed K.Nothing 0 0 → Given skip s r
+unfolding children children_to_expr
+found_none skip s a f e q =
+    nowhere_given skip s (λ props. ap (λ (cs : P.Children). children_to_expr (children (opts skip props) cs)) (sym f.same_children ∙ children_none (read a) e)) q
 
-  -- the only child: it stands at `at`, and a is the bytes from there on
-  module _ (h : n ≡ One) (at : ℕ) (f : FirstAt s at) {a : Bytes} (q : a ≡ take (length s - at) (drop at s)) (u : ℕ) (e : u ≡ tag_of_front a) where
+-- the only child of s: a is the bytes from there on, and a field of tag u and body b stands in front of it
+pub record Only (s a : Bytes) (u : ℕ) (b : Bytes) : Type 0 where
+  pub rest : Bytes
+  pub one : One ≡ few (children_in (read s))
+  pub first : FirstChild s a
+  pub place : a ≡ drop (length s - length a) s
+  pub front : IsFront a u b rest
+
+module _ (skip s : Bytes) where
+  module _ {a : Bytes} {u : ℕ} {b : Bytes} (o : Only s a u b) where
+    abbrev at : ℕ
+    at = length s - length a
+
     stands_at : Stands s at a
-    stands_at = subst (Stands s at) (sym q) (stands_of s at (length s - at) (omega (arith, f.inside)))
-
-    from_there : a ≡ drop at s
-    from_there = q ∙ take_all (length s - at) (drop at s) (omega (arith, length-drop at s))
+    stands_at = tail_of s a o.place
 
     same : children_in (read s) ≡ children_in (read a)
-    same = sym (ap (λ (x : Bytes). children_in (read x)) from_there ∙ f.first.same_children)
+    same = sym o.first.same_children
 
     -- nothing lies behind it
     only : (cs : P.Children → P.Children) → children_in (read a) ≡ cs (children_in (read (behind_of a))) → few (cs (children_in (read (behind_of a)))) ≡ one_or_more (children_in (read (behind_of a))) →
         children_in (read s) ≡ cs P.no_children
-    only cs p k = same ∙ (p ∙ ap cs (lone (children_in (read (behind_of a))) (sym k ∙ (sym (ap few (same ∙ p)) ∙ (sym c ∙ h)))))
+    only cs p k = same ∙ (p ∙ ap cs (lone (children_in (read (behind_of a))) (sym k ∙ (sym (ap few (same ∙ p)) ∙ sym o.one))))
 
     alone : (props : Bytes) (cs : P.Children) → children_in (read s) ≡ cs → found_at skip props s ≡ children_to_expr (children (opts skip props) cs)
     alone props cs p = ap (λ (x : P.Children). children_to_expr (children (opts skip props) x)) p
@@ -127,7 +120,7 @@ module _ (skip s : Bytes) {n : Count} (c : n ≡ few (children_in (read s))) whe
     found_60 k = (
       stands_room s at a stands_at,
       λ props.
-          alone props (P.text_child (body_of a) P.no_children) (only (P.text_child (body_of a)) (children_60 a u e k) refl)
+          alone props (P.text_child (body_of a) P.no_children) (only (P.text_child (body_of a)) (children_60 a u o.front.tag_is k) refl)
           ∙ ap (λ (x : Bytes). M.one_found (text_entry skip props x)) (sym (stands_part s at a stands_at)),
     )
 
@@ -136,10 +129,10 @@ module _ (skip s : Bytes) {n : Count} (c : n ≡ few (children_in (read s))) whe
     found_30 k = (
       stands_room s at a stands_at,
       λ props. (
-        alone props (P.tag_child (element_in (read (body_of a))) P.no_children) (only (P.tag_child (element_in (read (body_of a)))) (children_30 a u e k) refl)
+        alone props (P.tag_child (element_in (read (body_of a))) P.no_children) (only (P.tag_child (element_in (read (body_of a)))) (children_30 a u o.front.tag_is k) refl)
             ∙ (ap one_child (child_element skip props (body_of a))
             ∙ ap (λ (x : Bytes). M.one_found (element_entry skip props x)) (sym (stands_part s at a stands_at))),
-        ap tag_of_front (stands_part s at a stands_at) ∙ sym e ∙ k,
+        ap tag_of_front (stands_part s at a stands_at) ∙ sym o.front.tag_is ∙ k,
       ),
     )
 
@@ -149,59 +142,54 @@ module _ (skip s : Bytes) {n : Count} (c : n ≡ few (children_in (read s))) whe
     found_61 i j k l w =
         nowhere_given skip s (λ props.
         tested u 0x61
-        (λ z. alone props (P.spread_child (expr_in (read (body_of a))) P.no_children) (only (P.spread_child (expr_in (read (body_of a)))) (children_61 a u e z) refl))
+        (λ z. alone props (P.spread_child (expr_in (read (body_of a))) P.no_children) (only (P.spread_child (expr_in (read (body_of a)))) (children_61 a u o.front.tag_is z) refl))
         (λ m.
         let y : is_child u ≡ false = rw (ne_eqb u 0x60 i, ne_eqb u 0x52 j, ne_eqb u 0x30 k, ne_eqb u 0x31 l, ne_eqb u 0x61 m) in
-        let b : T (is_child (tag_of_front a)) = subst (λ (x : Bytes). T (is_child (tag_of_front x))) (sym from_there) (f.first.child_first (λ z. zero_not_one (f.first.none_left z))) in
-        absurd (subst T (ap is_child (sym e) ∙ y) b))) w
-      where
-        zero_not_one : children_in (read s) ≡ P.no_children → ⊥
-        zero_not_one p = omega (arith, ap how_many (sym h ∙ c ∙ ap few p))
+        absurd (subst T (ap is_child (sym o.front.tag_is) ∙ y) (o.first.child_first (λ z. omega (arith, z, o.front.sizes)))))) w
 
-    module _ {b : Bytes} (p : b ≡ body_of a) where
-      pub stands_inside : (u ≡ 256 → ⊥) → Stands s (at + 3) b
-      stands_inside z = body_in s at a stands_at u e z p
+    pub stands_inside : Stands s (at + 3) b
+    stands_inside = body_in s at a stands_at o.front
 
-      module _ (k : u ≡ 0x52) where
-        holds : (props : Bytes) (d : Contained) → contained_in (read b) ≡ d → found_at skip props s ≡ children_to_expr (children (opts skip props) (contained_child d P.no_children))
-        holds props d g =
-            alone props (contained_child d P.no_children)
-            (only (contained_child (contained_in (read (body_of a)))) (children_52 a u e k) (few_held (contained_in (read (body_of a))) (children_in (read (behind_of a))))
-            ∙ ap (λ (x : Contained). contained_child x P.no_children) (ap (λ (y : Bytes). contained_in (read y)) (sym p) ∙ g))
+    module _ (k : u ≡ 0x52) where
+      holds : (props : Bytes) (d : Contained) → contained_in (read b) ≡ d → found_at skip props s ≡ children_to_expr (children (opts skip props) (contained_child d P.no_children))
+      holds props d g =
+          alone props (contained_child d P.no_children)
+          (only (contained_child (contained_in (read (body_of a)))) (children_52 a u o.front.tag_is k) (few_held (contained_in (read (body_of a))) (children_in (read (behind_of a))))
+          ∙ ap (λ (x : Contained). contained_child x P.no_children) (ap (λ (y : Bytes). contained_in (read y)) (sym o.front.body_is) ∙ g))
 
-        pub found_empty : Ended (read b) → {r : Found} → r ≡ placed K.Nothing 0 0 → Given skip s r
-        unfolding contained_child children children_to_expr one_child
-        found_empty i w = nowhere_given skip s (λ props. holds props nothing_contained (contained_none (read b) i)) w
+      pub found_empty : Ended (read b) → {r : Found} → r ≡ placed K.Nothing 0 0 → Given skip s r
+      unfolding contained_child children children_to_expr one_child
+      found_empty i w = nowhere_given skip s (λ props. holds props nothing_contained (contained_none (read b) i)) w
 
-        pub found_52 : (m : ℕ) → m ≡ tag_of_front b → (m ≡ 256 → ⊥) → Given skip s (placed K.Expr (at + 3) (length b))
-        unfolding contained_child children children_to_expr one_child
-        found_52 m g i =
-            let st : Stands s (at + 3) b = stands_inside (λ z. omega arith) in (
-              stands_room s (at + 3) b st,
-              λ props.
-                  holds props (contained (expr_in (read b))) (contained_field b m g i) ∙ ap (λ (x : Bytes). found_of (expr_at skip props x)) (sym (stands_part s (at + 3) b st)),
-            )
-
-      -- a fragment gives what its own children give
-      pub same_found : u ≡ 0x31 → (props : Bytes) → found_at skip props s ≡ found_at skip props b
-      unfolding few children children_to_expr one_child fragment_of
-      same_found k props =
-          alone props (P.tag_child (fragment_in (read (body_of a))) P.no_children) (only (P.tag_child (fragment_in (read (body_of a)))) (children_31 a u e k) refl)
-          ∙ (ap one_child (child_fragment skip props (body_of a)) ∙ ap (found_at skip props) (sym p))
-
-      pub found_31 : u ≡ 0x31 → (y : Found) → Given skip b y → {r : Found} → r ≡ placed y.kind (at + 3 + y.from) y.len → Given skip s r
-      found_31 k y g {r} w =
-          let st : Stands s (at + 3) b = stands_inside (λ z. omega arith) in
-          let m = moved s (at + 3) b st y g.0 (λ (d : Kind) (x : Bytes). (props : Bytes) → Finds skip props (found_at skip props b) d x) g.1 w in (
-            m.0,
-            λ props. subst (λ (x : M.Found). Finds skip props x r.kind (part s r)) (sym (same_found k props)) (m.1 props),
+      pub found_52 : (tag_of_front b ≡ 256 → ⊥) → Given skip s (placed K.Expr (at + 3) (length b))
+      unfolding contained_child children children_to_expr one_child
+      found_52 g =
+          let st : Stands s (at + 3) b = stands_inside in (
+            stands_room s (at + 3) b st,
+            λ props.
+                holds props (contained (expr_in (read b))) (contained_field b (tag_of_front b) refl g) ∙ ap (λ (x : Bytes). found_of (expr_at skip props x)) (sym (stands_part s (at + 3) b st)),
           )
 
+    -- a fragment gives what its own children give
+    pub same_found : u ≡ 0x31 → (props : Bytes) → found_at skip props s ≡ found_at skip props b
+    unfolding few children children_to_expr one_child fragment_of
+    same_found k props =
+        alone props (P.tag_child (fragment_in (read (body_of a))) P.no_children) (only (P.tag_child (fragment_in (read (body_of a)))) (children_31 a u o.front.tag_is k) refl)
+        ∙ (ap one_child (child_fragment skip props (body_of a)) ∙ ap (found_at skip props) (sym o.front.body_is))
+
+    pub found_31 : u ≡ 0x31 → (y : Found) → Given skip b y → {r : Found} → r ≡ placed y.kind (at + 3 + y.from) y.len → Given skip s r
+    found_31 k y g {r} w =
+        let st : Stands s (at + 3) b = stands_inside in
+        let m = moved s (at + 3) b st y g.0 (λ (d : Kind) (x : Bytes). (props : Bytes) → Finds skip props (found_at skip props b) d x) g.1 w in (
+          m.0,
+          λ props. subst (λ (x : M.Found). Finds skip props x r.kind (part s r)) (sym (same_found k props)) (m.1 props),
+        )
+
   -- several
-  module _ (h : n ≡ More) {t : Bool} (b : t ≡ becomes skip (children_in (read s))) where
+  module _ (h : More ≡ few (children_in (read s))) {t : Bool} (b : t ≡ becomes skip (children_in (read s))) where
     many : (props : Bytes) {x : Bool} → t ≡ x → (found_at skip props s ≡ many_children (kids skip props s)) × (becomes_template (kids skip props s) ≡ x)
     many props {x} z =
-        (more_few (opts skip props) (children_in (read s)) (sym c ∙ h), becomes_is skip props (children_in (read s)) ∙ (sym b ∙ z))
+        (more_few (opts skip props) (children_in (read s)) (sym h), becomes_is skip props (children_in (read s)) ∙ (sym b ∙ z))
 
     pub found_template : t ≡ true → {r : Found} → r ≡ placed K.Template 0 (length s) → Given skip s r
     unfolding many_children choose

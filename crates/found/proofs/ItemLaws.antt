@@ -1,6 +1,6 @@
 -- The elements of an array literal, and expressions that are none. Main statements: `count_none`, `count_one`, `count_more`;
 -- `stills_none`, `stills_one`, `stills_more`; `sole_of`, `plain_expr`, `array_expr`; `item_77`, `item_78`, `item_other`. Assumes nothing.
-use mathlib.Core.Path.{◌≡◌, refl, sym, ap, ◌∙◌, subst}
+use mathlib.Core.Path.{◌≡◌, refl, sym, ap, ◌∙◌}
 use mathlib.Core.Bool.{Bool, true, false}
 use Prim.Native.Nat.{ℕ, suc, ◌≤◌}
 use native.Mathlib.Omega.{arith}
@@ -59,15 +59,14 @@ none_by (field u g j r) h = absurd h
 pub count_none : (s : Bytes) → Ended (read s) → Zero ≡ item_count (read s)
 count_none s h = none_by (read s) h
 
-module _ (s : Bytes) (t : ℕ) (e : t ≡ tag_of_front s) (n : t ≡ 256 → ⊥) {r : Bytes} (q : r ≡ behind_of s) where
-  pub count_one : Ended (read r) → One ≡ item_count (read s)
-  count_one h = any_field (λ (x : Row). One ≡ item_count x) s t e n λ f i. one_by t f i (read (behind_of s)) (subst (λ (x : Bytes). Ended (read x)) q h)
+pub count_one : (s : Bytes) → (tag_of_front s ≡ 256 → ⊥) → Ended (read (behind_of s)) → One ≡ item_count (read s)
+count_one s n h = any_field (λ (x : Row). One ≡ item_count x) s (tag_of_front s) refl n λ g i. one_by (tag_of_front s) g i (read (behind_of s)) h
 
-  pub count_more : (u : ℕ) → u ≡ tag_of_front r → (u ≡ 256 → ⊥) → More ≡ item_count (read s)
-  unfolding item_count
-  count_more u d m =
-      any_field (λ (x : Row). More ≡ item_count x) s t e n λ f i.
-      any_field (λ (x : Row). More ≡ item_count (field t f i x)) (behind_of s) u (d ∙ ap tag_of_front q) m λ g j. refl
+pub count_more : (s : Bytes) → (tag_of_front s ≡ 256 → ⊥) → (tag_of_front (behind_of s) ≡ 256 → ⊥) → More ≡ item_count (read s)
+unfolding item_count
+count_more s n m =
+    any_field (λ (x : Row). More ≡ item_count x) s (tag_of_front s) refl n λ h i.
+    any_field (λ (x : Row). More ≡ item_count (field (tag_of_front s) h i x)) (behind_of s) (tag_of_front (behind_of s)) refl m λ j l. refl
 
 -- ---- the elements as entries
 

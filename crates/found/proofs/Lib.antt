@@ -1,11 +1,9 @@
 -- Laws of `found`: `Places` for bytes that stand within others; for each small function what it learns at its returns; `MergeLaws` for the
 -- entries of merged children, by the tag in front; `WalkLaws` and `StepLaws` for the loop of `entries_of`; `FoundLaws` for `found_of`;
--- `SteadyLaws` for entries that stay, `OneLaws` for `gives` and `has_one`, `SeveralLaws` for `is_many`.
+-- `SteadyLaws` for entries that stay, `OneLaws` for `gives`, `SeveralLaws` for `has`.
 pub mod Places
-pub mod KindLaws
 pub mod ItemLaws
 pub mod JoinLaws
-pub mod FirstLaws
 pub mod FlattenLaws
 pub mod SpliceLaws
 pub mod MergeLaws

@@ -1,7 +1,7 @@
 -- The entries of merged children, by the tag of the field in front: `buf` is the run so far. Main statements: `left_60`, `left_joined`,
 -- `left_more`, `left_apart`, `left_30`, `left_31`, `left_other`, `left_end`. Assumes nothing.
 use mathlib.Core.Path.{◌≡◌, refl, sym, ap, ap₂, ◌∙◌}
-use mathlib.Core.Bool.{true, false}
+use mathlib.Core.Bool.{true, false, false≢true}
 use mathlib.Core.Logic.{◌⊎◌, ⊎_elim, inl, inr}
 use mathlib.Core.Option.{Option, none, some}
 use Prim.Native.Nat.{ℕ}
@@ -9,7 +9,8 @@ use native.Mathlib.Omega.{arith}
 use mathlib.Core.List.{List, [], ◌∷◌, ◌++◌, append-nil}
 use Rattle.field.specs.Bytes.{Bytes, null?}
 use Rattle.field.specs.Row.{Row, end, loose, field, read, Ended}
-use Rattle.field.specs.Front.{tag_of_front, body_of, behind_of}
+use Rattle.field.specs.Front.{body_of, behind_of}
+use Rattle.field.specs.Fields.{IsFront}
 use Rattle.text.specs.Text.{jsx_text_to_str}
 use Rattle.page.specs.Page as P
 use Rattle.page.specs.Tree.{Contained, nothing_contained, contained, contained_child, children_in, contained_in, expr_in}
@@ -92,32 +93,32 @@ module _ (skip props : Bytes) where
     pub not_null : null? more ≡ false
     pub grown : left_entries buf t ≡ left_entries (buf ++ more) r
 
-  module _ (t : Bytes) (u : ℕ) (e : u ≡ tag_of_front t) {r : Bytes} (q : r ≡ behind_of t) (buf : Bytes) where
+  module _ (t : Bytes) {u : ℕ} {b r : Bytes} (f : IsFront t u b r) (buf : Bytes) where
     abbrev over : P.Children → List Entry
     over cs = entries (merge false false buf (children (opts skip props) cs))
 
     -- a text
-    module _ (k : u ≡ 0x60) {b : Bytes} (p : b ≡ body_of t) where
+    module _ (k : u ≡ 0x60) where
       left_60 : left_entries buf t ≡ left_entries (buf ++ jsx_text_to_str b false false) r
       unfolding merge children
-      left_60 = ap over (children_60 t u e k) ∙ rw (p, q)
+      left_60 = ap over (children_60 t u f.tag_is k) ∙ rw (f.body_is, f.behind_is)
 
       pub left_blank : null? (jsx_text_to_str b false false) ≡ true → left_entries buf t ≡ left_entries buf r
       left_blank h = left_60 ∙ ap (λ (x : Bytes). left_entries x r) (on (jsx_text_to_str b false false) h)
         where
           on : (x : Bytes) → null? x ≡ true → buf ++ x ≡ buf
           on [] z = append-nil buf
-          on (c ∷ x) z = absurd (let y : ◌≡◌ {A = ℕ} 0 1 = cc in omega arith)
+          on (c ∷ x) z = absurd (false≢true z)
 
       pub left_text : null? (jsx_text_to_str b false false) ≡ false → Grows buf t r
       left_text h = record { more = jsx_text_to_str b false false; not_null = h; grown = left_60 }
 
     -- a container
-    module _ (k : u ≡ 0x52) {b : Bytes} (p : b ≡ body_of t) where
+    module _ (k : u ≡ 0x52) where
       holds : (c : Contained) → contained_in (read b) ≡ c → left_entries buf t ≡ over (contained_child c (children_in (read r)))
       holds c h =
-          ap over (children_52 t u e k)
-          ∙ ap₂ (λ (c : Contained) (x : Bytes). over (contained_child c (children_in (read x)))) (ap (λ (x : Bytes). contained_in (read x)) (sym p) ∙ h) (sym q)
+          ap over (children_52 t u f.tag_is k)
+          ∙ ap₂ (λ (c : Contained) (x : Bytes). over (contained_child c (children_in (read x)))) (ap (λ (x : Bytes). contained_in (read x)) (sym f.body_is) ∙ h) (sym f.behind_is)
 
       -- an expression
       over_held : contained_in (read b) ≡ contained (expr_in (read b)) → left_entries buf t ≡ entries (merge false false buf (container (shape_of (expr_in (read b))) (expr_at skip props b) ∷ kids skip props r))
@@ -164,25 +165,25 @@ module _ (skip props : Bytes) where
     pub left_30 : u ≡ 0x30 → left_entries buf t ≡ run_entries buf ++ (element_entry skip props t ∷ left_entries [] r)
     unfolding children merge entries
     left_30 k =
-        ap over (children_30 t u e k)
+        ap over (children_30 t u f.tag_is k)
         ∙ (ap (λ (c : Child). entries (merge false false buf (c ∷ kids skip props (behind_of t)))) (child_element skip props (body_of t))
         ∙ (flushed buf (M.element (element_at skip props (body_of t)) ∷ merge false false [] (kids skip props (behind_of t)))
-        ∙ ap (λ (x : Bytes). run_entries buf ++ (element_entry skip props t ∷ left_entries [] x)) (sym q)))
+        ∙ ap (λ (x : Bytes). run_entries buf ++ (element_entry skip props t ∷ left_entries [] x)) (sym f.behind_is)))
 
     -- a fragment
-    pub left_31 : u ≡ 0x31 → {b : Bytes} → b ≡ body_of t → left_entries buf t ≡ run_entries buf ++ (C.spliced (found_at skip props b) ++ left_entries [] r)
+    pub left_31 : u ≡ 0x31 → left_entries buf t ≡ run_entries buf ++ (C.spliced (found_at skip props b) ++ left_entries [] r)
     unfolding children merge entries fragment_of
-    left_31 k {b} p =
-        ap over (children_31 t u e k)
+    left_31 k =
+        ap over (children_31 t u f.tag_is k)
         ∙ (ap (λ (c : Child). entries (merge false false buf (c ∷ kids skip props (behind_of t)))) (child_fragment skip props (body_of t))
         ∙ (flushed buf (M.fragment (fragment_of (kids skip props (body_of t))) ∷ merge false false [] (kids skip props (behind_of t)))
-        ∙ rw (p, q)))
+        ∙ rw (f.body_is, f.behind_is)))
 
     -- a spread, and what is no child
-    pub left_other : (u ≡ 256 → ⊥) → (u ≡ 0x60 → ⊥) → (u ≡ 0x52 → ⊥) → (u ≡ 0x30 → ⊥) → (u ≡ 0x31 → ⊥) → left_entries buf t ≡ left_entries buf r
+    pub left_other : (u ≡ 0x60 → ⊥) → (u ≡ 0x52 → ⊥) → (u ≡ 0x30 → ⊥) → (u ≡ 0x31 → ⊥) → left_entries buf t ≡ left_entries buf r
     unfolding children merge
-    left_other h a b c d =
-        tested u 0x61 (λ k. ap over (children_61 t u e k)) (λ f. ap over (children_other t u e h a b c d f)) ∙ ap (left_entries buf) (sym q)
+    left_other g h i j =
+        tested u 0x61 (λ k. ap over (children_61 t u f.tag_is k)) (λ k. ap over (children_other t u f.tag_is (λ z. omega (arith, f.tag_below)) g h i j k)) ∙ ap (left_entries buf) (sym f.behind_is)
 
   -- none
   pub left_end : (t buf : Bytes) → Ended (read t) → left_entries buf t ≡ run_entries buf

@@ -1,5 +1,6 @@
--- Bytes that stand within others, and where. Main statements: `stands_part`, `stands_in`, `stands_of`, `body_in`, `stands_body`,
--- `stands_behind`, `drop_is`. Assumes nothing.
+-- Bytes that stand within others, and where; what the code found in front. Main statements: `stands_part`, `stands_in`, `stands_of`,
+-- `tail_of`, `body_in`, `stands_body`, `stands_behind`; `front_is`, `front_none`. Assumes nothing.
+use Rattle.std.specs.Prelude.{Option, Some, None}
 use mathlib.Core.Path.{◌≡◌, refl, sym, ap, ◌∙◌, subst}
 use Prim.Native.Nat.{ℕ, ◌+◌, ◌-◌, ◌≤◌}
 use native.Mathlib.Omega.{arith}
@@ -11,8 +12,10 @@ use lib.ListN.{length, take, drop, length-append, length-drop, take-append-drop}
 use lib.Seq.{take_at, drop_at, take_all, length-take-le}
 use Rattle.field.specs.Bytes.{Bytes}
 use Rattle.field.specs.Front.{tag_of_front, body_of, behind_of}
+use Rattle.field.specs.Fields.{IsFront, IsEnd, FieldAt}
+use Rattle.field.specs.declared.reader.Field.{Field}
 use Rattle.field.proofs.RowLaws.{next_parts}
-use Rattle.field.proofs.FrontLaws.{next_at, sizes}
+use Rattle.field.proofs.FrontLaws.{next_at}
 
 -- b stands in s from n on
 pub record Stands (s : Bytes) (n : ℕ) (b : Bytes) : Type 0 where
@@ -64,15 +67,22 @@ module _ (s : Bytes) (n m : ℕ) (h : n + m ≤ length s) where
         front_is = length-take-le n s (omega arith);
       }
 
--- a slice of the code
-pub slice_is : (s : Bytes) (n m : ℕ) → take (n + m - n) (drop n s) ≡ take m (drop n s)
-slice_is s n m = ap (λ (k : ℕ). take k (drop n s)) (let z : n + m - n ≡ m = omega arith in z)
-
 -- what stands at a place
 pub part_is : (s : Bytes) (n m : ℕ) (b : Bytes) → Stands s n b → length b ≡ m → take m (drop n s) ≡ b
 part_is s n m b a e = ap (λ (k : ℕ). take k (drop n s)) (sym e) ∙ stands_part s n b a
 
 -- ---- a field in front
+
+-- what the code found, and where it found none
+pub front_is : {s : Bytes} {o : Option Field} {f : Field} → FieldAt s o → o ≡ Some f → IsFront s f.tag f.body.now (behind_of s)
+front_is {s} h e = subst (FieldAt s) e h
+
+pub front_none : {s : Bytes} {o : Option Field} → FieldAt s o → o ≡ None → IsEnd s s
+front_none {s} h e = subst (FieldAt s) e h
+
+-- a tag is a byte
+pub not_none : {t b r : Bytes} {u : ℕ} → IsFront t u b r → u ≡ 256 → ⊥
+not_none f z = omega (arith, f.tag_below)
 
 module _ (t : Bytes) (u : ℕ) (e : u ≡ tag_of_front t) (h : u ≡ 256 → ⊥) where
   pub body_here : Stands t 3 (body_of t)
@@ -91,8 +101,8 @@ module _ (t : Bytes) (u : ℕ) (e : u ≡ tag_of_front t) (h : u ≡ 256 → ⊥
       }
 
 -- the body of a field that stands at a place
-pub body_in : (s : Bytes) (n : ℕ) (t : Bytes) → Stands s n t → (u : ℕ) → u ≡ tag_of_front t → (u ≡ 256 → ⊥) → {b : Bytes} → b ≡ body_of t → Stands s (n + 3) b
-body_in s n t a u e h {b} q = subst (Stands s (n + 3)) (sym q) (stands_in s n t a 3 (body_of t) (body_here t u e h))
+pub body_in : (s : Bytes) (n : ℕ) (t : Bytes) → Stands s n t → {u : ℕ} {b r : Bytes} → IsFront t u b r → Stands s (n + 3) b
+body_in s n t a {u} {b} f = subst (Stands s (n + 3)) (sym f.body_is) (stands_in s n t a 3 (body_of t) (body_here t u f.tag_is (not_none f)))
 
 -- ---- what is left of a series
 
@@ -103,19 +113,20 @@ module _ (s t : Bytes) (a : Tail s t) where
   pub tail_room : length t ≤ length s
   tail_room = omega (arith, stands_room s (length s - length t) t a)
 
-  pub drop_is : drop (length s - length t) s ≡ t
-  drop_is =
-      let n : ℕ = length s - length t in
-      sym (take_all (length t) (drop n s) (omega (arith, length-drop n s, tail_room))) ∙ stands_part s n t a
+  module _ {u : ℕ} {b r : Bytes} (f : IsFront t u b r) where
+    pub stands_body : Stands s ((length s - length t) + 3) b
+    stands_body = body_in s (length s - length t) t a f
 
-  module _ (u : ℕ) (e : u ≡ tag_of_front t) (h : u ≡ 256 → ⊥) where
-    pub stands_body : {b : Bytes} → b ≡ body_of t → Stands s ((length s - length t) + 3) b
-    stands_body q = body_in s (length s - length t) t a u e h q
+    pub stands_behind : Tail s r
+    stands_behind =
+        let k : (length s - length t) + (3 + length (body_of t)) ≡ length s - length (behind_of t) = omega (arith, tail_room, f.sizes, ap length f.body_is, ap length f.behind_is) in
+        subst (λ (x : Bytes). Tail s x) (sym f.behind_is) (subst (λ (n : ℕ). Stands s n (behind_of t)) k (stands_in s (length s - length t) t a (3 + length (body_of t)) (behind_of t) (behind_here t u f.tag_is (not_none f))))
 
-    pub stands_behind : {r : Bytes} → r ≡ behind_of t → Tail s r
-    stands_behind {r} q =
-        let k : (length s - length t) + (3 + length (body_of t)) ≡ length s - length (behind_of t) = omega (arith, tail_room, sizes t u e h) in
-        subst (λ (x : Bytes). Tail s x) (sym q) (subst (λ (n : ℕ). Stands s n (behind_of t)) k (stands_in s (length s - length t) t a (3 + length (body_of t)) (behind_of t) (behind_here t u e h)))
+-- the rest from a place on
+pub tail_of : (s t : Bytes) → t ≡ drop (length s - length t) s → Tail s t
+tail_of s t p =
+    let n : ℕ = length s - length t in
+    subst (Stands s n) (take_all (length s - n) (drop n s) (omega (arith, length-drop n s)) ∙ sym p) (stands_of s n (length s - n) (omega arith))
 
 -- ---- the test for no bytes
 

@@ -1,7 +1,7 @@
--- Entries that flattening keeps. Main statements: `steady_append`, `steady_length`, `steady_front`; `steady_stills`, `steady_found`,
+-- Entries that flattening keeps. Main statements: `steady_append`, `steady_length`; `steady_stills`, `steady_found`,
 -- `steady_sole`, `steady_flattened`; `stays_plain`, `stays_array`. Assumes nothing.
-use mathlib.Core.Path.{◌≡◌, refl, sym, ap, ◌∙◌, subst}
-use mathlib.Core.Bool.{Bool, true, false, ◌||◌}
+use mathlib.Core.Path.{◌≡◌, refl, ap, ◌∙◌, subst}
+use mathlib.Core.Bool.{Bool, true, false, ◌||◌, false≢true}
 use Prim.Native.Nat.{ℕ, ◌+◌, ◌≤◌}
 use native.Mathlib.Omega.{arith}
 use mathlib.Core.List.{List, [], ◌∷◌, ◌++◌}
@@ -9,7 +9,7 @@ use lib.Dec.{eqb}
 use lib.ListN.{length}
 use borrow.Author.Tests.{eqb-true, ne_eqb}
 use Rattle.field.specs.Bytes.{Bytes, pick}
-use Rattle.field.specs.Row.{Row, field, read}
+use Rattle.field.specs.Row.{Row, field}
 use Rattle.field.specs.Front.{tag_of_front, body_of}
 use Rattle.page.specs.Page as P
 use Rattle.page.specs.Page.{Options, Expr, Items, Pieces, Tag}
@@ -25,10 +25,6 @@ use Rattle.decisions.proofs.Series.{any_field, any_front, expr_76}
 use Rattle.found.specs.Finds.{expr_at}
 use Rattle.found.specs.Steady.{one_stays, any_stays, stays, steady}
 use Rattle.found.proofs.ItemLaws.{choose_all, choose_second}
-
--- a function that answers no says nothing
-pub never : false ≡ true → ⊥
-never h = let z : ◌≡◌ {A = ℕ} 0 1 = cc in omega arith
 
 -- ---- how many
 
@@ -49,17 +45,13 @@ steady_length (e ∷ es) = omega (arith, at_most_one (stays e), steady_length es
 -- an entry that stays
 one_more : (b : Bool) (n : ℕ) → b ≡ true → let m : ℕ = pick b 1 0 in 1 ≤ m + n
 one_more true n h = omega arith
-one_more false n h = absurd (never h)
-
-pub steady_front : (e : Entry) (es : List Entry) → stays e ≡ true → 1 ≤ steady (e ∷ es)
-unfolding steady
-steady_front e es h = one_more (stays e) (steady es) h
+one_more false n h = absurd (false≢true h)
 
 -- ---- what is taken out of an array
 
 pub steady_stills : (m : Mid) → any_stays m ≡ true → 1 ≤ steady (stills m)
 unfolding stills steady stays one_stays any_stays
-steady_stills none h = absurd (never h)
+steady_stills none h = absurd (false≢true h)
 steady_stills (node t f i r) h = on (pick (eqb t 0x76) (any_stays i) (pick (eqb t 0x77) (one_stays i) true)) h (steady_stills r)
   where
     on : (b : Bool) → b || any_stays r ≡ true → (any_stays r ≡ true → 1 ≤ steady (stills r)) → let n : ℕ = pick b 1 0 in 1 ≤ n + steady (stills r)
@@ -69,7 +61,7 @@ steady_stills (raw t r) h = omega arith
 
 pub steady_found : (m : Mid) → one_stays m ≡ true → 1 ≤ steady (C.spliced (found_of m))
 unfolding found_of C.spliced steady stays one_stays
-steady_found none h = absurd (never h)
+steady_found none h = absurd (false≢true h)
 steady_found (node t f i r) h = on (eqb t 0x76) refl h
   where
     on : (b : Bool) → eqb t 0x76 ≡ b → pick b (any_stays i) (pick (eqb t 0x77) (one_stays i) true) ≡ true → 1 ≤ steady (C.spliced (pick b (array_found (stills i)) (one_found (still (node t f i r)))))
@@ -84,7 +76,7 @@ spread_stays t f i r e h = subst (λ (t : ℕ). pick (eqb t 0x76) (any_stays i) 
 
 pub steady_sole : (m : Mid) → one_stays m ≡ true → 1 ≤ steady (C.spliced (sole_mid m))
 unfolding sole_mid C.spliced steady stays one_stays
-steady_sole none h = absurd (never h)
+steady_sole none h = absurd (false≢true h)
 steady_sole (node t f i r) h = on (eqb t 0x77) refl (eqb t 0x78)
   where
     on : (b : Bool) → eqb t 0x77 ≡ b → (d : Bool) → 1 ≤ steady (C.spliced (pick b (found_of i) (pick d (array_found (still (node t f i r) ∷ [])) (found_of (node t f i r)))))
@@ -147,11 +139,10 @@ module _ (s : Bytes) (t : ℕ) (e : t ≡ tag_of_front s) where
   stays_plain n skip props =
       any_front (λ (r : Row). one_stays (expr (opts skip props) (expr_in r) none) ≡ true) s t e refl (λ b. refl) λ f i. (kept_by (opts skip props) t f _ _ _ _ n).0
 
-  pub stays_array : t ≡ 0x76 → {b : Bytes} → b ≡ body_of s → (u : ℕ) → u ≡ tag_of_front b → (u ≡ 256 → ⊥) → (u ≡ 0x76 → ⊥) → (u ≡ 0x77 → ⊥) →
-      (skip props : Bytes) → one_stays (expr_at skip props s) ≡ true
-  unfolding one_stays expr
-  stays_array k {b} q u d l m n skip props =
-      let o : Options = opts skip props in
-      ap (λ (x : Expr). one_stays (expr o x none)) (expr_76 s t e k)
-      ∙ (ap (λ (x : Bytes). any_stays (items o (items_in (read x)))) (sym q)
-      ∙ any_field (λ (r : Row). any_stays (items o (items_in r)) ≡ true) b u d l λ f i. first_kept o u f i _ m n)
+pub stays_array : (s skip props : Bytes) → tag_of_front s ≡ 0x76 → (tag_of_front (body_of s) ≡ 256 → ⊥) → (tag_of_front (body_of s) ≡ 0x76 → ⊥) → (tag_of_front (body_of s) ≡ 0x77 → ⊥) →
+    one_stays (expr_at skip props s) ≡ true
+unfolding one_stays expr
+stays_array s skip props k l m n =
+    let o : Options = opts skip props in
+    ap (λ (x : Expr). one_stays (expr o x none)) (expr_76 s (tag_of_front s) refl k)
+    ∙ any_field (λ (r : Row). any_stays (items o (items_in r)) ≡ true) (body_of s) (tag_of_front (body_of s)) refl l λ f i. first_kept o (tag_of_front (body_of s)) f i _ m n

@@ -1,15 +1,16 @@
 -- The walk over children that are merged: what was found so far and what is left. Main statements: `looked_start`, `looked_past`,
 -- `looked_more`, `looked_apart`, `looked_many`, `looked_end`. Assumes nothing.
 use mathlib.Core.Path.{◌≡◌, refl, sym, ap, ◌∙◌, subst}
-use mathlib.Core.Bool.{Bool, true, false, not}
-use Prim.Native.Nat.{◌≤◌}
+use mathlib.Core.Bool.{Bool, true, false, not, false≢true}
+use Prim.Native.Nat.{ℕ, ◌≤◌}
+use borrow.Author.Tests.{eqb-true}
 use native.Mathlib.Omega.{arith}
 use mathlib.Core.List.{List, [], ◌∷◌, ◌++◌, append_assoc}
 use lib.ListN.{length, length-append}
 use Rattle.field.specs.Bytes.{Bytes, null?}
 use Rattle.field.specs.Row.{read, Ended}
 use Rattle.spec.specs.Merge.{Entry}
-use Rattle.found.specs.Finds.{Within, part, placed, entries_at, Runs, Enters, then_found, run_found}
+use Rattle.found.specs.Finds.{Within, part, placed, entries_at, Runs, Enters, then_found, run_found, is_settled}
 use Rattle.found.specs.declared.Kind.{Kind}
 use Rattle.found.specs.declared.Kind.TheVariants as K
 use Rattle.found.specs.declared.Found.{Found}
@@ -31,9 +32,29 @@ pub record Looked (skip s t : Bytes) (run : Bool) (cur : Found) : Type 0 where
   pub within : Within cur s
   pub found : (props : Bytes) → Left skip props s t run cur
 
+-- what the field in front of t adds apart from a run: the entries es, which are what x says; r is left
+pub record Adds (skip s t r : Bytes) (x : Found) : Type 0 where
+  pub inside : Within x s
+  pub es : Bytes → List Entry
+  pub joins : (props buf : Bytes) → left_entries skip props buf t ≡ run_entries buf ++ (es props ++ left_entries skip props [] r)
+  pub says : (props : Bytes) → Enters skip props (Here skip props s) (es props) x.kind (part s x)
+
 -- what `entries_of` answers
 abbrev pub Entered : Bytes → Bytes → Found → Type 0
 Entered skip s r = Within r s × ((props : Bytes) → Enters skip props (Runs skip props) (entries_at skip props s) r.kind (part s r))
+
+settled : (k : Kind) (n : ℕ) → is_settled k n ≡ true → (k ≡ K.Many) × (n ≡ 0)
+unfolding is_settled
+settled K.Nothing n h = absurd (false≢true h)
+settled K.Empty n h = absurd (false≢true h)
+settled K.Many n h = (refl, eqb-true n 0 h)
+settled K.Run n h = absurd (false≢true h)
+settled K.Text n h = absurd (false≢true h)
+settled K.Element n h = absurd (false≢true h)
+settled K.Template n h = absurd (false≢true h)
+settled K.Expr n h = absurd (false≢true h)
+settled K.Item n h = absurd (false≢true h)
+settled K.Hole n h = absurd (false≢true h)
 
 pub looked_start : (skip s : Bytes) {cur : Found} → cur ≡ placed K.Empty 0 0 → Looked skip s s false cur
 looked_start skip s {cur} e =
@@ -75,44 +96,42 @@ module _ (skip s t : Bytes) (run : Bool) (cur : Found) (k : Looked skip s t run 
               };
         }
 
-    -- the run ends, and the entries es follow, which are what x says
-    pub looked_apart : (x : Found) → Within x s → (es : Bytes → List Entry) →
-        ((props buf : Bytes) → left_entries skip props buf t ≡ run_entries buf ++ (es props ++ left_entries skip props [] r)) →
-        ((props : Bytes) → Enters skip props (Here skip props s) (es props) x.kind (part s x)) →
-        {w : Found} → w ≡ run_found cur run (length s) → {y : Found} → y ≡ then_found w x → Looked skip s r false y
-    looked_apart x v es h g {w} p {y} q =
+    -- the run ends, and what the field adds follows
+    pub looked_apart : {x : Found} → Adds skip s t r x → {w : Found} → w ≡ run_found cur run (length s) → {y : Found} → y ≡ then_found w x → Looked skip s r false y
+    looked_apart {x} m {w} p {y} q =
         record {
           tail = a;
-          within = then_within s w x (run_within s cur k.within run p) v q;
+          within = then_within s w x (run_within s cur k.within run p) m.inside q;
           found = λ props.
               let l = k.found props in
               let R : List Entry → Bytes → Type 0 = Here skip props s in
               let rest : List Entry = left_entries skip props [] r in
               record {
                 buf = [];
-                so_far = (l.so_far ++ run_entries l.buf) ++ es props;
+                so_far = (l.so_far ++ run_entries l.buf) ++ m.es props;
                 run_is = refl;
                 all_is =
                     l.all_is
-                    ∙ (ap (λ (z : List Entry). l.so_far ++ z) (h props l.buf)
-                    ∙ (sym (append_assoc l.so_far (run_entries l.buf) (es props ++ rest))
-                    ∙ sym (append_assoc (l.so_far ++ run_entries l.buf) (es props) rest)));
+                    ∙ (ap (λ (z : List Entry). l.so_far ++ z) (m.joins props l.buf)
+                    ∙ (sym (append_assoc l.so_far (run_entries l.buf) (m.es props ++ rest))
+                    ∙ sym (append_assoc (l.so_far ++ run_entries l.buf) (m.es props) rest)));
                 enters =
-                    then_enters skip props R (here_some skip props s) s w x (l.so_far ++ run_entries l.buf) (es props)
-                    (run_enters skip props s cur l.so_far l.enters l.buf run l.run_is p) (g props) q;
+                    then_enters skip props R (here_some skip props s) s w x (l.so_far ++ run_entries l.buf) (m.es props)
+                    (run_enters skip props s cur l.so_far l.enters l.buf run l.run_is p) (m.says props) q;
               };
         }
 
-  -- the rest does not matter
-  pub looked_many : cur.kind ≡ K.Many → cur.len ≡ 0 → Entered skip s cur
-  looked_many h z = (
+  -- several: the rest does not matter
+  pub looked_many : {b : Bool} → b ≡ is_settled cur.kind cur.len → b ≡ true → Entered skip s cur
+  looked_many e z = (
     k.within,
     λ props.
+        let d = settled cur.kind cur.len (sym e ∙ z) in
         let l = k.found props in
         let rest : List Entry = left_entries skip props l.buf t in
-        let n : 2 ≤ length l.so_far = (subst (λ (c : Kind). Enters skip props (Here skip props s) l.so_far c (part s cur)) h l.enters).0 in
-        subst (λ (c : Kind). Enters skip props (Runs skip props) (entries_at skip props s) c (part s cur)) (sym h)
-        (omega (arith, ap length l.all_is, length-append l.so_far rest), λ m. absurd (m (length_part s cur.from cur.len k.within ∙ z))),
+        let n : 2 ≤ length l.so_far = (subst (λ (c : Kind). Enters skip props (Here skip props s) l.so_far c (part s cur)) d.0 l.enters).0 in
+        subst (λ (c : Kind). Enters skip props (Runs skip props) (entries_at skip props s) c (part s cur)) (sym d.0)
+        (omega (arith, ap length l.all_is, length-append l.so_far rest), λ m. absurd (m (length_part s cur.from cur.len k.within ∙ d.1))),
   )
 
   -- nothing is left

@@ -16,7 +16,7 @@ use Rattle.spec.specs.Children.{serialize_jsx, found_of, entries, children_to_ex
 use Rattle.spec.specs.Transform.{expr, items, shape_of}
 use Rattle.decisions.specs.declared.children.Count.{Count}
 use Rattle.decisions.specs.declared.children.Count.TheVariants.{Zero, One, More}
-use Rattle.decisions.specs.At.{opts, element_at, children_at, FirstChild}
+use Rattle.decisions.specs.At.{opts, element_at, children_at}
 use Rattle.found.specs.declared.Kind.{Kind}
 use Rattle.found.specs.declared.Kind.TheVariants as K
 use Rattle.found.specs.declared.Joined.{Joined}
@@ -121,10 +121,6 @@ Flattened s f r =
 abbrev pub Spliced : Bytes → Found → Found → Type 0
 Spliced s f r =
     (skip props : Bytes) (x : M.Found) → Finds skip props x f.kind (part s f) → Enters skip props (Runs skip props) (C.spliced x) r.kind (part s r)
-
-pub record FirstAt (s : Bytes) (r : ℕ) : Type 0 where
-  pub inside : r ≤ length s
-  pub first : FirstChild s (drop r s)
 
 unfoldable pub item_count : Row → Count
 item_count end = Zero

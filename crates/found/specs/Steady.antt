@@ -1,5 +1,5 @@
 -- Entries that flattening keeps, however often an array of one element is taken apart. Assumes nothing: these are definitions.
-use Rattle.std.specs.Prelude.{ℕ, ◌+◌, Bool, true, false, ◌||◌, List, [], ◌∷◌, eqb}
+use Rattle.std.specs.Prelude.{ℕ, ◌+◌, Bool, true, false, ◌||◌, List, [], ◌∷◌, eqb, length}
 use Rattle.field.specs.Bytes.{pick}
 use Rattle.spec.specs.Pass.{Mid, none, node, raw}
 use Rattle.spec.specs.Merge.{Entry, still, passed}
@@ -24,3 +24,7 @@ stays (passed p) = true
 unfoldable pub steady : List Entry → ℕ
 steady [] = 0
 steady (e ∷ es) = pick (stays e) 1 0 + steady es
+
+-- how many entries count where n are asked for: an only entry may be taken out of its array, so it has to stay
+abbrev pub counted : ℕ → List Entry → ℕ
+counted n es = pick (eqb n 1) (steady es) (length es)

@@ -5,12 +5,12 @@ ghost use Rattle.std.specs.Prelude.{◌≡◌, ◌+◌, ◌<◌, ◌^◌, length
 ghost use Rattle.field.specs.Bytes.{Bytes};
 ghost use Rattle.field.specs.Row.{read};
 ghost use Rattle.page.specs.Tree.{contained_in};
-ghost use Rattle.found.specs.Finds.{Within, part, placed, Runs, Enters, Finds, Flattened, Spliced, FirstAt, item_count, joined_of, then_found, run_found, is_settled, entries_at, found_at};
+ghost use Rattle.found.specs.Finds.{Within, part, placed, Runs, Enters, Finds, Flattened, Spliced, item_count, joined_of, then_found, run_found, is_settled, entries_at, found_at};
 
-use crate::several::is_many;
+use crate::several::has;
 use decisions::children::{Count, becomes_template, children_at};
 use decisions::expr::{Shape, shape_at};
-use field::reader::{behind, body, tag_at};
+use field::reader::{Field, Fields, body, field_at};
 use text::jsx_text::is_blank;
 
 mod several;
@@ -21,7 +21,8 @@ pub enum Kind {
     Nothing,
     // an array of no elements
     Empty,
-    // an array of several, those of the children in the place
+    // an array of several, those of the children in the place; a place of no bytes, which is never answered, stands for none, since a kind of
+    // its own would be one more for each caller to tell apart
     Many,
     // a run of texts, among the children in the place
     Run,
@@ -39,8 +40,8 @@ pub enum Kind {
     Hole,
 }
 
-// A place is a part of the slice that was looked at. It stands beside the kind and not in each case of it, since it is moved and cut alike
-// whatever the kind is.
+// A place is a part of the slice that was looked at, by numbers: who takes one has the slice too, since what it stands for is said of the
+// slice's children. It stands beside the kind and not in each case of it, since it is moved and cut alike whatever the kind is.
 #[derive(Clone, Copy)]
 pub struct Found {
     pub kind: Kind,
@@ -57,13 +58,13 @@ impl Found {
         &s[self.from..self.from + self.len]
     }
 
-    // A place in the body of the field at `at`, as a place in the whole.
-    fn inside(self, at: usize) -> Found
-        requires { at + 3 + self.from < 2 ^ 63 }
-        ensures { result ≡ placed self.kind (at + 3 + self.from) self.len }
+    // A place in a part that begins at `from`, as a place in the whole.
+    fn inside(self, from: usize) -> Found
+        requires { from + self.from < 2 ^ 63 }
+        ensures { result ≡ placed self.kind (from + self.from) self.len }
     {
         Found {
-            from: at + 3 + self.from,
+            from: from + self.from,
             ..self
         }
     }
@@ -78,6 +79,7 @@ enum Joined {
     Apart,
 }
 
+#[tactic(auto, using(crate::proofs::JoinLaws::joined_shape))]
 fn joined_at(c: &[u8]) -> Joined
     ensures { result ≡ joined_of (contained_in (read c.now)) }
 {
@@ -85,9 +87,10 @@ fn joined_at(c: &[u8]) -> Joined
         Shape::Empty | Shape::Boolean(_) => Joined::Nothing,
         Shape::String => {
             if body(c).is_empty() {
-                return Joined::Nothing;
+                Joined::Nothing
+            } else {
+                Joined::Something
             }
-            Joined::Something
         }
         Shape::Number => Joined::Something,
         Shape::Null | Shape::Literal | Shape::Minus | Shape::Other => Joined::Apart,
@@ -95,23 +98,16 @@ fn joined_at(c: &[u8]) -> Joined
 }
 
 // How many elements an array literal has.
+#[tactic(auto, using(crate::proofs::ItemLaws::count_none, crate::proofs::ItemLaws::count_one, crate::proofs::ItemLaws::count_more))]
 fn item_count(s: &[u8]) -> Count
     ensures { result ≡ item_count (read s.now) }
 {
-    if tag_at(s) == 256 {
-        return Count::Zero;
+    let mut items = Fields(s);
+    match (items.next(), items.next()) {
+        (None, _) => Count::Zero,
+        (Some(_), None) => Count::One,
+        (Some(_), Some(_)) => Count::More,
     }
-    if tag_at(behind(s)) == 256 {
-        return Count::One;
-    }
-    Count::More
-}
-
-// Where the first child stands; the length where there is none.
-fn first_child(s: &[u8]) -> usize
-    ensures { FirstAt s.now result }
-{
-    s.len() - children_at(s).len()
 }
 
 // The children in s as a place of that kind.
@@ -143,30 +139,22 @@ fn flattened(s: &[u8], f: Found) -> Found
     ensures { Within result s.now × Flattened s.now f result }
 {
     match f.kind {
-        Kind::Item => {
-            let t = f.part(s);
-            match tag_at(t) {
-                0x77 => Found {
-                    kind: Kind::Expr,
-                    from: f.from + 3,
-                    len: body(t).len(),
-                },
-                0x78 => Found {
-                    kind: Kind::Hole,
-                    ..f
-                },
-                _ => Found {
-                    kind: Kind::Expr,
-                    ..f
-                },
-            }
-        }
-        Kind::Many => {
-            if f.len == 0 {
-                return whole(Kind::Many, s);
-            }
-            f
-        }
+        Kind::Item => match field_at(f.part(s)) {
+            Some(Field { tag: 0x77, body }) => Found {
+                kind: Kind::Expr,
+                from: f.from + 3,
+                len: body.len(),
+            },
+            Some(Field { tag: 0x78, .. }) => Found {
+                kind: Kind::Hole,
+                ..f
+            },
+            _ => Found {
+                kind: Kind::Expr,
+                ..f
+            },
+        },
+        Kind::Many => { if f.len == 0 { whole(Kind::Many, s) } else { f } }
         _ => f,
     }
 }
@@ -178,36 +166,31 @@ fn spliced(s: &[u8], f: Found) -> Found
 {
     match f.kind {
         Kind::Nothing => nowhere(Kind::Empty),
-        Kind::Expr => {
-            let c = f.part(s);
-            if tag_at(c) != 0x76 {
-                return f;
-            }
-            let b = body(c);
-            match item_count(b) {
+        Kind::Expr => match field_at(f.part(s)) {
+            Some(Field { tag: 0x76, body }) => match item_count(body) {
                 Count::Zero => nowhere(Kind::Empty),
                 Count::One => Found {
                     kind: Kind::Item,
                     from: f.from + 3,
-                    len: b.len(),
+                    len: body.len(),
                 },
                 Count::More => nowhere(Kind::Many),
-            }
-        }
+            },
+            _ => f,
+        },
         _ => f,
     }
 }
 
 // Entries, and others behind them.
+#[tactic(auto, unfolding(crate::specs::Finds::is_empty))]
 fn then(a: Found, b: Found) -> Found
     ensures { result ≡ then_found a b }
 {
-    match a.kind {
-        Kind::Empty => b,
-        _ => match b.kind {
-            Kind::Empty => a,
-            _ => nowhere(Kind::Many),
-        },
+    match (a.kind, b.kind) {
+        (Kind::Empty, _) => b,
+        (_, Kind::Empty) => a,
+        _ => nowhere(Kind::Many),
     }
 }
 
@@ -215,13 +198,11 @@ fn then(a: Found, b: Found) -> Found
 fn with_run(a: Found, run: bool, s: &[u8]) -> Found
     ensures { result ≡ run_found a run (length s.now) }
 {
-    if run {
-        return then(a, whole(Kind::Run, s));
-    }
-    a
+    if run { then(a, whole(Kind::Run, s)) } else { a }
 }
 
 // Several, and no place: what stands behind does not matter.
+#[tactic(auto, unfolding(crate::specs::Finds::is_settled))]
 fn is_settled(f: Found) -> bool
     ensures { result ≡ is_settled f.kind f.len }
 {
@@ -237,75 +218,45 @@ fn entries_of(skip: &[u8], s: &[u8]) -> Found
     requires { length s.now < 2 ^ 62 }
     ensures { Within result s.now × ((props : Bytes) → Enters skip.now props (Runs skip.now props) (entries_at skip.now props s.now) result.kind (part s.now result)) }
 {
-    let mut t = s;
     let mut run = false;
     let mut cur = nowhere(Kind::Empty);
-    loop {
+    let mut fields = Fields(s);
+    while let Some(field) = fields.next() {
+        let b = field.body;
+        let at = s.len() - fields.0.len() - b.len() - 3;
+        let x = match field.tag {
+            // a run that has something needs no test
+            0x60 => {
+                run = run || !is_blank(b, false);
+                continue;
+            }
+            0x52 => match joined_at(b) {
+                Joined::Nothing => continue,
+                Joined::Something => {
+                    run = true;
+                    continue;
+                }
+                Joined::Apart => Found {
+                    kind: Kind::Expr,
+                    from: at + 3,
+                    len: b.len(),
+                },
+            },
+            0x30 => Found {
+                kind: Kind::Element,
+                from: at,
+                len: s.len() - at,
+            },
+            0x31 => spliced(b, found_of(skip, b)).inside(at + 3),
+            _ => continue,
+        };
+        cur = then(with_run(cur, run, s), x);
+        run = false;
         if is_settled(cur) {
             return cur;
         }
-        match tag_at(t) {
-            0x60 => {
-                // a run that has something needs no test
-                if run {
-                    t = behind(t);
-                } else if is_blank(body(t), false) {
-                    t = behind(t);
-                } else {
-                    run = true;
-                    t = behind(t);
-                }
-            }
-            0x52 => {
-                let c = body(t);
-                match joined_at(c) {
-                    Joined::Nothing => {
-                        t = behind(t);
-                    }
-                    Joined::Something => {
-                        run = true;
-                        t = behind(t);
-                    }
-                    Joined::Apart => {
-                        let at = s.len() - t.len();
-                        let x = Found {
-                            kind: Kind::Expr,
-                            from: at + 3,
-                            len: c.len(),
-                        };
-                        cur = then(with_run(cur, run, s), x);
-                        run = false;
-                        t = behind(t);
-                    }
-                }
-            }
-            0x30 => {
-                let at = s.len() - t.len();
-                let x = Found {
-                    kind: Kind::Element,
-                    from: at,
-                    len: t.len(),
-                };
-                cur = then(with_run(cur, run, s), x);
-                run = false;
-                t = behind(t);
-            }
-            0x31 => {
-                let at = s.len() - t.len();
-                let b = body(t);
-                let x = spliced(b, found_of(skip, b)).inside(at);
-                cur = then(with_run(cur, run, s), x);
-                run = false;
-                t = behind(t);
-            }
-            256 => {
-                return with_run(cur, run, s);
-            }
-            _ => {
-                t = behind(t);
-            }
-        }
     }
+    with_run(cur, run, s)
 }
 
 // serialize_jsx_children_to_expr
@@ -315,41 +266,40 @@ pub fn found_of(skip: &[u8], s: &[u8]) -> Found
     ensures { Within result s.now × ((props : Bytes) → Finds skip.now props (found_at skip.now props s.now) result.kind (part s.now result)) }
 {
     let a = children_at(s);
-    if a.is_empty() {
+    let mut rest = Fields(a);
+    let Some(child) = rest.next() else {
         return nowhere(Kind::Nothing);
-    }
-    if children_at(behind(a)).is_empty() {
+    };
+    if children_at(rest.0).is_empty() {
         let at = s.len() - a.len();
-        let b = body(a);
-        return match tag_at(a) {
+        let b = child.body;
+        return match child.tag {
             0x60 => Found {
                 kind: Kind::Text,
                 from: at,
                 len: a.len(),
             },
-            0x52 => {
-                if tag_at(b) == 256 {
-                    return nowhere(Kind::Nothing);
-                }
-                Found {
+            0x52 => match field_at(b) {
+                Some(_) => Found {
                     kind: Kind::Expr,
                     from: at + 3,
                     len: b.len(),
-                }
-            }
+                },
+                None => nowhere(Kind::Nothing),
+            },
             0x30 => Found {
                 kind: Kind::Element,
                 from: at,
                 len: a.len(),
             },
-            0x31 => found_of(skip, b).inside(at),
+            0x31 => found_of(skip, b).inside(at + 3),
             _ => nowhere(Kind::Nothing),
         };
     }
     if becomes_template(skip, s) {
         return whole(Kind::Template, s);
     }
-    if is_many(skip, s) {
+    if has(skip, s, 2) {
         return whole(Kind::Many, s);
     }
     flattened(s, entries_of(skip, s))

@@ -1,26 +1,29 @@
 // Whether children of a call surely give several entries, found without going through all that lies in their fragments. A no may be wrong:
 // then the entries are gone through. So fragments nested in each other are not gone through once for each level.
-ghost use Rattle.std.specs.Prelude.{◌≡◌, true, ◌≤◌, length};
+ghost use Rattle.std.specs.Prelude.{◌≡◌, true, ◌≤◌, ◌<◌};
 ghost use Rattle.field.specs.Bytes.{Bytes};
+ghost use Rattle.field.specs.Front.{tag_of_front};
 ghost use Rattle.spec.specs.Children.{spliced};
 ghost use Rattle.found.specs.Finds.{expr_at, entries_at, found_at};
-ghost use Rattle.found.specs.Steady.{one_stays, steady};
+ghost use Rattle.found.specs.Steady.{one_stays, steady, counted};
 
-use crate::{Joined, first_child, joined_at};
-use decisions::children::{Count, becomes_template, child_count};
-use field::reader::{behind, body, tag_at};
+use crate::{Joined, joined_at};
+use decisions::children::{Count, becomes_template, child_count, children_at};
+use field::reader::{Field, Fields, field_at};
 use text::jsx_text::is_blank;
 
-// Whether flattening, however often, leaves something of the expression in front: an array may be empty.
+// Whether flattening, however often, leaves something of the expression in front: an array may be empty, and there may be none.
+#[tactic(auto, using(crate::proofs::SteadyLaws::stays_plain, crate::proofs::SteadyLaws::stays_array))]
 fn stays(c: &[u8]) -> bool
-    ensures { result ≡ true → (skip props : Bytes) → one_stays (expr_at skip props c.now) ≡ true }
+    ensures stands { result ≡ true → tag_of_front c.now ≡ 256 → ⊥ }
+    ensures kept { result ≡ true → (skip props : Bytes) → one_stays (expr_at skip props c.now) ≡ true }
 {
-    if tag_at(c) != 0x76 {
-        return true;
-    }
-    match tag_at(body(c)) {
-        0x76 | 0x77 | 256 => false,
-        _ => true,
+    match field_at(c) {
+        Some(Field { tag: 0x76, body }) => {
+            field_at(body).is_some_and(|item| !matches!(item.tag, 0x76 | 0x77))
+        }
+        Some(_) => true,
+        None => false,
     }
 }
 
@@ -31,170 +34,73 @@ fn gives(skip: &[u8], s: &[u8]) -> bool
 {
     match child_count(s) {
         Count::Zero => false,
-        Count::One => {
-            let at = first_child(s);
-            let a = &s[at..];
-            let b = body(a);
-            match tag_at(a) {
+        Count::One => match field_at(children_at(s)) {
+            Some(child) => match child.tag {
                 0x60 | 0x30 => true,
-                0x52 => tag_at(b) != 256 && stays(b),
-                0x31 => gives(skip, b),
+                0x52 => stays(child.body),
+                0x31 => gives(skip, child.body),
                 _ => false,
-            }
-        }
-        Count::More => {
-            if becomes_template(skip, s) {
-                return true;
-            }
-            has_one(skip, s)
-        }
+            },
+            None => false,
+        },
+        Count::More => becomes_template(skip, s) || has(skip, s, 1),
     }
 }
 
-// Whether merged children surely have an entry that stays. The fragment that is more than half of them is looked into last.
+// Whether merged children surely have n entries. One may be the only one and be taken out of its array, so it has to stay; of several any
+// kind counts. A run has its entry from its first text on. The fragment that is more than half of the children is looked into last.
 #[cycle(several)]
-fn has_one(skip: &[u8], s: &[u8]) -> bool
-    ensures { result ≡ true → (props : Bytes) → 1 ≤ steady (entries_at skip.now props s.now) }
+pub fn has(skip: &[u8], s: &[u8], n: usize) -> bool
+    requires { 0 < n }
+    ensures { result ≡ true → (props : Bytes) → n ≤ counted n (entries_at skip.now props s.now) }
 {
-    let mut t = s;
-    let mut heavy = &s[..0];
-    loop {
-        match tag_at(t) {
-            0x60 => {
-                if !is_blank(body(t), false) {
-                    return true;
-                }
-                t = behind(t);
-            }
-            0x52 => {
-                let c = body(t);
-                match joined_at(c) {
-                    Joined::Nothing => {
-                        t = behind(t);
-                    }
-                    Joined::Something => {
-                        return true;
-                    }
-                    Joined::Apart => {
-                        if stays(c) {
-                            return true;
-                        }
-                        t = behind(t);
-                    }
-                }
-            }
-            0x30 => {
-                return true;
-            }
-            0x31 => {
-                let b = body(t);
-                if s.len() / 2 < b.len() {
-                    heavy = b;
-                    t = behind(t);
-                } else if gives(skip, b) {
-                    return true;
-                } else {
-                    t = behind(t);
-                }
-            }
-            256 => {
-                if heavy.len() == 0 {
-                    return false;
-                }
-                return gives(skip, heavy);
-            }
-            _ => {
-                t = behind(t);
-            }
-        }
-    }
-}
-
-// Whether merged children surely have several entries, by more than one fragment. A run has its entry from its first text on.
-pub fn is_many(skip: &[u8], s: &[u8]) -> bool
-    ensures { result ≡ true → (props : Bytes) → 2 ≤ length (entries_at skip.now props s.now) }
-{
-    let mut t = s;
-    let mut heavy = &s[..0];
+    let mut heavy = None;
     let mut run = false;
-    let mut one = false;
-    loop {
-        match tag_at(t) {
+    let mut sure = 0;
+    for field in Fields(s) {
+        let b = field.body;
+        match field.tag {
             0x60 => {
-                if run {
-                    t = behind(t);
-                } else if is_blank(body(t), false) {
-                    t = behind(t);
-                } else {
-                    if one {
-                        return true;
+                if run || is_blank(b, false) {
+                    continue;
+                }
+                run = true;
+            }
+            0x52 => match joined_at(b) {
+                Joined::Nothing => continue,
+                Joined::Something => {
+                    if run {
+                        continue;
                     }
                     run = true;
-                    one = true;
-                    t = behind(t);
                 }
-            }
-            0x52 => {
-                let c = body(t);
-                match joined_at(c) {
-                    Joined::Nothing => {
-                        t = behind(t);
-                    }
-                    Joined::Something => {
-                        if run {
-                            t = behind(t);
-                        } else {
-                            if one {
-                                return true;
-                            }
-                            run = true;
-                            one = true;
-                            t = behind(t);
-                        }
-                    }
-                    Joined::Apart => {
-                        if one {
-                            return true;
-                        }
-                        run = false;
-                        one = true;
-                        t = behind(t);
+                Joined::Apart => {
+                    run = false;
+                    if n == 1 && !stays(b) {
+                        continue;
                     }
                 }
-            }
-            0x30 => {
-                if one {
-                    return true;
-                }
-                run = false;
-                one = true;
-                t = behind(t);
-            }
+            },
+            0x30 => run = false,
             0x31 => {
-                let b = body(t);
                 run = false;
                 if s.len() / 2 < b.len() {
-                    heavy = b;
-                    t = behind(t);
-                } else if gives(skip, b) {
-                    if one {
-                        return true;
-                    }
-                    one = true;
-                    t = behind(t);
-                } else {
-                    t = behind(t);
+                    heavy = Some(b);
+                    continue;
+                }
+                if !gives(skip, b) {
+                    continue;
                 }
             }
-            256 => {
-                if one {
-                    return gives(skip, heavy);
-                }
-                return false;
-            }
-            _ => {
-                t = behind(t);
-            }
+            _ => continue,
         }
+        sure += 1;
+        if sure == n {
+            return true;
+        }
+    }
+    match heavy {
+        Some(b) => sure + 1 == n && gives(skip, b),
+        None => false,
     }
 }

@@ -1,4 +1,4 @@
-// Room of a program: an array of zeros that lives as long as its caller.
+// Room of a program: an array that lives as long as its caller. Its bytes are zeros, of which the clause says nothing.
 ghost use Rattle.std.specs.Prelude.{◌≡◌, length};
 
 // That an array is as long as its type says is proved once, here: the callers need not count it. A clause that says what the bytes are would

@@ -9,6 +9,7 @@ use Prim.Native.Nat.{ℕ, zero, suc, ◌+◌, ◌≤◌, ◌<◌}
 use native.Mathlib.Nat.{not-suc-le-zero, le_of_suc-le-suc}
 use native.Mathlib.Numerals.{add-one}
 use native.Mathlib.Omega.{arith}
+use lib.Pointwise.{pointwise}
 use lib.Dec.{leb, eqb}
 use lib.ListN.{length, get_or, drop}
 use lib.Seq.{drop-cons, drop-length}
@@ -34,6 +35,14 @@ same_refl [] = refl
 same_refl (c ∷ cs) = rw (eq-eqb c c refl) (same_refl cs)
 
 -- one letter further on
+-- the library's comparison
+pub pointwise_same : (x y : Bytes) → pointwise eqb x y ≡ same x y
+unfolding same
+pointwise_same [] [] = refl
+pointwise_same [] (d ∷ ds) = refl
+pointwise_same (c ∷ cs) [] = refl
+pointwise_same (c ∷ cs) (d ∷ ds) = ap (λ (b : Bool). eqb c d && b) (pointwise_same cs ds)
+
 pub same_step : (x y : Bytes) (i : ℕ) → i < length x → i < length y → same (drop i x) (drop i y) ≡ (eqb (get_or x i 0) (get_or y i 0) && same (drop (suc i) x) (drop (suc i) y))
 unfolding same
 same_step x y i h k = rw (drop-cons x i 0 h, drop-cons y i 0 k)

@@ -107,16 +107,17 @@ pub fn get_attr_name(out: &mut [u8], at: usize, name: &[u8], normalize: bool) ->
     put_bytes(out, at, name)
 }
 
+// The table makes `key` of no other name, nor `ref`: that is what each of the two states, and one function over the name could not.
 pub fn normalizes_to_key(name: &[u8]) -> bool
     ensures { result ≡ same (normalize_dom_attr_name name.now) (ascii "key") }
 {
-    letters_are(name, b"key", true)
+    letters_are(name, b"key")
 }
 
 pub fn normalizes_to_ref(name: &[u8]) -> bool
     ensures { result ≡ same (normalize_dom_attr_name name.now) (ascii "ref") }
 {
-    letters_are(name, b"ref", true)
+    letters_are(name, b"ref")
 }
 
 // The one namespaced name that the table has.
@@ -155,8 +156,8 @@ pub fn namespaced_is(ns: &[u8], name: &[u8], b: &[u8]) -> bool
     if b[n] != b':' {
         return false;
     }
-    if !letters_are(ns, &b[..n], true) {
+    if !letters_are(ns, &b[..n]) {
         return false;
     }
-    letters_are(name, &b[n + 1..], true)
+    letters_are(name, &b[n + 1..])
 }

@@ -1,8 +1,7 @@
-// Two names compared byte by byte, the first as it stands or in small letters.
+// Two names compared, as they stand or the first in small letters.
 ghost use Rattle.std.specs.Prelude.{◌≡◌};
 ghost use Rattle.field.specs.Bytes.{pick, same};
-ghost use Rattle.names.specs.Names.{small_letter};
-ghost use Rattle.names.specs.Table.{read_as};
+ghost use Rattle.names.specs.Names.{small_letter, small_letters};
 
 // A capital as its small letter.
 pub fn small_letter(c: u8) -> u8
@@ -17,14 +16,15 @@ pub fn letter(c: u8, small: bool) -> u8
     if small { small_letter(c) } else { c }
 }
 
-pub fn letters_are(a: &[u8], b: &[u8], small: bool) -> bool
-    ensures { result ≡ same (read_as small a.now) b.now }
+// Whether a, in small letters, is b.
+pub fn letters_are(a: &[u8], b: &[u8]) -> bool
+    ensures { result ≡ same (small_letters a.now) b.now }
 {
     if a.len() != b.len() {
         return false;
     }
     for (x, y) in a.iter().zip(b) {
-        if letter(*x, small) != *y {
+        if small_letter(*x) != *y {
             return false;
         }
     }
@@ -34,5 +34,5 @@ pub fn letters_are(a: &[u8], b: &[u8], small: bool) -> bool
 pub fn same_bytes(a: &[u8], b: &[u8]) -> bool
     ensures { result ≡ same a.now b.now }
 {
-    letters_are(a, b, false)
+    a == b
 }

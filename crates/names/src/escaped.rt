@@ -21,7 +21,9 @@ fn put_small_escaped(out: &mut [u8], at: usize, name: &[u8]) -> usize
     a
 }
 
-// A name of the table has no sign that is escaped, and neither has what it becomes: other bytes than those of a name go letter by letter.
+// A name of the table has no sign that is escaped, and neither has what it becomes: other bytes than those of a name go letter by letter. Beside
+// normalize_dom_attr_name, though only one arm differs: one function with a flag would state both names by a test of it, which each caller would
+// take apart again.
 pub fn put_attr_name(out: &mut [u8], at: usize, name: &[u8]) -> usize
     requires { at + length (escape_html (normalize_dom_attr_name name.now)) < 2 ^ 63 }
     ensures { Wrote out.old at (escape_html (normalize_dom_attr_name name.now)) out.new result }

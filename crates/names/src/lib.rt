@@ -15,7 +15,7 @@ pub use attributes::{
     normalize_namespaced, normalizes_to_key, normalizes_to_ref,
 };
 pub use booleans::{is_boolean_attr, normalizes_to_boolean};
-pub use compare::{same_bytes, small_letter};
+pub use compare::{letter, same_bytes, small_letter};
 pub use elements::{Void, is_void_element, void_kind};
 pub use escaped::{put_attr_name, put_namespaced};
 pub use listed::{Spelling, spelling_of};

@@ -1,5 +1,5 @@
--- What the tests of the code say of records and their strings. Main statements: `string_torn`, `string_other`, `string_bad`, `string_on`, `turns`,
--- `any_on`, `some_few`, `some_any`, `kinds_on`, `old_short`, `new_short`, `new_kinds`, `new_strings`, `record_bad`, `record_on`. Assumes nothing.
+-- What the tests of the code say of records and their strings. Main statements: `goes_on`, `ends`, `stops`, `any_rowwise`, `one_more`,
+-- `strings_end`, `kinds_is`, `old_short`, `old_strings`, `new_short`, `new_kinds`, `new_strings`, `record_rowwise`. Assumes nothing.
 use mathlib.Core.Path.{◌≡◌, refl, sym, ap, ap₂, ◌∙◌, subst}
 use mathlib.Core.Bool.{Bool, true, false, ◌&&◌}
 use mathlib.Core.Logic.{◌⊎◌, inl, inr}

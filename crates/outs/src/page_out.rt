@@ -97,6 +97,7 @@ pub fn check_page_out(s: &[u8], width: usize) -> Result<(), Refusal>
                 inner,
                 after,
             } => {
+                // The outermost row alone may be longer, and of it the end is known: waits_until.
                 stack[height] = Frame {
                     rest: ((end - at - e) % 65536) as u16,
                     after,
@@ -114,8 +115,7 @@ pub fn check_page_out(s: &[u8], width: usize) -> Result<(), Refusal>
                 height -= 1;
                 let f = stack[height];
                 end = waits_until(height, at, f.rest, s.len());
-                let after = f.after;
-                expect = after;
+                expect = f.after;
             }
         }
     }

@@ -15,7 +15,7 @@ use page::leaf::check_text;
 use page::name::{check_end, check_nothing_after};
 
 // The fields of a row that are all of one sort: whether one is right, by its tag and its body, and whether a row of them is.
-trait Fields {
+trait Sort {
     ghost right: { ℕ → Bytes → Verdict };
 
     ghost rows: { Row → Verdict };
@@ -25,7 +25,7 @@ trait Fields {
 }
 
 // The place behind the field in front, or none where the row ends.
-fn pass<F: Fields>(b: &[u8]) -> Result<Option<usize>, Refusal>
+fn pass<F: Sort>(b: &[u8]) -> Result<Option<usize>, Refusal>
     ensures gives { result ≡ passed F.right b.now (header_of b.now) }
     ensures fits { IfOk result (λ o. IfSome o (λ e. (3 ≤ e) × (e ≤ length b.now))) }
 {
@@ -38,7 +38,7 @@ fn pass<F: Fields>(b: &[u8]) -> Result<Option<usize>, Refusal>
 }
 
 // A row of any number of fields.
-fn check_row<F: Fields>(s: &[u8]) -> Result<(), Refusal>
+fn check_row<F: Sort>(s: &[u8]) -> Result<(), Refusal>
     requires { Rowwise F.right F.rows }
     ensures { result ≡ F.rows (read s.now) }
 {
@@ -53,7 +53,7 @@ fn check_row<F: Fields>(s: &[u8]) -> Result<(), Refusal>
 
 struct Strings;
 
-impl Fields for Strings {
+impl Sort for Strings {
     ghost right = { string_field };
 
     ghost rows = { check_any_strings };
@@ -122,7 +122,7 @@ fn check_new_body(w: &[u8]) -> Result<(), Refusal>
 
 struct OldRecords;
 
-impl Fields for OldRecords {
+impl Sort for OldRecords {
     ghost right = { record_field K.Old };
 
     ghost rows = { check_records K.Old };
@@ -138,7 +138,7 @@ impl Fields for OldRecords {
 
 struct NewRecords;
 
-impl Fields for NewRecords {
+impl Sort for NewRecords {
     ghost right = { record_field K.New };
 
     ghost rows = { check_records K.New };

@@ -1,26 +1,28 @@
 -- What the code of the checker learns at each return and at each turn of a loop: the checks of `Check` by the tag in front and the bytes of
 -- its body (`nodes_child`, `items_step` and the like), and of one field by its tag (`child_60` and the like). Assumes nothing.
 use mathlib.Core.Path.{◌≡◌, refl, sym, ap, ◌∙◌}
-use mathlib.Core.Bool.{Bool, true, false, ◌&&◌, ◌||◌, or-false}
-use mathlib.Core.Logic.{◌⊎◌, ⊎_elim, inl, inr}
+use mathlib.Core.Bool.{Bool, true, false, ◌||◌, or-false}
+use mathlib.Core.Logic.{◌⊎◌, ⊎_elim}
 use Prim.Native.Nat.{ℕ, suc, ◌+◌, ◌≤◌, ◌<◌}
 use native.Mathlib.Omega.{arith}
 use native.Mathlib.Numerals.{add-one}
-use lib.Dec.{leb, eqb}
+use lib.Dec.{eqb}
 use lib.ListN.{length}
 use borrow.Author.Tests.{le-leb, lt-leb, ne_eqb}
 use Rattle.field.specs.Bytes.{Bytes}
-use Rattle.field.specs.Row.{Row, end, loose, field, read, Ended, Inside, only_bytes, fields_after, counted, inside, opened, Next, nothing, no_field, next, next_of, built}
-use Rattle.field.specs.Front.{tag_of_front, body_of, behind_of, behind_by}
+use Rattle.field.specs.Row.{Row, end, loose, field, read, Inside, only_bytes, fields_after, counted, inside, opened, Next, nothing, no_field, next, next_of, built}
+use Rattle.field.specs.Front.{behind_of, behind_by}
+use Rattle.field.specs.Fields.{IsFront, IsEnd}
 use Rattle.field.proofs.RowLaws.{read_step, next_sizes}
-use Rattle.field.proofs.FrontLaws.{read_empty, nest_at}
-use Rattle.page.specs.Refusal.{Verdict, Fine, Refused, after}
+use Rattle.field.proofs.FrontLaws.{read_empty}
+use Rattle.page.specs.Refusal.{Verdict, Fine, Refused, after, unless}
 use Rattle.page.specs.Tree.{choose}
+use Rattle.page.specs.Number.{is_number, is_minus}
 use Rattle.page.specs.Check.{check_header, check_end, check_text, check_empty, check_number, check_boolean, check_name_by, is_name_tag, is_tag, is_expr, is_child, check_child_by, check_expr_by, check_element, check_attributes, check_attribute, check_value, check_children, check_container, check_expr, check_items, check_pieces, check_nothing_after}
 use Rattle.page.specs.CheckField.{check_missing, check_element_name, check_nodes, check_tag_field, check_expr_field}
 use Rattle.page.specs.declared.Refusal.TheVariants as R
 use Rattle.page.proofs.RowEnds.{NotEnd, not_end}
-use Rattle.page.proofs.Steps.{Checked, Then, front, inner, row_at, same_body, one_field, ended, tested, seventies, between, name_tag_cases, child_cases, value_cases, piece_cases, expr_cases, item_cases}
+use Rattle.page.proofs.Steps.{Checked, Then, front, inner, row_at, same_body, one_field, ended, tested, name_tag_cases, child_cases, value_cases, piece_cases, expr_cases, item_cases}
 
 -- ---- one field of a series by its tag and the bytes of its body
 
@@ -96,60 +98,57 @@ module _ (depth t : ℕ) (w : Bytes) where
 
 -- ---- a series, and what holds one expression or one value, at a field in front: b is its body, r what lies behind it
 
-module _ (depth : ℕ) (s : Bytes) (t : ℕ) (e : t ≡ tag_of_front s) (h : t ≡ 256 → ⊥) {b : Bytes} (q : b ≡ body_of s) {r : Bytes} (u : r ≡ behind_of s) where
-  row : read s ≡ field t (front (inside t) b) (inner (inside t) b) (read r)
-  row = rw (q, u) (row_at s t e h)
-
+module _ (depth : ℕ) {s : Bytes} {t : ℕ} {b r : Bytes} (f : IsFront s t b r) where
   pub children_step : Then (check_children depth (read s)) (check_child_field depth t b) (check_children depth (read r))
   unfolding check_children check_child_field
-  children_step = record { then_is = ap (check_children depth) row ∙ one_field (is_child t) depth _ _ _ (child_body depth t b) }
+  children_step = record { then_is = ap (check_children depth) (row_at f) ∙ one_field (is_child t) depth _ _ _ (child_body depth t b) }
 
   pub items_step : Then (check_items depth (read s)) (check_item_field depth t b) (check_items depth (read r))
   unfolding check_items check_item_field
-  items_step = record { then_is = ap (check_items depth) row ∙ one_field (is_expr t || eqb t 0x77 || eqb t 0x78) depth _ _ _ (item_body depth t b) }
+  items_step = record { then_is = ap (check_items depth) (row_at f) ∙ one_field (is_expr t || eqb t 0x77 || eqb t 0x78) depth _ _ _ (item_body depth t b) }
 
   pub pieces_step : Then (check_pieces depth (read s)) (check_piece_field depth t b) (check_pieces depth (read r))
   unfolding check_pieces check_piece_field
-  pieces_step = record { then_is = ap (check_pieces depth) row ∙ one_field (eqb t 0x20 || is_tag t) depth _ _ _ (piece_body depth t b) }
+  pieces_step = record { then_is = ap (check_pieces depth) (row_at f) ∙ one_field (eqb t 0x20 || is_tag t) depth _ _ _ (piece_body depth t b) }
 
   pub value_step : Then (check_value depth (read s)) (check_value_field depth t b) (check_end (read r))
   unfolding check_value check_value_field
-  value_step = record { then_is = ap (check_value depth) row ∙ one_field (eqb t 0x51 || eqb t 0x52 || is_tag t) depth _ _ _ (value_body depth t b) }
+  value_step = record { then_is = ap (check_value depth) (row_at f) ∙ one_field (eqb t 0x51 || eqb t 0x52 || is_tag t) depth _ _ _ (value_body depth t b) }
 
   pub expr_step : Then (check_expr depth (read s)) (check_expr_field depth t b) (check_end (read r))
   unfolding check_expr check_expr_field
-  expr_step = record { then_is = ap (check_expr depth) row ∙ one_field (is_expr t) depth _ _ _ (expr_body depth t b) }
+  expr_step = record { then_is = ap (check_expr depth) (row_at f) ∙ one_field (is_expr t) depth _ _ _ (expr_body depth t b) }
 
   -- a name in front, as the code's match on its tag has it
   pub element_name : 0x40 ≤ t → t < 0x43 → Checked (check_element_name depth (read s)) depth (check_name_by t (depth + 1) b (read b))
   unfolding check_element_name
   element_name l m =
-      record { then_is = ap (check_element_name depth) row ∙ rw (name_body depth t b fits, le-leb 0x40 t l, le-leb t 0x42 (omega arith), add-one depth) }
+      record { then_is = ap (check_element_name depth) (row_at f) ∙ rw (name_body depth t b fits, le-leb 0x40 t l, le-leb t 0x42 (omega arith), add-one depth) }
     where
       fits : is_name_tag t ≡ true
       fits = rw (le-leb 0x40 t l, le-leb t 0x42 (omega arith))
 
   pub element_below : t < 0x40 → Refused R.Misplaced ≡ check_element_name depth (read s)
   unfolding check_element_name check_header after
-  element_below l = sym (ap (check_element_name depth) row ∙ rw (lt-leb 0x40 t l))
+  element_below l = sym (ap (check_element_name depth) (row_at f) ∙ rw (lt-leb 0x40 t l))
 
   pub element_above : 0x43 ≤ t → Refused R.Misplaced ≡ check_element_name depth (read s)
   unfolding check_element_name check_header after
-  element_above l = sym (ap (check_element_name depth) row ∙ rw (le-leb 0x40 t (omega arith), lt-leb t 0x42 (omega arith)))
+  element_above l = sym (ap (check_element_name depth) (row_at f) ∙ rw (le-leb 0x40 t (omega arith), lt-leb t 0x42 (omega arith)))
 
-  pub attribute_name : (t ≡ 0x40) ⊎ (t ≡ 0x42) → Checked (check_attribute depth (read s)) depth (after (check_name_by t (depth + 1) b (read b)) λ _. check_value depth (read r))
+  pub attribute_name : ((t ≡ 0x40 → ⊥) → (t ≡ 0x42 → ⊥) → ⊥) → Checked (check_attribute depth (read s)) depth (after (check_name_by t (depth + 1) b (read b)) λ _. check_value depth (read r))
   unfolding check_attribute
-  attribute_name k = record { then_is = ap (check_attribute depth) row ∙ same_body (eqb t 0x40 || eqb t 0x42) depth _ _ _ (λ z. name_body depth t b named) ∙ rw (fits, add-one depth) }
+  attribute_name n = record { then_is = ap (check_attribute depth) (row_at f) ∙ same_body (eqb t 0x40 || eqb t 0x42) depth _ _ _ (λ z. name_body depth t b named) ∙ rw (fits, add-one depth) }
     where
       named : is_name_tag t ≡ true
-      named = ⊎_elim (λ z. rw z) (λ z. rw z) k
+      named = tested t 0x40 (λ z. rw z) λ x. tested t 0x42 (λ z. rw z) λ y. absurd (n x y)
 
       fits : (eqb t 0x40 || eqb t 0x42) ≡ true
-      fits = ⊎_elim (λ z. rw z) (λ z. rw z) k
+      fits = tested t 0x40 (λ z. rw z) λ x. tested t 0x42 (λ z. rw z) λ y. absurd (n x y)
 
-  pub attribute_other : ((t ≡ 0x40) ⊎ (t ≡ 0x42) → ⊥) → Refused R.Misplaced ≡ check_attribute depth (read s)
+  pub attribute_other : (t ≡ 0x40 → ⊥) → (t ≡ 0x42 → ⊥) → Refused R.Misplaced ≡ check_attribute depth (read s)
   unfolding check_attribute check_header after
-  attribute_other n = sym (ap (check_attribute depth) row ∙ rw (ne_eqb t 0x40 (λ z. n (inl z)), ne_eqb t 0x42 (λ z. n (inr z))))
+  attribute_other n m = sym (ap (check_attribute depth) (row_at f) ∙ rw (ne_eqb t 0x40 n, ne_eqb t 0x42 m))
 
 -- ---- an element, and the nodes behind its name
 
@@ -182,65 +181,60 @@ behind_short s = on (next_of s) refl
     on no_field e = omega arith
     on (next t w r) e = omega (arith, next_sizes s t w r e)
 
-module _ (first : Bool) (depth : ℕ) (s : Bytes) (t : ℕ) (e : t ≡ tag_of_front s) (h : t ≡ 256 → ⊥) {b : Bytes} (q : b ≡ body_of s) {r : Bytes} (u : r ≡ behind_of s) where
+module _ (first : Bool) (depth : ℕ) {s : Bytes} {t : ℕ} {b r : Bytes} (f : IsFront s t b r) where
   attributes_last : (t ≡ 0x50 → ⊥) → (t ≡ 0x53 → ⊥) → check_attributes depth (read s) ≡ check_children depth (read s)
   unfolding check_attributes check_children choose
-  attributes_last n m = rw (row_at s t e h) (rw (ne_eqb t 0x50 n, ne_eqb t 0x53 m))
+  attributes_last n m = rw (row_at f, ne_eqb t 0x50 n, ne_eqb t 0x53 m)
 
-  -- a child, behind which no attribute may come
-  pub nodes_child : (t ≡ 0x50 → ⊥) → (t ≡ 0x53 → ⊥) → Then (check_nodes first depth (read s)) (check_child_field depth t b) (check_nodes false depth (read r))
+  -- what is no attribute, or stands where none may come: behind it none may come
+  pub nodes_child : (t ≡ 0x50 → first ≡ false) → (t ≡ 0x53 → first ≡ false) → Then (check_nodes first depth (read s)) (check_child_field depth t b) (check_nodes false depth (read r))
   unfolding check_nodes
-  nodes_child n m = record { then_is = on first ∙ (children_step depth s t e h q u).then_is }
+  nodes_child n m = record { then_is = on first refl ∙ (children_step depth f).then_is }
     where
-      on : (f : Bool) → check_nodes f depth (read s) ≡ check_children depth (read s)
-      on true = attributes_last n m
-      on false = refl
+      on : (o : Bool) → first ≡ o → check_nodes o depth (read s) ≡ check_children depth (read s)
+      on true e = attributes_last (λ k. absurd (let z : first ≡ false = n k in cc)) (λ k. absurd (let z : first ≡ false = m k in cc))
+      on false e = refl
 
-  module _ (f : first ≡ true) where
+  module _ (o : first ≡ true) where
     pub nodes_50 : t ≡ 0x50 → Checked (check_nodes first depth (read s)) depth (after (check_attribute (depth + 1) (read b)) λ _. check_nodes first depth (read r))
     unfolding check_nodes check_attributes inside choose
-    nodes_50 k = record { then_is = rw f (ap (check_attributes depth) (nest_at s t e 0x50 k tt refl) ∙ rw (add-one depth, q, u)) }
+    nodes_50 k = record { then_is = rw (o, row_at f, k, add-one depth) }
 
     pub nodes_53 : t ≡ 0x53 → Checked (check_nodes first depth (read s)) depth (after (check_expr (depth + 1) (read b)) λ _. check_nodes first depth (read r))
     unfolding check_nodes check_attributes inside choose
-    nodes_53 k = record { then_is = rw f (ap (check_attributes depth) (nest_at s t e 0x53 k tt refl) ∙ rw (add-one depth, q, u)) }
-
-  -- an attribute behind a child
-  pub nodes_late : first ≡ false → is_child t ≡ false → Refused R.Misplaced ≡ check_nodes first depth (read s)
-  unfolding check_nodes check_children check_header after
-  nodes_late f n = sym (rw f (ap (check_children depth) (row_at s t e h) ∙ rw n))
+    nodes_53 k = record { then_is = rw (o, row_at f, k, add-one depth) }
 
 -- ---- no field in front
 
-module _ (depth : ℕ) (r : Row) (i : Ended r) where
-  pub items_end : check_nothing_after r ≡ check_items depth r
+module _ (depth : ℕ) {s r : Bytes} (e : IsEnd s r) where
+  pub items_end : check_nothing_after (read r) ≡ check_items depth (read s)
   unfolding check_nothing_after check_items
-  items_end = ended check_nothing_after (check_items depth) refl (λ b. refl) r i
+  items_end = ended check_nothing_after (check_items depth) refl (λ b. refl) e
 
-  pub pieces_end : check_nothing_after r ≡ check_pieces depth r
+  pub pieces_end : check_nothing_after (read r) ≡ check_pieces depth (read s)
   unfolding check_nothing_after check_pieces
-  pieces_end = ended check_nothing_after (check_pieces depth) refl (λ b. refl) r i
+  pieces_end = ended check_nothing_after (check_pieces depth) refl (λ b. refl) e
 
-  pub value_end : check_nothing_after r ≡ check_value depth r
+  pub value_end : check_nothing_after (read r) ≡ check_value depth (read s)
   unfolding check_nothing_after check_value
-  value_end = ended check_nothing_after (check_value depth) refl (λ b. refl) r i
+  value_end = ended check_nothing_after (check_value depth) refl (λ b. refl) e
 
-  pub expr_end : check_missing r ≡ check_expr depth r
+  pub expr_end : check_missing (read r) ≡ check_expr depth (read s)
   unfolding check_missing check_expr
-  expr_end = ended check_missing (check_expr depth) refl (λ b. refl) r i
+  expr_end = ended check_missing (check_expr depth) refl (λ b. refl) e
 
-  pub attribute_end : check_missing r ≡ check_attribute depth r
+  pub attribute_end : check_missing (read r) ≡ check_attribute depth (read s)
   unfolding check_missing check_attribute
-  attribute_end = ended check_missing (check_attribute depth) refl (λ b. refl) r i
+  attribute_end = ended check_missing (check_attribute depth) refl (λ b. refl) e
 
-  pub element_end : check_missing r ≡ check_element_name depth r
+  pub element_end : check_missing (read r) ≡ check_element_name depth (read s)
   unfolding check_missing check_element_name
-  element_end = ended check_missing (check_element_name depth) refl (λ b. refl) r i
+  element_end = ended check_missing (check_element_name depth) refl (λ b. refl) e
 
-  pub nodes_end : (first : Bool) → check_nothing_after r ≡ check_nodes first depth r
+  pub nodes_end : (first : Bool) → check_nothing_after (read r) ≡ check_nodes first depth (read s)
   unfolding check_nothing_after check_nodes check_attributes check_children
-  nodes_end true = ended check_nothing_after (check_attributes depth) refl (λ b. refl) r i
-  nodes_end false = ended check_nothing_after (check_children depth) refl (λ b. refl) r i
+  nodes_end true = ended check_nothing_after (check_attributes depth) refl (λ b. refl) e
+  nodes_end false = ended check_nothing_after (check_children depth) refl (λ b. refl) e
 
 -- ---- a container: nothing, or one expression
 
@@ -305,14 +299,6 @@ module _ (depth : ℕ) {t : ℕ} (w : Bytes) where
   unfolding check_expr_field check_expr_by choose
   expr_text k = record { then_is = ⊎_elim (λ z. rw z) (λ z. rw z) k }
 
-  pub expr_number : (t ≡ 0x71) ⊎ (t ≡ 0x7a) → Checked (check_expr_field depth t w) depth (check_number t w)
-  unfolding check_expr_field check_expr_by choose
-  expr_number k = record { then_is = ⊎_elim (λ z. rw z) (λ z. rw z) k }
-
-  pub expr_minus : (t ≡ 0x75) ⊎ (t ≡ 0x7b) → Checked (check_expr_field depth t w) depth (check_number t w)
-  unfolding check_expr_field check_expr_by choose
-  expr_minus k = record { then_is = ⊎_elim (λ z. rw z) (λ z. rw z) k }
-
   pub expr_72 : t ≡ 0x72 → Checked (check_expr_field depth t w) depth (check_boolean w)
   unfolding check_expr_field check_expr_by choose
   expr_72 k = record { then_is = rw k }
@@ -329,24 +315,9 @@ module _ (depth : ℕ) {t : ℕ} (w : Bytes) where
   unfolding check_expr_field check_expr_by choose
   expr_79 k = record { then_is = rw (k, add-one depth) }
 
-  pub expr_tag : ((t ≡ 0x70) ⊎ (t ≡ 0x74) → ⊥) → ((t ≡ 0x71) ⊎ (t ≡ 0x7a) → ⊥) → (t ≡ 0x72 → ⊥) → (t ≡ 0x73 → ⊥) → ((t ≡ 0x75) ⊎ (t ≡ 0x7b) → ⊥) → (t ≡ 0x76 → ⊥) → (t ≡ 0x79 → ⊥) →
-      check_tag_field depth t w ≡ check_expr_field depth t w
+  pub expr_tag : ((t ≡ 0x30 → ⊥) → (t ≡ 0x31 → ⊥) → ⊥) → check_tag_field depth t w ≡ check_expr_field depth t w
   unfolding check_tag_field check_expr_field check_expr_by choose
-  expr_tag a b c d e f g =
-      rw (early, late, ne_eqb t 0x70 (λ z. a (inl z)), ne_eqb t 0x74 (λ z. a (inr z)), ne_eqb t 0x71 (λ z. b (inl z)), ne_eqb t 0x7a (λ z. b (inr z)), ne_eqb t 0x75 (λ z. e (inl z)), ne_eqb t 0x7b (λ z. e (inr z)), ne_eqb t 0x72 c, ne_eqb t 0x73 d, ne_eqb t 0x76 f, ne_eqb t 0x79 g)
-    where
-      outside : (x y : ℕ) → (x ≤ t → t ≤ y → ⊥) → (leb x t && leb t y) ≡ false
-      outside x y n = on (leb x t && leb t y) refl
-        where
-          on : (u : Bool) → (leb x t && leb t y) ≡ u → (leb x t && leb t y) ≡ false
-          on false q = q
-          on true q = absurd (between (λ (k : ℕ). ⊥) t x y q n)
-
-      early : (leb 0x70 t && leb t 0x76) ≡ false
-      early = outside 0x70 0x76 λ l u. seventies t l u (λ z. a (inl z)) (λ z. b (inl z)) c d (λ z. a (inr z)) (λ z. e (inl z)) f
-
-      late : (leb 0x79 t && leb t 0x7b) ≡ false
-      late = outside 0x79 0x7b λ l u. tested t 0x79 g λ x. tested t 0x7a (λ z. b (inr z)) λ y. e (inr (omega arith))
+  expr_tag n = tested t 0x30 (λ z. rw z) λ x. tested t 0x31 (λ z. rw z) λ y. absurd (n x y)
 
   pub item_77 : t ≡ 0x77 → Checked (check_item_field depth t w) depth (check_expr (depth + 1) (read w))
   unfolding check_item_field choose
@@ -367,3 +338,23 @@ module _ (depth : ℕ) {t : ℕ} (w : Bytes) where
   pub piece_tag : (t ≡ 0x20 → ⊥) → check_tag_field depth t w ≡ check_piece_field depth t w
   unfolding check_tag_field check_piece_field choose
   piece_tag n = rw (ne_eqb t 0x20 n)
+
+-- what is none of the others: a number, or misplaced
+number_then : (o : Bool) (depth : ℕ) (v : Verdict) (k : Unit {0} → Verdict) → after (check_header o depth) (λ _. choose o (λ _. v) k) ≡ after (unless o R.Misplaced) λ _. after (check_header true depth) λ _. v
+unfolding choose check_header after
+number_then true depth v k = refl
+number_then false depth v k = refl
+
+module _ (depth : ℕ) {t : ℕ} (w : Bytes) (a : t ≡ 0x70 → ⊥) (b : t ≡ 0x74 → ⊥) (c : t ≡ 0x72 → ⊥) (d : t ≡ 0x73 → ⊥) (e : t ≡ 0x76 → ⊥) (f : t ≡ 0x79 → ⊥) (g : t ≡ 0x30 → ⊥) (h : t ≡ 0x31 → ⊥) where
+  number_alone : is_expr t ≡ (is_number t || is_minus t)
+  number_alone =
+      tested t 0x71 (λ z. rw z) λ i. tested t 0x75 (λ z. rw z) λ j. tested t 0x7a (λ z. rw z) λ k. tested t 0x7b (λ z. rw z) λ l.
+      rw (ne_eqb t 0x71 i, ne_eqb t 0x7a k, ne_eqb t 0x75 j, ne_eqb t 0x7b l) (none i j k l (is_expr t) refl)
+    where
+      none : (t ≡ 0x71 → ⊥) → (t ≡ 0x75 → ⊥) → (t ≡ 0x7a → ⊥) → (t ≡ 0x7b → ⊥) → (o : Bool) → is_expr t ≡ o → is_expr t ≡ false
+      none i j k l true q = absurd (expr_cases (λ (n : ℕ). t ≡ n → ⊥) t a i c d b j e f k l g h q refl)
+      none i j k l false q = q
+
+  pub expr_number : Then (check_expr_field depth t w) (unless (is_number t || is_minus t) R.Misplaced) (after (check_header true depth) λ _. check_number t w)
+  unfolding check_expr_field check_expr_by choose
+  expr_number = record { then_is = rw (number_alone, ne_eqb t 0x70 a, ne_eqb t 0x74 b) (number_then (is_number t || is_minus t) depth (check_number t w) _) }

@@ -1,5 +1,4 @@
--- What the tests of the code say of leaves and of names. Main statements: `fine_if`, `refused_if`, `number_eight`, `name_first`,
--- `hyphen_none`. Assumes nothing.
+-- What the code learns of numbers and of names. Main statements: `number_eight`, `name_first`, `hyphen_none`. Assumes nothing.
 use mathlib.Core.Path.{◌≡◌, refl, sym, ap, ◌∙◌}
 use mathlib.Core.Bool.{Bool, true, false, not, ◌&&◌, ◌||◌}
 use Prim.Native.Nat.{ℕ, ◌+◌, ◌*◌, ◌^◌, ◌≤◌, ◌<◌}
@@ -14,33 +13,7 @@ use Rattle.std.specs.List.{list_any, list_all}
 use Rattle.field.specs.Bytes.{Bytes}
 use Rattle.field.specs.Number.{number_from, number_of}
 use Rattle.field.proofs.NumberLaws.{number_append}
-use Rattle.page.specs.Refusal.{Fine, Refused, unless}
-use Rattle.page.specs.Check.{check_boolean, name_start, name_part, name_parts, no_hyphen, is_name}
-use Rattle.page.specs.declared.Refusal.{Refusal}
-use Rattle.page.specs.declared.Refusal.TheVariants as R
-
--- ---- one test
-
-module _ (n : Refusal) {b : Bool} where
-  pub fine_if : b ≡ true → Fine ≡ unless b n
-  fine_if h = rw h
-
-  pub refused_if : b ≡ false → Refused n ≡ unless b n
-  refused_if h = rw h
-
--- ---- booleans
-
-pub boolean_long : (s : Bytes) → (length s ≡ 1 → ⊥) → Refused R.Misplaced ≡ check_boolean s
-unfolding check_boolean
-boolean_long [] h = refl
-boolean_long (c ∷ []) h = absurd (h refl)
-boolean_long (c ∷ d ∷ s) h = refl
-
-pub boolean_one : (s : Bytes) → length s ≡ 1 → check_boolean s ≡ unless (leb (get_or s 0 0) 1) R.Misplaced
-unfolding check_boolean
-boolean_one [] h = absurd (omega arith)
-boolean_one (c ∷ []) h = refl
-boolean_one (c ∷ d ∷ s) h = absurd (omega arith)
+use Rattle.page.specs.Check.{name_start, name_part, name_parts, no_hyphen, is_name}
 
 -- ---- numbers
 

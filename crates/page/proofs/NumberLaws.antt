@@ -19,11 +19,12 @@ use Rattle.text.specs.Decimal.{decimal, shortest}
 use Rattle.text.specs.Escape.{escape_html, escape_byte}
 use Rattle.text.proofs.DecimalLaws.{length_decimal, decimal_some}
 use Rattle.text.proofs.PlacesLaws.{length_shortest, shortest_some, shortest_escaped}
-use Rattle.page.specs.Number.{Number, whole, scaled, number_tag, minus_tag, has_places, at_most_15, render, number_bytes, number_in, number_length, in_range}
-use Rattle.page.specs.Refusal.{Fine, after, unless}
+use Rattle.page.specs.Number.{Number, whole, scaled, has_places, at_most_15, render, number_bytes, number_in, number_length, in_range}
+use Rattle.page.specs.Refusal.{Fine, unless}
 use Rattle.page.specs.Check.{check_number}
 use Rattle.page.specs.Limits.{NumberOk}
 use Rattle.page.specs.declared.Refusal.TheVariants as R
+use Rattle.page.proofs.Steps.{Then}
 use Rattle.page.proofs.Verdicts.{after_fine, unless_fine, fine_after, fine_unless, and_both}
 
 pub number_all : (n : Number) → AllBytes (number_bytes n)
@@ -35,17 +36,6 @@ pub number_size : (n : Number) → (8 ≤ length (number_bytes n)) × (length (n
 unfolding number_bytes
 number_size (whole n) = let k = length_big_endian 8 n [] in (omega arith, omega arith)
 number_size (scaled n p) = let k = length_big_endian 8 n (big_endian 1 p []) in let m = length_big_endian 1 p [] in (omega arith, omega arith)
-
--- what holds of both tags
-pub number_tag_by : (P : ℕ → Type 0) → P 0x71 → P 0x7a → (n : Number) → P (number_tag n)
-unfolding number_tag
-number_tag_by P a b (whole n) = a
-number_tag_by P a b (scaled n p) = b
-
-pub minus_tag_by : (P : ℕ → Type 0) → P 0x75 → P 0x7b → (n : Number) → P (minus_tag n)
-unfolding minus_tag
-minus_tag_by P a b (whole n) = a
-minus_tag_by P a b (scaled n p) = b
 
 -- ---- the text
 
@@ -178,9 +168,9 @@ module _ (t : ℕ) (f : Bytes) where
     unfolding number_bytes
     whole_body q = rw (whole_in, ← q)
 
-    pub whole_checked : check_number t f ≡ (after (unless (eqb (length f) 8) R.Misplaced) λ _. unless (leb (number_of (take 8 f)) 9_007_199_254_740_991) R.NumberTooLarge)
+    pub whole_then : Then (check_number t f) (unless (eqb (length f) 8) R.Misplaced) (unless (leb (number_of (take 8 f)) 9_007_199_254_740_991) R.NumberTooLarge)
     unfolding check_number number_length in_range
-    whole_checked = rw (whole_in, ← h)
+    whole_then = record { then_is = rw (whole_in, ← h) refl }
 
   module _ (h : true ≡ has_places t) where
     pub scaled_in : number_in t f ≡ scaled (number_of (take 8 f)) (number_of (take 1 (drop 8 f)))
@@ -196,6 +186,6 @@ module _ (t : ℕ) (f : Bytes) where
     scaled_body {n} {p} a b l =
         rw (scaled_in, ← a, ← b) (ap (λ (x : ℕ). big_endian 8 n [] ++ (x ∷ [])) (sym (mod-eq_of_lt l)) ∙ sym (big_endian_append 8 n ((p % 256) ∷ [])))
 
-    pub scaled_checked : check_number t f ≡ (after (unless (eqb (length f) 9) R.Misplaced) λ _. unless (leb (number_of (take 8 f)) 999_999_999_999_999 && leb (number_of (take 1 (drop 8 f))) 15) R.NumberTooLarge)
+    pub scaled_then : Then (check_number t f) (unless (eqb (length f) 9) R.Misplaced) (unless (leb (number_of (take 8 f)) 999_999_999_999_999 && leb (number_of (take 1 (drop 8 f))) 15) R.NumberTooLarge)
     unfolding check_number number_length in_range
-    scaled_checked = rw (scaled_in, ← h)
+    scaled_then = record { then_is = rw (scaled_in, ← h) refl }

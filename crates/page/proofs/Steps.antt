@@ -9,7 +9,8 @@ use lib.ListN.{take, drop}
 use borrow.Author.Tests.{leb-true, eqb-true, eqb-false}
 use Rattle.field.specs.Bytes.{Bytes}
 use Rattle.field.specs.Row.{Row, end, loose, field, read, Ended, Inside, only_bytes, fields_after, counted, counted_front, inside, opened}
-use Rattle.field.specs.Front.{tag_of_front, body_of, behind_of}
+use Rattle.field.specs.Front.{body_of, behind_of}
+use Rattle.field.specs.Fields.{IsFront, IsEnd}
 use Rattle.field.proofs.FrontLaws.{read_at}
 use Rattle.std.specs.Prelude.{IsErr, IsErrAnd}
 use Rattle.std.proofs.lemmas.Result.{err_from_is_err_and}
@@ -67,14 +68,18 @@ inner only_bytes w = end
 inner (fields_after n) w = read (drop n w)
 inner (counted n) w = read (drop (counted_front n w) w)
 
-pub row_at : (s : Bytes) (t : ℕ) → t ≡ tag_of_front s → (t ≡ 256 → ⊥) → read s ≡ field t (front (inside t) (body_of s)) (inner (inside t) (body_of s)) (read (behind_of s))
+pub row_at : {s : Bytes} {t : ℕ} {w r : Bytes} → IsFront s t w r → read s ≡ field t (front (inside t) w) (inner (inside t) w) (read r)
 unfolding opened
-row_at s t e h = read_at s t e h ∙ on (inside t)
+row_at {s} {t} {w} {r} f = read_at s t f.tag_is (λ z. omega (arith, f.tag_below)) ∙ on (inside t)
   where
-    on : (c : Inside) → opened c read t (body_of s) (behind_of s) ≡ field t (front c (body_of s)) (inner c (body_of s)) (read (behind_of s))
-    on only_bytes = refl
-    on (fields_after n) = refl
-    on (counted n) = refl
+    on : (c : Inside) → opened c read t (body_of s) (behind_of s) ≡ field t (front c w) (inner c w) (read r)
+    on only_bytes = rw (f.body_is, f.behind_is)
+    on (fields_after n) = rw (f.body_is, f.behind_is)
+    on (counted n) = rw (f.body_is, f.behind_is)
+
+-- no field stands in front, and nothing is taken
+pub rests : {s r : Bytes} → IsEnd s r → IsEnd s s
+rests e = record { ended = e.ended; no_tag = e.no_tag; stays = refl }
 
 -- two ways to write what a body is checked by, the same where the tag may stand
 module _ (ok : Bool) (depth : ℕ) (b b' k : Verdict) (h : ok ≡ true → b ≡ b') where
@@ -95,10 +100,13 @@ module _ (ok : Bool) (depth : ℕ) (b b' k : Verdict) (h : ok ≡ true → b ≡
       on (Refused n) = refl
 
 -- two checks that agree where no field stands
-pub ended : (v w : Row → Verdict) → v end ≡ w end → ((b : Bytes) → v (loose b) ≡ w (loose b)) → (r : Row) → Ended r → v r ≡ w r
-ended v w e l end i = e
-ended v w e l (loose b) i = l b
-ended v w e l (field t f j r) i = absurd i
+pub ended : (v w : Row → Verdict) → v end ≡ w end → ((b : Bytes) → v (loose b) ≡ w (loose b)) → {s r : Bytes} → IsEnd s r → v (read r) ≡ w (read s)
+ended v w e l {s} {r} f = ap (λ (x : Bytes). v (read x)) f.stays ∙ on (read s) f.ended
+  where
+    on : (x : Row) → Ended x → v x ≡ w x
+    on end i = e
+    on (loose b) i = l b
+    on (field t g j x) i = absurd i
 
 -- ---- which tag it is
 

@@ -2,45 +2,35 @@
 ghost use Rattle.std.specs.Prelude.{◌≡◌};
 ghost use Rattle.page.specs.Check.{check_text, check_empty, check_boolean, check_source};
 
-use crate::Refusal;
+use crate::{Refusal, refuse_unless};
 use utf8::is_utf8;
 
+#[tactic(auto, unfolding(crate::specs::Check::check_text))]
 pub fn check_text(s: &[u8]) -> Result<(), Refusal>
     ensures { result ≡ check_text s.now }
 {
-    if is_utf8(s) {
-        return Ok(());
-    }
-    Err(Refusal::NotUtf8)
+    refuse_unless(is_utf8(s), Refusal::NotUtf8)
 }
 
+#[tactic(auto, unfolding(crate::specs::Check::check_empty))]
 pub fn check_empty(s: &[u8]) -> Result<(), Refusal>
     ensures { result ≡ check_empty s.now }
 {
-    if s.len() == 0 {
-        return Ok(());
-    }
-    Err(Refusal::Misplaced)
+    refuse_unless(s.is_empty(), Refusal::Misplaced)
 }
 
 // The import source.
+#[tactic(auto, unfolding(crate::specs::Check::check_source, crate::specs::Refusal::after))]
 pub fn check_source(s: &[u8]) -> Result<(), Refusal>
     ensures { result ≡ check_source s.now }
 {
-    if s.len() < 1 {
-        return Err(Refusal::Misplaced);
-    }
+    refuse_unless(!s.is_empty(), Refusal::Misplaced)?;
     check_text(s)
 }
 
+#[tactic(auto, unfolding(crate::specs::Check::check_boolean))]
 pub fn check_boolean(s: &[u8]) -> Result<(), Refusal>
     ensures { result ≡ check_boolean s.now }
 {
-    if s.len() != 1 {
-        return Err(Refusal::Misplaced);
-    }
-    if s[0] <= 1 {
-        return Ok(());
-    }
-    Err(Refusal::Misplaced)
+    refuse_unless(matches!(s, [0 | 1]), Refusal::Misplaced)
 }

@@ -4,7 +4,7 @@
 
 ghost use Rattle.std.specs.Prelude.{◌≡◌, ◌≤◌, true, OnOk};
 ghost use Rattle.page.specs.Check.{check_header};
-ghost use Rattle.page.specs.Refusal.{refusal_number};
+ghost use Rattle.page.specs.Refusal.{refusal_number, unless};
 
 pub mod element;
 pub mod leaf;
@@ -48,20 +48,26 @@ pub enum Refusal {
     PageTooSmall = 13,
 }
 
+// What one test says.
+fn refuse_unless(fits: bool, refusal: Refusal) -> Result<(), Refusal>
+    ensures { result ≡ unless fits refusal }
+{
+    if fits { Ok(()) } else { Err(refusal) }
+}
+
 // The depth of a field whose tag may stand there.
+#[tactic(auto, unfolding(crate::specs::Check::check_header, crate::specs::Refusal::after))]
 fn check_depth(depth: usize) -> Result<(), Refusal>
     ensures gives { result ≡ check_header true depth }
     ensures fits { OnOk result (depth ≤ 48) }
 {
-    if MAX_DEPTH < depth {
-        return Err(Refusal::TooDeep);
-    }
-    Ok(())
+    refuse_unless(depth <= MAX_DEPTH, Refusal::TooDeep)
 }
 
 impl From<Refusal> for u32 {
     ghost from_gives = { λ e n. n ≡ refusal_number e };
 
+    #[tactic(auto, unfolding(crate::specs::Refusal::refusal_number))]
     fn from(e: Refusal) -> u32 {
         e as u32
     }

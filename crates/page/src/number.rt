@@ -1,11 +1,11 @@
 // Number literals: 71 and 75 hold a whole number, 7A and 7B digits and places. All that depends on how a number is held stands here.
-ghost use Rattle.std.specs.Prelude.{◌≡◌, ◌+◌, ◌*◌, ◌^◌, ◌≤◌, ◌<◌, length, take, drop};
+ghost use Rattle.std.specs.Prelude.{◌≡◌, ◌+◌, ◌*◌, ◌^◌, ◌<◌, length, take, drop};
 ghost use Rattle.field.specs.Number.{number_of};
 ghost use Rattle.field.specs.Put.{Wrote};
-ghost use Rattle.page.specs.Number.{has_places, at_most_15, render, number_in, number_bytes};
+ghost use Rattle.page.specs.Number.{has_places, render, number_in, number_bytes};
 ghost use Rattle.page.specs.Check.{check_number};
 
-use crate::Refusal;
+use crate::{Refusal, refuse_unless};
 use field::writer::{put_byte, put_eight};
 use text::decimal::{put_decimal, put_shortest};
 
@@ -40,43 +40,32 @@ pub fn number_in(s: &[u8]) -> u64
 }
 
 // The byte behind the digits.
-fn places_in(s: &[u8]) -> usize
-    ensures { (result ≡ number_of (take 1 (drop 8 s.now))) × (result < 256) }
+fn places_in(s: &[u8]) -> u8
+    ensures { result ≡ number_of (take 1 (drop 8 s.now)) }
 {
-    if 8 < s.len() {
-        return s[8] as usize;
+    match s.get(8) {
+        Some(places) => *places,
+        None => 0,
     }
-    0
 }
 
 fn has_places(tag: usize) -> bool
     ensures { result ≡ has_places tag }
 {
-    matches!(tag, 0x7a..=0x7b)
+    matches!(tag, 0x7a | 0x7b)
 }
 
+// One test of the tag: a length by it, and then a range by it, take 5 % more in the check of a page of numbers.
 pub fn check_number(tag: usize, s: &[u8]) -> Result<(), Refusal>
     ensures { result ≡ check_number tag s.now }
 {
     if has_places(tag) {
-        if s.len() != 9 {
-            return Err(Refusal::Misplaced);
-        }
-        if MAX_DIGITS < number_in(s) {
-            return Err(Refusal::NumberTooLarge);
-        }
-        if MAX_PLACES < places_in(s) {
-            return Err(Refusal::NumberTooLarge);
-        }
-        return Ok(());
+        refuse_unless(s.len() == 9, Refusal::Misplaced)?;
+        let fits = number_in(s) <= MAX_DIGITS && usize::from(places_in(s)) <= MAX_PLACES;
+        return refuse_unless(fits, Refusal::NumberTooLarge);
     }
-    if s.len() != 8 {
-        return Err(Refusal::Misplaced);
-    }
-    if MAX_WHOLE < number_in(s) {
-        return Err(Refusal::NumberTooLarge);
-    }
-    Ok(())
+    refuse_unless(s.len() == 8, Refusal::Misplaced)?;
+    refuse_unless(number_in(s) <= MAX_WHOLE, Refusal::NumberTooLarge)
 }
 
 // As 000 writes it, without a minus.
@@ -86,7 +75,7 @@ pub fn put_number(out: &mut [u8], at: usize, tag: usize, s: &[u8]) -> usize
 {
     let n = number_in(s);
     if has_places(tag) {
-        return put_shortest(out, at, n, places_in(s).min(MAX_PLACES));
+        return put_shortest(out, at, n, usize::from(places_in(s)).min(MAX_PLACES));
     }
     put_decimal(out, at, n)
 }
@@ -98,7 +87,7 @@ pub fn put_number_bytes(out: &mut [u8], at: usize, tag: usize, s: &[u8]) -> usiz
 {
     let e = put_eight(out, at, number_in(s) as usize);
     if has_places(tag) {
-        return put_byte(out, e, places_in(s) as u8);
+        return put_byte(out, e, places_in(s));
     }
     e
 }

@@ -1,5 +1,5 @@
 -- The row at the front of bytes by `front_of` and `inner_of`: what a walk over printed fields learns from its readers.
--- Main statements: `read_front`, `read_field`, `read_by`, `not_ended`, `inner_less`, `front_length_within`, `counted_is`, `front_is`, `inner_is`.
+-- Main statements: `read_front`, `read_field`, `read_by`, `not_ended`, `inner_less`, `front_length_within`, `counted_is`, `front_is`, `inner_is`, `row_here`.
 -- Assumes nothing.
 use mathlib.Core.Path.{◌≡◌, refl, sym, ap, ◌∙◌, subst}
 use mathlib.Core.Bool.{Bool, true, false}
@@ -17,7 +17,8 @@ use Rattle.field.specs.Row.{Row, end, loose, field, Inside, only_bytes, fields_a
 use Rattle.field.specs.Front.{tag_of_front, body_of, behind_of, tag_by, body_by, behind_by}
 use Rattle.field.proofs.RowLaws.{read_step, read_nil}
 use Rattle.field.proofs.FrontLaws.{body_less}
-use Rattle.printing.specs.Front.{front_by, inner_by, front_of, inner_of, at_most, front_length}
+use Rattle.printing.specs.Card.{first_front}
+use Rattle.printing.specs.Front.{front_by, inner_by, front_in, inner_in, front_of, inner_of, at_most, front_length}
 
 -- ---- a field stands in front
 
@@ -146,14 +147,35 @@ inner_cut only_bytes w = drop-length w
 inner_cut (fields_after k) w = dropped_cut k w
 inner_cut (counted k) w = dropped_cut (counted_front k w) w
 
-module _ (s b : Bytes) (t n : ℕ) (eb : b ≡ body_of s) (et : t ≡ tag_of_front s) (en : n ≡ front_length (inside t) b) where
+module _ (t : ℕ) (b : Bytes) {n : ℕ} (en : n ≡ front_length (inside t) b) where
   pub front_fits : n ≤ length b
   front_fits = rw en (front_length_within (inside t) b)
 
-  pub front_is : take n b ≡ front_of s
-  unfolding front_of
-  front_is = ap (λ (k : ℕ). take k b) en ∙ front_cut (inside t) b ∙ rw (et, eb)
+  pub front_is : take n b ≡ front_in t b
+  front_is = ap (λ (k : ℕ). take k b) en ∙ front_cut (inside t) b
 
-  pub inner_is : take (length b - n) (drop n b) ≡ inner_of s
+  pub inner_is : take (length b - n) (drop n b) ≡ inner_in t b
+  inner_is = take_all (length b - n) (drop n b) (omega (arith, length-drop n b)) ∙ ap (λ (k : ℕ). drop k b) en ∙ inner_cut (inside t) b
+
+-- ---- of a field that a row gives
+
+module _ (s : Bytes) {t : ℕ} {w : Bytes} (et : t ≡ tag_of_front s) (ew : w ≡ body_of s) where
+  pub front_here : front_in t w ≡ front_of s
+  unfolding front_of
+  front_here = rw (et, ew)
+
+  pub inner_here : inner_in t w ≡ inner_of s
   unfolding inner_of
-  inner_is = take_all (length b - n) (drop n b) (omega (arith, length-drop n b)) ∙ ap (λ (k : ℕ). drop k b) en ∙ inner_cut (inside t) b ∙ rw (et, eb)
+  inner_here = rw (et, ew)
+
+  pub row_here : (t ≡ 256 → ⊥) → {r : Bytes} → r ≡ behind_of s → read s ≡ field t (front_in t w) (read (inner_in t w)) (read r)
+  row_here h er = read_field s t et h front_here inner_here er
+
+-- no field stands in front
+pub front_none : (s : Bytes) → Ended (read s) → [] ≡ front_of s
+front_none s i = none (read s) i ∙ read_by first_front refl (λ b. refl) s
+  where
+    none : (x : Row) → Ended x → [] ≡ first_front x
+    none end i = refl
+    none (loose b) i = refl
+    none (field t f j r) i = absurd i

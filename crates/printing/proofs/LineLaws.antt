@@ -1,5 +1,5 @@
 -- The lines, piece by piece: the import, the templates, the items.
--- Main statements: `helper_none`, `helper_later`, `helper_first`, `helpers_is`, `sum_field`, `sum_none`, `sum_loose`, `import_is`, `templates_at`, `templates_end`, `page_import`,
+-- Main statements: `helper_none`, `helper_later`, `helper_first`, `helpers_is`, `sum_field`, `sum_none`, `sum_loose`, `import_is`, `templates_on`, `templates_end`, `page_import`,
 -- `page_templates`, `page_empty`, `page_item`, `page_end`; beside them the room that the pieces have. Assumes nothing.
 use mathlib.Core.Path.{◌≡◌, refl, sym, ap, ◌∙◌}
 use mathlib.Core.Bool.{Bool, true, false, ◌||◌}
@@ -15,13 +15,14 @@ use Rattle.std.proofs.lemmas.Option.{unwrap_or-slice_get}
 use Rattle.field.specs.Bytes.{Bytes, ascii}
 use Rattle.field.specs.Number.{number_of, number_from}
 use Rattle.field.specs.Row.{Row, end, loose, field, read, Ended}
-use Rattle.field.specs.Front.{tag_of_front, behind_of}
+use Rattle.field.specs.Front.{behind_of}
 use Rattle.field.proofs.FrontLaws.{read_empty, read_torn}
 use Rattle.text.specs.Decimal.{decimal}
 use Rattle.page.specs.Tree.{choose}
-use Rattle.printing.specs.Front.{front_of, inner_of}
+use Rattle.field.specs.Fields.{IsFront}
+use Rattle.printing.specs.Front.{front_in, inner_in, front_of}
 use Rattle.printing.specs.Card.{quoted, template_name, parted_text, all_text, helper_text, odd, helpers_text, sum_behind, sum_in, import_text, templates_text, page_text}
-use Rattle.printing.proofs.FrontLaws.{read_field, read_by}
+use Rattle.printing.proofs.FrontLaws.{read_field, read_by, front_here, inner_here}
 use Rattle.printing.proofs.RoomLaws.{Left, left_room}
 use Rattle.printing.proofs.ByTag.{front_first}
 
@@ -67,8 +68,8 @@ module _ (s : Bytes) {b : Bytes} (e : b ≡ behind_of s) where
   sum_at : sum_behind (read b) ≡ sum_in (read s)
   sum_at = ap (λ (x : Bytes). sum_behind (read x)) e ∙ sym (sum_is s)
 
-  pub sum_field : (t : ℕ) → t ≡ tag_of_front b → (t ≡ 256 → ⊥) → 0 ≡ sum_in (read s)
-  sum_field t q h = sym (ap sum_behind (read_field b t q h refl refl refl)) ∙ sum_at
+  pub sum_field : {t : ℕ} {w r : Bytes} → IsFront b t w r → 0 ≡ sum_in (read s)
+  sum_field {t} f = sym (ap sum_behind (read_field b t f.tag_is (λ z. omega (arith, f.tag_below, z)) refl refl refl)) ∙ sum_at
 
   pub sum_none : length b ≡ 0 → 0 ≡ sum_in (read s)
   sum_none h = sym (ap sum_behind (read_empty b h)) ∙ sum_at
@@ -103,17 +104,21 @@ line_end d p r = simp append_assoc
 abbrev pub line : Bytes → Bytes → Bytes
 line w i = ascii "const " ++ (template_name w ++ (ascii " = [" ++ (parted_text (read i) ++ (93 ∷ 59 ∷ 10 ∷ []))))
 
-module _ (s : Bytes) (t : ℕ) (e : t ≡ tag_of_front s) (h : t ≡ 256 → ⊥) {w i : Bytes} (ew : w ≡ front_of s) (ei : i ≡ inner_of s) where
-  pub templates_at : {r : Bytes} → r ≡ behind_of s → templates_text (read s) ≡ line w i ++ templates_text (read r)
+module _ {s : Bytes} {t : ℕ} {b r : Bytes} (g : IsFront s t b r) {w i : Bytes} (ew : w ≡ front_in t b) (ei : i ≡ inner_in t b) where
+  row_is : read s ≡ field t w (read i) (read r)
+  row_is = read_field s t g.tag_is (λ z. omega (arith, g.tag_below, z)) (ew ∙ front_here s g.tag_is g.body_is) (ei ∙ inner_here s g.tag_is g.body_is) g.behind_is
+
+  pub templates_on : templates_text (read s) ≡ line w i ++ templates_text (read r)
   unfolding templates_text
-  templates_at {r} er = ap templates_text (read_field s t e h ew ei er) ∙ ap (λ (x : Bytes). ascii "const $$_tpl_" ++ x) (line_end (decimal (number_of (take 4 w))) (parted_text (read i)) (templates_text (read r)))
+  templates_on = ap templates_text row_is ∙ ap (λ (x : Bytes). ascii "const $$_tpl_" ++ x) (line_end (decimal (number_of (take 4 w))) (parted_text (read i)) (templates_text (read r)))
 
 length_line : (w i : Bytes) → length (line w i) ≡ 6 + (length (template_name w) + (4 + (length (parted_text (read i)) + 3)))
 length_line w i = omega (arith, length-append (decimal (number_of (take 4 w))) (ascii " = [" ++ (parted_text (read i) ++ (93 ∷ 59 ∷ 10 ∷ []))), length-append (parted_text (read i)) (93 ∷ 59 ∷ 10 ∷ []))
 
 -- the room of a turn of the loop
-pub templates_turn : {o₀ x o : Bytes} {n₀ n : ℕ} (t : Bytes) → Left o₀ n₀ x o n (templates_text (read t)) → (g : ℕ) → g ≡ tag_of_front t → (g ≡ 256 → ⊥) → {w i : Bytes} → w ≡ front_of t → i ≡ inner_of t → n + (6 + (length (template_name w) + (4 + (length (parted_text (read i)) + 3)))) < 2 ^ 63
-templates_turn t l g e h {w} {i} ew ei = omega (arith, left_room l (line w i) (templates_text (read (behind_of t))) (templates_at t g e h ew ei refl), length_line w i)
+pub templates_turn : {s : Bytes} {t : ℕ} {b r : Bytes} (g : IsFront s t b r) {w i : Bytes} (ew : w ≡ front_in t b) (ei : i ≡ inner_in t b) {o₀ x o : Bytes} {n₀ n : ℕ} → Left o₀ n₀ x o n (templates_text (read s))
+    → n + (6 + (length (template_name w) + (4 + (length (parted_text (read i)) + 3)))) < 2 ^ 63
+templates_turn g {w} {i} ew ei l = omega (arith, left_room l (line w i) _ (templates_on g ew ei), length_line w i)
 
 pub templates_end : (x : Row) → Ended x → templates_text x ≡ []
 unfolding templates_text
@@ -123,23 +128,22 @@ templates_end (field t f y r) i = absurd i
 
 -- ---- the page
 
-module _ (ts : Row) (s : Bytes) (t : ℕ) (e : t ≡ tag_of_front s) {i r : Bytes} (ei : i ≡ inner_of s) (er : r ≡ behind_of s) where
-  pub page_import : t ≡ 0x82 → page_text ts (read s) ≡ import_text (read i) ++ page_text ts (read r)
+module _ (ts : Row) {s : Bytes} {t : ℕ} {b r : Bytes} (g : IsFront s t b r) where
+  pub page_import : t ≡ 0x82 → {i : Bytes} → i ≡ inner_in t b → page_text ts (read s) ≡ import_text (read i) ++ page_text ts (read r)
   unfolding page_text choose
-  page_import k = ap (page_text ts) (read_field s 0x82 (sym k ∙ e) (λ z. omega arith) refl ei er)
+  page_import k {i} ei = ap (page_text ts) (row_is g refl ei) ∙ rw k
 
-  pub page_item : (t ≡ 0x82 → ⊥) → (t ≡ 0x83 → ⊥) → (t ≡ 0x13 → ⊥) → (t ≡ 256 → ⊥) → page_text ts (read s) ≡ (all_text (read i) ++ (10 ∷ [])) ++ page_text ts (read r)
-  unfolding page_text choose
-  page_item a b c h = ap (page_text ts) (read_field s t e h refl ei er) ∙ rw (ne_eqb t 0x82 a, ne_eqb t 0x83 b, ne_eqb t 0x13 c)
-
-module _ (ts : Row) (s : Bytes) (t : ℕ) (e : t ≡ tag_of_front s) {r : Bytes} (er : r ≡ behind_of s) where
   pub page_templates : t ≡ 0x83 → page_text ts (read s) ≡ templates_text ts ++ page_text ts (read r)
   unfolding page_text choose
-  page_templates k = ap (page_text ts) (read_field s 0x83 (sym k ∙ e) (λ z. omega arith) refl refl er)
+  page_templates k = ap (page_text ts) (row_is g refl refl) ∙ rw k
 
   pub page_empty : t ≡ 0x13 → page_text ts (read s) ≡ (59 ∷ 10 ∷ []) ++ page_text ts (read r)
   unfolding page_text choose
-  page_empty k = ap (page_text ts) (read_field s 0x13 (sym k ∙ e) (λ z. omega arith) refl refl er)
+  page_empty k = ap (page_text ts) (row_is g refl refl) ∙ rw k
+
+  pub page_item : (t ≡ 0x82 → ⊥) → (t ≡ 0x83 → ⊥) → (t ≡ 0x13 → ⊥) → {i : Bytes} → i ≡ inner_in t b → page_text ts (read s) ≡ (all_text (read i) ++ (10 ∷ [])) ++ page_text ts (read r)
+  unfolding page_text choose
+  page_item a d h {i} ei = ap (page_text ts) (row_is g refl ei) ∙ rw (ne_eqb t 0x82 a, ne_eqb t 0x83 d, ne_eqb t 0x13 h)
 
 pub page_end : (ts x : Row) → Ended x → page_text ts x ≡ []
 unfolding page_text

@@ -1,5 +1,5 @@
 -- Names with points between, and the number in a template's name.
--- Main statements: `pointed_at`, `pointed_more_at`, `pointed_end`, `pointed_more_end`, `four_long`, `four_short`. Assumes nothing.
+-- Main statements: `pointed_on`, `pointed_more_on`, `pointed_end`, `pointed_more_end`, `four_long`, `four_short`. Assumes nothing.
 use mathlib.Core.Path.{◌≡◌, refl, sym, ap, ◌∙◌}
 use Prim.Native.Nat.{ℕ, ◌≤◌, ◌<◌}
 use native.Mathlib.Omega.{arith}
@@ -9,19 +9,22 @@ use lib.Seq.{take_all, length-take-le}
 use Rattle.field.specs.Bytes.{Bytes}
 use Rattle.field.specs.Number.{number_of}
 use Rattle.field.specs.Row.{Row, end, loose, field, read, Ended}
-use Rattle.field.specs.Front.{tag_of_front, behind_of}
-use Rattle.printing.specs.Front.{front_of}
+use Rattle.field.specs.Fields.{IsFront}
+use Rattle.printing.specs.Front.{front_in, inner_in}
 use Rattle.printing.specs.Card.{pointed, pointed_more}
-use Rattle.printing.proofs.FrontLaws.{read_field}
+use Rattle.printing.proofs.FrontLaws.{row_here}
 
-module _ (s : Bytes) (t : ℕ) (e : t ≡ tag_of_front s) (h : t ≡ 256 → ⊥) {w r : Bytes} (ew : w ≡ front_of s) (er : r ≡ behind_of s) where
-  pub pointed_at : pointed (read s) ≡ w ++ pointed_more (read r)
+module _ {s : Bytes} {t : ℕ} {w r : Bytes} (g : IsFront s t w r) {f : Bytes} (e : f ≡ front_in t w) where
+  row_is : read s ≡ field t f (read (inner_in t w)) (read r)
+  row_is = row_here s g.tag_is g.body_is (λ z. omega (arith, g.tag_below, z)) g.behind_is ∙ ap (λ (x : Bytes). field t x (read (inner_in t w)) (read r)) (sym e)
+
+  pub pointed_on : pointed (read s) ≡ f ++ pointed_more (read r)
   unfolding pointed
-  pointed_at = ap pointed (read_field s t e h ew refl er)
+  pointed_on = ap pointed row_is
 
-  pub pointed_more_at : pointed_more (read s) ≡ (46 ∷ w) ++ pointed_more (read r)
+  pub pointed_more_on : pointed_more (read s) ≡ (46 ∷ f) ++ pointed_more (read r)
   unfolding pointed_more
-  pointed_more_at = ap pointed_more (read_field s t e h ew refl er)
+  pointed_more_on = ap pointed_more row_is
 
 pub pointed_end : (x : Row) → Ended x → pointed x ≡ []
 unfolding pointed

@@ -4,6 +4,7 @@ use Rattle.field.specs.Bytes.{Bytes, ascii, pick}
 use Rattle.field.specs.Number.{number_of}
 use Rattle.field.specs.Row.{Row, end, loose, field, read}
 use Rattle.text.specs.Decimal.{decimal}
+use Rattle.printing.specs.Front.{front_in, inner_in}
 use Rattle.page.specs.Number.{is_number, is_minus, number_in, render}
 use Rattle.page.specs.Tree.{choose, boolean_in}
 use Rattle.page.specs.Refusal.{refusal_number}
@@ -123,6 +124,13 @@ unfoldable mutual
   second_text end = []
   second_text (loose b) = []
   second_text (field t f i r) = first_text r
+
+-- the text of a field by its tag and its two parts, and by its tag and body
+abbrev pub text_of : ℕ → Bytes → Row → Bytes
+text_of t f i = text_by t f i (λ _. all_text i) (λ _. parted_text i) (λ _. behind_text i) (λ _. first_text i) (λ _. second_text i)
+
+abbrev pub field_text : ℕ → Bytes → Bytes
+field_text t w = text_of t (front_in t w) (read (inner_in t w))
 
 -- ---- lines
 

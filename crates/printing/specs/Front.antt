@@ -1,4 +1,4 @@
--- The body of the field at the front of bytes, in its two parts: bytes, and the fields behind them. Assumes nothing: these are definitions.
+-- The body of a field in its two parts: bytes, and the fields behind them. Assumes nothing: these are definitions.
 use Rattle.std.specs.Prelude.{ℕ, Bool, ◌&&◌, ◌||◌, [], leb, eqb, length, take, drop}
 use Rattle.field.specs.Bytes.{Bytes, pick}
 use Rattle.field.specs.Row.{Inside, only_bytes, fields_after, counted, counted_front, inside}
@@ -14,11 +14,19 @@ inner_by only_bytes w = []
 inner_by (fields_after n) w = drop n w
 inner_by (counted n) w = drop (counted_front n w) w
 
+-- of a field by its tag and body
+abbrev pub front_in : ℕ → Bytes → Bytes
+front_in t w = front_by (inside t) w
+
+abbrev pub inner_in : ℕ → Bytes → Bytes
+inner_in t w = inner_by (inside t) w
+
+-- of the field at the front of bytes
 unfoldable pub front_of : Bytes → Bytes
-front_of s = front_by (inside (tag_of_front s)) (body_of s)
+front_of s = front_in (tag_of_front s) (body_of s)
 
 unfoldable pub inner_of : Bytes → Bytes
-inner_of s = inner_by (inside (tag_of_front s)) (body_of s)
+inner_of s = inner_in (tag_of_front s) (body_of s)
 
 abbrev pub at_most : ℕ → ℕ → ℕ
 at_most k n = pick (leb k n) k n

@@ -3,37 +3,35 @@ ghost use Rattle.std.specs.Prelude.{◌≡◌, ◌+◌, ◌<◌, ◌^◌, length
 ghost use Rattle.field.specs.Put.{Wrote};
 ghost use Rattle.field.specs.Bytes.{ascii};
 ghost use Rattle.field.specs.Row.{read};
-ghost use Rattle.printing.specs.Card.{quoted, prop_name, template_name, first_front, second_front, all_text, parted_text, behind_text, first_text, second_text};
-ghost use Rattle.printing.specs.Front.{front_of, inner_of};
+ghost use Rattle.printing.specs.Card.{quoted, prop_name, template_name, first_front, second_front, all_text, parted_text, behind_text, first_text, second_text, field_text};
 
-use crate::front::{front, inner};
+use crate::front::{first_front, front, inner};
 use crate::name::{put_boolean, put_minus, put_pointed, put_template_name};
 use crate::quoted::{put_prop_name, put_quoted};
-use field::reader::{behind, tag_at};
+use field::reader::{Field, Fields, behind, field_at};
 use field::writer::{put_byte, put_bytes};
 use page::number::put_number;
 
-// The expression in front.
+// The expression of a field.
 #[cycle(print)]
-fn print_first(out: &mut [u8], at: usize, s: &[u8]) -> usize
-    requires { at + length (first_text (read s.now)) < 2 ^ 63 }
-    ensures { Wrote out.old at (first_text (read s.now)) out.new result }
+fn print_field(out: &mut [u8], at: usize, field: Field<'_>) -> usize
+    requires { at + length (field_text field.tag field.body.now) < 2 ^ 63 }
+    ensures { Wrote out.old at (field_text field.entry.tag field.entry.body.now) out.new result }
 {
-    let f = front(s);
-    let i = inner(s);
-    let t = tag_at(s);
-    match t {
+    let f = front(field);
+    let i = inner(field);
+    match field.tag {
         0x20 | 0x40 | 0x74 => put_bytes(out, at, f),
         0x41 => put_pointed(out, at, i),
         0x70 | 0x81 => put_quoted(out, at, f),
-        0x71 | 0x7a => put_number(out, at, t, f),
+        0x71 | 0x7a => put_number(out, at, usize::from(field.tag), f),
         0x72 => put_boolean(out, at, f),
         0x73 => put_bytes(out, at, b"null"),
-        0x75 | 0x7b => put_minus(out, at, t, f),
+        0x75 | 0x7b => put_minus(out, at, usize::from(field.tag), f),
         0x76 => print_between(out, at, b"[", i, b"]"),
         0x53 | 0x77 => print_spread(out, at, i),
         0x79 => print_all(out, at, i),
-        0x90 => print_template(out, at, s),
+        0x90 => print_template(out, at, f, i),
         0x91 => print_between(out, at, b"_jsxAttr(", i, b")"),
         0x92 => print_between(out, at, b"_jsxEscape(", i, b")"),
         0x93 => print_choice(out, at, i),
@@ -41,6 +39,18 @@ fn print_first(out: &mut [u8], at: usize, s: &[u8]) -> usize
         0x95 => print_between(out, at, b"{ ", i, b" }"),
         0x96 => print_prop(out, at, i),
         _ => at,
+    }
+}
+
+// The expression in front, where there is one.
+#[cycle(print)]
+fn print_first(out: &mut [u8], at: usize, s: &[u8]) -> usize
+    requires { at + length (first_text (read s.now)) < 2 ^ 63 }
+    ensures { Wrote out.old at (first_text (read s.now)) out.new result }
+{
+    match field_at(s) {
+        Some(field) => print_field(out, at, field),
+        None => at,
     }
 }
 
@@ -71,15 +81,15 @@ fn print_spread(out: &mut [u8], at: usize, s: &[u8]) -> usize
     print_first(out, a, s)
 }
 
-// The call of a template, by its field.
+// The call of a template, by the number in front and what it is called with.
 #[cycle(print)]
-fn print_template(out: &mut [u8], at: usize, s: &[u8]) -> usize
-    requires { at + length (ascii "_jsxTemplate(" ++ (template_name (front_of s.now) ++ (behind_text (read (inner_of s.now)) ++ (41 ∷ [])))) < 2 ^ 63 }
-    ensures { Wrote out.old at (ascii "_jsxTemplate(" ++ (template_name (front_of s.now) ++ (behind_text (read (inner_of s.now)) ++ (41 ∷ [])))) out.new result }
+fn print_template<'a>(out: &mut [u8], at: usize, f: &'a [u8], s: &'a [u8]) -> usize
+    requires { at + length (ascii "_jsxTemplate(" ++ (template_name f.now ++ (behind_text (read s.now) ++ (41 ∷ [])))) < 2 ^ 63 }
+    ensures { Wrote out.old at (ascii "_jsxTemplate(" ++ (template_name f.now ++ (behind_text (read s.now) ++ (41 ∷ [])))) out.new result }
 {
     let a = put_bytes(out, at, b"_jsxTemplate(");
-    let b = put_template_name(out, a, front(s));
-    let c = print_behind(out, b, inner(s));
+    let b = put_template_name(out, a, f);
+    let c = print_behind(out, b, s);
     put_byte(out, c, b')')
 }
 
@@ -91,7 +101,7 @@ fn print_choice(out: &mut [u8], at: usize, s: &[u8]) -> usize
 {
     let a = print_first(out, at, s);
     let b = put_bytes(out, a, b" ? ");
-    let c = put_quoted(out, b, front(behind(s)));
+    let c = put_quoted(out, b, first_front(behind(s)));
     put_bytes(out, c, b" : \"\"")
 }
 
@@ -101,7 +111,7 @@ fn print_prop(out: &mut [u8], at: usize, s: &[u8]) -> usize
     requires { at + length (prop_name (first_front (read s.now)) ++ (ascii ": " ++ second_text (read s.now))) < 2 ^ 63 }
     ensures { Wrote out.old at (prop_name (first_front (read s.now)) ++ (ascii ": " ++ second_text (read s.now))) out.new result }
 {
-    let a = put_prop_name(out, at, front(s));
+    let a = put_prop_name(out, at, first_front(s));
     let b = put_bytes(out, a, b": ");
     print_first(out, b, behind(s))
 }
@@ -113,10 +123,8 @@ pub fn print_all(out: &mut [u8], at: usize, s: &[u8]) -> usize
     ensures { Wrote out.old at (all_text (read s.now)) out.new result }
 {
     let mut a = at;
-    let mut t = s;
-    while tag_at(t) != 256 {
-        a = print_first(out, a, t);
-        t = behind(t);
+    for field in Fields(s) {
+        a = print_field(out, a, field);
     }
     a
 }
@@ -127,11 +135,12 @@ pub fn print_parted(out: &mut [u8], at: usize, s: &[u8]) -> usize
     requires { at + length (parted_text (read s.now)) < 2 ^ 63 }
     ensures { Wrote out.old at (parted_text (read s.now)) out.new result }
 {
-    if tag_at(s) == 256 {
+    let mut fields = Fields(s);
+    let Some(first) = fields.next() else {
         return at;
-    }
-    let a = print_first(out, at, s);
-    print_behind(out, a, behind(s))
+    };
+    let a = print_field(out, at, first);
+    print_behind(out, a, fields.0)
 }
 
 // With `, ` before each. A loop of its own beside `print_all`: one loop with an empty separator would state neither of the two definitions.
@@ -141,11 +150,9 @@ fn print_behind(out: &mut [u8], at: usize, s: &[u8]) -> usize
     ensures { Wrote out.old at (behind_text (read s.now)) out.new result }
 {
     let mut a = at;
-    let mut t = s;
-    while tag_at(t) != 256 {
+    for field in Fields(s) {
         let b = put_bytes(out, a, b", ");
-        a = print_first(out, b, t);
-        t = behind(t);
+        a = print_field(out, b, field);
     }
     a
 }

@@ -1,12 +1,12 @@
-// The body of the field at the front of a slice, in its two parts: bytes, and the fields behind them.
+// The body of a field in its two parts: bytes, and the fields behind them.
 ghost use Rattle.std.specs.Prelude.{◌≡◌};
 ghost use Rattle.field.specs.Row.{inside, counted};
-ghost use Rattle.printing.specs.Front.{front_of, inner_of, fields_alone, front_length};
+ghost use Rattle.printing.specs.Front.{front_in, inner_in, front_of, fields_alone, front_length};
 
-use field::reader::{body, tag_at};
+use field::reader::{Field, field_at};
 
 // Whether a body is fields alone.
-fn holds_fields(tag: usize) -> bool
+fn holds_fields(tag: u8) -> bool
     ensures { result ≡ fields_alone tag }
 {
     matches!(
@@ -30,7 +30,7 @@ fn holds_fields(tag: usize) -> bool
 }
 
 // How many bytes of a body stand before its fields: by the tag, as `inside` says.
-fn front_len(tag: usize, b: &[u8]) -> usize
+fn front_len(tag: u8, b: &[u8]) -> usize
     ensures { result ≡ front_length (inside tag) b.now }
 {
     let n = b.len();
@@ -55,18 +55,24 @@ fn counted_len(b: &[u8]) -> usize
     n.min(6 + count)
 }
 
-pub fn front(s: &[u8]) -> &[u8]
-    ensures { result.now ≡ front_of s.now }
+pub fn front(field: Field<'_>) -> &[u8]
+    ensures { result.now ≡ front_in field.entry.tag field.entry.body.now }
 {
-    let b = body(s);
-    let n = front_len(tag_at(s), b);
-    &b[..n]
+    &field.body[..front_len(field.tag, field.body)]
 }
 
-pub fn inner(s: &[u8]) -> &[u8]
-    ensures { result.now ≡ inner_of s.now }
+pub fn inner(field: Field<'_>) -> &[u8]
+    ensures { result.now ≡ inner_in field.entry.tag field.entry.body.now }
 {
-    let b = body(s);
-    let n = front_len(tag_at(s), b);
-    &b[n..]
+    &field.body[front_len(field.tag, field.body)..]
+}
+
+// The front of the first field, empty where there is none.
+pub fn first_front(s: &[u8]) -> &[u8]
+    ensures { result.now ≡ front_of s.now }
+{
+    match field_at(s) {
+        Some(field) => front(field),
+        None => &[],
+    }
 }

@@ -6,10 +6,10 @@ ghost use Rattle.field.specs.Row.{read};
 ghost use Rattle.printing.specs.Card.{odd, helper_text, helpers_text, sum_in, import_text, templates_text, page_text, all_text};
 
 use crate::expression::{print_all, print_parted};
-use crate::front::{front, inner};
+use crate::front::{first_front, front, inner};
 use crate::name::put_template_name;
 use crate::quoted::put_quoted;
-use field::reader::{behind, tag_at};
+use field::reader::{Fields, behind, field_at};
 use field::writer::{put_byte, put_bytes};
 
 // A helper by its own name and the name that the page calls it by.
@@ -63,10 +63,10 @@ fn sum_in(s: &[u8]) -> u8
     ensures { result ≡ sum_in (read s.now) }
 {
     let t = behind(s);
-    if tag_at(t) != 256 {
-        return 0;
+    match field_at(t) {
+        Some(_) => 0,
+        None => t.first().copied().unwrap_or(0),
     }
-    t.first().copied().unwrap_or(0)
 }
 
 // The import, by its body.
@@ -77,7 +77,7 @@ fn print_import(out: &mut [u8], at: usize, s: &[u8]) -> usize
     let a = put_bytes(out, at, b"import { ");
     let b = put_helpers(out, a, sum_in(s));
     let c = put_bytes(out, b, b" } from ");
-    let d = put_quoted(out, c, front(s));
+    let d = put_quoted(out, c, first_front(s));
     put_bytes(out, d, b";\n")
 }
 
@@ -87,14 +87,12 @@ fn print_templates(out: &mut [u8], at: usize, s: &[u8]) -> usize
     ensures { Wrote out.old at (templates_text (read s.now)) out.new result }
 {
     let mut a = at;
-    let mut t = s;
-    while tag_at(t) != 256 {
+    for template in Fields(s) {
         let b = put_bytes(out, a, b"const ");
-        let c = put_template_name(out, b, front(t));
+        let c = put_template_name(out, b, front(template));
         let d = put_bytes(out, c, b" = [");
-        let e = print_parted(out, d, inner(t));
+        let e = print_parted(out, d, inner(template));
         a = put_bytes(out, e, b"];\n");
-        t = behind(t);
     }
     a
 }
@@ -114,28 +112,13 @@ pub fn print_page<'a>(out: &mut [u8], at: usize, templates: &'a [u8], page: &'a 
     ensures { Wrote out.old at (page_text (read templates.now) (read page.now)) out.new result }
 {
     let mut a = at;
-    let mut t = page;
-    loop {
-        match tag_at(t) {
-            0x82 => {
-                a = print_import(out, a, inner(t));
-                t = behind(t);
-            }
-            0x83 => {
-                a = print_templates(out, a, templates);
-                t = behind(t);
-            }
-            0x13 => {
-                a = put_bytes(out, a, b";\n");
-                t = behind(t);
-            }
-            256 => {
-                return a;
-            }
-            _ => {
-                a = print_item(out, a, inner(t));
-                t = behind(t);
-            }
-        }
+    for item in Fields(page) {
+        a = match item.tag {
+            0x82 => print_import(out, a, inner(item)),
+            0x83 => print_templates(out, a, templates),
+            0x13 => put_bytes(out, a, b";\n"),
+            _ => print_item(out, a, inner(item)),
+        };
     }
+    a
 }

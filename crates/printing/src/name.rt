@@ -9,7 +9,7 @@ ghost use Rattle.printing.specs.Card.{pointed, template_name};
 
 use crate::front::front;
 use decisions::expr::boolean_in;
-use field::reader::{behind, tag_at};
+use field::reader::Fields;
 use field::writer::{put_byte, put_bytes};
 use page::number::{number_in, put_number};
 use text::decimal::put_decimal;
@@ -19,16 +19,14 @@ pub fn put_pointed(out: &mut [u8], at: usize, s: &[u8]) -> usize
     requires { at + length (pointed (read s.now)) < 2 ^ 63 }
     ensures { Wrote out.old at (pointed (read s.now)) out.new result }
 {
-    if tag_at(s) == 256 {
+    let mut names = Fields(s);
+    let Some(first) = names.next() else {
         return at;
-    }
-    let mut a = put_bytes(out, at, front(s));
-    let mut t = behind(s);
-    while tag_at(t) != 256 {
+    };
+    let mut a = put_bytes(out, at, front(first));
+    for name in names {
         let b = put_byte(out, a, b'.');
-        a = put_bytes(out, b, front(t));
-        let r = behind(t);
-        t = r;
+        a = put_bytes(out, b, front(name));
     }
     a
 }

@@ -7,6 +7,7 @@ ghost use Rattle.printing.specs.Card.{hex_digit, quoted_byte, quoted_bytes, quot
 
 use field::writer::{put_byte, put_bytes};
 
+// The library's from_digit answers an Option of a char, which would be unwrapped and cut to its byte again.
 fn hex_digit(n: u8) -> u8
     requires { n < 16 }
     ensures { result ≡ hex_digit n }

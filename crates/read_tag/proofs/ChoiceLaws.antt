@@ -1,24 +1,20 @@
 -- Which of the known it is, by the tests in their order. Main statements: `barred_number` and those beside it, `rest_other`,
 -- `unquoted_rest`, `unquoted_whole`, `unquoted_scaled`, `trimmed_true` to `trimmed_unquoted`, `known_trims`. Assumes nothing.
-use Prim.Native.Nat.{ℕ, ◌-◌, ◌≤◌, ◌<◌}
+use Prim.Native.Nat.{ℕ}
 use mathlib.Core.Path.{◌≡◌, refl, sym, ◌∙◌, ap, ap₂, subst}
 use mathlib.Core.Bool.{Bool, true, false, ◌&&◌, ◌||◌, not}
 use mathlib.Core.List.{[], ◌∷◌, ◌++◌}
-use native.Mathlib.Omega.{arith}
-use lib.Dec.{T, ltb, eqb}
-use lib.ListN.{length, take, drop, get_or, length-drop, drop_of_length-le}
-use lib.Seq.{take_all}
+use lib.Dec.{T, eqb}
+use lib.ListN.{length}
 use Rattle.std.specs.Prelude.{Option, None, Some}
 use Rattle.field.specs.Bytes.{Bytes, ascii, same}
-use Rattle.grammar.specs.Signs.{choose, some_byte, digit}
-use Rattle.grammar.specs.Known.{Known, whole, minus_whole, decimal, minus_decimal, quoted, boolean, null, other, value_from, is_whole, is_decimal, before_point, after_point, number_of, unsigned, has_minus, trimmed_front, string_of, digit_or_point, of_a_number, not_read, rest_of, or_else, known_trimmed, known_of}
+use Rattle.grammar.specs.Signs.{choose, some_byte}
+use Rattle.grammar.specs.Known.{Known, whole, minus_whole, decimal, minus_decimal, quoted, boolean, null, other, value_from, is_whole, is_decimal, before_point, after_point, number_of, unsigned, has_minus, trimmed_front, trimmed_end, string_of, digit_or_point, of_a_number, not_read, rest_of, or_else, known_trimmed, known_of}
 use Rattle.grammar.proofs.Tests.{chose, passed}
-use Rattle.read_tag.specs.Sources.{Trimmed}
-use Rattle.read_tag.specs.Knowns.{Numbered, Unsigned, signed_whole, signed_decimal, Quoted, barred, unquoted, Holding, Holds, HeldWhole, HeldDecimal}
+use Rattle.read_tag.specs.Knowns.{Numbered, signed_whole, signed_decimal, barred, unquoted, Holding, Holds, HeldWhole, HeldDecimal}
 use Rattle.read_tag.specs.declared.known.Held.{Held}
 use Rattle.read_tag.specs.declared.known.Numeral.{Numeral}
 use Rattle.read_tag.specs.declared.known.Numeral.TheVariants as N
-use Rattle.read_tag.proofs.RunLaws.{next}
 
 yes : (b : Bool) → b ≡ true → T b
 yes b e = subst T (sym e) tt
@@ -31,45 +27,27 @@ no b e = subst (λ (z : Bool). T (not z)) (sym e) tt
 tests : Bool → Bool → Bool → Bool
 tests a b c = a || (b && c)
 
+-- by the tests in their order
 module _ (s : Bytes) (a : Bool) (e : a ≡ some_byte not_read s) where
   by_bars : tests a (digit_or_point (unsigned s)) (some_byte of_a_number s) ≡ barred s
   unfolding tests barred
   by_bars = ap (λ (z : Bool). z || (digit_or_point (unsigned s) && some_byte of_a_number s)) e
 
-  pub barred_sign : a ≡ true → true ≡ barred s
+  pub barred_sign : a ≡ true → a ≡ barred s
   unfolding tests
-  barred_sign t = sym (ap (λ (z : Bool). tests z (digit_or_point (unsigned s)) (some_byte of_a_number s)) t) ∙ by_bars
+  barred_sign t = t ∙ sym (ap (λ (z : Bool). tests z (digit_or_point (unsigned s)) (some_byte of_a_number s)) t) ∙ by_bars
 
-  module _ (f : a ≡ false) (u : ℕ) (m : Unsigned s u) where
-    by_first : (b : Bool) → digit_or_point (unsigned s) ≡ b → tests false b (some_byte of_a_number s) ≡ barred s
-    by_first b g = sym (ap₂ (λ (x y : Bool). tests x y (some_byte of_a_number s)) f g) ∙ by_bars
+  module _ (f : a ≡ false) (b : Bool) (g : b ≡ digit_or_point (unsigned s)) where
+    by_first : (c : Bool) → b ≡ c → tests false c (some_byte of_a_number s) ≡ barred s
+    by_first c h = ap₂ (λ (x y : Bool). tests x y (some_byte of_a_number s)) (sym f) (sym h ∙ g) ∙ by_bars
 
-    pub barred_none : length s ≤ u → false ≡ barred s
-    unfolding tests digit_or_point
-    barred_none l = by_first false (ap digit_or_point (sym m.rest ∙ drop_of_length-le s l))
+    pub barred_other : b ≡ false → b ≡ barred s
+    unfolding tests
+    barred_other h = h ∙ by_first false h
 
-    module _ (l : u < length s) (d : Bool) (g : d ≡ digit (get_or s u 0)) where
-      first_is : digit_or_point (unsigned s) ≡ (d || eqb (get_or s u 0) 46)
-      unfolding digit_or_point
-      first_is = ap digit_or_point (sym m.rest ∙ next s u l) ∙ ap (λ (z : Bool). z || eqb (get_or s u 0) 46) (sym g)
-
-      neither : (x y : Bool) → (not x && not y) ≡ true → (x || y) ≡ false
-      neither true y z = sym z
-      neither false true z = sym z
-      neither false false z = refl
-
-      either : (x y : Bool) → (not x && not y) ≡ false → (x || y) ≡ true
-      either true y z = refl
-      either false true z = refl
-      either false false z = sym z
-
-      pub barred_other : (not d && not (eqb (get_or s u 0) 46)) ≡ true → false ≡ barred s
-      unfolding tests
-      barred_other z = by_first false (first_is ∙ neither d (eqb (get_or s u 0) 46) z)
-
-      pub barred_number : (b : Bool) → (not d && not (eqb (get_or s u 0) 46)) ≡ false → b ≡ some_byte of_a_number s → b ≡ barred s
-      unfolding tests
-      barred_number b z h = h ∙ by_first true (first_is ∙ either d (eqb (get_or s u 0) 46) z)
+    pub barred_number : b ≡ true → (c : Bool) → c ≡ some_byte of_a_number s → c ≡ barred s
+    unfolding tests
+    barred_number h c k = k ∙ by_first true h
 
 -- ---- the rest
 
@@ -128,31 +106,31 @@ module _ (s : Bytes) where
   signed_of_decimal w d true e = of_decimal (unsigned s) minus_whole minus_decimal w d
   signed_of_decimal w d false e = unsigned_plain e ∙ of_decimal (unsigned s) whole decimal w d
 
-  module _ (u : ℕ) (m : Unsigned s u) (r : Option Numeral) (y : Numbered (take (length s - u) (drop u s)) r) (o : Bytes) (at : ℕ) (o' : Bytes) where
+  module _ (m : Bool) (e : m ≡ has_minus s) (w : Bytes) (f : w ≡ unsigned s) (r : Option Numeral) (y : Numbered w r) (o : Bytes) (at : ℕ) (o' : Bytes) where
     numbered : (q : Option Numeral) → r ≡ q → Numbered (unsigned s) q
-    numbered q e = subst (Numbered (unsigned s)) e (subst (λ (w : Bytes). Numbered w r) (take_all (length s - u) (drop u s) (omega (arith, length-drop u s)) ∙ m.rest) y)
+    numbered q g = subst (Numbered (unsigned s)) g (subst (λ (v : Bytes). Numbered v r) f y)
 
     pub unquoted_rest : (h : Option Held) → r ≡ None → Holds (rest_of s) o at o' h → Holds (unquoted s) o at o' h
     unfolding or_else Numbered
-    unquoted_rest h e k =
-        let n = numbered None e in
+    unquoted_rest h g k =
+        let n = numbered None g in
         subst (λ (z : Option Known). Holds z o at o' h) (sym (is_signed ∙ ap (λ (z : Option Known). or_else z (rest_of s)) (signed_none n.0 n.1 (has_minus s) refl))) k
 
-    pub unquoted_whole : (h : Held) (v : ℕ) → r ≡ Some (N.Whole v) → HeldWhole (ltb 0 u) v o at o' h → Holds (unquoted s) o at o' (Some h)
+    pub unquoted_whole : (h : Held) (v : ℕ) → r ≡ Some (N.Whole v) → HeldWhole m v o at o' h → Holds (unquoted s) o at o' (Some h)
     unfolding or_else Numbered HeldWhole Holds
-    unquoted_whole h v e k =
-        let n = numbered (Some (N.Whole v)) e in
-        let x : Holding (signed_whole (has_minus s) (value_from 0 (unsigned s))) o at o' h = subst (λ (b : Bool). Holding (signed_whole b (value_from 0 (unsigned s))) o at o' h) m.sign (k (value_from 0 (unsigned s)) n.1) in
+    unquoted_whole h v g k =
+        let n = numbered (Some (N.Whole v)) g in
+        let x : Holding (signed_whole (has_minus s) (value_from 0 (unsigned s))) o at o' h = subst (λ (b : Bool). Holding (signed_whole b (value_from 0 (unsigned s))) o at o' h) e (k (value_from 0 (unsigned s)) n.1) in
         subst (λ (z : Option Known). Holds z o at o' (Some h)) (sym (is_signed ∙ ap (λ (z : Option Known). or_else z (rest_of s)) (signed_of_whole n.0 (has_minus s) refl))) x
 
-    pub unquoted_scaled : (h : Held) (v p : ℕ) → r ≡ Some (N.Scaled v p) → HeldDecimal (ltb 0 u) v p o at o' h → Holds (unquoted s) o at o' (Some h)
+    pub unquoted_scaled : (h : Held) (v p : ℕ) → r ≡ Some (N.Scaled v p) → HeldDecimal m v p o at o' h → Holds (unquoted s) o at o' (Some h)
     unfolding or_else Numbered HeldDecimal Holds
-    unquoted_scaled h v p e k =
-        let n = numbered (Some (N.Scaled v p)) e in
+    unquoted_scaled h v p g k =
+        let n = numbered (Some (N.Scaled v p)) g in
         let c : ℕ = value_from 0 (before_point (unsigned s) ++ after_point (unsigned s)) in
-        let x : Holding (signed_decimal (ltb 0 u) c p) o at o' h = k c n.2 in
-        let y : Holding (signed_decimal (has_minus s) c (length (after_point (unsigned s)))) o at o' h = subst (λ (q : ℕ). Holding (signed_decimal (has_minus s) c q) o at o' h) n.3 (subst (λ (b : Bool). Holding (signed_decimal b c p) o at o' h) m.sign x) in
-        subst (λ (z : Option Known). Holds z o at o' (Some h)) (sym (is_signed ∙ ap (λ (z : Option Known). or_else z (rest_of s)) (signed_of_decimal n.0 n.1 (has_minus s) refl))) y
+        let x : Holding (signed_decimal m c p) o at o' h = k c n.2 in
+        let z : Holding (signed_decimal (has_minus s) c (length (after_point (unsigned s)))) o at o' h = subst (λ (q : ℕ). Holding (signed_decimal (has_minus s) c q) o at o' h) n.3 (subst (λ (b : Bool). Holding (signed_decimal b c p) o at o' h) e x) in
+        subst (λ (z : Option Known). Holds z o at o' (Some h)) (sym (is_signed ∙ ap (λ (z : Option Known). or_else z (rest_of s)) (signed_of_decimal n.0 n.1 (has_minus s) refl))) z
 
 -- ---- the tests in their order
 
@@ -193,24 +171,15 @@ module _ (s o : Bytes) (at : ℕ) (o' : Bytes) (h : Option Held) where
         unfolding cascade choose
         is_left = by_two false c
 
-        pub trimmed_string : (t : Bool) → Quoted s t → t ≡ true → Holds (Some (quoted (take (length s - 1 - 1) (drop 1 s)))) o at o' h → Holds (known_trimmed s) o at o' h
-        unfolding Quoted left or_else
-        trimmed_string t q e =
-            let y : Quoted s true = subst (Quoted s) e q in
-            is (Some (quoted (take (length s - 1 - 1) (drop 1 s)))) (sym (ap (λ (z : Option Known). or_else z (unquoted s)) y.1) ∙ is_left)
+        pub trimmed_string : {w : Bytes} → string_of s ≡ Some (quoted w) → Holds (Some (quoted w)) o at o' h → Holds (known_trimmed s) o at o' h
+        unfolding left or_else
+        trimmed_string {w} e = is (Some (quoted w)) (sym (ap (λ (z : Option Known). or_else z (unquoted s)) e) ∙ is_left)
 
-        pub trimmed_unquoted : (t : Bool) → Quoted s t → t ≡ false → Holds (unquoted s) o at o' h → Holds (known_trimmed s) o at o' h
-        unfolding Quoted left or_else
-        trimmed_unquoted t q e =
-            let y : Quoted s false = subst (Quoted s) e q in
-            is (unquoted s) (sym (ap (λ (z : Option Known). or_else z (unquoted s)) y) ∙ is_left)
+        pub trimmed_unquoted : string_of s ≡ None → Holds (unquoted s) o at o' h → Holds (known_trimmed s) o at o' h
+        unfolding left or_else
+        trimmed_unquoted e = is (unquoted s) (sym (ap (λ (z : Option Known). or_else z (unquoted s)) e) ∙ is_left)
 
-pub string_long : (s : Bytes) (t : Bool) → Quoted s t → t ≡ true → 2 ≤ length s
-unfolding Quoted
-string_long s t q e =
-    let y : Quoted s true = subst (Quoted s) e q in
-    y.0
-
-pub known_trims : (s : Bytes) (i e k : ℕ) (o : Bytes) (at : ℕ) (o' : Bytes) (h : Option Held) → Trimmed s i e k → Holds (known_trimmed (take (k - i) (drop i s))) o at o' h → Holds (known_of (take (e - i) (drop i s))) o at o' h
+-- w is s without the white space at its end
+pub known_trims : (s w o : Bytes) (at : ℕ) (o' : Bytes) (h : Option Held) → w ≡ trimmed_end s → Holds (known_trimmed w) o at o' h → Holds (known_of s) o at o' h
 unfolding known_of
-known_trims s i e k o at o' h u y = subst (λ (w : Bytes). Holds (known_trimmed w) o at o' h) (sym u.same) y
+known_trims s w o at o' h e y = subst (λ (v : Bytes). Holds (known_trimmed v) o at o' h) e y

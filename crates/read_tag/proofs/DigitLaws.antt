@@ -2,13 +2,15 @@
 -- `counting_stops`, `number_whole`, `number_decimal` and those beside them. Assumes nothing.
 use Prim.Native.Nat.{ℕ, ◌+◌, ◌-◌, ◌*◌, ◌^◌, ◌≤◌, ◌<◌}
 use mathlib.Core.Path.{◌≡◌, refl, sym, ◌∙◌, ap, ap₂, subst}
-use mathlib.Core.Bool.{Bool, true, false, ◌&&◌, not, false≢true, and-false}
+use mathlib.Core.Bool.{Bool, true, false, ◌&&◌, ◌||◌, not, false≢true, and-false}
 use mathlib.Core.List.{[], ◌∷◌, ◌++◌, append-nil}
+use mathlib.Core.Logic.{◌⊎◌, inl, inr}
 use native.Mathlib.Omega.{arith}
+use native.Mathlib.Numerals.{add-one}
 use borrow.Author.Tests.{leb-true, leb-false, lt-ltb, ltb-true, eq-eqb, eqb-true, not-false}
-use lib.Dec.{T, leb, ltb, eqb, eqb→eq, not_T}
+use lib.Dec.{T, leb, ltb, eqb, eqb→eq, nltb→le, not_T}
 use lib.ListN.{length, take, drop, get_or, length-drop, drop_of_length-le}
-use lib.Seq.{take_all, length-take-le, get_or-take}
+use lib.Seq.{take-suc, take_all, length-take-le, get_or-take}
 use Rattle.std.specs.Prelude.{Some, None}
 use Rattle.field.specs.Bytes.{Bytes}
 use Rattle.grammar.specs.Signs.{choose, each, digit}
@@ -19,10 +21,8 @@ use Rattle.grammar.proofs.Letters.{run_is}
 use Rattle.read_tag.specs.Knowns.{Capped, Counted, Numbered}
 use Rattle.read_tag.specs.declared.known.Digits.{Digits}
 use Rattle.read_tag.specs.declared.known.Numeral.TheVariants as N
-use Rattle.read_tag.proofs.RunLaws.{Running, running_none, tested_on, tested_stops, ran_out}
-use Rattle.read_tag.proofs.RunLaws.{next}
+use Rattle.read_tag.proofs.RunLaws.{next, Running, running_none, tested_on, tested_stops, ran_out}
 use Rattle.read_tag.proofs.TextLaws.{run_end}
-use Rattle.read_tag.proofs.KnownLaws.{take_more}
 
 -- ---- values
 
@@ -57,9 +57,9 @@ capped_then x v y w a b =
 
 -- ---- the loop
 
-pub record Counting (s : Bytes) (k n i v : ℕ) : Type 0 where
-  pub run : Running digit s k i
-  pub value : Capped (value_from n (take (i - k) (drop k s))) v
+pub record Counting (s : Bytes) (n i v : ℕ) : Type 0 where
+  pub run : Running digit s 0 i
+  pub value : Capped (value_from n (take i s)) v
 
 digit_small : (c : ℕ) (b : Bool) → b ≡ digit c → not b ≡ false → (48 ≤ c) × (c ≤ 57)
 unfolding digit
@@ -70,47 +70,49 @@ digit_small c b e f = on (leb 48 c) refl (leb c 57) refl (sym e ∙ not-false b 
     on true p false q z = absurd (false≢true (sym (ap₂ ◌&&◌ p q) ∙ z))
     on false p y q z = absurd (false≢true (sym (ap (λ (t : Bool). t && leb c 57) p) ∙ z))
 
-module _ (s : Bytes) (k n : ℕ) where
-  pub counting_none : k ≤ length s → n < 2 ^ 60 → Counting s k n k n
+module _ (s : Bytes) (n : ℕ) where
+  pub counting_none : n < 2 ^ 60 → Counting s n 0 n
   unfolding value_from
-  counting_none h l =
-      let z : k - k ≡ 0 = omega arith in
-      let e : n ≡ value_from n (take (k - k) (drop k s)) = ap (λ (m : ℕ). value_from n (take m (drop k s))) (sym z) in
-      record { run = running_none digit s k h; value = record { small = λ g. e; large = λ g. omega arith; low = l } }
+  counting_none l = record { run = running_none digit s 0 (omega arith); value = record { small = λ g. refl; large = λ g. omega arith; low = l } }
 
-  module _ (i v : ℕ) (u : Counting s k n i v) (h : i < length s) (b : Bool) (e : b ≡ digit (get_or s i 0)) where
-    pub counting_stops : not b ≡ true → Counted s k n record { end = i; value = v }
-    counting_stops f = record { ran = tested_stops digit s k i b u.run h e f; value = u.value }
+  module _ (i v : ℕ) (u : Counting s n i v) (h : i < length s) (b : Bool) (e : b ≡ digit (get_or s i 0)) where
+    pub counting_stops : not b ≡ true → Counted s n record { count = i; value = v }
+    counting_stops f = record { ran = tested_stops digit s 0 i b u.run h e f; value = u.value }
 
     module _ (f : not b ≡ false) where
-      pub counting_digit : (48 ≤ get_or s i 0) × (get_or s i 0 ≤ 57)
+      counting_digit : (48 ≤ get_or s i 0) × (get_or s i 0 ≤ 57)
       counting_digit = digit_small (get_or s i 0) b e f
 
-      grown : value_from n (take (i + 1 - k) (drop k s)) ≡ value_from n (take (i - k) (drop k s)) * 10 + (get_or s i 0 - 48)
+      grown : value_from n (take (i + 1) s) ≡ value_from n (take i s) * 10 + (get_or s i 0 - 48)
       unfolding value_from
-      grown = ap (value_from n) (take_more s k i u.run.after h) ∙ value_append n (take (i - k) (drop k s)) (get_or s i 0 ∷ [])
+      grown = ap (λ (m : ℕ). value_from n (take m s)) (add-one i) ∙ ap (value_from n) (take-suc s i 0 h) ∙ value_append n (take i s) (get_or s i 0 ∷ [])
 
       -- past the limit
-      pub counting_more : 9_007_199_254_740_991 < v → Counting s k n (i + 1) v
+      pub counting_more : 9_007_199_254_740_991 < v → Counting s n (i + 1) v
       counting_more l =
-          let g : 9_007_199_254_740_991 < value_from n (take (i - k) (drop k s)) = u.value.large l in
+          let g : 9_007_199_254_740_991 < value_from n (take i s) = u.value.large l in
           record {
-            run = tested_on digit s k i b u.run h e f;
+            run = tested_on digit s 0 i b u.run h e f;
             value = record { small = λ m. absurd (omega arith); large = λ m. omega (arith, grown); low = u.value.low };
           }
 
-      pub counting_on : v ≤ 9_007_199_254_740_991 → Counting s k n (i + 1) (v * 10 + (get_or s i 0 - 48))
+      pub counting_on : v ≤ 9_007_199_254_740_991 → Counting s n (i + 1) (v * 10 + (get_or s i 0 - 48))
       counting_on l =
-          let g : v ≡ value_from n (take (i - k) (drop k s)) = u.value.small l in
+          let g : v ≡ value_from n (take i s) = u.value.small l in
           let d = counting_digit in
-          let w : v * 10 + (get_or s i 0 - 48) ≡ value_from n (take (i + 1 - k) (drop k s)) = omega (arith, grown) in
+          let w : v * 10 + (get_or s i 0 - 48) ≡ value_from n (take (i + 1) s) = omega (arith, grown) in
           record {
-            run = tested_on digit s k i b u.run h e f;
+            run = tested_on digit s 0 i b u.run h e f;
             value = record { small = λ m. w; large = λ m. omega arith; low = omega arith };
           }
 
-  pub counting_out : (i v : ℕ) → Counting s k n i v → length s ≤ i → Counted s k n record { end = i; value = v }
-  counting_out i v u l = record { ran = ran_out digit s k i u.run l; value = u.value }
+  pub counting_out : (i v : ℕ) → Counting s n i v → length s ≤ i → Counted s n record { count = i; value = v }
+  counting_out i v u l = record { ran = ran_out digit s 0 i u.run l; value = u.value }
+
+  counted_run : (a : Digits) → Counted s n a → Run digit s (take a.count s) (drop a.count s)
+  counted_run a u =
+      let z : a.count - 0 ≡ a.count = omega arith in
+      subst (λ (m : ℕ). Run digit s (take m s) (drop a.count s)) z u.ran.run
 
 -- ---- digits in front of something else
 
@@ -213,130 +215,145 @@ unfolding is_empty_text
 not_empty [] l = absurd (omega arith)
 not_empty (c ∷ y) l = refl
 
-module _ (s : Bytes) (a : Digits) (u : Counted s 0 0 a) where
+some : (a b : Bool) → (a || b) ≡ true → (a ≡ true) ⊎ (b ≡ true)
+some true b e = inl refl
+some false b e = inr e
+
+neither : (a b : Bool) → (a || b) ≡ false → (a ≡ false) × (b ≡ false)
+neither true b e = cc
+neither false b e = (refl, e)
+
+module _ (s : Bytes) (a : Digits) (u : Counted s 0 a) where
   front : Bytes
-  front = take (a.end - 0) (drop 0 s)
+  front = take a.count s
 
-  front_length : length front ≡ a.end
+  front_length : length front ≡ a.count
   unfolding front
-  front_length =
-      let z : a.end - 0 ≡ a.end = omega arith in
-      length-take-le (a.end - 0) (drop 0 s) (omega (arith, u.ran.inside)) ∙ z
+  front_length = length-take-le a.count s u.ran.inside
 
-  front_run : Run digit s front (drop a.end s)
+  front_run : Run digit s front (drop a.count s)
   unfolding front
-  front_run = u.ran.run
+  front_run = counted_run s 0 a u
 
-  front_first : (a.end ≡ 0 → ⊥) → get_or front 0 0 ≡ get_or s 0 0
+  front_first : (a.count ≡ 0 → ⊥) → get_or front 0 0 ≡ get_or s 0 0
   unfolding front
-  front_first n = get_or-take (a.end - 0) (drop 0 s) 0 0 (omega arith)
+  front_first n = get_or-take a.count s 0 0 (omega arith)
 
-  pub number_none : a.end ≡ 0 → Numbered s None
+  pub number_none : a.count ≡ 0 → Numbered s None
   unfolding Numbered
   number_none e = none_front s (subst (λ (k : ℕ). Ends digit (drop k s)) e (run_end u.ran.run))
 
-  pub number_zero : (eqb (get_or s 0 0) 48 && ltb 1 a.end) ≡ true → Numbered s None
+  pub number_zero : (eqb (get_or s 0 0) 48 && ltb 1 a.count) ≡ true → Numbered s None
   unfolding Numbered
   number_zero z =
-      let b = both (eqb (get_or s 0 0) 48) (ltb 1 a.end) z in
-      let l : 1 < a.end = ltb-true 1 a.end b.1 in
+      let b = both (eqb (get_or s 0 0) 48) (ltb 1 a.count) z in
+      let l : 1 < a.count = ltb-true 1 a.count b.1 in
       let m : 2 ≤ length front = omega (arith, front_length) in
       let e : get_or front 0 0 ≡ 48 = front_first (λ q. omega arith) ∙ eqb-true (get_or s 0 0) 48 b.0 in
-      (ap is_whole (run_is front_run) ∙ zero_whole front (drop a.end s) m e, no_decimal s (ap is_whole (before_front front_run) ∙ zero_whole front (before_point (drop a.end s)) m e))
+      (ap is_whole (run_is front_run) ∙ zero_whole front (drop a.count s) m e, no_decimal s (ap is_whole (before_front front_run) ∙ zero_whole front (before_point (drop a.count s)) m e))
 
-  module _ (n : a.end ≡ 0 → ⊥) (z : (eqb (get_or s 0 0) 48 && ltb 1 a.end) ≡ false) where
+  -- w is what follows them
+  module _ (n : a.count ≡ 0 → ⊥) (z : (eqb (get_or s 0 0) 48 && ltb 1 a.count) ≡ false) (w : Bytes) (e : w ≡ drop a.count s) where
     front_whole : is_whole front ≡ true
     unfolding each
     front_whole =
         whole_is front (ap (each digit) (sym (append-nil front)) ∙ each_front front_run []) (λ q. n (sym front_length ∙ q))
         (ap₂ (λ (x y : ℕ). eqb x 48 && ltb 1 y) (front_first n) front_length ∙ z)
 
-    pub number_whole : length s ≤ a.end → Numbered s (Some (N.Whole a.value))
+    pub number_whole : length w < 1 → Numbered s (Some (N.Whole a.value))
     unfolding Numbered front
     number_whole l =
-        let e : front ≡ s = take_all (a.end - 0) (drop 0 s) (omega arith) in
-        (ap is_whole (sym e) ∙ front_whole, subst (λ (w : Bytes). Capped (value_from 0 w) a.value) e u.value)
+        let q : front ≡ s = take_all a.count s (omega (arith, length-drop a.count s, ap length e)) in
+        (ap is_whole (sym q) ∙ front_whole, subst (λ (v : Bytes). Capped (value_from 0 v) a.value) q u.value)
 
-    module _ (l : a.end < length s) where
-      rest : Bytes
-      rest = drop (a.end + 1) s
+    module _ (l : 1 ≤ length w) where
+      first_apart : w ≡ get_or w 0 0 ∷ drop 1 w
+      first_apart = next w 0 (omega arith)
 
-      no_digit : T (not (digit (get_or s a.end 0)))
+      no_digit : T (not (digit (get_or w 0 0)))
       unfolding Ends
-      no_digit = subst (Ends digit) (next s a.end l) (run_end front_run)
+      no_digit = subst (Ends digit) (sym e ∙ first_apart) (run_end front_run)
 
       no_whole : is_whole s ≡ false
-      no_whole = whole_each s (ap (each digit) (run_is front_run ∙ ap (λ (y : Bytes). front ++ y) (next s a.end l)) ∙ each_front front_run (get_or s a.end 0 ∷ drop (a.end + 1) s) ∙ other_each (get_or s a.end 0) (drop (a.end + 1) s) no_digit)
+      no_whole = whole_each s (ap (each digit) (run_is front_run ∙ ap (λ (y : Bytes). front ++ y) (sym e ∙ first_apart)) ∙ each_front front_run (get_or w 0 0 ∷ drop 1 w) ∙ other_each (get_or w 0 0) (drop 1 w) no_digit)
 
-      pub number_other : (get_or s a.end 0 ≡ 46 → ⊥) → Numbered s None
+      before_is : before_point s ≡ front ++ before_point w
+      before_is = before_front front_run ∙ ap (λ (y : Bytes). front ++ before_point y) (sym e)
+
+      pub number_other : (get_or w 0 0 ≡ 46 → ⊥) → Numbered s None
       unfolding Numbered before_point
       number_other m =
-          let c : ℕ = get_or s a.end 0 in
-          let x : Bytes = drop (a.end + 1) s in
+          let c : ℕ = get_or w 0 0 in
+          let x : Bytes = drop 1 w in
           let t : T (not (eqb c 46)) = not_T (eqb c 46) (λ q. m (eqb→eq c 46 q)) in (
             no_whole,
             no_decimal s
-                (ap is_whole (before_front front_run ∙ ap (λ (y : Bytes). front ++ y) (ap before_point (next s a.end l) ∙ passed (eqb c 46) [] (c ∷ before_point x) t)) ∙
+                (ap is_whole (before_is ∙ ap (λ (y : Bytes). front ++ y) (ap before_point first_apart ∙ passed (eqb c 46) [] (c ∷ before_point x) t)) ∙
                 whole_each (front ++ (c ∷ before_point x)) (each_front front_run (c ∷ before_point x) ∙ other_each c (before_point x) no_digit)),
           )
 
-      module _ (pt : get_or s a.end 0 ≡ 46) where
-        at_point : drop a.end s ≡ 46 ∷ rest
-        unfolding rest
-        at_point = next s a.end l ∙ ap (λ (c : ℕ). c ∷ drop (a.end + 1) s) pt
+      -- p is what follows the point
+      module _ (pt : get_or w 0 0 ≡ 46) (p : Bytes) (f : p ≡ drop 1 w) where
+        at_point : w ≡ 46 ∷ p
+        at_point = first_apart ∙ ap₂ (λ (c : ℕ) (r : Bytes). c ∷ r) pt (sym f)
 
         before : before_point s ≡ front
         unfolding before_point choose
-        before = before_front front_run ∙ ap (λ (y : Bytes). front ++ before_point y) at_point ∙ append-nil front
+        before = before_is ∙ ap (λ (y : Bytes). front ++ before_point y) at_point ∙ append-nil front
 
-        after : after_point s ≡ rest
+        after : after_point s ≡ p
         unfolding after_point choose
-        after = after_front front_run ∙ ap after_point at_point
+        after = after_front front_run ∙ ap after_point (sym e ∙ at_point)
 
-        decimal_is : is_decimal s ≡ (is_whole front && not (is_empty_text rest) && each digit rest)
+        decimal_is : is_decimal s ≡ (is_whole front && not (is_empty_text p) && each digit p)
         unfolding is_decimal
         decimal_is = ap₂ (λ (x y : Bytes). is_whole x && not (is_empty_text y) && each digit y) before after
 
-        module _ (d : Digits) (v : Counted s (a.end + 1) a.value d) where
-          pub number_no_places : d.end ≤ a.end + 1 → Numbered s None
-          unfolding Numbered rest
-          number_no_places h =
-              let e : d.end ≡ a.end + 1 = omega (arith, v.ran.after) in
-              (no_whole, decimal_is ∙ all_three (is_whole front) (not (is_empty_text rest)) (each digit rest) (no_digits rest (subst (λ (k : ℕ). Ends digit (drop k s)) e (run_end v.ran.run))))
+        module _ (d : Digits) (v : Counted p a.value d) where
+          places_run : Run digit p (take d.count p) (drop d.count p)
+          places_run = counted_run p a.value d v
 
-          each_rest : (y : Bytes) → drop d.end s ≡ y → each digit rest ≡ each digit y
-          unfolding rest
-          each_rest y e = ap (each digit) (run_is v.ran.run) ∙ each_front v.ran.run (drop d.end s) ∙ ap (each digit) e
+          each_place : (y : Bytes) → drop d.count p ≡ y → each digit p ≡ each digit y
+          each_place y q = ap (each digit) (run_is places_run) ∙ each_front places_run (drop d.count p) ∙ ap (each digit) q
 
-          pub number_broken : d.end < length s → Numbered s None
-          unfolding Numbered Ends
-          number_broken h =
-              let nx : drop d.end s ≡ get_or s d.end 0 ∷ drop (d.end + 1) s = next s d.end h in
-              let t : T (not (digit (get_or s d.end 0))) = subst (Ends digit) nx (run_end v.ran.run) in
-              let e : each digit rest ≡ false = each_rest (get_or s d.end 0 ∷ drop (d.end + 1) s) nx ∙ other_each (get_or s d.end 0) (drop (d.end + 1) s) t in
-              (no_whole, decimal_is ∙ all_three (is_whole front) (not (is_empty_text rest)) (each digit rest) (ap (λ (b : Bool). not (is_empty_text rest) && b) e ∙ and-false (not (is_empty_text rest))))
+          no_place : d.count ≡ 0 → (not (is_empty_text p) && each digit p) ≡ false
+          no_place q = no_digits p (subst (λ (k : ℕ). Ends digit (drop k p)) q (run_end v.ran.run))
 
-          rest_length : length rest ≡ length s - (a.end + 1)
-          unfolding rest
-          rest_length = length-drop (a.end + 1) s
+          other_place : d.count < length p → (not (is_empty_text p) && each digit p) ≡ false
+          unfolding Ends
+          other_place h =
+              let nx : drop d.count p ≡ get_or p d.count 0 ∷ drop (d.count + 1) p = next p d.count h in
+              let t : T (not (digit (get_or p d.count 0))) = subst (Ends digit) nx (run_end v.ran.run) in
+              let q : each digit p ≡ false = each_place (get_or p d.count 0 ∷ drop (d.count + 1) p) nx ∙ other_each (get_or p d.count 0) (drop (d.count + 1) p) t in
+              ap (λ (b : Bool). not (is_empty_text p) && b) q ∙ and-false (not (is_empty_text p))
 
-          counted : length s ≤ d.end → Capped (value_from a.value rest) d.value
-          unfolding rest
-          counted h = subst (λ (w : Bytes). Capped (value_from a.value w) d.value) (take_all (d.end - (a.end + 1)) (drop (a.end + 1) s) (omega (arith, length-drop (a.end + 1) s))) v.value
+          pub number_broken : (eqb d.count 0 || ltb d.count (length p)) ≡ true → Numbered s None
+          unfolding Numbered
+          number_broken h = (no_whole, decimal_is ∙ all_three (is_whole front) (not (is_empty_text p)) (each digit p) (on (some (eqb d.count 0) (ltb d.count (length p)) h)))
+            where
+              on : (eqb d.count 0 ≡ true) ⊎ (ltb d.count (length p) ≡ true) → (not (is_empty_text p) && each digit p) ≡ false
+              on (inl q) = no_place (eqb-true d.count 0 q)
+              on (inr q) = other_place (ltb-true d.count (length p) q)
+
+          counted : length p ≤ d.count → Capped (value_from a.value p) d.value
+          counted h = subst (λ (y : Bytes). Capped (value_from a.value y) d.value) (take_all d.count p h) v.value
 
           first : Capped (value_from 0 front) a.value
           unfolding front
           first = u.value
 
-          pub number_decimal : a.end + 1 < d.end → length s ≤ d.end → Numbered s (Some (N.Scaled d.value (d.end - (a.end + 1))))
+          pub number_decimal : (eqb d.count 0 || ltb d.count (length p)) ≡ false → Numbered s (Some (N.Scaled d.value (length p)))
           unfolding Numbered
-          number_decimal m h =
+          number_decimal h =
+              let b = neither (eqb d.count 0) (ltb d.count (length p)) h in
+              let m : length p ≤ d.count = nltb→le d.count (length p) (subst (λ (x : Bool). T (not x)) (sym b.1) tt) in
               let i = v.ran.inside in
-              let ne : is_empty_text rest ≡ false = not_empty rest (omega (arith, rest_length)) in
-              let ea : each digit rest ≡ true = each_rest [] (drop_of_length-le s h) ∙ (unfold each in refl) in
-              let q : value_from 0 (before_point s ++ after_point s) ≡ value_from (value_from 0 front) rest = ap₂ (λ (x y : Bytes). value_from 0 (x ++ y)) before after ∙ value_append 0 front rest in (
+              let k : length p ≡ 0 → ⊥ = λ q. false≢true (sym b.0 ∙ eq-eqb d.count 0 (omega arith)) in
+              let ne : is_empty_text p ≡ false = not_empty p (omega arith) in
+              let ea : each digit p ≡ true = each_place [] (drop_of_length-le p m) ∙ (unfold each in refl) in
+              let q : value_from 0 (before_point s ++ after_point s) ≡ value_from (value_from 0 front) p = ap₂ (λ (x y : Bytes). value_from 0 (x ++ y)) before after ∙ value_append 0 front p in (
                 no_whole,
-                decimal_is ∙ ap (λ (b : Bool). b && not (is_empty_text rest) && each digit rest) front_whole ∙ ap (λ (b : Bool). true && not b && each digit rest) ne ∙ ap (λ (b : Bool). true && true && b) ea,
-                subst (λ (x : ℕ). Capped x d.value) (sym q) (capped_then (value_from 0 front) a.value d.value rest first (counted h)),
-                omega (arith, rest_length, ap length after),
+                decimal_is ∙ ap (λ (b : Bool). b && not (is_empty_text p) && each digit p) front_whole ∙ ap (λ (b : Bool). true && not b && each digit p) ne ∙ ap (λ (b : Bool). true && true && b) ea,
+                subst (λ (x : ℕ). Capped x d.value) (sym q) (capped_then (value_from 0 front) a.value d.value p first (counted m)),
+                ap length (sym after),
               )

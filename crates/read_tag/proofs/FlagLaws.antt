@@ -1,13 +1,12 @@
 -- What flags say grows by what is read. Main statements: `every_attributes_more`, `every_children_more`, `shallow_attributes_more`,
--- `shallow_children_more`, `long_attributes_more`, `long_children_more`. Assumes nothing.
+-- `shallow_children_more`. Assumes nothing.
 use Prim.Native.Nat.{ℕ, suc}
 use mathlib.Core.Path.{◌≡◌, refl, sym, ◌∙◌, ap}
-use mathlib.Core.Bool.{Bool, true, false, ◌&&◌, ◌||◌}
-use mathlib.Core.List.{[], ◌++◌}
-use lib.Dec.{leb, ltb}
-use lib.ListN.{length}
+use mathlib.Core.Bool.{Bool, true, false, ◌&&◌}
+use mathlib.Core.List.{[]}
+use lib.Dec.{leb}
 use Rattle.field.specs.Bytes.{Bytes}
-use Rattle.field.specs.Row.{Row, end, field, bytes, long_body}
+use Rattle.field.specs.Row.{Row, end, field}
 use Rattle.page.specs.Page as P
 use Rattle.page.specs.Encode.{attr_name_row, tag_row, attributes_row, value_row, children_row, expr_row, name_row}
 use Rattle.grammar.specs.Known.{Known}
@@ -23,14 +22,6 @@ and_assoc false b c = refl
 pub and_true : (a : Bool) → (a && true) ≡ a
 and_true true = refl
 and_true false = refl
-
-or_assoc : (a b c : Bool) → ((a || b) || c) ≡ (a || (b || c))
-or_assoc true b c = refl
-or_assoc false b c = refl
-
-or_none : (a : Bool) → (a || false) ≡ a
-or_none true = refl
-or_none false = refl
 
 -- ---- tests of what was read
 module _ (f : Name → Name → Bool) (g : Known → Bool) where
@@ -117,20 +108,6 @@ shallow_at d =
       one = λ t w i r. sym (ap (λ (z : Bool). (leb d 48 && z) && shallow d r) (and_true (shallow (suc d) i)) ∙ and_assoc (leb d 48) (shallow (suc d) i) (shallow d r));
     }
 
-long : Measure
-unfolding long_body
-long =
-    record {
-      of = long_body;
-      join = ◌||◌;
-      none = false;
-      at_end = refl;
-      assoc = or_assoc;
-      right = or_none;
-      left = λ a. refl;
-      one = λ t w i r. sym (ap (λ (z : Bool). (ltb 65535 (length (w ++ bytes i)) || z) || long_body r) (or_none (long_body i)) ∙ or_assoc (ltb 65535 (length (w ++ bytes i))) (long_body i) (long_body r));
-    }
-
 pub shallow_attributes_more : (d : ℕ) (ps : S.Attributes) (a : S.Attribute) → shallow d (attributes_row (page_attributes (S.add_attribute ps a)) end) ≡ (shallow d (attributes_row (page_attributes ps) end) && shallow d (attributes_row (page_attribute a P.no_attributes) end))
 unfolding shallow_at
 shallow_attributes_more d = attributes_then (shallow_at d)
@@ -138,11 +115,3 @@ shallow_attributes_more d = attributes_then (shallow_at d)
 pub shallow_children_more : (d : ℕ) (ks : S.Children) (k : S.Child) → shallow d (children_row (page_children (S.add_child ks k))) ≡ (shallow d (children_row (page_children ks)) && shallow d (children_row (page_child k P.no_children)))
 unfolding shallow_at
 shallow_children_more d = children_then (shallow_at d)
-
-pub long_attributes_more : (ps : S.Attributes) (a : S.Attribute) → long_body (attributes_row (page_attributes (S.add_attribute ps a)) end) ≡ (long_body (attributes_row (page_attributes ps) end) || long_body (attributes_row (page_attribute a P.no_attributes) end))
-unfolding long
-long_attributes_more = attributes_then long
-
-pub long_children_more : (ks : S.Children) (k : S.Child) → long_body (children_row (page_children (S.add_child ks k))) ≡ (long_body (children_row (page_children ks)) || long_body (children_row (page_child k P.no_children)))
-unfolding long
-long_children_more = children_then long

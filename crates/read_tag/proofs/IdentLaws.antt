@@ -18,7 +18,6 @@ use Rattle.grammar.proofs.Tests.{chose, passed, or_cases, at_eq, clash, letter_n
 use Rattle.read_tag.specs.Progress.{name_bytes}
 use Rattle.read_tag.specs.Shapes.{name_tag}
 use Rattle.read_tag.specs.Names.{NameAt}
-use Rattle.read_tag.specs.Sources.{Trimmed}
 use Rattle.read_tag.proofs.NameFieldLaws.{name_alone, one_part_bytes, name_one}
 use Rattle.read_tag.proofs.NameWalkLaws.{name_inside}
 
@@ -88,17 +87,18 @@ front_is s x i e l m q =
     let n : length x ≡ e - i = omega (arith, ap length q, length-append x (drop e s), length-drop i s, length-drop e s) in
     ap (take (e - i)) q ∙ take_at x (drop e s) (e - i) n
 
-ident_word : (s w y : Bytes) (i e r : ℕ) → i ≤ e → e ≤ length s → IsIdent (drop i s) w y → Spaces y (drop e s) → Trimmed s i e r → take (r - i) (drop i s) ≡ w
-ident_word s w y i e r l m u p t =
+ident_word : (s w y : Bytes) (i e : ℕ) → i ≤ e → e ≤ length s → IsIdent (drop i s) w y → Spaces y (drop e s) → trimmed_end (take (e - i) (drop i s)) ≡ w
+ident_word s w y i e l m u p =
     let b = spaces_blank p in
     let q : drop i s ≡ (w ++ b.blank) ++ drop e s = ident_front u ∙ ap (λ (z : Bytes). w ++ z) b.is ∙ sym (append_assoc w b.blank (drop e s)) in
-    sym t.same ∙ ap trimmed_end (front_is s (w ++ b.blank) i e l m q) ∙ ident_kept b.blank u b.drops
+    ap trimmed_end (front_is s (w ++ b.blank) i e l m q) ∙ ident_kept b.blank u b.drops
 
-pub ident_name : (s : Bytes) (i e r t : ℕ) (n : Name) → i ≤ e → e ≤ length s → IsName (drop i s) n (drop e s) → T (tag_name_fits n) → t ≡ name_tag n → t ≡ 0x40 → Trimmed s i e r → field_bytes 0x40 (take (r - i) (drop i s)) ≡ name_bytes n
-ident_name s i e r t n l m (is_name {w = w} {s₁ = y} {ps = []} u (no_parts p ends)) f g z trimmed =
-    ap (field_bytes 0x40) (ident_word s w y i e r l m u p trimmed) ∙ sym (one_part_bytes 0 w) ∙ name_one (part 0 w ∷ []) t f g z
-ident_name s i e r t n l m (is_name {w = w} {ps = part d v ∷ ps} u (one_part a b c o k)) f g z trimmed = absurd (name_alone (part 0 w) d v ps t g z)
+-- v is what stands there without the white space
+pub ident_name : (s v : Bytes) (i e t : ℕ) (n : Name) → i ≤ e → e ≤ length s → IsName (drop i s) n (drop e s) → T (tag_name_fits n) → t ≡ name_tag n → t ≡ 0x40 → v ≡ trimmed_end (take (e - i) (drop i s)) → field_bytes 0x40 v ≡ name_bytes n
+ident_name s v i e t n l m (is_name {w = w} {s₁ = y} {ps = []} u (no_parts p ends)) f g z h =
+    ap (field_bytes 0x40) (h ∙ ident_word s w y i e l m u p) ∙ sym (one_part_bytes 0 w) ∙ name_one (part 0 w ∷ []) t f g z
+ident_name s v i e t n l m (is_name {w = w} {ps = part d x ∷ ps} u (one_part a b c o k)) f g z h = absurd (name_alone (part 0 w) d x ps t g z)
 
 -- its field takes three bytes more, and of the text there is at least one
-pub ident_room : (s : Bytes) (i e r at : ℕ) → NameAt s i → e ≤ length s → at + 8 * length s < 2 ^ 63 → Trimmed s i e r → at + (length (take (r - i) (drop i s)) + 3) < 2 ^ 63
-ident_room s i e r at n m h t = omega (arith, name_inside s i n, length-take (r - i) (drop i s), length-drop i s, m, h, t.before_end)
+pub ident_room : (s v : Bytes) (i e at : ℕ) → NameAt s i → e ≤ length s → at + 8 * length s < 2 ^ 63 → length v ≤ length (take (e - i) (drop i s)) → at + (length v + 3) < 2 ^ 63
+ident_room s v i e at n m h t = omega (arith, name_inside s i n, length-take (e - i) (drop i s), length-drop i s, m, h, t)

@@ -2,7 +2,6 @@
 pub mod RunLaws
 pub mod ProgressLaws
 pub mod FlagLaws
-pub mod SmallLaws
 pub mod SourceLaws
 pub mod TrimLaws
 pub mod ShapeLaws

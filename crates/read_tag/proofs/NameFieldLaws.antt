@@ -1,29 +1,25 @@
--- What a name's tag says: its field, that of an attribute's name, and how the reader goes on behind it. Main statements: `name_one`, `name_many`,
--- `attr_name_same`, `member_tag`, `found_tag`, `found_attribute`, `found_member`, `found_closing`.
+-- What a name's tag says: its field, and that of an attribute's name. Main statements: `name_one`, `name_many`, `attr_name_same`, `member_tag`.
 -- Assumes nothing.
-use Prim.Native.Nat.{ℕ, ◌+◌}
+use Prim.Native.Nat.{ℕ}
 use mathlib.Core.Path.{◌≡◌, refl, sym, ◌∙◌, ap, subst}
 use mathlib.Core.Bool.{Bool, true, false, ◌&&◌, ◌||◌, not}
 use mathlib.Core.List.{List, [], ◌∷◌, ◌++◌, append-nil}
 use mathlib.Core.Logic.{◌⊎◌, inl, inr}
 use native.Mathlib.Omega.{arith}
-use borrow.Author.Tests.{eq-eqb, ne_eqb}
 use lib.Dec.{T, leb, eqb, eqb→eq}
-use lib.ListN.{length, drop, get_or}
+use lib.ListN.{length}
 use Rattle.field.specs.Bytes.{Bytes, pick}
 use Rattle.field.specs.Row.{Row, end, field, field_bytes, bytes}
 use Rattle.page.specs.Page as P
 use Rattle.page.specs.Encode.{texts_row, name_row, attr_name_row}
 use Rattle.page.proofs.Verdicts.{and_both}
 use Rattle.grammar.specs.Signs.{choose}
-use Rattle.grammar.specs.Syntax.{Part, part, Name, short, no_hyphen, member_parts, attribute_name_fits, member_fits, tag_name_fits, Attributes, no_attributes, Children}
-use Rattle.grammar.specs.Reader.{Stack, for_tag, for_attribute, for_closing, State, in_ident, in_tag, attribute_named, close_named, refused, fits, named, no_reading, outcome}
-use Rattle.grammar.proofs.Tests.{chose, passed, or_cases, or_left, at_eq}
-use Rattle.grammar.proofs.Complete.{refused_never}
+use Rattle.grammar.specs.Syntax.{Part, part, Name, short, no_hyphen, member_parts, attribute_name_fits, member_fits, tag_name_fits}
+use Rattle.grammar.proofs.Tests.{or_cases, or_left, at_eq}
 use Rattle.tag_tree.specs.PageTag.{idents, page_name, page_attr_name}
 use Rattle.read_tag.specs.Progress.{name_bytes, attr_name_bytes}
 use Rattle.read_tag.specs.Shapes.{name_tag}
-use Rattle.read_tag.specs.Names.{named_if, FoundName, parts_bytes}
+use Rattle.read_tag.specs.Names.{parts_bytes}
 
 -- ---- which names have a colon
 
@@ -134,35 +130,3 @@ member_tag (part d w ∷ part e v ∷ q ∷ qs) f = on (eqb e 58) refl
     on : (b : Bool) → eqb e 58 ≡ b → false ≡ not (eqb (choose b 0x42 0x41) 0x41)
     on true h = absurd (colon_last d e w v q qs h f)
     on false h = refl
-
--- ---- how the reader goes on behind a name that was found
-
-module _ (s : Bytes) (i tag e : ℕ) (f : FoundName s i tag e) where
-  pub found_tag : (K : Stack) → outcome (in_ident [] 0 (get_or s i 0 ∷ []) (for_tag K)) (drop (i + 1) s) ≡ outcome (in_tag f.name no_attributes K) (drop e s)
-  unfolding named_if fits named
-  found_tag K = f.leads (for_tag K) ∙ ap (λ (z : State). outcome z (drop e s)) (chose (tag_name_fits f.name) (in_tag f.name no_attributes K) refused f.fits_tag)
-
-  pub found_closing : (n : Name) (ps : Attributes) (ks : Children) (K : Stack) → outcome (in_ident [] 0 (get_or s i 0 ∷ []) (for_closing n ps ks K)) (drop (i + 1) s) ≡ outcome (close_named f.name n ps ks K) (drop e s)
-  unfolding named_if fits named
-  found_closing n ps ks K =
-      f.leads (for_closing n ps ks K) ∙ ap (λ (z : State). outcome z (drop e s)) (chose (tag_name_fits f.name) (close_named f.name n ps ks K) refused f.fits_tag)
-
-  -- a 40 or a 42 may name an attribute, a 41 may not
-  fits_by_tag : (b : Bool) → eqb tag 0x41 ≡ b → attribute_name_fits f.name ≡ not b
-  fits_by_tag b h = member_tag f.name f.fits_tag ∙ ap (λ (t : ℕ). not (eqb t 0x41)) (sym f.tag_is) ∙ ap not h
-
-  pub found_fits : (tag ≡ 0x41 → ⊥) → T (attribute_name_fits f.name)
-  found_fits z = subst T (sym (fits_by_tag false (ne_eqb tag 0x41 z))) tt
-
-  pub found_attribute : (tag ≡ 0x41 → ⊥) → (n : Name) (ps : Attributes) (K : Stack) → outcome (in_ident [] 0 (get_or s i 0 ∷ []) (for_attribute n ps K)) (drop (i + 1) s) ≡ outcome (attribute_named f.name n ps K) (drop e s)
-  unfolding named_if fits named
-  found_attribute z n ps K =
-      f.leads (for_attribute n ps K) ∙ ap (λ (y : State). outcome y (drop e s)) (chose (attribute_name_fits f.name) (attribute_named f.name n ps K) refused (found_fits z))
-
-  pub found_member : tag ≡ 0x41 → (n : Name) (ps : Attributes) (K : Stack) → outcome (in_ident [] 0 (get_or s i 0 ∷ []) (for_attribute n ps K)) (drop (i + 1) s) ≡ no_reading
-  unfolding named_if fits named
-  found_member z n ps K =
-      let h : T (not (attribute_name_fits f.name)) = subst (λ (b : Bool). T (not b)) (sym (fits_by_tag true (eq-eqb tag 0x41 z))) tt in
-      f.leads (for_attribute n ps K) ∙
-      ap (λ (y : State). outcome y (drop e s)) (passed (attribute_name_fits f.name) (attribute_named f.name n ps K) refused h) ∙
-      refused_never (drop e s)

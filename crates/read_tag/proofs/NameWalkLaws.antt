@@ -1,9 +1,9 @@
 -- A name that stands in a text, part by part: its field as it is written, and two names as they are compared. Main statements: `apart`,
--- `putting_first`, `putting_more`, `parts_put`, `comparing_first`, `comparing_more`, `words_differ`, `signs_differ`, `names_same`.
+-- `putting_first`, `putting_step`, `parts_out`, `comparing_first`, `comparing_step`, `words_differ`, `signs_differ`, `names_out`.
 -- Assumes nothing.
 use Prim.Native.Nat.{ℕ, suc, ◌+◌, ◌-◌, ◌*◌, ◌≤◌, ◌<◌}
 use mathlib.Core.Path.{◌≡◌, refl, sym, ◌∙◌, ap, ap₂, subst}
-use mathlib.Core.Bool.{Bool, true, false, ◌&&◌, not, false≢true}
+use mathlib.Core.Bool.{Bool, true, false, ◌&&◌, not}
 use mathlib.Core.List.{List, [], ◌∷◌, ◌++◌, append-nil, append_assoc}
 use native.Mathlib.Omega.{arith}
 use borrow.Author.Tests.{eq-eqb, ne_eqb}
@@ -19,10 +19,12 @@ use Rattle.grammar.specs.Syntax.{part, Name, same_name}
 use Rattle.grammar.specs.Grammar.{Ends, Run, run_ends, run_on, Spaces, no_space, space_on, IsIdent, ident, IsParts, no_parts, one_part, IsName, is_name}
 use Rattle.grammar.proofs.Tests.{clash, not_or, or_right, letter_no_space, separator_no_space}
 use Rattle.tag_tree.specs.PageTag.{idents}
-use Rattle.read_tag.specs.Names.{PartAt, NameAt, FoundName, parts_bytes, PartsPut, NamesCompared}
+use Rattle.std.specs.Prelude.{Option, Some, None}
+use Rattle.std.specs.Option.{option_eq}
+use Rattle.read_tag.specs.Names.{PartAt, place_behind, PartStep, NameAt, parts_bytes, PartsPut, NamesCompared}
 use Rattle.read_tag.specs.declared.name.NamePart.{NamePart}
 use Rattle.read_tag.proofs.RunLaws.{next}
-use Rattle.read_tag.proofs.NameLaws.{word, word_next, word_length, unsigned, signed, part_after, next_after}
+use Rattle.read_tag.proofs.NameLaws.{word, word_next, unsigned, signed, part_after, next_after, part_length}
 
 -- ---- runs and white space end at one place
 
@@ -117,37 +119,34 @@ ident_inside s k u = on (leb (length s) k) refl
 pub left_inside : (s : Bytes) (k d : ℕ) {n : Name} → Left s k d n → k < length s
 left_inside s k d l = ident_inside s k l.stands
 
-pub found_at : {s : Bytes} {i tag e : ℕ} → FoundName s i tag e → NameAt s i
-found_at {s} {e = e} f = record { name = f.name; rest = drop e s; is = f.is }
-
 pub name_inside : (s : Bytes) (i : ℕ) → NameAt s i → i < length s
 name_inside s i a = left_inside s i 0 (left_first s i a.is)
 
 -- the part at k, and what is left behind it
 pub record Apart (s : Bytes) (k d : ℕ) (n : Name) (r : NamePart) : Type 0 where
   pub more : Name
-  pub is : n ≡ part d (word s k r.end) ∷ more
-  pub none : r.sep ≡ 0 → more ≡ []
-  pub some : (r.sep ≡ 0 → ⊥) → Left s r.next r.sep more
+  pub is : n ≡ part d r.word.now ∷ more
+  pub none : r.sign ≡ None → more ≡ []
+  pub some : (g : ℕ) → r.sign ≡ Some g → Left s r.next g more
 
 module _ (s : Bytes) (k d : ℕ) (n : Name) (r : NamePart) (l : Left s k d n) (p : PartAt s k r) where
-  here : (l.word_of ≡ word s k r.end) × (l.rest ≡ drop r.end s)
+  here : (l.word_of ≡ r.word.now) × (l.rest ≡ drop p.end s)
   here =
       let h : k < length s = left_inside s k d l in
       let z = ident_once (subst (λ (m : Bytes). IsIdent m l.word_of l.rest) (next s k h) l.stands) p.ran.run in
-      (z.0 ∙ sym (word_next s k r.end (omega (arith, p.ran.after)) p.ran.inside), z.1)
+      (z.0 ∙ sym (word_next s k p.end (omega (arith, p.ran.after)) p.ran.inside) ∙ sym p.word_is, z.1)
 
-  behind_here : IsParts (drop r.end s) l.parts l.last_rest
+  behind_here : IsParts (drop p.end s) l.parts l.last_rest
   behind_here = subst (λ (m : Bytes). IsParts m l.parts l.last_rest) here.1 l.behind
 
-  no_more : r.sep ≡ 0 → l.parts ≡ []
+  no_more : r.sign ≡ None → l.parts ≡ []
   no_more z = let b = unsigned s p.behind z in parts_none behind_here b.0.run b.1
 
-  more_left : (r.sep ≡ 0 → ⊥) → Left s r.next r.sep l.parts
-  more_left z =
+  more_left : (g : ℕ) → r.sign ≡ Some g → Left s r.next g l.parts
+  more_left g z =
       let b = signed s p.behind z in
-      let q : drop b.place s ≡ r.sep ∷ drop (b.place + 1) s = next s b.place b.inside ∙ ap (λ (m : ℕ). m ∷ drop (b.place + 1) s) b.is_sign in
-      let f = parts_some r.sep behind_here (subst (Run space (drop r.end s) (word s r.end b.place)) q b.ran.run) b.sign b.then.run in
+      let q : drop b.place s ≡ g ∷ drop (b.place + 1) s = next s b.place b.inside ∙ ap (λ (m : ℕ). m ∷ drop (b.place + 1) s) b.is_sign in
+      let f = parts_some g behind_here (subst (Run space (drop p.end s) (word s p.end b.place)) q b.ran.run) b.sign b.then.run in
       record { word_of = f.word_of; rest = f.rest; last_rest = l.last_rest; parts = f.parts; is = f.is; stands = f.stands; behind = f.behind }
 
   pub apart : Apart s k d n r
@@ -188,60 +187,76 @@ pub record Written (s : Bytes) (o : Bytes) (at : ℕ) (n : Name) (k : ℕ) (o' :
 -- what a loop over the parts knows at k; a part takes at most four bytes for each of its own
 pub record Putting (s : Bytes) (i : ℕ) (o : Bytes) (at k : ℕ) (o' : Bytes) (at' : ℕ) : Type 0 where
   pub place : i ≤ k
-  pub inside : k < length s
   pub room : at' ≤ at + 4 * (k - i)
   pub kept : length o' ≡ length o
   pub written : (n : Name) (r : Bytes) → IsName (drop i s) n r → Written s o at n k o' at'
+
+-- the same by the place, which is left until the last part has passed
+abbrev pub PuttingOn : Bytes → ℕ → Bytes → ℕ → Option ℕ → Bytes → ℕ → Type 0
+PuttingOn s i o at None o' at' = PartsPut s i o at o' at'
+PuttingOn s i o at (Some k) o' at' = Putting s i o at k o' at'
 
 module _ (s : Bytes) (i : ℕ) (o : Bytes) (at : ℕ) (a : NameAt s i) where
   pub putting_first : Putting s i o at i o at
   putting_first =
       record {
         place = omega arith;
-        inside = name_inside s i a;
         room = omega arith;
         kept = refl;
         written = λ n r u. record { before = []; after = n; sign = 0; left = left_first s i u; is = refl; wrote = wrote_is (sym parts_bytes_none) (wrote_none o at) };
       }
 
-  -- a part of n bytes takes n + 3
-  pub part_room : (k : ℕ) (o' : Bytes) (at' : ℕ) (r : NamePart) → Putting s i o at k o' at' → PartAt s k r → at' + (length (word s k r.end) + 3) ≤ at + 4 * (r.end - i)
-  part_room k o' at' r u p = omega (arith, u.place, u.room, part_after s k r u.inside p, word_length s k r.end p.ran.inside)
+  -- the text ends at k: a part stood there
+  pub parts_out : (k k' : Option ℕ) (o' : Bytes) (at' : ℕ) → PuttingOn s i o at k o' at' → PartStep s k None k' → PartsPut s i o at o' at'
+  parts_out None k' o' at' u y = u
+  parts_out (Some k) k' o' at' u y = absurd (let l = left_inside s k _ (u.written a.name a.rest a.is).left in omega arith)
 
-  module _ (k : ℕ) (o' : Bytes) (at' : ℕ) (r : NamePart) (o'' : Bytes) (at'' : ℕ) (u : Putting s i o at k o' at') (p : PartAt s k r) (w : Wrote o' at' (field_bytes 0x40 (word s k r.end)) o'' at'') where
-    wrote_part : (b : Name) (d : ℕ) → Wrote o at (parts_bytes b) o' at' → Wrote o at (parts_bytes (b ++ (part d (word s k r.end) ∷ []))) o'' at''
-    wrote_part b d v = wrote_is (sym (parts_bytes_more b d (word s k r.end))) (wrote_then v w)
+  module _ (r : NamePart) where
+    -- a part of n bytes takes n + 3
+    pub part_room : (k k' : Option ℕ) (o' : Bytes) (at' : ℕ) → PuttingOn s i o at k o' at' → PartStep s k (Some r) k' → at' + (length r.word.now + 3) ≤ at + 4 * length s
+    part_room None k' o' at' u y = absurd y
+    part_room (Some k) k' o' at' u y = omega (arith, u.place, u.room, part_after s k r y.inside y.part, part_length s k r y.inside y.part, y.part.ran.inside)
 
-    pub parts_put : r.sep ≡ 0 → PartsPut s i o at o'' at''
-    unfolding PartsPut
-    parts_put z n x v =
-        let t = u.written n x v in
-        let g = apart s k t.sign t.after r t.left p in
-        let e : n ≡ t.before ++ (part t.sign (word s k r.end) ∷ []) = t.is ∙ ap (λ (m : Name). t.before ++ m) (g.is ∙ ap (λ (m : Name). part t.sign (word s k r.end) ∷ m) (g.none z)) in
-        wrote_is (ap parts_bytes (sym e)) (wrote_part t.before t.sign t.wrote)
+    module _ {o' : Bytes} {at' : ℕ} {o'' : Bytes} {at'' : ℕ} (w : Wrote o' at' (field_bytes 0x40 r.word.now) o'' at'') where
+      wrote_part : (b : Name) (d : ℕ) → Wrote o at (parts_bytes b) o' at' → Wrote o at (parts_bytes (b ++ (part d r.word.now ∷ []))) o'' at''
+      wrote_part b d v = wrote_is (sym (parts_bytes_more b d r.word.now)) (wrote_then v w)
 
-    pub putting_more : (r.sep ≡ 0 → ⊥) → Putting s i o at r.next o'' at''
-    putting_more z =
-        let t = u.written a.name a.rest a.is in
-        let j = apart s k t.sign t.after r t.left p in
-        record {
-          place = omega (arith, u.place, part_after s k r u.inside p, next_after s k r u.inside p z);
-          inside = left_inside s r.next r.sep (j.some z);
-          kept = wrote_length w ∙ u.kept;
-          room = omega (arith, next_after s k r u.inside p z, u.place, part_after s k r u.inside p, part_room k o' at' r u p, w.end_is, length_field_bytes 0x40 (word s k r.end));
-          written =
-              λ n x v.
-              let t = u.written n x v in
-              let j = apart s k t.sign t.after r t.left p in
-              record {
-                before = t.before ++ (part t.sign (word s k r.end) ∷ []);
-                after = j.more;
-                sign = r.sep;
-                left = j.some z;
-                is = t.is ∙ ap (λ (m : Name). t.before ++ m) j.is ∙ sym (append_assoc t.before (part t.sign (word s k r.end) ∷ []) j.more);
-                wrote = wrote_part t.before t.sign t.wrote;
-              };
-        }
+      module _ (k : ℕ) (u : Putting s i o at k o' at') (h : k < length s) (p : PartAt s k r) where
+        parts_put : r.sign ≡ None → PartsPut s i o at o'' at''
+        unfolding PartsPut
+        parts_put z n x v =
+            let t = u.written n x v in
+            let g = apart s k t.sign t.after r t.left p in
+            let e : n ≡ t.before ++ (part t.sign r.word.now ∷ []) = t.is ∙ ap (λ (m : Name). t.before ++ m) (g.is ∙ ap (λ (m : Name). part t.sign r.word.now ∷ m) (g.none z)) in
+            wrote_is (ap parts_bytes (sym e)) (wrote_part t.before t.sign t.wrote)
+
+        putting_more : (g : ℕ) → r.sign ≡ Some g → Putting s i o at r.next o'' at''
+        putting_more g z =
+            record {
+              place = omega (arith, u.place, part_after s k r h p, next_after s k r h p g z);
+              kept = wrote_length w ∙ u.kept;
+              room = omega (arith, next_after s k r h p g z, u.place, part_after s k r h p, part_length s k r h p, u.room, w.end_is, length_field_bytes 0x40 r.word.now);
+              written =
+                  λ n x v.
+                  let t = u.written n x v in
+                  let j = apart s k t.sign t.after r t.left p in
+                  record {
+                    before = t.before ++ (part t.sign r.word.now ∷ []);
+                    after = j.more;
+                    sign = g;
+                    left = j.some g z;
+                    is = t.is ∙ ap (λ (m : Name). t.before ++ m) j.is ∙ sym (append_assoc t.before (part t.sign r.word.now ∷ []) j.more);
+                    wrote = wrote_part t.before t.sign t.wrote;
+                  };
+            }
+
+        putting_behind : (g : Option ℕ) → r.sign ≡ g → PuttingOn s i o at (place_behind g r.next) o'' at''
+        putting_behind None z = parts_put z
+        putting_behind (Some g) z = putting_more g z
+
+      pub putting_step : (k k' : Option ℕ) → PuttingOn s i o at k o' at' → PartStep s k (Some r) k' → PuttingOn s i o at k' o'' at''
+      putting_step None k' u y = absurd y
+      putting_step (Some k) k' u y = subst (λ (m : Option ℕ). PuttingOn s i o at m o'' at'') (sym y.then) (putting_behind k u y.inside y.part r.sign refl)
 
 pub parts_end : (s : Bytes) (i : ℕ) (o : Bytes) (at : ℕ) (o' : Bytes) (r : ℕ) → PartsPut s i o at o' r → NameAt s i → at ≤ r
 unfolding PartsPut
@@ -259,9 +274,33 @@ pub record Aside (s : Bytes) (m n : Name) (a b : ℕ) : Type 0 where
   pub is : same_name m n ≡ same_name left_m left_n
 
 pub record Comparing (s : Bytes) (i j a b : ℕ) : Type 0 where
-  pub inside_a : a < length s
-  pub inside_b : b < length s
   pub aside : (m n : Name) (x y : Bytes) → IsName (drop i s) m x → IsName (drop j s) n y → Aside s m n a b
+
+-- the same by the places: both are left, or none
+abbrev pub ComparingOn : Bytes → ℕ → ℕ → Option ℕ → Option ℕ → Type 0
+ComparingOn s i j None None = NamesCompared s i j true
+ComparingOn s i j None (Some b) = ⊥
+ComparingOn s i j (Some a) None = ⊥
+ComparingOn s i j (Some a) (Some b) = Comparing s i j a b
+
+same_sign : (f g : Option ℕ) → not (option_eq eqb f g) ≡ false → f ≡ g
+same_sign None None e = refl
+same_sign None (Some g) e = cc
+same_sign (Some f) None e = cc
+same_sign (Some f) (Some g) e = ap Some (eqb→eq f g (on (eqb f g) e))
+  where
+    on : (b : Bool) → not b ≡ false → T b
+    on true t = tt
+    on false t = cc
+
+other_sign : (f g : Option ℕ) → not (option_eq eqb f g) ≡ true → f ≡ g → ⊥
+other_sign None None e z = cc
+other_sign None (Some g) e z = cc
+other_sign (Some f) None e z = cc
+other_sign (Some f) (Some g) e z =
+    let y : f ≡ g = cc in
+    let w : eqb f g ≡ true = eq-eqb f g y in
+    cc
 
 same_parts : (d : ℕ) (w v : Bytes) (ps qs : Name) → same_name (part d w ∷ ps) (part d v ∷ qs) ≡ (same w v && same_name ps qs)
 unfolding same_name
@@ -273,90 +312,92 @@ other_signs d e w v ps qs h = ap (λ (b : Bool). (b && same w v) && same_name ps
 
 module _ (s : Bytes) (i j : ℕ) (f : NameAt s i) (g : NameAt s j) where
   pub comparing_first : Comparing s i j i j
-  comparing_first =
-      record {
-        inside_a = name_inside s i f;
-        inside_b = name_inside s j g;
-        aside = λ m n x y u v. record { left_m = m; left_n = n; sign = 0; left_a = left_first s i u; left_b = left_first s j v; is = refl };
-      }
+  comparing_first = record { aside = λ m n x y u v. record { left_m = m; left_n = n; sign = 0; left_a = left_first s i u; left_b = left_first s j v; is = refl } }
 
-  module _ (a b : ℕ) (p q : NamePart) (u : Comparing s i j a b) (h : PartAt s a p) (k : PartAt s b q) where
-    -- the parts at a and b, and what is left behind them
-    beside : (m n : Name) (t : Aside s m n a b) → Apart s a t.sign t.left_m p × Apart s b t.sign t.left_n q
-    beside m n t = (apart s a t.sign t.left_m p t.left_a h, apart s b t.sign t.left_n q t.left_b k)
+  given : {a b : ℕ} → Comparing s i j a b → Aside s f.name g.name a b
+  given u = u.aside f.name g.name f.rest g.rest f.is g.is
 
-    both_parts : (m n : Name) (t : Aside s m n a b) (x : Apart s a t.sign t.left_m p) (y : Apart s b t.sign t.left_n q) → same_name m n ≡ (same (word s a p.end) (word s b q.end) && same_name x.more y.more)
-    both_parts m n t x y = t.is ∙ ap₂ same_name x.is y.is ∙ same_parts t.sign (word s a p.end) (word s b q.end) x.more y.more
+  -- the text ends where a part is left: it stood there
+  pub names_out : (a b a' : Option ℕ) → ComparingOn s i j a b → PartStep s a None a' → NamesCompared s i j true
+  names_out None None a' u y = u
+  names_out None (Some b) a' u y = absurd u
+  names_out (Some a) None a' u y = absurd u
+  names_out (Some a) (Some b) a' u y = absurd (let l = left_inside s a _ (given u).left_a in omega arith)
 
-    module _ (c : Bool) (e : c ≡ same (word s a p.end) (word s b q.end)) where
-      pub words_differ : not c ≡ true → NamesCompared s i j false
+  pub names_both : (p : NamePart) (a b a' b' : Option ℕ) → ComparingOn s i j a b → PartStep s a (Some p) a' → PartStep s b None b' → ⊥
+  names_both p None b a' b' u y z = y
+  names_both p (Some a) None a' b' u y z = u
+  names_both p (Some a) (Some b) a' b' u y z = let l = left_inside s b _ (given u).left_b in omega arith
+
+  module _ (p q : NamePart) where
+    module _ (a b : ℕ) (u : Comparing s i j a b) (h : PartAt s a p) (k : PartAt s b q) where
+      -- the parts at a and b, and what is left behind them
+      beside : (m n : Name) (t : Aside s m n a b) → Apart s a t.sign t.left_m p × Apart s b t.sign t.left_n q
+      beside m n t = (apart s a t.sign t.left_m p t.left_a h, apart s b t.sign t.left_n q t.left_b k)
+
+      both_parts : (m n : Name) (t : Aside s m n a b) (x : Apart s a t.sign t.left_m p) (y : Apart s b t.sign t.left_n q) → same_name m n ≡ (same p.word.now q.word.now && same_name x.more y.more)
+      both_parts m n t x y = t.is ∙ ap₂ same_name x.is y.is ∙ same_parts t.sign p.word.now q.word.now x.more y.more
+
+      words_apart : same p.word.now q.word.now ≡ false → NamesCompared s i j false
       unfolding NamesCompared
-      words_differ t m n x y v w =
+      words_apart e m n x y v w =
           let o = u.aside m n x y v w in
           let z = beside m n o in
-          sym (both_parts m n o z.0 z.1 ∙ ap (λ (b : Bool). b && same_name z.0.more z.1.more) (sym e ∙ lost c t))
-        where
-          lost : (b : Bool) → not b ≡ true → b ≡ false
-          lost true r = sym r
-          lost false r = refl
+          sym (both_parts m n o z.0 z.1 ∙ ap (λ (b : Bool). b && same_name z.0.more z.1.more) e)
 
-      module _ (t : not c ≡ false) where
-        words_same : same (word s a p.end) (word s b q.end) ≡ true
-        words_same = sym e ∙ held c t
-          where
-            held : (b : Bool) → not b ≡ false → b ≡ true
-            held true r = refl
-            held false r = sym r
-
+      module _ (e : same p.word.now q.word.now ≡ true) where
         rest_same : (m n : Name) (o : Aside s m n a b) (x : Apart s a o.sign o.left_m p) (y : Apart s b o.sign o.left_n q) → same_name m n ≡ same_name x.more y.more
-        rest_same m n o x y = both_parts m n o x y ∙ ap (λ (b : Bool). b && same_name x.more y.more) words_same
+        rest_same m n o x y = both_parts m n o x y ∙ ap (λ (b : Bool). b && same_name x.more y.more) e
 
-        pub names_same : q.sep ≡ p.sep → p.sep ≡ 0 → NamesCompared s i j true
-        unfolding NamesCompared
-        names_same d z m n x y v w =
-            let o = u.aside m n x y v w in
-            let l = beside m n o in
-            sym (rest_same m n o l.0 l.1 ∙ ap₂ same_name (l.0.none z) (l.1.none (d ∙ z)) ∙ (unfold same_name in refl))
-
-        pub signs_differ : (q.sep ≡ p.sep → ⊥) → NamesCompared s i j false
+        signs_apart : (p.sign ≡ q.sign → ⊥) → NamesCompared s i j false
         unfolding NamesCompared same_name
-        signs_differ d m n x y v w =
+        signs_apart d m n x y v w =
             let o = u.aside m n x y v w in
             let l = beside m n o in
-            sym (rest_same m n o l.0 l.1 ∙ on l.0 l.1 (eqb p.sep 0) (eqb q.sep 0) refl refl)
+            sym (rest_same m n o l.0 l.1 ∙ on l.0 l.1 p.sign q.sign refl refl)
           where
-            some : (g : ℕ) → eqb g 0 ≡ false → g ≡ 0 → ⊥
-            some g r z = false≢true (sym r ∙ eq-eqb g 0 z)
+            on : {l : ℕ} {m' n' : Name} (x : Apart s a l m' p) (y : Apart s b l n' q) (f g : Option ℕ) → p.sign ≡ f → q.sign ≡ g → same_name x.more y.more ≡ false
+            on x y None None r o = absurd (d (r ∙ sym o))
+            on x y None (Some g) r o = ap₂ same_name (x.none r) (y.some g o).is
+            on x y (Some f) None r o = ap₂ same_name (x.some f r).is (y.none o)
+            on x y (Some f) (Some g) r o =
+                let l = x.some f r in
+                let m = y.some g o in
+                ap₂ same_name l.is m.is ∙ other_signs f g l.word_of m.word_of l.parts m.parts (λ z. d (r ∙ ap Some z ∙ sym o))
 
-            none : (g : ℕ) → eqb g 0 ≡ true → g ≡ 0
-            none g r = eqb→eq g 0 (subst T (sym r) tt)
-
-            on : {l : ℕ} {m' n' : Name} (x : Apart s a l m' p) (y : Apart s b l n' q) (f g : Bool) → eqb p.sep 0 ≡ f → eqb q.sep 0 ≡ g → same_name x.more y.more ≡ false
-            on x y true true r o = absurd (d (none q.sep o ∙ sym (none p.sep r)))
-            on x y true false r o = ap₂ same_name (x.none (none p.sep r)) (y.some (some q.sep o)).is
-            on x y false true r o = ap₂ same_name (x.some (some p.sep r)).is (y.none (none q.sep o))
-            on x y false false r o =
-                let l = x.some (some p.sep r) in
-                let m = y.some (some q.sep o) in
-                ap₂ same_name l.is m.is ∙ other_signs p.sep q.sep l.word_of m.word_of l.parts m.parts (λ z. d (sym z))
-
-        pub comparing_more : q.sep ≡ p.sep → (p.sep ≡ 0 → ⊥) → Comparing s i j p.next q.next
-        comparing_more d z =
-            let o = u.aside f.name g.name f.rest g.rest f.is g.is in
-            let l = beside f.name g.name o in
+        compared_behind : (o : Option ℕ) → p.sign ≡ o → q.sign ≡ o → ComparingOn s i j (place_behind o p.next) (place_behind o q.next)
+        unfolding NamesCompared
+        compared_behind None x y =
+            λ m n v w t r.
+            let o = u.aside m n v w t r in
+            let l = beside m n o in
+            sym (rest_same m n o l.0 l.1 ∙ ap₂ same_name (l.0.none x) (l.1.none y) ∙ (unfold same_name in refl))
+        compared_behind (Some d) x y =
             record {
-              inside_a = left_inside s p.next p.sep (l.0.some z);
-              inside_b = left_inside s q.next q.sep (l.1.some (λ r. z (sym d ∙ r)));
               aside =
-                  λ m n x y v w.
-                  let o = u.aside m n x y v w in
+                  λ m n v w t r.
+                  let o = u.aside m n v w t r in
                   let l = beside m n o in
-                  record {
-                    left_m = l.0.more;
-                    left_n = l.1.more;
-                    sign = p.sep;
-                    left_a = l.0.some z;
-                    left_b = subst (λ (r : ℕ). Left s q.next r l.1.more) d (l.1.some (λ r. z (sym d ∙ r)));
-                    is = rest_same m n o l.0 l.1;
-                  };
+                  record { left_m = l.0.more; left_n = l.1.more; sign = d; left_a = l.0.some d x; left_b = l.1.some d y; is = rest_same m n o l.0 l.1 };
             }
+
+    -- by what the test of the words answered
+    module _ (a' b' : Option ℕ) (c : Bool) (e : c ≡ same p.word.now q.word.now) where
+      pub words_differ : (a b : Option ℕ) → ComparingOn s i j a b → PartStep s a (Some p) a' → PartStep s b (Some q) b' → c ≡ false → NamesCompared s i j false
+      words_differ None b u y z t = absurd y
+      words_differ (Some a) None u y z t = absurd u
+      words_differ (Some a) (Some b) u y z t = words_apart a b u y.part z.part (sym e ∙ t)
+
+      module _ (t : c ≡ true) (x : Bool) (d : x ≡ not (option_eq eqb p.sign q.sign)) where
+        pub signs_differ : (a b : Option ℕ) → ComparingOn s i j a b → PartStep s a (Some p) a' → PartStep s b (Some q) b' → x ≡ true → NamesCompared s i j false
+        signs_differ None b u y z f = absurd y
+        signs_differ (Some a) None u y z f = absurd u
+        signs_differ (Some a) (Some b) u y z f = signs_apart a b u y.part z.part (sym e ∙ t) (other_sign p.sign q.sign (sym d ∙ f))
+
+        pub comparing_step : (a b : Option ℕ) → ComparingOn s i j a b → PartStep s a (Some p) a' → PartStep s b (Some q) b' → x ≡ false → ComparingOn s i j a' b'
+        comparing_step None b u y z f = absurd y
+        comparing_step (Some a) None u y z f = absurd u
+        comparing_step (Some a) (Some b) u y z f =
+            let h : p.sign ≡ q.sign = same_sign p.sign q.sign (sym d ∙ f) in
+            subst (λ (m : Option ℕ). ComparingOn s i j m b') (sym y.then)
+            (subst (ComparingOn s i j (place_behind p.sign p.next)) (sym (z.then ∙ ap (λ (m : Option ℕ). place_behind m q.next) (sym h))) (compared_behind a b u y.part z.part (sym e ∙ t) p.sign refl (sym h)))

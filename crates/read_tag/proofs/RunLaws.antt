@@ -1,16 +1,18 @@
 -- A run grows by a byte, and ends. Main statements: `next`, `running_none`, `tested_on`, `tested_stops`, `ran_out`,
 -- `any_some`. Assumes nothing.
-use Prim.Native.Nat.{ℕ, ◌+◌, ◌-◌, ◌≤◌, ◌<◌}
+use Prim.Native.Nat.{ℕ, suc, ◌+◌, ◌-◌, ◌≤◌, ◌<◌}
 use mathlib.Core.Path.{◌≡◌, refl, sym, ◌∙◌, ap, subst}
 use mathlib.Core.Bool.{Bool, true, false, ◌&&◌, ◌||◌, not, false≢true}
 use mathlib.Core.List.{[], ◌∷◌, ◌++◌}
 use native.Mathlib.Omega.{arith}
 use native.Mathlib.Numerals.{add-one}
 use lib.Dec.{T}
-use lib.ListN.{length, take, drop, get_or, length-append, drop_of_length-le}
-use lib.Seq.{drop-cons, take_at}
+use lib.ListN.{length, take, drop, get_or, length-append, length-drop, drop_of_length-le}
+use lib.Seq.{drop-cons, drop-drop, take_at}
 use Rattle.std.specs.List.{list_any}
-use Rattle.field.specs.Bytes.{Bytes}
+use Rattle.field.specs.Bytes.{Bytes, pick}
+use Rattle.text.specs.Runs.{run}
+use Rattle.text.proofs.RunLaws.{run_le}
 use Rattle.grammar.specs.Signs.{each, some_byte}
 use Rattle.grammar.specs.Grammar.{Ends, Run, run_ends, run_on}
 use Rattle.read_tag.specs.Runs.{Ran}
@@ -94,3 +96,21 @@ any_some p (c ∷ s) = on (p c) (any_some p s)
     on : (b : Bool) → list_any p s ≡ some_byte p s → (b || list_any p s) ≡ not (not b && each (λ d. not (p d)) s)
     on true e = refl
     on false e = e
+
+-- ---- what text's run_end answers
+
+run_of : (p : ℕ → Bool) (t : Bytes) → Run p t (take (run p t) t) (drop (run p t) t)
+unfolding run Ends
+run_of p [] = run_ends tt
+run_of p (c ∷ cs) = on (p c) refl (run_of p cs)
+  where
+    on : (b : Bool) → p c ≡ b → Run p cs (take (run p cs) cs) (drop (run p cs) cs) → Run p (c ∷ cs) (take (pick b (suc (run p cs)) 0) (c ∷ cs)) (drop (pick b (suc (run p cs)) 0) (c ∷ cs))
+    on true e q = run_on (subst T (sym e) tt) q
+    on false e q = run_ends (subst (λ (b : Bool). T (not b)) (sym e) tt)
+
+pub ran : {r : ℕ} (p : ℕ → Bool) (s : Bytes) (i : ℕ) → i ≤ length s → r ≡ i + run p (drop i s) → Ran p s i r
+ran {r} p s i h e =
+    let n : run p (drop i s) ≡ r - i = omega arith in
+    let l : r ≤ length s = omega (arith, run_le p (drop i s), length-drop i s) in
+    let back : drop (r - i) (drop i s) ≡ drop r s = drop-drop (r - i) i s ∙ ap (λ (k : ℕ). drop k s) (omega arith) in
+    record { after = omega arith; inside = l; run = subst (λ (w : Bytes). Run p (drop i s) (take (r - i) (drop i s)) w) back (subst (λ (k : ℕ). Run p (drop i s) (take k (drop i s)) (drop k (drop i s))) n (run_of p (drop i s))) }

@@ -5,7 +5,7 @@ use mathlib.Core.Bool.{Bool, true, false, ◌&&◌, ◌||◌, not}
 use mathlib.Core.List.{[], ◌∷◌}
 use mathlib.Core.Logic.{◌⊎◌, inl, inr}
 use native.Mathlib.Omega.{arith}
-use borrow.Author.Tests.{le-leb, lt-leb, eq-eqb, ne_eqb}
+use borrow.Author.Tests.{le-leb, lt-leb, ne_eqb}
 use lib.Dec.{T, leb, eqb, leb→le, nleb→lt}
 use lib.ListN.{length}
 use Rattle.std.specs.Prelude.{Option, Some, None}
@@ -141,51 +141,11 @@ shape_is (part a w) (part e v ∷ []) h =
 shape_is (part a w) (part e v ∷ q ∷ qs) h =
     by_sign e h.0 (λ (d : ℕ). shape_tag (suc (suc (suc (length qs)))) (all_short (part a w ∷ part d v ∷ q ∷ qs)) (all_plain (part a w ∷ part d v ∷ q ∷ qs)) (all_points (part d v ∷ q ∷ qs)) ≡ choose (tag_name_fits (part a w ∷ part d v ∷ q ∷ qs)) (Some (name_tag (part a w ∷ part d v ∷ q ∷ qs))) None) (more_points a w v q qs) (more_colons a w v q qs)
 
--- ---- the tests of the code, one after the other
-by_bits : Bool → Bool → Bool → Bool → Bool → Option ℕ
-by_bits s a p m b = choose s (choose a (Some 0x40) (choose p (choose m (Some 0x41) None) (choose b (Some 0x42) None))) None
+-- ---- of one identifier alone
+pub shape_one : (h p : Bool) → ◌≡◌ {A = Option ℕ} (shape_tag 1 true h p) (Some 0x40)
+unfolding shape_tag choose
+shape_one h p = refl
 
-module _ (n : ℕ) (s h p : Bool) where
-  all_bits : (x a q m b : Bool) → s ≡ x → eqb n 1 ≡ a → p ≡ q → (h && leb n 8) ≡ m → eqb n 2 ≡ b → by_bits x a q m b ≡ shape_tag n s h p
-  unfolding by_bits shape_tag
-  all_bits x a q m b i j k l o =
-      sym
-      (ap (λ (z : Bool). choose z (choose (eqb n 1) (Some 0x40) (choose p (choose (h && leb n 8) (Some 0x41) None) (choose (eqb n 2) (Some 0x42) None))) None) i ∙
-      ap (λ (z : Bool). choose x (choose z (Some 0x40) (choose p (choose (h && leb n 8) (Some 0x41) None) (choose (eqb n 2) (Some 0x42) None))) None) j ∙
-      ap (λ (z : Bool). choose x (choose a (Some 0x40) (choose z (choose (h && leb n 8) (Some 0x41) None) (choose (eqb n 2) (Some 0x42) None))) None) k ∙
-      ap (λ (z : Bool). choose x (choose a (Some 0x40) (choose q (choose z (Some 0x41) None) (choose (eqb n 2) (Some 0x42) None))) None) l ∙
-      ap (λ (z : Bool). choose x (choose a (Some 0x40) (choose q (choose m (Some 0x41) None) (choose z (Some 0x42) None))) None) o)
-
-  held : (b : Bool) → not b ≡ false → b ≡ true
-  held true e = refl
-  held false e = sym e
-
-  lost : (b : Bool) → not b ≡ true → b ≡ false
-  lost true e = sym e
-  lost false e = refl
-
-  pub shape_long : not s ≡ true → ◌≡◌ {A = Option ℕ} None (shape_tag n s h p)
-  unfolding by_bits choose
-  shape_long e = all_bits false (eqb n 1) p (h && leb n 8) (eqb n 2) (lost s e) refl refl refl refl
-
-  module _ (e : not s ≡ false) where
-    pub shape_one : n ≡ 1 → ◌≡◌ {A = Option ℕ} (Some 0x40) (shape_tag n s h p)
-    unfolding by_bits choose
-    shape_one f = all_bits true true p (h && leb n 8) (eqb n 2) (held s e) (eq-eqb n 1 f) refl refl refl
-
-    module _ (f : n ≡ 1 → ⊥) where
-      pub shape_member : p ≡ true → (h && leb n 8) ≡ true → ◌≡◌ {A = Option ℕ} (Some 0x41) (shape_tag n s h p)
-      unfolding by_bits choose
-      shape_member i j = all_bits true false true true (eqb n 2) (held s e) (ne_eqb n 1 f) i j refl
-
-      pub shape_no_member : p ≡ true → (h && leb n 8) ≡ false → ◌≡◌ {A = Option ℕ} None (shape_tag n s h p)
-      unfolding by_bits choose
-      shape_no_member i j = all_bits true false true false (eqb n 2) (held s e) (ne_eqb n 1 f) i j refl
-
-      pub shape_two : p ≡ false → n ≡ 2 → ◌≡◌ {A = Option ℕ} (Some 0x42) (shape_tag n s h p)
-      unfolding by_bits choose
-      shape_two i j = all_bits true false false (h && leb n 8) true (held s e) (ne_eqb n 1 f) i refl (eq-eqb n 2 j)
-
-      pub shape_none : p ≡ false → (n ≡ 2 → ⊥) → ◌≡◌ {A = Option ℕ} None (shape_tag n s h p)
-      unfolding by_bits choose
-      shape_none i j = all_bits true false false (h && leb n 8) false (held s e) (ne_eqb n 1 f) i refl (ne_eqb n 2 j)
+pub shape_long : (n : ℕ) (h p : Bool) → ◌≡◌ {A = Option ℕ} (shape_tag n false h p) None
+unfolding shape_tag choose
+shape_long n h p = refl

@@ -1,13 +1,14 @@
--- Runs of text and of strings, a stretch or an entity further, and where they end. Main statements: `entity_found`, `entity_long`,
+-- Runs of text and of strings, a stretch or an entity further, and where they end. Main statements: `entity_read_as`, `entity_unread`, `entity_none`,
 -- `decoding_plain`, `decoding_entity`, `decoding_ends`, `text_ends`, `string_closes`. Assumes nothing.
-use Prim.Native.Nat.{ℕ, ◌+◌, ◌-◌, ◌≤◌, ◌<◌}
+use Prim.Native.Nat.{ℕ, zero, suc, ◌+◌, ◌-◌, ◌≤◌, ◌<◌}
 use mathlib.Core.Path.{◌≡◌, refl, sym, ◌∙◌, ap, subst}
 use mathlib.Core.Bool.{Bool, true, false, ◌&&◌, not}
 use mathlib.Core.List.{[], ◌∷◌, ◌++◌, append-nil, append_assoc}
 use native.Mathlib.Omega.{arith}
-use lib.Dec.{T, eqb, eqb→eq, not_T}
+use borrow.Author.Tests.{leb-true, leb-false}
+use lib.Dec.{T, leb, eqb, eqb→eq, not_T}
 use lib.ListN.{length, take, drop, get_or, length-append, length-drop, drop_of_length-le}
-use lib.Seq.{length-take-le}
+use lib.Seq.{length-take-le, get_or-drop}
 use Rattle.std.specs.Prelude.{Option, None, Some}
 use Rattle.field.specs.Bytes.{Bytes, ascii, same}
 use Rattle.field.specs.Put.{head, Wrote}
@@ -26,7 +27,7 @@ use Rattle.read_tag.specs.declared.texts.Around.{Around}
 use Rattle.read_tag.specs.declared.texts.Around.TheVariants.{Tags, Quotes}
 use Rattle.read_tag.specs.declared.texts.Run as Answer
 use Rattle.read_tag.specs.declared.texts.Entity.{Entity}
-use Rattle.read_tag.proofs.RunLaws.{next, Front, front_none, front_on, Running, running_on, ran_stops, ran_out}
+use Rattle.read_tag.proofs.RunLaws.{next, Front, front_none, front_on, Running, running_none, running_on, ran_stops, ran_out}
 
 -- ---- tests
 
@@ -85,18 +86,18 @@ entity_front x (front_on {c} {s} {w} {r} t f) v =
     ap (λ (z : Bytes). outcome (in_entity z x) r) (append_assoc v (c ∷ []) w)
 
 module _ (s : Bytes) (i : ℕ) where
-  pub entity_on : (k : ℕ) → Running entity_byte s i k → k < length s → (get_or s k 0 ≡ 59 → ⊥) → Running entity_byte s i (k + 1)
+  entity_on : (k : ℕ) → Running entity_byte s i k → k < length s → (get_or s k 0 ≡ 59 → ⊥) → Running entity_byte s i (k + 1)
   unfolding entity_byte
   entity_on k u h n = running_on entity_byte s i k u h (other (get_or s k 0) 59 n)
 
   -- no `;` within five bytes
-  pub entity_long : (k : ℕ) → Running entity_byte s i k → k < length s → (get_or s k 0 ≡ 59 → ⊥) → 4 ≤ k - i → Entered s i None
+  entity_long : (k : ℕ) → Running entity_byte s i k → k < length s → (get_or s k 0 ≡ 59 → ⊥) → 4 ≤ k - i → Entered s i None
   unfolding Entered
   entity_long k u h n l x =
       let v = entity_on k u h n in
       entity_front x v.front [] ∙ long_never x (drop (k + 1) s) v.read (omega (arith, v.counted, u.after))
 
-  pub entity_out : (k : ℕ) → Running entity_byte s i k → length s ≤ k → Entered s i None
+  entity_out : (k : ℕ) → Running entity_byte s i k → length s ≤ k → Entered s i None
   unfolding Entered
   entity_out k u l x =
       let r = ran_out entity_byte s i k u l in
@@ -110,18 +111,53 @@ module _ (s : Bytes) (i : ℕ) where
         ap (outcome (in_entity (take (k - i) (drop i s)) x)) (next s k h ∙ ap (λ (z : ℕ). z ∷ drop (k + 1) s) e) ∙
         entity_ends x (take (k - i) (drop i s)) (drop (k + 1) s)
 
-    pub entity_unknown : (d : Option ℕ) → d ≡ entity_of (take (k - i) (drop i s)) → d ≡ None → Entered s i None
+    entity_unknown : (d : Option ℕ) → d ≡ entity_of (take (k - i) (drop i s)) → d ≡ None → Entered s i None
     unfolding Entered
     entity_unknown d f z x =
         named x ∙ ap (λ (g : Option ℕ). outcome (resumed_if x g) (drop (k + 1) s)) (sym f ∙ z) ∙ (unfold resumed_if in refused_never (drop (k + 1) s))
 
-    pub entity_found : (o : Option ℕ) {d : ℕ} → o ≡ entity_of (take (k - i) (drop i s)) → o ≡ Some d → Entered s i (Some record { code = d; end = k + 1 })
+    entity_found : (o : Option ℕ) {d : ℕ} → o ≡ entity_of (take (k - i) (drop i s)) → o ≡ Some d → Entered s i (Some record { code = d; end = k + 1 })
     unfolding Entered
     entity_found o {d} f n = (
       omega (arith, u.after),
       omega arith,
       λ x. named x ∙ ap (λ (g : Option ℕ). outcome (resumed_if x g) (drop (k + 1) s)) (sym f ∙ n) ∙ (unfold resumed_if in refl),
     )
+
+-- by what stands behind the `&`, w
+module _ (s : Bytes) (i : ℕ) (w : Bytes) (e : w ≡ drop i s) (l : i ≤ length s) where
+  size : i + length w ≡ length s
+  size = omega (arith, ap length e, length-drop i s)
+
+  at_place : (k : ℕ) → get_or s (i + k) 0 ≡ get_or w k 0
+  at_place k = sym (ap (λ (v : Bytes). get_or v k 0) e ∙ get_or-drop i s k 0)
+
+  -- no `;` among n bytes
+  entity_run : (n : ℕ) → n ≤ length w → ((k : ℕ) → k < n → get_or w k 0 ≡ 59 → ⊥) → Running entity_byte s i (i + n)
+  entity_run zero m h = let z : i ≡ i + 0 = omega arith in subst (Running entity_byte s i) z (running_none entity_byte s i l)
+  entity_run (suc n) m h =
+      let z : i + n + 1 ≡ i + suc n = omega arith in
+      subst (Running entity_byte s i) z
+      (entity_on s i (i + n) (entity_run n (omega arith) (λ k a. h k (omega arith))) (omega (arith, size)) (λ f. h n (omega arith) (sym (at_place n) ∙ f)))
+
+  pub entity_none : ((k : ℕ) → k < 5 → k < length w → get_or w k 0 ≡ 59 → ⊥) → Entered s i None
+  entity_none h = on (leb (length w) 4) refl
+    where
+      on : (b : Bool) → leb (length w) 4 ≡ b → Entered s i None
+      on true f =
+          let m : length w ≤ 4 = leb-true (length w) 4 f in
+          entity_out s i (i + length w) (entity_run (length w) (omega arith) (λ k a. h k (omega arith) a)) (omega (arith, size))
+      on false f =
+          let m : 4 < length w = leb-false (length w) 4 f in
+          entity_long s i (i + 4) (entity_run 4 (omega arith) (λ k a. h k (omega arith) (omega arith))) (omega (arith, size)) (λ g. h 4 (omega arith) (omega arith) (sym (at_place 4) ∙ g)) (omega arith)
+
+  -- the first `;` is behind n bytes
+  module _ (n : ℕ) (m : n < length w) (f : get_or w n 0 ≡ 59) (h : (k : ℕ) → k < n → get_or w k 0 ≡ 59 → ⊥) (o : Option ℕ) (g : o ≡ entity_of (take (i + n - i) (drop i s))) where
+    pub entity_unread : o ≡ None → Entered s i None
+    entity_unread z = entity_unknown s i (i + n) (entity_run n (omega arith) h) (omega (arith, size)) (at_place n ∙ f) o g z
+
+    pub entity_read_as : {d : ℕ} → o ≡ Some d → Entered s i (Some record { code = d; end = i + n + 1 })
+    entity_read_as z = entity_found s i (i + n) (entity_run n (omega arith) h) (omega (arith, size)) (at_place n ∙ f) o g z
 
 pub entity_further : (s : Bytes) (i : ℕ) {e : Entity} (r : Option Entity) → Entered s i r → r ≡ Some e → (i < e.end) × (e.end ≤ length s)
 unfolding Entered

@@ -1,12 +1,12 @@
 -- What is promised of what braces hold: by `known_of`, which reads it, and by the field that it becomes. Main definition: `Holds`.
 -- Assumes nothing: these are definitions.
-use Rattle.std.specs.Prelude.{ℕ, ◌+◌, ◌-◌, ◌^◌, ◌≤◌, ◌<◌, ◌≡◌, Bool, true, false, ◌&&◌, ◌||◌, ◌++◌, leb, ltb, length, take, drop, Option, None, Some}
+use Rattle.std.specs.Prelude.{ℕ, ◌+◌, ◌^◌, ◌≤◌, ◌<◌, ◌≡◌, Bool, true, false, ◌&&◌, ◌||◌, ◌++◌, leb, length, take, Option, None, Some}
 use Rattle.field.specs.Bytes.{Bytes}
 use Rattle.field.specs.Row.{end, long_body}
 use Rattle.field.specs.Put.{Wrote}
 use Rattle.page.specs.Encode.{expr_row}
 use Rattle.grammar.specs.Signs.{choose, some_byte, digit}
-use Rattle.grammar.specs.Known.{Known, whole, minus_whole, decimal, minus_decimal, quoted, value_from, is_whole, is_decimal, before_point, after_point, number_of, unsigned, has_minus, string_of, digit_or_point, of_a_number, not_read, rest_of, or_else}
+use Rattle.grammar.specs.Known.{Known, whole, minus_whole, decimal, minus_decimal, value_from, is_whole, is_decimal, before_point, after_point, number_of, unsigned, has_minus, digit_or_point, of_a_number, not_read, rest_of, or_else}
 use Rattle.grammar.specs.Syntax.{known_expr}
 use Rattle.tag_tree.specs.PageTag.{page_expr}
 use Rattle.tag_tree.specs.TagAnswer.{known_in_range, shallow}
@@ -25,21 +25,15 @@ pub record Capped (x v : ℕ) : Type 0 where
   pub large : 9_007_199_254_740_991 < v → 9_007_199_254_740_991 < x
   pub low : v < 2 ^ 60
 
--- the digits from k on, behind those that have the value n
-pub record Counted (s : Bytes) (k n : ℕ) (r : Digits) : Type 0 where
-  pub ran : Ran digit s k r.end
-  pub value : Capped (value_from n (take (r.end - k) (drop k s))) r.value
+-- the digits in front, behind those that have the value n
+pub record Counted (s : Bytes) (n : ℕ) (r : Digits) : Type 0 where
+  pub ran : Ran digit s 0 r.count
+  pub value : Capped (value_from n (take r.count s)) r.value
 
 unfoldable pub Numbered : Bytes → Option Numeral → Type 0
 Numbered s None = (is_whole s ≡ false) × (is_decimal s ≡ false)
 Numbered s (Some (Whole v)) = (is_whole s ≡ true) × Capped (value_from 0 s) v
 Numbered s (Some (Scaled v p)) = (is_whole s ≡ false) × (is_decimal s ≡ true) × Capped (value_from 0 (before_point s ++ after_point s)) v × (p ≡ length (after_point s))
-
--- u is behind a minus and white space, where they stand
-pub record Unsigned (s : Bytes) (u : ℕ) : Type 0 where
-  pub inside : u ≤ length s
-  pub rest : drop u s ≡ unsigned s
-  pub sign : ltb 0 u ≡ has_minus s
 
 unfoldable pub signed_whole : Bool → ℕ → Known
 signed_whole true n = minus_whole n
@@ -57,11 +51,7 @@ unfoldable pub decimal_tag : Bool → ℕ
 decimal_tag true = 0x7b
 decimal_tag false = 0x7a
 
--- ---- strings, and the rest
-
-unfoldable pub Quoted : Bytes → Bool → Type 0
-Quoted s true = (2 ≤ length s) × (string_of s ≡ Some (quoted (take (length s - 1 - 1) (drop 1 s))))
-Quoted s false = string_of s ≡ None
+-- ---- the rest
 
 -- no 79
 unfoldable pub barred : Bytes → Bool

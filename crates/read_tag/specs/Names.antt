@@ -1,7 +1,7 @@
 -- What the scans of names promise, by the grammar's words and by what its reader does there. Main definitions: `Scanned`,
 -- `NamePut`, `NamesCompared`.
 -- Assumes nothing: these are definitions.
-use Rattle.std.specs.Prelude.{ℕ, ◌+◌, ◌≤◌, ◌<◌, ◌≡◌, Bool, [], ◌∷◌, T, eqb, length, drop, get_or, Option, Some, None}
+use Rattle.std.specs.Prelude.{ℕ, ◌+◌, ◌-◌, ◌≤◌, ◌<◌, ◌≡◌, Bool, [], ◌∷◌, T, eqb, length, take, drop, get_or, Option, Some, None}
 use Rattle.field.specs.Bytes.{Bytes}
 use Rattle.field.specs.Row.{bytes}
 use Rattle.field.specs.Put.{Wrote}
@@ -15,17 +15,49 @@ use Rattle.read_tag.specs.Runs.{Ran}
 use Rattle.read_tag.specs.Progress.{name_bytes}
 use Rattle.read_tag.specs.Shapes.{name_tag}
 use Rattle.read_tag.specs.declared.name.NamePart.{NamePart}
+use Rattle.read_tag.specs.declared.name.NameParts.{NameParts}
 use Rattle.read_tag.specs.declared.name.ScannedName.{ScannedName}
 
--- what follows an identifier that ends at e: white space alone, and 0 for the sign; or a sign and where the next identifier would begin
-pub data Behind (s : Bytes) (e : ℕ) : ℕ → ℕ → Type 0 where
-  last : {n : ℕ} → Ran space s e n → Ends name_goes_on (drop n s) → Behind s e 0 n
-  parted : {k n : ℕ} → Ran space s e k → k < length s → T (separator (get_or s k 0)) → Ran space s (k + 1) n → Behind s e (get_or s k 0) n
+-- what follows an identifier that ends at e: white space alone; or a sign and where the next identifier may begin
+pub data Behind (s : Bytes) (e : ℕ) : Option ℕ → ℕ → Type 0 where
+  last : {n : ℕ} → Ran space s e n → Ends name_goes_on (drop n s) → Behind s e None n
+  parted : {k n : ℕ} → Ran space s e k → k < length s → T (separator (get_or s k 0)) → Ran space s (k + 1) n → Behind s e (Some (get_or s k 0)) n
 
 -- the part of a name at i
 pub record PartAt (s : Bytes) (i : ℕ) (r : NamePart) : Type 0 where
-  pub ran : Ran name_byte s (i + 1) r.end
-  pub behind : Behind s r.end r.sep r.next
+  pub end : ℕ
+  pub word_is : r.word.now ≡ take (end - i) (drop i s)
+  pub ran : Ran name_byte s (i + 1) end
+  pub behind : Behind s end r.sign r.next
+
+-- ---- the parts one after the other, by the place where the next begins
+
+abbrev pub place_behind : Option ℕ → ℕ → Option ℕ
+place_behind None n = None
+place_behind (Some d) n = Some n
+
+-- a part at i is passed, and the next begins at k
+pub record Passed (s : Bytes) (i : ℕ) (r : NamePart) (k : Option ℕ) : Type 0 where
+  pub inside : i < length s
+  pub part : PartAt s i r
+  pub then : k ≡ place_behind r.sign r.next
+
+-- a step from the place where the next part begins, which leaves k: none is left, or the text ends there, or a part is passed
+abbrev pub PartStep : Bytes → Option ℕ → Option NamePart → Option ℕ → Type 0
+PartStep s None None k = k ≡ None
+PartStep s None (Some r) k = ⊥
+PartStep s (Some i) None k = length s ≤ i
+PartStep s (Some i) (Some r) k = Passed s i r k
+
+abbrev pub GivesPart : NameParts → Option NamePart → NameParts → Type 0
+GivesPart x r y = (y.text.now ≡ x.text.now) × PartStep x.text.now x.at r y.at
+
+abbrev left_at : Option ℕ → ℕ → ℕ
+left_at None n = 0
+left_at (Some i) n = n - i
+
+abbrev pub parts_left : NameParts → ℕ
+parts_left x = left_at x.at (length x.text.now)
 
 -- the reader behind the name m, which was read for x
 unfoldable pub named_if : For → Name → State

@@ -1,24 +1,23 @@
 // Names: where they end, which field a name becomes, that field, and two names compared.
-ghost use Rattle.std.specs.Prelude.{◌≡◌, true, ◌+◌, ◌-◌, ◌*◌, ◌≤◌, ◌<◌, ◌^◌, length, take, drop, get_or};
-ghost use Rattle.field.specs.Row.{field_bytes};
-ghost use Rattle.field.specs.Put.{Wrote};
+ghost use Rattle.std.specs.Prelude.{◌≡◌, true, ◌+◌, ◌*◌, ◌≤◌, ◌<◌, ◌^◌, length, get_or};
+ghost use Rattle.std.specs.Iterator.{at_most};
 ghost use Rattle.grammar.specs.Signs.{letter, separator};
-ghost use Rattle.grammar.specs.Syntax.{no_hyphen};
 ghost use Rattle.read_tag.specs.Shapes.{shape_tag};
-ghost use Rattle.read_tag.specs.Names.{PartAt, Scanned, NameAt, PartsPut, NamePut, NamesCompared};
+ghost use Rattle.read_tag.specs.Names.{PartAt, GivesPart, parts_left, Scanned, NameAt, PartsPut, NamePut, NamesCompared};
 
 use crate::known::trim_end;
-use crate::signs::{NameBytes, is_letter, run_end, skip_spaces};
-use field::writer::{put_bytes, put_field, put_head};
+use crate::signs::{NameBytes, is_letter, skip_spaces};
+use field::writer::{put_field, put_head};
 use names::same_bytes;
 use page::name::{MAX_MEMBERS, MAX_NAME};
+use text::runs::run_end;
 
-// A part of a name: where its bytes end; the sign that parts it from the next, 0 where it is the last; and where the next would begin, or what
-// follows the name.
+// A part of a name: its bytes; the sign behind it, if one parts it from another; and the place behind that, where the next may begin, or behind
+// the name. White space in between is passed.
 #[derive(Clone, Copy)]
-pub struct NamePart {
-    pub end: usize,
-    pub sep: u8,
+pub struct NamePart<'a> {
+    pub word: &'a [u8],
+    pub sign: Option<u8>,
     pub next: usize,
 }
 
@@ -29,70 +28,81 @@ pub struct ScannedName {
     pub end: usize,
 }
 
+#[tactic(auto, unfolding(grammar::specs::Signs::separator))]
 fn is_separator(c: u8) -> bool
     ensures { result ≡ separator c }
 {
-    (c == b'.') | (c == b':')
+    matches!(c, b'.' | b':')
 }
 
 // The part whose first byte stands at i.
-fn part_at(text: &[u8], i: usize) -> NamePart
+#[inline(always)]
+fn part_at(text: &[u8], i: usize) -> NamePart<'_>
     requires { i < length text.now }
     ensures { PartAt text.now i result }
 {
-    let e = run_end(&NameBytes, text, i + 1);
-    let k = skip_spaces(text, e);
-    if text.len() <= k {
-        return NamePart {
-            end: e,
-            sep: 0,
+    let end = run_end(&NameBytes, text, i + 1);
+    let k = skip_spaces(text, end);
+    let word = &text[i..end];
+    match text.get(k) {
+        Some(sign) if is_separator(*sign) => NamePart {
+            word,
+            sign: Some(*sign),
+            next: skip_spaces(text, k + 1),
+        },
+        _ => NamePart {
+            word,
+            sign: None,
             next: k,
-        };
-    }
-    let d = text[k];
-    if !is_separator(d) {
-        return NamePart {
-            end: e,
-            sep: 0,
-            next: k,
-        };
-    }
-    let n = skip_spaces(text, k + 1);
-    NamePart {
-        end: e,
-        sep: d,
-        next: n,
+        },
     }
 }
 
-// No hyphen from i to e.
-fn is_hyphen_free(text: &[u8], i: usize, e: usize) -> bool
-    requires { (i ≤ e) × (e ≤ length text.now) }
-    ensures { result ≡ no_hyphen (take (e - i) (drop i text.now)) }
+// The parts of a name one after the other, by the place where the next begins, if one is left. None comes too where the text ends there. Inlined, as
+// part_at is, since else a name of two parts takes 22 % more.
+#[derive(Clone, Copy)]
+struct NameParts<'a> {
+    text: &'a [u8],
+    at: Option<usize>,
+}
+
+impl<'a> Iterator for NameParts<'a> {
+    type Item = NamePart<'a>;
+
+    ghost next_gives = { GivesPart };
+
+    ghost remaining = { λ parts. at_most (parts_left parts) };
+
+    #[inline(always)]
+    fn next(&mut self) -> Option<NamePart<'a>> {
+        let i = self.at?;
+        if self.text.len() <= i {
+            return None;
+        }
+        let part = part_at(self.text, i);
+        self.at = part.sign.and(Some(part.next));
+        Some(part)
+    }
+}
+
+fn parts_at(text: &[u8], i: usize) -> NameParts<'_>
+    ensures { (result.text.now ≡ text.now) × (result.at ≡ Some i) }
 {
-    !text[i..e].contains(&b'-')
+    NameParts { text, at: Some(i) }
 }
 
 // By the count of parts, whether all have at most 128 bytes, none a hyphen, and points alone part them. None: no name of 01.
+#[tactic(auto, unfolding(crate::specs::Shapes::shape_tag, grammar::specs::Signs::choose))]
 pub fn shape_of(parts: usize, short: bool, plain: bool, points: bool) -> Option<u8>
     ensures { result ≡ shape_tag parts short plain points }
 {
-    if !short {
-        return None;
+    match parts {
+        _ if !short => None,
+        1 => Some(0x40),
+        ..=MAX_MEMBERS if points & plain => Some(0x41),
+        2 if !points => Some(0x42),
+        _ => None,
     }
-    if parts == 1 {
-        return Some(0x40);
-    }
-    if points {
-        if plain & (parts <= MAX_MEMBERS) {
-            return Some(0x41);
-        }
-        return None;
-    }
-    if parts == 2 {
-        return Some(0x42);
-    }
-    None
 }
 
 // The name whose first letter stands at i, part by part.
@@ -100,33 +110,27 @@ fn scan_parts(text: &[u8], i: usize) -> Option<ScannedName>
     requires { (i < length text.now) × (letter (get_or text.now i 0) ≡ true) }
     ensures { Scanned text.now i result }
 {
-    // No `for`, here and below: where the next part begins only the one before it says.
-    let mut k = i;
-    let mut parts: usize = 1;
+    let mut parts: usize = 0;
     let mut short = true;
     let mut plain = true;
     let mut points = true;
-    loop {
-        let p = part_at(text, k);
-        let e = p.end;
-        let d = p.sep;
-        let n = p.next;
-        short = short & (e - k <= MAX_NAME);
-        plain = plain & is_hyphen_free(text, k, e);
-        if d == 0 {
-            let tag = shape_of(parts, short, plain, points)?;
-            return Some(ScannedName { tag, end: n });
-        }
-        if text.len() <= n {
+    for part in parts_at(text, i) {
+        if !is_letter(part.word[0]) {
             return None;
         }
-        if !is_letter(text[n]) {
-            return None;
-        }
-        points = points & (d == b'.');
         parts += 1;
-        k = n;
+        short = short & (part.word.len() <= MAX_NAME);
+        plain = plain & !part.word.contains(&b'-');
+        let Some(sign) = part.sign else {
+            let tag = shape_of(parts, short, plain, points)?;
+            return Some(ScannedName {
+                tag,
+                end: part.next,
+            });
+        };
+        points = points & (sign == b'.');
     }
+    None
 }
 
 // The same. Most names are one identifier, in which hyphens need not be looked for.
@@ -134,16 +138,17 @@ pub fn scan_name(text: &[u8], i: usize) -> Option<ScannedName>
     requires { (i < length text.now) × (letter (get_or text.now i 0) ≡ true) }
     ensures { Scanned text.now i result }
 {
-    let p = part_at(text, i);
-    let e = p.end;
-    let n = p.next;
-    if p.sep != 0 {
+    let part = part_at(text, i);
+    if part.sign.is_some() {
         return scan_parts(text, i);
     }
-    if MAX_NAME < e - i {
+    if MAX_NAME < part.word.len() {
         return None;
     }
-    Some(ScannedName { tag: 0x40, end: n })
+    Some(ScannedName {
+        tag: 0x40,
+        end: part.next,
+    })
 }
 
 // A 40 for each part of the name at i. A part of n bytes takes n + 3, so at most four for each byte of the text.
@@ -151,19 +156,11 @@ fn put_parts(text: &[u8], i: usize, out: &mut [u8], at: usize) -> usize
     requires { NameAt text.now i × (at + 4 * length text.now < 2 ^ 63) }
     ensures { PartsPut text.now i out.old at out.new result }
 {
-    let mut k = i;
     let mut o = at;
-    loop {
-        let p = part_at(text, k);
-        let e = p.end;
-        let d = p.sep;
-        let n = p.next;
-        o = put_field(out, o, 0x40, &text[k..e]);
-        if d == 0 {
-            return o;
-        }
-        k = n;
+    for part in parts_at(text, i) {
+        o = put_field(out, o, 0x40, part.word);
     }
+    o
 }
 
 // The field of the name from i to end, white space apart. One identifier is not read again: its end is found from behind. What holds parts gets
@@ -173,8 +170,7 @@ pub fn put_name(text: &[u8], i: usize, tag: u8, end: usize, out: &mut [u8], at: 
     ensures { NamePut text.now i tag end out.old at out.new result }
 {
     if tag == 0x40 {
-        let e = trim_end(text, i, end);
-        return put_field(out, at, 0x40, &text[i..e]);
+        return put_field(out, at, 0x40, trim_end(&text[i..end]));
     }
     let o = put_parts(text, i, out, at + 3);
     put_head(out, at, tag, o - (at + 3));
@@ -186,24 +182,17 @@ pub fn same_names(text: &[u8], i: usize, j: usize) -> bool
     requires { NameAt text.now i × NameAt text.now j }
     ensures { NamesCompared text.now i j result }
 {
-    let mut a = i;
-    let mut b = j;
-    loop {
-        let p = part_at(text, a);
-        let q = part_at(text, b);
-        let e = p.end;
-        let f = q.end;
-        if !same_bytes(&text[a..e], &text[b..f]) {
+    let mut others = parts_at(text, j);
+    for part in parts_at(text, i) {
+        let Some(other) = others.next() else {
+            return false;
+        };
+        if !same_bytes(part.word, other.word) {
             return false;
         }
-        let d = p.sep;
-        if q.sep != d {
+        if part.sign != other.sign {
             return false;
         }
-        if d == 0 {
-            return true;
-        }
-        a = p.next;
-        b = q.next;
     }
+    true
 }

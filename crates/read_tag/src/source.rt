@@ -2,46 +2,34 @@
 ghost use Rattle.std.specs.Prelude.{◌≤◌, length};
 ghost use Rattle.read_tag.specs.Sources.{Sourced};
 
-use crate::signs::{QuotedSource, is_quote, is_source, run_end};
+use crate::signs::{QuotedSource, is_quote, is_source};
+use text::runs::run_end;
 
 // The place of the brace, if it is read up to there.
 pub fn source_end(text: &[u8], i: usize) -> Option<usize>
     requires { i ≤ length text.now }
     ensures { Sourced text.now i result }
 {
-    // No `for`: what is in quotes is passed in one step.
+    // No iterator: what is in quotes is passed in one step, and where it ends only run_end says.
     let mut k = i;
     let mut depth: usize = 0;
     while k < text.len() {
         let c = text[k];
-        if is_source(c) {
-            k += 1;
-            continue;
-        }
-        if c == b'}' {
-            if depth == 0 {
-                return Some(k);
+        match c {
+            _ if is_source(c) => {}
+            b'{' => depth += 1,
+            b'}' if depth == 0 => return Some(k),
+            b'}' => depth -= 1,
+            _ if is_quote(c) => {
+                let e = run_end(&QuotedSource { quote: c }, text, k + 1);
+                if text.len() <= e || text[e] != c {
+                    return None;
+                }
+                k = e;
             }
-            depth -= 1;
-            k += 1;
-            continue;
+            _ => return None,
         }
-        if c == b'{' {
-            depth += 1;
-            k += 1;
-            continue;
-        }
-        if !is_quote(c) {
-            return None;
-        }
-        let e = run_end(&QuotedSource { quote: c }, text, k + 1);
-        if text.len() <= e {
-            return None;
-        }
-        if text[e] != c {
-            return None;
-        }
-        k = e + 1;
+        k += 1;
     }
     None
 }

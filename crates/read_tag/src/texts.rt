@@ -5,8 +5,9 @@ ghost use Rattle.read_tag.specs.Runs.{Ran};
 ghost use Rattle.read_tag.specs.Texts.{plain, Entered, Decodes, TextRead, StringRead};
 
 use crate::entity::entity_code;
-use crate::signs::{PlainString, PlainText, run_end};
+use crate::signs::{PlainString, PlainText};
 use field::writer::{put_byte, put_bytes, put_head};
+use text::runs::run_end;
 
 // Where a run ends in the text, and in what is written.
 #[derive(Clone, Copy)]
@@ -37,16 +38,15 @@ fn read_entity(text: &[u8], i: usize) -> Option<Entity>
     requires { i ≤ length text.now }
     ensures { Entered text.now i result }
 {
-    for k in i..text.len() {
-        if text[k] == b';' {
-            let code = entity_code(&text[i..k])?;
-            return Some(Entity { code, end: k + 1 });
-        }
-        if MAX_ENTITY <= k - i {
-            return None;
-        }
-    }
-    None
+    let n = text[i..]
+        .iter()
+        .take(MAX_ENTITY + 1)
+        .position(|c| *c == b';')?;
+    let code = entity_code(&text[i..i + n])?;
+    Some(Entity {
+        code,
+        end: i + n + 1,
+    })
 }
 
 // Behind the bytes at i, up to an entity or the end of the run.
@@ -65,16 +65,13 @@ fn decode(text: &[u8], i: usize, x: Around, out: &mut [u8], at: usize) -> Option
     requires { (i ≤ length text.now) × (at + length text.now < 2 ^ 63) }
     ensures { Decodes x text.now i out.old at out.new result }
 {
-    // No `for`: a turn passes a stretch and an entity.
+    // No iterator: a turn writes a stretch and an entity's byte, and where the next begins only the entity says.
     let mut k = i;
     let mut a = at;
     loop {
         let e = plain_end(text, k, x);
         let b = put_bytes(out, a, &text[k..e]);
-        if text.len() <= e {
-            return Some(Run { end: e, at: b });
-        }
-        if text[e] != b'&' {
+        if text.len() <= e || text[e] != b'&' {
             return Some(Run { end: e, at: b });
         }
         let entity = read_entity(text, e + 1)?;
@@ -105,6 +102,6 @@ pub fn read_string(text: &[u8], i: usize, q: u8, out: &mut [u8], at: usize) -> O
     put_head(out, at, 0x51, run.at - (at + 3));
     Some(Run {
         end: run.end + 1,
-        at: run.at,
+        ..run
     })
 }

@@ -16,7 +16,7 @@ use Rattle.spec.specs.Transform.{templates_row}
 use Rattle.strings.specs.declared.due.Due.{Due}
 use Rattle.strings.specs.Due.{graver, long_due, grave}
 use Rattle.strings.specs.Recorded.{recorded_one, recorded}
-use Rattle.strings.proofs.RecordedLaws.{size_append, long_append, recorded_append, recorded_length, recorded_one_is, recorded_kinds}
+use Rattle.strings.proofs.RecordedLaws.{size_append, long_append, recorded_append, recorded_one_is, recorded_kinds}
 use Rattle.strings.proofs.DueLaws.{grave_join, long_grave, due_none, due_then, due_template}
 use Rattle.records.specs.Keep.{Kept, at, add, keep, write, bumped, template_of, Low}
 use Rattle.records.specs.declared.Records.{Records}
@@ -124,19 +124,11 @@ pub write_low : (n : ℕ) (run : Bool) (ps : List Part) (w : Kept) → Low (writ
 unfolding write
 write_low n run ps w l = record { low_next = l.low_next; low_place = omega (arith, l.low_place) }
 
-pub keep_length : (p : Pass Mid) (w : Kept) → length (keep p w).out ≡ length w.out
-unfolding keep
-keep_length p w = recorded_length (p w.st.next).templates w.out w.st.place
-
 pub parts_low : Lows Low (λ (ps : List Part). keep (dynamic_exprs ps))
 parts_low = record { back = λ ps w l. keep_low (dynamic_exprs ps) w l }
 
 pub entered_low : Lows Low (λ (es : List Entry). keep (entries_pass es))
 entered_low = record { back = λ es w l. keep_low (entries_pass es) w l }
-
--- between the start of a loop and any turn of it
-pub length_kept : (p q : Pass Mid) (w w₀ : Kept) → keep p w ≡ keep q w₀ → length w.out ≡ length w₀.out
-length_kept p q w w₀ g = sym (keep_length p w) ∙ ap (λ (x : Kept). length x.out) g ∙ keep_length q w₀
 
 -- ---- a template in a function's own words: a number is taken, the dynamic expressions are recorded, and then the template
 

@@ -1,5 +1,5 @@
 -- The kinds of a template's gaps: what the text leaves behind, read from the back; and the strings as they stand in a buffer, whose kinds are
--- those of demand 3's places. Main statements: `sign_append`, `sign_inside`, `kinds_standing`, `after_field`, `all_written`. Assumes nothing.
+-- those of demand 3's places. Main statements: `sign_append`, `sign_inside`, `kinds_standing`, `one_written`, `kinds_put`. Assumes nothing.
 use mathlib.Core.Path.{◌≡◌, refl, sym, ap, ap₂, ◌∙◌, subst}
 use Prim.Native.Nat.{ℕ, zero, suc, ◌+◌, ◌-◌, ◌≤◌, ◌<◌}
 use native.Mathlib.Omega.{arith}

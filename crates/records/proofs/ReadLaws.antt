@@ -1,6 +1,6 @@
 -- Elements and series of children as they stand in bytes: what the walk does at each tag, and what it goes by at an element.
--- Main statements: `within_30`, `called_30` and the like; `serialize_call`, `serialize_template`, `serialize_kids`, `inner_call`, `inner_void`,
--- `inner_kids`, `serialize_none`, `inner_none`; `found_0`, `only_30`, `only_31`, `only_other`, `found_2`, `found_merged`. Assumes nothing.
+-- Main statements: `within_30`, `called_30` and the like; `serialize_call`, `serialize_template`, `inner_call`, `inner_void`, `inner_kids`,
+-- `inner_none`; `found_0`, `only_30`, `only_31`, `only_other`, `found_2`, `found_merged`. Assumes nothing.
 use mathlib.Core.Path.{◌≡◌, refl, sym, ap, ◌∙◌, subst}
 use Prim.Native.Nat.{ℕ, ◌≤◌}
 use native.Mathlib.Omega.{arith}
@@ -12,6 +12,7 @@ use borrow.Author.Tests.{ne_eqb}
 use Rattle.field.specs.Bytes.{Bytes, pick}
 use Rattle.field.specs.Row.{read, Ended, Next, nothing, no_field, next, next_of}
 use Rattle.field.specs.Front.{tag_of_front, body_of, behind_of, behind_by}
+use Rattle.field.specs.Fields.{IsFront}
 use Rattle.field.proofs.RowLaws.{next_sizes}
 use Rattle.field.proofs.FrontLaws.{read_empty}
 use Rattle.names.specs.Names.{is_void_element}
@@ -186,11 +187,6 @@ module _ (k p b : Bytes) {r : Bytes} (q : r ≡ behind_of b) where
         pub inner_kids : v ≡ false → keep (dynamic_exprs (element_at k p b).to_string_vec) w ≡ keep (dynamic_exprs (children_to_string false (children_at k p (read r)))) w
         inner_kids g = inner ∙ rw (is_void g)
 
-    -- so the template of one that is not void stands behind what its children record
-    pub serialize_kids : z ≡ true → (w : Kept) {n : Bytes} → n ≡ identifier_bytes (element_name (read b)) → {v : Bool} → v ≡ is_void_element n → v ≡ false → keep (serialize_jsx (element_at k p b)) w
-        ≡ write w.st.next false (element_at k p b).to_string_vec (keep (dynamic_exprs (children_to_string false (children_at k p (read r)))) (at w.out (bumped w.st)))
-    serialize_kids h w i u g = serialize_template h w ∙ ap (write w.st.next false (element_at k p b).to_string_vec) (inner_kids h (at w.out (bumped w.st)) i u g)
-
   -- one with nothing behind its name records nothing
   module _ (l : length r ≡ 0) (w : Kept) where
     no_kids : children_at k p (read r) ≡ []
@@ -199,10 +195,6 @@ module _ (k p b : Bytes) {r : Bytes} (q : r ≡ behind_of b) where
     found_nothing : keep (found_pass (children_to_expr (children_at k p (read r)))) w ≡ w
     unfolding few_of
     found_nothing = found_none (children_at k p (read r)) (ap few_of no_kids) w
-
-    -- as an expression, if it is no HTML
-    pub serialize_none : {z : Bool} → z ≡ serializable k b → z ≡ false → keep (serialize_jsx (element_at k p b)) w ≡ w
-    serialize_none d h = serialize_call d h w ∙ found_nothing
 
     -- in a template, whatever it is
     within_void : (v : Bool) → keep (dynamic_exprs (pick v [] (children_to_string false (children_at k p (read r))))) w ≡ w
@@ -230,19 +222,20 @@ module _ (k p s : Bytes) {n : Count} (d : n ≡ few (children_in (read s))) (w :
   found_0 h = found_none cs (count_is ∙ h) w
 
   -- the only child stands at a
-  module _ (h : n ≡ One) {a : Bytes} (f : FirstChild s a) (t : ℕ) (e : t ≡ tag_of_front a) where
+  module _ (h : n ≡ One) {a : Bytes} (f : FirstChild s a) where
     only : (c : Child) (ds : List Child) → children_at k p (read a) ≡ c ∷ ds → keep (found_pass (children_to_expr (children_at k p (read s)))) w ≡ keep (found_pass (one_child c)) w
     only c ds q =
         let j : cs ≡ c ∷ ds = ap (children (opts k p)) (sym f.same_children) ∙ q in
         ap (λ (xs : List Child). keep (found_pass (children_to_expr xs)) w) j ∙ ap (λ (x : M.Found). keep (found_pass x) w) (found_only c ds (ap few_of (sym j) ∙ count_is ∙ h))
 
-    pub only_30 : t ≡ 0x30 → {b : Bytes} → b ≡ body_of a → keep (found_pass (children_to_expr (children_at k p (read s)))) w ≡ keep (serialize_jsx (element_at k p b)) w
-    unfolding one_child found_pass entry_pass
-    only_30 g v = only _ _ (kids_30 k p a t e refl g v)
+    module _ {t : ℕ} {b r : Bytes} (i : IsFront a t b r) where
+      pub only_30 : t ≡ 0x30 → keep (found_pass (children_to_expr (children_at k p (read s)))) w ≡ keep (serialize_jsx (element_at k p b)) w
+      unfolding one_child found_pass entry_pass
+      only_30 g = only _ _ (kids_30 k p a t i.tag_is i.behind_is g i.body_is)
 
-    pub only_31 : t ≡ 0x31 → {b : Bytes} → b ≡ body_of a → keep (found_pass (children_to_expr (children_at k p (read s)))) w ≡ keep (found_pass (children_to_expr (children_at k p (read b)))) w
-    unfolding one_child fragment_of
-    only_31 g v = only _ _ (kids_31 k p a t e refl g v)
+      pub only_31 : t ≡ 0x31 → keep (found_pass (children_to_expr (children_at k p (read s)))) w ≡ keep (found_pass (children_to_expr (children_at k p (read b)))) w
+      unfolding one_child fragment_of
+      only_31 g = only _ _ (kids_31 k p a t i.tag_is i.behind_is g i.body_is)
 
     silent : (c : Child) (ds : List Child) → called (c ∷ []) ≡ [] → children_at k p (read a) ≡ c ∷ ds → keep (found_pass (children_to_expr (children_at k p (read s)))) w ≡ w
     silent c ds z q = only c ds q ∙ found_silent c z w
@@ -257,9 +250,9 @@ module _ (k p s : Bytes) {n : Count} (d : n ≡ few (children_in (read s))) (w :
     some z = omega (arith, ap how_many (sym h ∙ d ∙ ap few (f.none_left z)))
 
     -- neither an element nor a fragment
-    pub only_other : (t ≡ 0x30 → ⊥) → (t ≡ 0x31 → ⊥) → keep (found_pass (children_to_expr (children_at k p (read s)))) w ≡ w
+    pub only_other : (t : ℕ) → t ≡ tag_of_front a → (t ≡ 0x30 → ⊥) → (t ≡ 0x31 → ⊥) → keep (found_pass (children_to_expr (children_at k p (read s)))) w ≡ w
     unfolding child called
-    only_other y z =
+    only_other t e y z =
         let o = opts k p in
         tested t 0x60 (λ g. silent (M.text (body_of a)) _ refl (ap (children o) (children_60 a t e g))) λ i.
         tested t 0x52 (λ g. held _ _ (children_52 a t e g)) λ j.

@@ -1,5 +1,5 @@
 -- Recording: templates out, what a first pass adds to it, and one template. Assumes nothing: these are definitions.
-use Rattle.std.specs.Prelude.{ℕ, ◌+◌, ◌-◌, ◌<◌, ◌^◌, Bool, ◌||◌, ◌&&◌, List, [], ◌++◌, leb, ltb, length, take, drop}
+use Rattle.std.specs.Prelude.{ℕ, ◌+◌, ◌-◌, ◌≤◌, ◌<◌, ◌^◌, Bool, ◌||◌, ◌&&◌, List, [], ◌++◌, leb, ltb, length, take, drop}
 use Rattle.field.specs.Bytes.{Bytes, pick}
 use Rattle.field.specs.Number.{big_endian}
 use Rattle.field.specs.Row.{end, bytes, long_body}
@@ -36,6 +36,12 @@ keep p w = add (p w.st.next) w
 pub record Low (w : Kept) : Type 0 where
   pub low_next : w.st.next < 2 ^ 63
   pub low_place : w.st.place + 3 < 2 ^ 63
+
+-- what a walk over s asks that ends at w: scratch holds any run that is not too long, and no place or number passes what a word holds
+pub record Room (scratch s : Bytes) (w : Kept) : Type 0 where
+  pub desk : 65536 ≤ length scratch
+  pub short : length s < 2 ^ 32
+  pub low : Low w
 
 -- ---- one template
 

@@ -2,14 +2,14 @@
 // since the kinds of its gaps are found in them.
 #![tactic(auto)]
 
-ghost use Rattle.std.specs.Prelude.{◌≡◌, true, false, [], ◌+◌, ◌≤◌, ◌<◌, ◌^◌, length};
+ghost use Rattle.std.specs.Prelude.{◌≡◌, true, false, [], ◌+◌, ◌≤◌, ◌<◌, ◌^◌};
 ghost use Rattle.field.specs.Row.{read};
 ghost use Rattle.spec.specs.Merge.{merge, long_run, short_runs};
 ghost use Rattle.spec.specs.Output.{dynamic_exprs, gen_template};
 ghost use Rattle.spec.specs.Children.{children_to_string, children_to_expr, serialize_jsx, entries, entries_pass, found_pass};
 ghost use Rattle.decisions.specs.At.{element_at, children_at, serializable};
 ghost use Rattle.strings.specs.Carve as C;
-ghost use Rattle.records.specs.Keep.{at, keep, write, begun, kinded_if, end_at, bumped, Low};
+ghost use Rattle.records.specs.Keep.{at, keep, write, begun, kinded_if, end_at, bumped, Low, Room};
 
 mod kinds;
 pub mod moves;
@@ -18,13 +18,14 @@ use crate::kinds::put_kinds;
 use crate::moves::move_up;
 use decisions::children::{Count, becomes_template, child_count, children_at};
 use decisions::element::{identifier, is_serializable};
-use field::reader::{behind, body, tag_at};
+use decisions::options::Options;
+use field::reader::{Field, Fields, behind, field_at};
 use field::writer::{put_four, put_head, put_two};
 use names::is_void_element;
 use strings::due::{Due, with_body};
 use strings::{Open, children_strings, merged_children_strings, tag_strings};
 
-// The next number, the place behind what was written, and what is due.
+// The next number, the place behind what was written, and what is due: a state by value, as the open string of `strings` is.
 #[derive(Clone, Copy)]
 pub struct Records {
     pub next: usize,
@@ -93,52 +94,37 @@ fn closed(out: &mut [u8], n: usize, st: Records, open: Open) -> Records
 // plainly.
 
 // Of an element that is HTML.
-fn write_element<'a>(
-    skip: &[u8],
-    props: &'a [u8],
-    b: &'a [u8],
-    out: &mut [u8],
-    n: usize,
-    st: Records,
-) -> Records
-    requires { (serializable skip.now b.now ≡ true) × Low (write n false (element_at skip.now props.now b.now).to_string_vec (at out.old st)) }
-    ensures { at out.new result ≡ write n false (element_at skip.now props.now b.now).to_string_vec (at out.old st) }
+fn write_element(options: &Options<'_>, b: &[u8], out: &mut [u8], n: usize, st: Records) -> Records
+    requires { (serializable options.now.skip.now b.now ≡ true) × Low (write n false (element_at options.now.skip.now options.now.props.now b.now).to_string_vec (at out.old st)) }
+    ensures { at out.new result ≡ write n false (element_at options.now.skip.now options.now.props.now b.now).to_string_vec (at out.old st) }
 {
     let a = opened(st);
-    let c = tag_strings(skip, props, b, out, a);
+    let c = tag_strings(options, b, out, a);
     closed(out, n, st, c)
 }
 
-fn write_children<'a>(
-    skip: &[u8],
-    props: &'a [u8],
-    s: &'a [u8],
-    out: &mut [u8],
-    n: usize,
-    st: Records,
-) -> Records
-    requires { Low (write n false (children_to_string false (children_at skip.now props.now (read s.now))) (at out.old st)) }
-    ensures { at out.new result ≡ write n false (children_to_string false (children_at skip.now props.now (read s.now))) (at out.old st) }
+fn write_children(options: &Options<'_>, s: &[u8], out: &mut [u8], n: usize, st: Records) -> Records
+    requires { Low (write n false (children_to_string false (children_at options.now.skip.now options.now.props.now (read s.now))) (at out.old st)) }
+    ensures { at out.new result ≡ write n false (children_to_string false (children_at options.now.skip.now options.now.props.now (read s.now))) (at out.old st) }
 {
     let a = opened(st);
-    let c = children_strings(skip, props, s, false, out, a);
+    let c = children_strings(options, s, false, out, a);
     closed(out, n, st, c)
 }
 
-fn write_merged<'a>(
-    skip: &[u8],
-    props: &'a [u8],
-    s: &'a [u8],
+fn write_merged(
+    options: &Options<'_>,
+    s: &[u8],
     scratch: &mut [u8],
     out: &mut [u8],
     n: usize,
     st: Records,
 ) -> Records
-    requires { (65536 ≤ length scratch.old) × ((length s.now < 2 ^ 32) × Low (write n (long_run (merge false false [] (children_at skip.now props.now (read s.now)))) (children_to_string false (short_runs (merge false false [] (children_at skip.now props.now (read s.now))))) (at out.old st))) }
-    ensures { at out.new result ≡ write n (long_run (merge false false [] (children_at skip.now props.now (read s.now)))) (children_to_string false (short_runs (merge false false [] (children_at skip.now props.now (read s.now))))) (at out.old st) }
+    requires { Room scratch.old s.now (write n (long_run (merge false false [] (children_at options.now.skip.now options.now.props.now (read s.now)))) (children_to_string false (short_runs (merge false false [] (children_at options.now.skip.now options.now.props.now (read s.now))))) (at out.old st)) }
+    ensures { at out.new result ≡ write n (long_run (merge false false [] (children_at options.now.skip.now options.now.props.now (read s.now)))) (children_to_string false (short_runs (merge false false [] (children_at options.now.skip.now options.now.props.now (read s.now))))) (at out.old st) }
 {
     let a = opened(st);
-    let c = merged_children_strings(skip, props, s, scratch, out, a);
+    let c = merged_children_strings(options, s, scratch, out, a);
     closed(out, n, st, c)
 }
 
@@ -154,178 +140,149 @@ fn taken(st: Records) -> Records
 
 // serialize_jsx
 #[cycle(record)]
-pub fn record_serialize<'a>(
-    skip: &[u8],
-    props: &'a [u8],
-    b: &'a [u8],
+pub fn record_serialize(
+    options: &Options<'_>,
+    b: &[u8],
     scratch: &mut [u8],
     out: &mut [u8],
     st: Records,
 ) -> Records
-    requires { (65536 ≤ length scratch.old) × ((length b.now < 2 ^ 32) × Low (keep (serialize_jsx (element_at skip.now props.now b.now)) (at out.old st))) }
-    ensures { at out.new result ≡ keep (serialize_jsx (element_at skip.now props.now b.now)) (at out.old st) }
+    requires { Room scratch.old b.now (keep (serialize_jsx (element_at options.now.skip.now options.now.props.now b.now)) (at out.old st)) }
+    ensures { at out.new result ≡ keep (serialize_jsx (element_at options.now.skip.now options.now.props.now b.now)) (at out.old st) }
+{
+    if !is_serializable(options.skip, b) {
+        return record_found(options, behind(b), scratch, out, st);
+    }
+    let inner = record_inner(options, b, scratch, out, taken(st));
+    write_element(options, b, out, st.next, inner)
+}
+
+// What an element that is HTML holds in its template.
+#[cycle(record)]
+fn record_inner(
+    options: &Options<'_>,
+    b: &[u8],
+    scratch: &mut [u8],
+    out: &mut [u8],
+    st: Records,
+) -> Records
+    requires { (serializable options.now.skip.now b.now ≡ true) × Room scratch.old b.now (keep (dynamic_exprs (element_at options.now.skip.now options.now.props.now b.now).to_string_vec) (at out.old st)) }
+    ensures { at out.new result ≡ keep (dynamic_exprs (element_at options.now.skip.now options.now.props.now b.now).to_string_vec) (at out.old st) }
+{
+    if is_void_element(identifier(b)) {
+        return st;
+    }
+    record_parts(options, behind(b), scratch, out, st)
+}
+
+// An element in a template. One with nothing behind its name, as most void ones, needs no test of the name.
+#[cycle(record)]
+fn record_element(
+    options: &Options<'_>,
+    b: &[u8],
+    scratch: &mut [u8],
+    out: &mut [u8],
+    st: Records,
+) -> Records
+    requires { Room scratch.old b.now (keep (dynamic_exprs (element_at options.now.skip.now options.now.props.now b.now).to_string_vec) (at out.old st)) }
+    ensures { at out.new result ≡ keep (dynamic_exprs (element_at options.now.skip.now options.now.props.now b.now).to_string_vec) (at out.old st) }
 {
     let rest = behind(b);
-    if !is_serializable(skip, b) {
-        if rest.len() == 0 {
-            return st;
-        }
-        return record_found(skip, props, rest, scratch, out, st);
+    if rest.is_empty() {
+        return st;
     }
-    let n = st.next;
-    let a = taken(st);
-    if rest.len() == 0 {
-        return write_element(skip, props, b, out, n, a);
+    if !is_serializable(options.skip, b) {
+        return record_found(options, rest, scratch, out, st);
     }
-    if is_void_element(identifier(b)) {
-        return write_element(skip, props, b, out, n, a);
-    }
-    let inner = record_parts(skip, props, rest, scratch, out, a);
-    write_element(skip, props, b, out, n, inner)
+    record_inner(options, b, scratch, out, st)
 }
 
-// An element in a template.
+// Children in a template. record_entries differs in what each of its two arms does: one function for both would take a switch on which to run.
 #[cycle(record)]
-fn record_element<'a>(
-    skip: &[u8],
-    props: &'a [u8],
-    b: &'a [u8],
+fn record_parts(
+    options: &Options<'_>,
+    s: &[u8],
     scratch: &mut [u8],
     out: &mut [u8],
     st: Records,
 ) -> Records
-    requires { (65536 ≤ length scratch.old) × ((length b.now < 2 ^ 32) × Low (keep (dynamic_exprs (element_at skip.now props.now b.now).to_string_vec) (at out.old st))) }
-    ensures { at out.new result ≡ keep (dynamic_exprs (element_at skip.now props.now b.now).to_string_vec) (at out.old st) }
+    requires { Room scratch.old s.now (keep (dynamic_exprs (children_to_string false (children_at options.now.skip.now options.now.props.now (read s.now)))) (at out.old st)) }
+    ensures { at out.new result ≡ keep (dynamic_exprs (children_to_string false (children_at options.now.skip.now options.now.props.now (read s.now)))) (at out.old st) }
 {
-    let s = behind(b);
-    if s.len() == 0 {
-        return st;
-    }
-    if !is_serializable(skip, b) {
-        return record_found(skip, props, s, scratch, out, st);
-    }
-    if is_void_element(identifier(b)) {
-        return st;
-    }
-    record_parts(skip, props, s, scratch, out, st)
-}
-
-// Children in a template.
-#[cycle(record)]
-fn record_parts<'a>(
-    skip: &[u8],
-    props: &'a [u8],
-    s: &'a [u8],
-    scratch: &mut [u8],
-    out: &mut [u8],
-    st: Records,
-) -> Records
-    requires { (65536 ≤ length scratch.old) × ((length s.now < 2 ^ 32) × Low (keep (dynamic_exprs (children_to_string false (children_at skip.now props.now (read s.now)))) (at out.old st))) }
-    ensures { at out.new result ≡ keep (dynamic_exprs (children_to_string false (children_at skip.now props.now (read s.now)))) (at out.old st) }
-{
-    let mut t = s;
     let mut cur = st;
-    loop {
-        match tag_at(t) {
-            0x30 => {
-                cur = record_element(skip, props, body(t), scratch, out, cur);
-                t = behind(t);
-            }
-            0x31 => {
-                cur = record_parts(skip, props, body(t), scratch, out, cur);
-                t = behind(t);
-            }
-            256 => {
-                return cur;
-            }
-            _ => {
-                t = behind(t);
-            }
+    for field in Fields(s) {
+        match field.tag {
+            0x30 => cur = record_element(options, field.body, scratch, out, cur),
+            0x31 => cur = record_parts(options, field.body, scratch, out, cur),
+            _ => {}
         }
     }
+    cur
 }
 
 // Children of a call.
 #[cycle(record)]
-pub fn record_found<'a>(
-    skip: &[u8],
-    props: &'a [u8],
-    s: &'a [u8],
+pub fn record_found(
+    options: &Options<'_>,
+    s: &[u8],
     scratch: &mut [u8],
     out: &mut [u8],
     st: Records,
 ) -> Records
-    requires { (65536 ≤ length scratch.old) × ((length s.now < 2 ^ 32) × Low (keep (found_pass (children_to_expr (children_at skip.now props.now (read s.now)))) (at out.old st))) }
-    ensures { at out.new result ≡ keep (found_pass (children_to_expr (children_at skip.now props.now (read s.now)))) (at out.old st) }
+    requires { Room scratch.old s.now (keep (found_pass (children_to_expr (children_at options.now.skip.now options.now.props.now (read s.now)))) (at out.old st)) }
+    ensures { at out.new result ≡ keep (found_pass (children_to_expr (children_at options.now.skip.now options.now.props.now (read s.now)))) (at out.old st) }
 {
     match child_count(s) {
         Count::Zero => st,
-        Count::One => {
-            let a = children_at(s);
-            match tag_at(a) {
-                0x30 => record_serialize(skip, props, body(a), scratch, out, st),
-                0x31 => record_found(skip, props, body(a), scratch, out, st),
-                _ => st,
-            }
-        }
+        Count::One => match field_at(children_at(s)) {
+            Some(Field { tag: 0x30, body }) => record_serialize(options, body, scratch, out, st),
+            Some(Field { tag: 0x31, body }) => record_found(options, body, scratch, out, st),
+            _ => st,
+        },
         Count::More => {
-            if becomes_template(skip, s) {
-                let n = st.next;
-                let inner = record_parts(skip, props, s, scratch, out, taken(st));
-                return write_merged(skip, props, s, scratch, out, n, inner);
+            if becomes_template(options.skip, s) {
+                let inner = record_parts(options, s, scratch, out, taken(st));
+                write_merged(options, s, scratch, out, st.next, inner)
+            } else {
+                record_entries(options, s, scratch, out, st)
             }
-            record_entries(skip, props, s, scratch, out, st)
         }
     }
 }
 
 #[cycle(record)]
-fn record_entries<'a>(
-    skip: &[u8],
-    props: &'a [u8],
-    s: &'a [u8],
+fn record_entries(
+    options: &Options<'_>,
+    s: &[u8],
     scratch: &mut [u8],
     out: &mut [u8],
     st: Records,
 ) -> Records
-    requires { (65536 ≤ length scratch.old) × ((length s.now < 2 ^ 32) × Low (keep (entries_pass (entries (merge false false [] (children_at skip.now props.now (read s.now))))) (at out.old st))) }
-    ensures { at out.new result ≡ keep (entries_pass (entries (merge false false [] (children_at skip.now props.now (read s.now))))) (at out.old st) }
+    requires { Room scratch.old s.now (keep (entries_pass (entries (merge false false [] (children_at options.now.skip.now options.now.props.now (read s.now))))) (at out.old st)) }
+    ensures { at out.new result ≡ keep (entries_pass (entries (merge false false [] (children_at options.now.skip.now options.now.props.now (read s.now))))) (at out.old st) }
 {
-    let mut t = s;
     let mut cur = st;
-    loop {
-        match tag_at(t) {
-            0x30 => {
-                cur = record_serialize(skip, props, body(t), scratch, out, cur);
-                t = behind(t);
-            }
-            0x31 => {
-                cur = record_found(skip, props, body(t), scratch, out, cur);
-                t = behind(t);
-            }
-            256 => {
-                return cur;
-            }
-            _ => {
-                t = behind(t);
-            }
+    for field in Fields(s) {
+        match field.tag {
+            0x30 => cur = record_serialize(options, field.body, scratch, out, cur),
+            0x31 => cur = record_found(options, field.body, scratch, out, cur),
+            _ => {}
         }
     }
+    cur
 }
 
 // A template of a fragment's children.
-pub fn record_fragment<'a>(
-    skip: &[u8],
-    props: &'a [u8],
-    s: &'a [u8],
+pub fn record_fragment(
+    options: &Options<'_>,
+    s: &[u8],
     scratch: &mut [u8],
     out: &mut [u8],
     st: Records,
 ) -> Records
-    requires { (65536 ≤ length scratch.old) × ((length s.now < 2 ^ 32) × Low (keep (gen_template (children_to_string false (children_at skip.now props.now (read s.now)))) (at out.old st))) }
-    ensures { at out.new result ≡ keep (gen_template (children_to_string false (children_at skip.now props.now (read s.now)))) (at out.old st) }
+    requires { Room scratch.old s.now (keep (gen_template (children_to_string false (children_at options.now.skip.now options.now.props.now (read s.now)))) (at out.old st)) }
+    ensures { at out.new result ≡ keep (gen_template (children_to_string false (children_at options.now.skip.now options.now.props.now (read s.now)))) (at out.old st) }
 {
-    let n = st.next;
-    let inner = record_parts(skip, props, s, scratch, out, taken(st));
-    write_children(skip, props, s, out, n, inner)
+    let inner = record_parts(options, s, scratch, out, taken(st));
+    write_children(options, s, out, st.next, inner)
 }

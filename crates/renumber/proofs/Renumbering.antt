@@ -266,9 +266,6 @@ module _ {from to : ℕ} {s o : Bytes} {fs : List Frame} {h base at e : ℕ} {ou
       let c : length (bytes (renumbered to (read_out from (part s at e)))) ≡ length (bytes (renumbered to x)) = ap (λ (r : Row). length (bytes (renumbered to r))) q in
       omega (arith, a, b, c)
 
-  pub fits_now : n ≤ length (bytes (renumbered to (read_out from s)))
-  fits_now = omega (arith, fits refl)
-
   -- the body has ended
   ended : length (part s at e) ≡ 0 → does to (read_out from (part s at e)) (world out n l v) ≡ world out n l v
   unfolding read_out

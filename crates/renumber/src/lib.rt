@@ -112,6 +112,7 @@ pub fn renumber(s: &[u8], from: usize, to: usize, out: &mut [u8]) -> Renumbered
                     let start = 3 + front.min(h.end - 3);
                     let number = number_in(&b[3..start]) as usize;
                     base = if height == 0 { n } else { base };
+                    // The outermost row alone may be longer, and of it the end is known: waits_until.
                     stack[height] = Frame {
                         head: (n - base) as u32,
                         rest: ((end - at - h.end) % 65536) as u16,

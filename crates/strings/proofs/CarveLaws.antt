@@ -1,7 +1,7 @@
 -- Laws of `carve`: parts one after the other, room, characters in two goes, flags, and what the functions that put characters show.
 -- Main statements: `carving`, `lows`, `same_size`, `put_on_append`, `carve_flagged`, `put_is`. Assumes nothing.
-use mathlib.Core.Path.{◌≡◌, refl, sym, ap, ◌∙◌, subst}
-use Prim.Native.Nat.{ℕ, ◌+◌, ◌-◌, ◌≤◌, ◌<◌, ◌^◌}
+use mathlib.Core.Path.{◌≡◌, refl, sym, ap, ◌∙◌}
+use Prim.Native.Nat.{ℕ, ◌+◌, ◌-◌, ◌≤◌, ◌^◌}
 use native.Mathlib.Nat.{add-zero}
 use native.Mathlib.Omega.{arith}
 use mathlib.Core.List.{List, [], ◌∷◌, ◌++◌}
@@ -79,26 +79,13 @@ put_on_append a b w =
     let e₂ : w.st.len + length a + length b ≡ w.st.len + length (a ++ b) = omega (arith, length-append a b) in
     λ i. record { out = e₁ i; st = record { head = w.st.head; len = e₂ i; gaps = w.st.gaps; due = w.st.due } }
 
--- characters in two goes
-pub two_chars : (a b : Bytes) (w : Carved) → carve ((chars a ∷ []) ++ (chars b ∷ [])) w ≡ carve (chars (a ++ b) ∷ []) w
-unfolding carve
-two_chars a b w = put_on_append a b w
-
 module _ (o : Bytes) (st : Open) where
-  -- room for them
-  pub put_low : (b : Bytes) → Low (carve (chars b ∷ []) (at o st)) → st.head + 3 + st.len + length b < 2 ^ 63
-  unfolding carve
-  put_low b l = omega (arith, l)
-
   -- they are written, and the string ends behind them
   pub put_is : {n : ℕ} → n ≡ end st → {b o' : Bytes} {e : ℕ} {r : Open} → r ≡ ended_at st e → Wrote o n b o' e → at o' r ≡ carve (chars b ∷ []) (at o st)
   unfolding carve
   put_is n {b} {o'} {e} {r} q w =
       let l : e - (st.head + 3) ≡ st.len + length b = omega (arith, n, w.end_is) in
       ap (at o') q ∙ (λ i. record { out = (w.out_is ∙ ap (λ (k : ℕ). put o k b) n) i; st = record { head = st.head; len = l i; gaps = st.gaps; due = st.due } })
-
-  pub end_low : {n : ℕ} → n ≡ end st → {b o' : Bytes} {e : ℕ} → Wrote o n b o' e → st.head + 3 ≤ e
-  end_low n {b} w = omega (arith, n, w.end_is)
 
   -- the string is closed
   module _ {o' : Bytes} {n : ℕ} (w : Wrote o st.head (head 0x81 st.len) o' n) where
@@ -108,19 +95,6 @@ module _ (o : Bytes) (st : Open) where
 -- a space and a cut
 abbrev pub spaced : Carved → Carved
 spaced w = close (put_on (32 ∷ []) w)
-
-module _ (o : Bytes) (st : Open) where
-  pub space_room : Low (spaced (at o st)) → Low (carve (chars (32 ∷ []) ∷ []) (at o st))
-  unfolding carve
-  space_room l = omega (arith, l)
-
-  module _ {v : Carved} (e : v ≡ carve (chars (32 ∷ []) ∷ []) (at o st)) where
-    pub space_cut : close v ≡ spaced (at o st)
-    unfolding carve
-    space_cut = ap close e
-
-    pub cut_room : Low (spaced (at o st)) → Low (close v)
-    cut_room l = subst Low (sym space_cut) l
 
 -- ---- what is due
 

@@ -1,5 +1,5 @@
 -- The loop over children that are merged twice: what scratch holds, and what is left to do, through each kind of child.
--- Main statements: `Merging`, `merging_start`, `text_on`, `joined_on`, `cut_on`, `element_on`, `fragment_on`, `other_on`, `merging_end`.
+-- Main statements: `Merging`, `text_on`, `joined_on`, `cut_on`, `element_on`, `fragment_on`, `other_on`, `merging_end`.
 -- Assumes nothing.
 use mathlib.Core.Path.{◌≡◌, refl, sym, ap, ◌∙◌, subst}
 use Prim.Native.Nat.{ℕ, ◌+◌, ◌*◌, ◌≤◌, ◌<◌, ◌^◌}
@@ -13,9 +13,8 @@ use lib.Seq.{length-take-le, take_at}
 use borrow.Author.Tests.{lt-ltb, le-ltb, ltb-false}
 use Rattle.field.specs.Bytes.{Bytes}
 use Rattle.field.specs.Row.{read, Ended}
-use Rattle.field.specs.Front.{tag_of_front, body_of, behind_of}
+use Rattle.field.specs.Fields.{IsFront}
 use Rattle.field.specs.Put.{Wrote}
-use Rattle.field.proofs.FrontLaws.{sizes}
 use Rattle.field.proofs.PutLaws.{put_fits, wrote_length}
 use Rattle.text.specs.Text.{jsx_text_to_str}
 use Rattle.text.proofs.TextBounds.{length_text}
@@ -31,8 +30,7 @@ use Rattle.strings.specs.declared.due.Due.{Due}
 use Rattle.strings.specs.declared.due.Due.TheVariants.{Long}
 use Rattle.strings.specs.Due.{graver, long_due}
 use Rattle.strings.specs.Carve.{Carved, at, carve, close, flagged, put_again, is_some, option_bytes, is_joined, joined_by, Low}
-use Rattle.strings.proofs.CarveLaws.{lows, size, same_size}
-use Rattle.strings.proofs.FrontSizes.{behind_le}
+use Rattle.strings.proofs.CarveLaws.{lows}
 use Rattle.strings.proofs.MergeLaws.{twice, twice_is, run, twice_none, twice_text, twice_empty, twice_spread, twice_joined, twice_container, twice_element, twice_fragment, twice_low}
 use Rattle.strings.proofs.ShapeLaws.{joined_length}
 use Rattle.strings.proofs.TreeLaws.{kids, held, kids_60, kids_52, kids_30, kids_31, kids_none, kids_other}
@@ -105,156 +103,147 @@ module _ (skip props : Bytes) (buf : Bytes) (cs : List Child) (w : Carved) where
 
 -- ---- the loop
 
-module _ (skip props s : Bytes) (start : Carved) (big : ℕ) where
-  pub record Merging (scratch : Bytes) (w : Carved) (t : Bytes) (n : ℕ) : Type 0 where
-    pub buf : Bytes
-    pub holding : Holding scratch n buf
-    pub sized : length scratch ≡ big
-    pub room : n + 20 * length t ≤ 20 * length s
-    pub left : twice buf (kids skip props t) w ≡ twice [] (kids skip props s) start
+-- t is left of the series s; the open string stands at w, and the run so far is n bytes long
+pub record Merging (skip props s : Bytes) (start : Carved) (big : ℕ) (scratch : Bytes) (w : Carved) (t : Bytes) (n : ℕ) : Type 0 where
+  pub buf : Bytes
+  pub holding : Holding scratch n buf
+  pub sized : length scratch ≡ big
+  pub room : n + 20 * length t ≤ 20 * length s
+  pub left : twice buf (kids skip props t) w ≡ twice [] (kids skip props s) start
 
-  pub merging_start : (scratch : Bytes) → length scratch ≡ big → Merging scratch start s 0
-  merging_start scratch e = record { buf = []; holding = holding_none scratch; sized = e; room = omega arith; left = refl }
-
-  -- the field in front of t has the tag k
-  module _ {scratch : Bytes} {w : Carved} {t : Bytes} {n : ℕ} (m : Merging scratch w t n) (k : ℕ) (e : k ≡ tag_of_front t) where
-    module _ (short : length s < 2 ^ 32) (h : k ≡ 256 → ⊥) {b : Bytes} (p : b ≡ body_of t) where
+module _ {skip props s : Bytes} {start : Carved} {big : ℕ} where
+  -- the field in front of t has the tag k and the body b, and r lies behind it
+  module _ {scratch : Bytes} {w : Carved} {t : Bytes} {n : ℕ} (m : Merging skip props s start big scratch w t n) {k : ℕ} {b r : Bytes} (f : IsFront t k b r) where
+    module _ (short : length s < 2 ^ 32) where
       pub text_room : n + length (jsx_text_to_str b false false) < 2 ^ 63
-      text_room = omega (arith, m.room, short, length_text b false, sizes t k e h, ap length p)
+      text_room = omega (arith, m.room, short, length_text b false, f.sizes)
 
       pub joined_room : n + length (joined_by (contained_in (read b))) < 2 ^ 63
-      joined_room = omega (arith, m.room, short, joined_length b, sizes t k e h, ap length p)
+      joined_room = omega (arith, m.room, short, joined_length b, f.sizes)
 
-    module _ {b r : Bytes} (p : b ≡ body_of t) (q : r ≡ behind_of t) where
-      -- something is written into scratch
-      more : {j scratch' : Bytes} {n' : ℕ} → (k ≡ 256 → ⊥) → Wrote scratch n j scratch' n' → length j ≤ 6 * length b + 36 →
-          twice m.buf (kids skip props t) w ≡ twice (m.buf ++ j) (kids skip props r) w → Merging scratch' w r n'
-      more {j} h u l z =
-          record {
-            buf = m.buf ++ j;
-            holding = holding_more m.holding u;
-            sized = wrote_length u ∙ m.sized;
-            room = omega (arith, m.room, u.end_is, l, sizes t k e h, ap length p, ap length q);
-            left = sym z ∙ m.left;
-          }
+    -- something is written into scratch
+    more : {j scratch' : Bytes} {n' : ℕ} → Wrote scratch n j scratch' n' → length j ≤ 6 * length b + 36 →
+        twice m.buf (kids skip props t) w ≡ twice (m.buf ++ j) (kids skip props r) w → Merging skip props s start big scratch' w r n'
+    more {j} u l z =
+        record {
+          buf = m.buf ++ j;
+          holding = holding_more m.holding u;
+          sized = wrote_length u ∙ m.sized;
+          room = omega (arith, m.room, u.end_is, l, f.sizes);
+          left = sym z ∙ m.left;
+        }
 
-      pub text_on : k ≡ 0x60 → {scratch' : Bytes} {n' : ℕ} → Wrote scratch n (jsx_text_to_str b false false) scratch' n' → Merging scratch' w r n'
-      text_on g u =
-          more (λ z. omega (arith, g, z)) u (omega (arith, length_text b false))
-          (ap (λ (cs : List Child). twice m.buf cs w) (kids_60 skip props t k e p q g) ∙ twice_text m.buf (kids skip props r) w b)
+    pub text_on : k ≡ 0x60 → {scratch' : Bytes} {n' : ℕ} → Wrote scratch n (jsx_text_to_str b false false) scratch' n' → Merging skip props s start big scratch' w r n'
+    text_on g u =
+        more u (omega (arith, length_text b false))
+        (ap (λ (cs : List Child). twice m.buf cs w) (kids_60 skip props t k f.tag_is f.body_is f.behind_is g) ∙ twice_text m.buf (kids skip props r) w b)
 
-      module _ (g : k ≡ 0x52) {y : Bool} (ye : y ≡ is_joined (contained_in (read b))) where
-        contained_left : twice m.buf (kids skip props t) w ≡ twice m.buf (held skip props (contained_in (read b)) ∷ kids skip props r) w
-        contained_left = ap (λ (cs : List Child). twice m.buf cs w) (kids_52 skip props t k e p q g)
+    module _ (g : k ≡ 0x52) {y : Bool} (ye : y ≡ is_joined (contained_in (read b))) where
+      contained_left : twice m.buf (kids skip props t) w ≡ twice m.buf (held skip props (contained_in (read b)) ∷ kids skip props r) w
+      contained_left = ap (λ (cs : List Child). twice m.buf cs w) (kids_52 skip props t k f.tag_is f.body_is f.behind_is g)
 
-        pub joined_on : y ≡ true → {scratch' : Bytes} {n' : ℕ} → Wrote scratch n (joined_by (contained_in (read b))) scratch' n' → Merging scratch' w r n'
-        joined_on j u =
-            more (λ z. omega (arith, g, z)) u (joined_length b)
-            (contained_left ∙ held_joined skip props m.buf (kids skip props r) w (contained_in (read b)) (sym ye ∙ j))
+      pub joined_on : y ≡ true → {scratch' : Bytes} {n' : ℕ} → Wrote scratch n (joined_by (contained_in (read b))) scratch' n' → Merging skip props s start big scratch' w r n'
+      joined_on j u =
+          more u (joined_length b)
+          (contained_left ∙ held_joined skip props m.buf (kids skip props r) w (contained_in (read b)) (sym ye ∙ j))
 
-        ends_52 : y ≡ false → twice m.buf (kids skip props t) w ≡ twice [] (kids skip props r) (carve (gap (pure S.none) ∷ []) (run m.buf w))
-        unfolding carve
-        ends_52 j = contained_left ∙ held_cut skip props m.buf (kids skip props r) w (contained_in (read b)) (sym ye ∙ j)
+      ends_52 : y ≡ false → twice m.buf (kids skip props t) w ≡ twice [] (kids skip props r) (carve (gap (pure S.none) ∷ []) (run m.buf w))
+      unfolding carve
+      ends_52 j = contained_left ∙ held_cut skip props m.buf (kids skip props r) w (contained_in (read b)) (sym ye ∙ j)
 
-      ends_30 : k ≡ 0x30 → twice m.buf (kids skip props t) w ≡ twice [] (kids skip props r) (carve (element_at skip props b).to_string_vec (run m.buf w))
-      ends_30 g =
-          ap (λ (cs : List Child). twice m.buf cs w) (kids_30 skip props t k e p q g) ∙ twice_element m.buf (kids skip props r) w (element_at skip props b)
+    ends_30 : k ≡ 0x30 → twice m.buf (kids skip props t) w ≡ twice [] (kids skip props r) (carve (element_at skip props b).to_string_vec (run m.buf w))
+    ends_30 g =
+        ap (λ (cs : List Child). twice m.buf cs w) (kids_30 skip props t k f.tag_is f.body_is f.behind_is g) ∙ twice_element m.buf (kids skip props r) w (element_at skip props b)
 
-      ends_31 : k ≡ 0x31 → twice m.buf (kids skip props t) w ≡ twice [] (kids skip props r) (carve (children_to_string false (kids skip props b)) (run m.buf w))
-      unfolding fragment_of
-      ends_31 g =
-          ap (λ (cs : List Child). twice m.buf cs w) (kids_31 skip props t k e p q g) ∙ twice_fragment m.buf (kids skip props r) w (fragment_of (kids skip props b))
+    ends_31 : k ≡ 0x31 → twice m.buf (kids skip props t) w ≡ twice [] (kids skip props r) (carve (children_to_string false (kids skip props b)) (run m.buf w))
+    unfolding fragment_of
+    ends_31 g =
+        ap (λ (cs : List Child). twice m.buf cs w) (kids_31 skip props t k f.tag_is f.body_is f.behind_is g) ∙ twice_fragment m.buf (kids skip props r) w (fragment_of (kids skip props b))
 
-    pub other_on : {r : Bytes} → r ≡ behind_of t → (k ≡ 256 → ⊥) → (k ≡ 0x60 → ⊥) → (k ≡ 0x52 → ⊥) → (k ≡ 0x30 → ⊥) → (k ≡ 0x31 → ⊥) → Merging scratch w r n
-    other_on q h a b c d =
+    pub other_on : (k ≡ 0x60 → ⊥) → (k ≡ 0x52 → ⊥) → (k ≡ 0x30 → ⊥) → (k ≡ 0x31 → ⊥) → Merging skip props s start big scratch w r n
+    other_on a c d e =
         record {
           buf = m.buf;
           holding = m.holding;
           sized = m.sized;
-          room = omega (arith, m.room, sizes t k e h, ap length q);
-          left = sym (kids_other skip props t k e q (λ (cs : List Child). twice m.buf cs w) (λ x cs. twice_spread m.buf cs w x) h a b c d) ∙ m.left;
+          room = omega (arith, m.room, f.sizes);
+          left = sym (kids_other skip props t k f.tag_is f.behind_is (λ (cs : List Child). twice m.buf cs w) (λ x cs. twice_spread m.buf cs w x) (λ z. omega (arith, f.tag_below, z)) a c d e) ∙ m.left;
         }
 
-  module _ {scratch : Bytes} {w : Carved} {t : Bytes} {n : ℕ} (m : Merging scratch w t n) (large : 65536 ≤ big) (low : Low (carve (children_to_string false (short_runs (merge false false [] (kids skip props s)))) start)) where
+  module _ {scratch : Bytes} {w : Carved} {t : Bytes} {n : ℕ} (m : Merging skip props s start big scratch w t n) (large : 65536 ≤ big) (low : Low (carve (children_to_string false (short_runs (merge false false [] (kids skip props s)))) start)) where
     all_low : Low (twice [] (kids skip props s) start)
     all_low = subst Low (twice_is (kids skip props s) start) low
 
-    still_large : 65536 ≤ length scratch
-    still_large = omega (arith, large, m.sized)
-
     flushed : put_again n (take n scratch) w ≡ run m.buf w
-    flushed = run_is m.holding still_large w
+    flushed = run_is m.holding (omega (arith, large, m.sized)) w
 
     -- the run ends, the parts ps are written, and r is left
     module _ (ps : List Part) (r : Bytes) (z : twice m.buf (kids skip props t) w ≡ twice [] (kids skip props r) (carve ps (run m.buf w))) where
       low_parts : Low (carve ps (run m.buf w))
       low_parts = twice_low [] (kids skip props r) (carve ps (run m.buf w)) (subst Low (sym m.left ∙ z) all_low)
 
-      run_room : (65536 ≤ length scratch) × Low (put_again n (take n scratch) w)
-      run_room = (still_large, subst Low (sym flushed) (lows.back ps (run m.buf w) low_parts))
+      run_room : Low (put_again n (take n scratch) w)
+      run_room = subst Low (sym flushed) (lows.back ps (run m.buf w) low_parts)
 
       module _ {w₁ : Carved} (u : w₁ ≡ put_again n (take n scratch) w) where
         parts_room : Low (carve ps w₁)
         parts_room = subst Low (ap (carve ps) (sym (u ∙ flushed))) low_parts
 
-        flush_on : {w₂ : Carved} → w₂ ≡ carve ps w₁ → r ≡ behind_of t → Merging scratch w₂ r 0
+        flush_on : {w₂ : Carved} → w₂ ≡ carve ps w₁ → length r ≤ length t → Merging skip props s start big scratch w₂ r 0
         flush_on {w₂} v q =
             record {
               buf = [];
               holding = holding_none scratch;
               sized = m.sized;
-              room = omega (arith, m.room, behind_le t q);
+              room = omega (arith, m.room, q);
               left = ap (twice [] (kids skip props r)) (v ∙ ap (carve ps) (u ∙ flushed)) ∙ sym z ∙ m.left;
             }
 
-    module _ (k : ℕ) (e : k ≡ tag_of_front t) {b r : Bytes} (p : b ≡ body_of t) (q : r ≡ behind_of t) where
+    module _ {k : ℕ} {b r : Bytes} (f : IsFront t k b r) where
       -- a container that stays dynamic
       module _ (g : k ≡ 0x52) {y : Bool} (ye : y ≡ is_joined (contained_in (read b))) (j : y ≡ false) where
-        pub cut_run : (65536 ≤ length scratch) × Low (put_again n (take n scratch) w)
-        cut_run = run_room (gap (pure S.none) ∷ []) r (ends_52 m k e p q g ye j)
+        pub cut_run : Low (put_again n (take n scratch) w)
+        cut_run = run_room (gap (pure S.none) ∷ []) r (ends_52 m f g ye j)
 
         module _ {w₁ : Carved} (u : w₁ ≡ put_again n (take n scratch) w) where
           pub cut_room : Low (close w₁)
           unfolding carve
-          cut_room = parts_room (gap (pure S.none) ∷ []) r (ends_52 m k e p q g ye j) u
+          cut_room = parts_room (gap (pure S.none) ∷ []) r (ends_52 m f g ye j) u
 
-          pub cut_on : {w₂ : Carved} → w₂ ≡ close w₁ → Merging scratch w₂ r 0
+          pub cut_on : {w₂ : Carved} → w₂ ≡ close w₁ → Merging skip props s start big scratch w₂ r 0
           unfolding carve
-          cut_on v = flush_on (gap (pure S.none) ∷ []) r (ends_52 m k e p q g ye j) u v q
+          cut_on v = flush_on (gap (pure S.none) ∷ []) r (ends_52 m f g ye j) u v (omega (arith, f.sizes))
 
       module _ (g : k ≡ 0x30) where
-        pub element_run : (65536 ≤ length scratch) × Low (put_again n (take n scratch) w)
-        element_run = run_room (element_at skip props b).to_string_vec r (ends_30 m k e p q g)
+        pub element_run : Low (put_again n (take n scratch) w)
+        element_run = run_room (element_at skip props b).to_string_vec r (ends_30 m f g)
 
         module _ {w₁ : Carved} (u : w₁ ≡ put_again n (take n scratch) w) where
           pub element_room : Low (carve (element_at skip props b).to_string_vec w₁)
-          element_room = parts_room (element_at skip props b).to_string_vec r (ends_30 m k e p q g) u
+          element_room = parts_room (element_at skip props b).to_string_vec r (ends_30 m f g) u
 
-          pub element_on : {w₂ : Carved} → w₂ ≡ carve (element_at skip props b).to_string_vec w₁ → Merging scratch w₂ r 0
-          element_on v = flush_on (element_at skip props b).to_string_vec r (ends_30 m k e p q g) u v q
+          pub element_on : {w₂ : Carved} → w₂ ≡ carve (element_at skip props b).to_string_vec w₁ → Merging skip props s start big scratch w₂ r 0
+          element_on v = flush_on (element_at skip props b).to_string_vec r (ends_30 m f g) u v (omega (arith, f.sizes))
 
       module _ (g : k ≡ 0x31) where
-        pub fragment_run : (65536 ≤ length scratch) × Low (put_again n (take n scratch) w)
-        fragment_run = run_room (children_to_string false (kids skip props b)) r (ends_31 m k e p q g)
+        pub fragment_run : Low (put_again n (take n scratch) w)
+        fragment_run = run_room (children_to_string false (kids skip props b)) r (ends_31 m f g)
 
         module _ {w₁ : Carved} (u : w₁ ≡ put_again n (take n scratch) w) where
           pub fragment_room : Low (carve (children_to_string false (kids skip props b)) w₁)
-          fragment_room = parts_room (children_to_string false (kids skip props b)) r (ends_31 m k e p q g) u
+          fragment_room = parts_room (children_to_string false (kids skip props b)) r (ends_31 m f g) u
 
-          pub fragment_on : {w₂ : Carved} → w₂ ≡ carve (children_to_string false (kids skip props b)) w₁ → Merging scratch w₂ r 0
-          fragment_on v = flush_on (children_to_string false (kids skip props b)) r (ends_31 m k e p q g) u v q
+          pub fragment_on : {w₂ : Carved} → w₂ ≡ carve (children_to_string false (kids skip props b)) w₁ → Merging skip props s start big scratch w₂ r 0
+          fragment_on v = flush_on (children_to_string false (kids skip props b)) r (ends_31 m f g) u v (omega (arith, f.sizes))
 
     -- no child is left
     module _ (i : Ended (read t)) where
       last_run : twice m.buf (kids skip props t) w ≡ run m.buf w
       last_run = ap (λ (cs : List Child). twice m.buf cs w) (kids_none skip props t i) ∙ twice_none m.buf w
 
-      pub last_room : (65536 ≤ length scratch) × Low (put_again n (take n scratch) w)
-      last_room = (still_large, subst Low (sym m.left ∙ last_run ∙ sym flushed) all_low)
+      pub last_room : Low (put_again n (take n scratch) w)
+      last_room = subst Low (sym m.left ∙ last_run ∙ sym flushed) all_low
 
       module _ {w₁ : Carved} (u : w₁ ≡ put_again n (take n scratch) w) where
         pub merging_end : w₁ ≡ flagged (long_due (long_run (merge false false [] (kids skip props s)))) (carve (children_to_string false (short_runs (merge false false [] (kids skip props s)))) start)
         merging_end = u ∙ flushed ∙ sym last_run ∙ m.left ∙ sym (twice_is (kids skip props s) start)
-
-        pub same_out : length w₁.out ≡ length start.out
-        same_out = ap size merging_end ∙ same_size.same (children_to_string false (short_runs (merge false false [] (kids skip props s)))) start

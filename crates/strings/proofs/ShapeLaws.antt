@@ -1,6 +1,6 @@
 -- What a container gives, by the shape that the code matches on and the body of its expression; an attribute by its value's tag.
--- Main statements: `container_shape`, `container_string` and the like; `joins_shape`, `joined_shape`, `child_string` and the like; of an
--- attribute `listed`, `absent_boolean`, `in_container`, `string_plain`, `no_text`. Assumes nothing.
+-- Main statements: `container_shape`; `joins_shape`, `joined_shape`, `parts_contained`; of an attribute `listed`, `absent_boolean`,
+-- `in_container`, `string_gap`, `string_plain`, `no_text`. Assumes nothing.
 use Rattle.std.specs.Prelude as Std
 use Rattle.std.specs.Prelude.{Some, None}
 use mathlib.Core.Path.{◌≡◌, refl, sym, ap, ◌∙◌, subst}
@@ -35,25 +35,12 @@ use Rattle.decisions.specs.declared.expr.Shape.{Shape}
 use Rattle.decisions.specs.declared.expr.Shape.TheVariants as Form
 use Rattle.decisions.proofs.Series.{value_in_at}
 use Rattle.decisions.proofs.Laws.{ValueAt, is_string, is_container, is_element, is_fragment, value_view, string_held, container_held, absent_held, ContainedAt, is_empty, is_text, is_number, is_boolean, is_null, is_literal, is_minus, is_other, contained_view}
-use Rattle.strings.specs.Carve.{Carved, close, carve, name_at, option_bytes, is_some, joined_by, is_joined, child_parts, contained_parts}
+use Rattle.strings.specs.Carve.{Carved, put_on, close, carve, name_at, space_gap, attr_by, option_bytes, is_some, joined_by, is_joined, child_parts, contained_parts, put_contained}
 use Rattle.strings.proofs.CarveLaws.{spaced, put_on_nil}
 use Rattle.strings.proofs.FrontSizes.{body_le}
+use Rattle.strings.proofs.AttrLaws.{boolean_escaped}
 
 -- ---- containers by their shape
-
--- an attribute's gap
-abbrev space_gap : List Part
-space_gap = chars (32 ∷ []) ∷ gap (pure M.none) ∷ []
-
-abbrev pub attr_by : Bytes → Shape → Bytes → List Part
-attr_by n Form.Empty c = []
-attr_by n Form.String c = chars (serialize_attr n (body_of c)) ∷ []
-attr_by n Form.Number c = chars (serialize_attr n (number_text c)) ∷ []
-attr_by n (Form.Boolean v) c = pick (is_boolean_attr n) (pick v (chars (32 ∷ n) ∷ []) []) space_gap
-attr_by n Form.Null c = space_gap
-attr_by n Form.Literal c = space_gap
-attr_by n Form.Minus c = chars (serialize_attr n (45 ∷ number_text c)) ∷ []
-attr_by n Form.Other c = space_gap
 
 -- parts that a test decides between
 either_carve : (b : Bool) (p q r : List Part) (w : Carved) → carve p w ≡ carve r w → carve q w ≡ carve r w → carve (pick b p q) w ≡ carve r w
@@ -84,51 +71,8 @@ module _ (o : Options) (n c : Bytes) (w : Carved) where
   shape_carve is_minus = refl
   shape_carve (is_other {e} h) = ap (λ s. carve (container_attr n s (expr o e M.none)) w) h ∙ dynamic_carve n (expr o e M.none) w
 
-  -- the container with the fields c, of the shape that was found
-  pub container_shape : {r : Shape} → r ≡ shape_of_contained (contained_in (read c)) →
-      carve (plain_attr n (value o (contained_value (contained_in (read c))))) w ≡ carve (attr_by n r c) w
-  container_shape e = shape_carve (contained_view c) ∙ ap (λ (r : Shape). carve (attr_by n r c) w) (sym e)
-
-module _ (o : Options) (n c : Bytes) (w : Carved) {v : Bytes} (b : v ≡ body_of c) where
-  pub container_string : Form.String ≡ shape_of_contained (contained_in (read c)) →
-      carve (plain_attr n (value o (contained_value (contained_in (read c))))) w ≡ carve (chars (serialize_attr n v) ∷ []) w
-  container_string e = container_shape o n c w e ∙ ap (λ (x : Bytes). carve (chars (serialize_attr n x) ∷ []) w) (sym b)
-
-module _ (o : Options) (n c : Bytes) (w : Carved) where
-  pub container_number : Form.Number ≡ shape_of_contained (contained_in (read c)) →
-      carve (plain_attr n (value o (contained_value (contained_in (read c))))) w ≡ carve (chars (serialize_attr n (number_text c)) ∷ []) w
-  container_number e = container_shape o n c w e
-
-  pub container_minus : Form.Minus ≡ shape_of_contained (contained_in (read c)) →
-      carve (plain_attr n (value o (contained_value (contained_in (read c))))) w ≡ carve (chars (serialize_attr n (45 ∷ number_text c)) ∷ []) w
-  container_minus e = container_shape o n c w e
-
-  pub container_empty : Form.Empty ≡ shape_of_contained (contained_in (read c)) → carve (plain_attr n (value o (contained_value (contained_in (read c))))) w ≡ w
-  unfolding carve
-  container_empty e = container_shape o n c w e
-
-  pub container_gap : {r : Shape} → r ≡ shape_of_contained (contained_in (read c)) → (r ≡ Form.Null) ⊎ ((r ≡ Form.Literal) ⊎ (r ≡ Form.Other)) →
-      carve (plain_attr n (value o (contained_value (contained_in (read c))))) w ≡ spaced w
-  unfolding carve
-  container_gap e (inl k) = container_shape o n c w (sym k ∙ e)
-  container_gap e (inr (inl k)) = container_shape o n c w (sym k ∙ e)
-  container_gap e (inr (inr k)) = container_shape o n c w (sym k ∙ e)
-
-  module _ {v : Bool} (e : Form.Boolean v ≡ shape_of_contained (contained_in (read c))) {b : Bool} (t : b ≡ is_boolean_attr n) where
-    pub boolean_other : b ≡ false → carve (plain_attr n (value o (contained_value (contained_in (read c))))) w ≡ spaced w
-    unfolding carve
-    boolean_other h = container_shape o n c w e ∙ ap (λ (x : Bool). carve (pick x (pick v (chars (32 ∷ n) ∷ []) []) space_gap) w) (sym t ∙ h)
-
-    pub boolean_true : b ≡ true → v ≡ true → carve (plain_attr n (value o (contained_value (contained_in (read c))))) w ≡ carve (chars (32 ∷ n) ∷ []) w
-    boolean_true h y =
-        container_shape o n c w e ∙ ap (λ (x : Bool). carve (pick x (pick v (chars (32 ∷ n) ∷ []) []) space_gap) w) (sym t ∙ h)
-        ∙ ap (λ (x : Bool). carve (pick x (chars (32 ∷ n) ∷ []) []) w) y
-
-    pub boolean_false : b ≡ true → v ≡ false → carve (plain_attr n (value o (contained_value (contained_in (read c))))) w ≡ w
-    unfolding carve
-    boolean_false h y =
-        container_shape o n c w e ∙ ap (λ (x : Bool). carve (pick x (pick v (chars (32 ∷ n) ∷ []) []) space_gap) w) (sym t ∙ h)
-        ∙ ap (λ (x : Bool). carve (pick x (chars (32 ∷ n) ∷ []) []) w) y
+  pub container_shape : carve (plain_attr n (value o (contained_value (contained_in (read c))))) w ≡ carve (attr_by n (shape_of_contained (contained_in (read c))) c) w
+  container_shape = shape_carve (contained_view c)
 
 -- what joins a run
 abbrev joins_by : Shape → Bool
@@ -158,11 +102,15 @@ joining (inr (inl k)) = ap joins_by k
 joining (inr (inr (inl k))) = ap joins_by k
 joining (inr (inr (inr k))) = ap joins_by k.1
 
-pub parting : {r : Shape} → (r ≡ Form.Null) ⊎ ((r ≡ Form.Literal) ⊎ ((r ≡ Form.Minus) ⊎ (r ≡ Form.Other))) → joins_by r ≡ false
-parting (inl k) = ap joins_by k
-parting (inr (inl k)) = ap joins_by k
-parting (inr (inr (inl k))) = ap joins_by k
-parting (inr (inr (inr k))) = ap joins_by k
+pub parting : (r : Shape) → (r ≡ Form.Empty → ⊥) → (r ≡ Form.String → ⊥) → (r ≡ Form.Number → ⊥) → ((v : Bool) → r ≡ Form.Boolean v → ⊥) → joins_by r ≡ false
+parting Form.Empty a b c d = absurd (a refl)
+parting Form.String a b c d = absurd (b refl)
+parting Form.Number a b c d = absurd (c refl)
+parting (Form.Boolean v) a b c d = absurd (d v refl)
+parting Form.Null a b c d = refl
+parting Form.Literal a b c d = refl
+parting Form.Minus a b c d = refl
+parting Form.Other a b c d = refl
 
 nothing_joined : (c : Bytes) {r : Shape} →
     (r ≡ Form.Empty) ⊎ (((v : Bool) × (r ≡ Form.Boolean v)) ⊎ ((r ≡ Form.Null) ⊎ ((r ≡ Form.Literal) ⊎ ((r ≡ Form.Minus) ⊎ (r ≡ Form.Other))))) → joined_at r c ≡ []
@@ -229,43 +177,16 @@ joined_length c =
     omega (arith, joined_most c (shape_of_contained (contained_in (read c))), ap length (joined_shape c refl), body_le c)
 
 -- a child: what joins a run, or a gap
-parts_joined : (o : Options) (x : Contained) (w : Carved) → carve (contained_parts o x) w ≡ carve (pick (is_joined x) (chars (joined_by x) ∷ []) (gap (pure M.none) ∷ [])) w
+pub parts_contained : (o : Options) (x : Contained) (w : Carved) → carve (contained_parts o x) w ≡ put_contained x w
 unfolding contained_parts child_parts is_joined joined_by carve
-parts_joined o nothing_contained w = sym (put_on_nil w)
-parts_joined o (contained e) w = on (joined_text (shape_of e))
+parts_contained o nothing_contained w = sym (put_on_nil w)
+parts_contained o (contained e) w = on (joined_text (shape_of e))
   where
     on : (j : Option Bytes) →
         carve (elim j [ some b ↦ chars b ∷ [] | none ↦ gap (pure (maybe_wrap (shape_of e) (expr o e M.none))) ∷ [] ]) w
-        ≡ carve (pick (is_some j) (chars (option_bytes j) ∷ []) (gap (pure M.none) ∷ [])) w
+        ≡ pick (is_some j) (put_on (option_bytes j) w) (close w)
     on (some b) = refl
     on none = refl
-
-module _ (o : Options) (c : Bytes) (w : Carved) where
-  child_shape : (r : Shape) → r ≡ shape_of_contained (contained_in (read c)) →
-      carve (contained_parts o (contained_in (read c))) w ≡ carve (pick (joins_by r) (chars (joined_at r c) ∷ []) (gap (pure M.none) ∷ [])) w
-  child_shape r e =
-      parts_joined o (contained_in (read c)) w
-      ∙ ap (λ (j : Bool). carve (pick j (chars (joined_by (contained_in (read c))) ∷ []) (gap (pure M.none) ∷ [])) w) (joins_shape c e)
-      ∙ ap (λ (b : Bytes). carve (pick (joins_by r) (chars b ∷ []) (gap (pure M.none) ∷ [])) w) (joined_shape c e)
-
-  pub child_nothing : {r : Shape} → r ≡ shape_of_contained (contained_in (read c)) → (r ≡ Form.Empty) ⊎ ((v : Bool) × (r ≡ Form.Boolean v)) →
-      carve (contained_parts o (contained_in (read c))) w ≡ w
-  unfolding carve
-  child_nothing e (inl k) = child_shape Form.Empty (sym k ∙ e) ∙ put_on_nil w
-  child_nothing e (inr k) = child_shape (Form.Boolean k.0) (sym k.1 ∙ e) ∙ put_on_nil w
-
-  pub child_gap : {r : Shape} → r ≡ shape_of_contained (contained_in (read c)) → (r ≡ Form.Null) ⊎ ((r ≡ Form.Literal) ⊎ ((r ≡ Form.Minus) ⊎ (r ≡ Form.Other))) →
-      carve (contained_parts o (contained_in (read c))) w ≡ close w
-  unfolding carve
-  child_gap {r} e k = child_shape r e ∙ ap (λ (b : Bool). carve (pick b (chars (joined_at r c) ∷ []) (gap (pure M.none) ∷ [])) w) (parting k)
-
-  module _ {v : Bytes} (b : v ≡ body_of c) where
-    pub child_string : Form.String ≡ shape_of_contained (contained_in (read c)) → carve (contained_parts o (contained_in (read c))) w ≡ carve (chars (escape_html v) ∷ []) w
-    child_string e = child_shape Form.String e ∙ ap (λ (x : Bytes). carve (chars (escape_html x) ∷ []) w) (sym b)
-
-  pub child_number : Form.Number ≡ shape_of_contained (contained_in (read c)) →
-      carve (contained_parts o (contained_in (read c))) w ≡ carve (chars (number_text c) ∷ []) w
-  child_number e = child_shape Form.Number e
 
 -- ---- an attribute by its value
 
@@ -313,8 +234,8 @@ module _ (o : Options) (a : Bytes) (w : Carved) {l : Bool} (le : l ≡ among (ge
           plain (absent_held a (sym he ∙ e)) ∙ else_carve (is_boolean_attr (name_at a)) _ _ space_gap w refl
           ∙ ap (λ (x : Bool). carve (pick x (chars (32 ∷ escape_html (name_at a)) ∷ []) space_gap) w) (sym t ∙ k)
 
-      pub absent_boolean : b ≡ true → total ≡ carve (chars (32 ∷ escape_html (name_at a)) ∷ []) w
-      absent_boolean k = absent_by true k
+      pub absent_boolean : b ≡ true → total ≡ carve (chars (32 ∷ name_at a) ∷ []) w
+      absent_boolean k = absent_by true k ∙ ap (λ (x : Bytes). carve (chars (32 ∷ x) ∷ []) w) (boolean_escaped (name_at a) (sym t ∙ k))
 
       pub absent_other : b ≡ false → total ≡ spaced w
       unfolding carve
@@ -324,29 +245,25 @@ module _ (o : Options) (a : Bytes) (w : Carved) {l : Bool} (le : l ≡ among (ge
       field_is : {k : Value} → g ≡ k → value_of (value_in (read a)) ≡ Some k
       field_is q = sym he ∙ e ∙ ap Some q
 
-      pub in_container : g ≡ Held.Container → total ≡ carve (plain_attr (name_at a) (value o (contained_value (contained_in (read v))))) w
+      pub in_container : g ≡ Held.Container → total ≡ carve (attr_by (name_at a) (shape_of_contained (contained_in (read v))) v) w
       in_container q =
           plain (container_held a (field_is q)) ∙ ap (λ (x : Bytes). carve (plain_attr (name_at a) (value o (contained_value (contained_in (read x))))) w) (sym ve)
+          ∙ container_shape o (name_at a) v w
 
       pub no_text : (g ≡ Held.Element) ⊎ (g ≡ Held.Fragment) → total ≡ w
       no_text k =
           plain (value_in_at a)
           ∙ tag_carve o (name_at a) w (subst (ValueAt (behind_of a) (value_behind (read (behind_of a)))) (ap value_of (sym (value_in_at a)) ∙ sym he ∙ e) (value_view (behind_of a))) k
 
-      module _ (gs : g ≡ Held.String) {k : Bool} (ke : k ≡ same (name_at a) (ascii "key")) where
-        string_by : {y : Bool} (x : Bool) → k ≡ x → same (name_at a) (ascii "ref") ≡ y → total ≡ carve (pick (x || y) space_gap (chars (serialize_attr (name_at a) v) ∷ [])) w
+      module _ (gs : g ≡ Held.String) {k : Bool} (ke : k ≡ (same (name_at a) (ascii "key") || same (name_at a) (ascii "ref"))) where
+        string_by : (x : Bool) → k ≡ x → total ≡ carve (pick x space_gap (chars (serialize_attr (name_at a) v) ∷ [])) w
         unfolding plain_attr value carve
-        string_by {y} x p q =
-            plain (string_held a (field_is gs)) ∙ then_carve (same (name_at a) (ascii "key") || same (name_at a) (ascii "ref")) _ _ space_gap w refl ∙ rw (← ke, p, q, ve)
+        string_by x p =
+            plain (string_held a (field_is gs)) ∙ then_carve (same (name_at a) (ascii "key") || same (name_at a) (ascii "ref")) _ _ space_gap w refl ∙ rw (← ke, p, ve)
 
-        pub string_key : k ≡ true → total ≡ spaced w
+        pub string_gap : k ≡ true → total ≡ spaced w
         unfolding carve
-        string_key p = string_by true p refl
+        string_gap p = string_by true p
 
-        module _ (kn : k ≡ false) {r : Bool} (re : r ≡ same (name_at a) (ascii "ref")) where
-          pub string_ref : r ≡ true → total ≡ spaced w
-          unfolding carve
-          string_ref p = string_by false kn (sym re ∙ p)
-
-          pub string_plain : r ≡ false → total ≡ carve (chars (serialize_attr (name_at a) v) ∷ []) w
-          string_plain p = string_by false kn (sym re ∙ p)
+        pub string_plain : k ≡ false → total ≡ carve (chars (serialize_attr (name_at a) v) ∷ []) w
+        string_plain p = string_by false p

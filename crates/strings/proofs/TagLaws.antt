@@ -1,11 +1,7 @@
 -- What is found of an element that is serialized: the options do not matter to it, and the code raises the graver. Main statements:
 -- `flags_same`, `repeated_due`, `mixed_due`, `no_due`. Assumes nothing.
-use Rattle.std.specs.Prelude.{Option, Some, None}
-use Rattle.std.specs.Option.{option_eq}
-use Rattle.names.specs.declared.elements.Void.{Void}
-use Rattle.names.specs.declared.elements.Void.TheVariants.{AsWritten, InSmallLetters}
 use mathlib.Core.Path.{◌≡◌, refl, sym, ap, ◌∙◌}
-use mathlib.Core.Bool.{Bool, true, false, ◌&&◌, ◌||◌, not, false≢true}
+use mathlib.Core.Bool.{Bool, true, false, ◌&&◌, ◌||◌, not}
 use mathlib.Core.List.{List, [], ◌∷◌}
 use Rattle.field.specs.Bytes.{Bytes, pick, among}
 use Rattle.field.specs.Row.{read}
@@ -44,22 +40,6 @@ found n ns = record { left = false; long = false; repeated = repeats ns; mixed =
 pub flags_same : (o o' : Options) (n : Bytes) (as' : P.Attributes) → tag_flags n (attributes o as') ≡ tag_flags n (attributes o' as')
 unfolding tag_flags
 flags_same o o' n as' = ap (found n) (names_are o as' ∙ sym (names_are o' as'))
-
--- ---- a kind as the code compares it, by an equality E that tells the two apart
-
-abbrev pub other : Void → Void
-other AsWritten = InSmallLetters
-other InSmallLetters = AsWritten
-
-pub kind_known : (E : Void → Void → Bool) (x : Void) → E (other x) x ≡ false → (k : Option Void) → option_eq E k (Some x) ≡ true → k ≡ Some x
-kind_known E x d None h = absurd (false≢true h)
-kind_known E AsWritten d (Some AsWritten) h = refl
-kind_known E AsWritten d (Some InSmallLetters) h = absurd (false≢true (sym d ∙ h))
-kind_known E InSmallLetters d (Some AsWritten) h = absurd (false≢true (sym d ∙ h))
-kind_known E InSmallLetters d (Some InSmallLetters) h = refl
-
-pub kind_not : (E : Void → Void → Bool) (x : Void) → E x x ≡ true → (k : Option Void) → option_eq E k (Some x) ≡ false → k ≡ Some x → ⊥
-kind_not E x d k h e = false≢true (sym h ∙ ap (λ (j : Option Void). option_eq E j (Some x)) e ∙ d)
 
 -- ---- what the code raises
 

@@ -1,5 +1,5 @@
 -- The parts of a template at bytes, by the tag of the field in front: names, attributes, children, and an element by what the code asks of it.
--- Main statements: `name_40` and the like, `attrs_50`, `kids_60`, `parts_60`, `element_gap`, `element_open`. Assumes nothing.
+-- Main statements: `attrs_50`, `kids_60`, `parts_60`, `element_gap`, `element_open`. Assumes nothing.
 use mathlib.Core.Path.{◌≡◌, refl, sym, ap, ◌∙◌}
 use Prim.Native.Nat.{ℕ}
 use mathlib.Core.Bool.{Bool, true, false, ◌&&◌}
@@ -7,15 +7,15 @@ use mathlib.Core.List.{List, [], ◌∷◌, ◌++◌}
 use lib.Dec.{eqb}
 use lib.ListN.{length}
 use borrow.Author.Tests.{eq-eqb, ne_eqb}
-use Rattle.field.specs.Bytes.{Bytes, pick, same, among}
+use Rattle.field.specs.Bytes.{Bytes, pick}
 use Rattle.field.specs.Row.{read, Ended}
 use Rattle.field.specs.Front.{tag_of_front, body_of, behind_of}
 use Rattle.text.specs.Escape.{escape_html}
 use Rattle.text.specs.Text.{jsx_text_to_str}
-use Rattle.names.specs.Names.{get_attr_name, normalize_dom_attr_name, is_void_element, rename_in, renamed, hyphenated_names, kept_names, small_letters}
+use Rattle.names.specs.Names.{is_void_element}
 use Rattle.page.specs.Page as P
 use Rattle.page.specs.Page.{Options, Name, identifier, member, namespaced}
-use Rattle.page.specs.Tree.{choose, texts_in, first_in, second_in, attr_name_in, value_in, attributes_in, children_in, contained_in, Contained, nothing_contained, contained, contained_child}
+use Rattle.page.specs.Tree.{choose, attr_name_in, value_in, attributes_in, children_in, contained_in, Contained, nothing_contained, contained, contained_child}
 use Rattle.page.proofs.Tags.{ChildTag, text_tag, container_tag, element_child_tag, fragment_child_tag, spread_child_tag, child_tag}
 use Rattle.spec.specs.Pass as S
 use Rattle.spec.specs.Pass.{Part, chars, gap, mark, Mid}
@@ -28,27 +28,11 @@ use Rattle.spec.specs.Children.{children_to_string, open_close, element_to_strin
 use Rattle.spec.specs.Transform.{value, attributes, children, expr, shape_of, element_of, fragment_of}
 use Rattle.decisions.specs.Index.{names_of}
 use Rattle.decisions.specs.At.{opts, element_name, behind_name, identifier_bytes, children_at, attributes_at, element_at, forbids, serializable_by, serializable, is_none, FirstChild}
-use Rattle.decisions.proofs.Series.{tested, behind_name_at, attr_name_40, attr_name_42, attr_name_other, attributes_50, attributes_53, attributes_other, children_60, children_52, children_30, children_31, children_61, children_other, children_none}
+use Rattle.decisions.proofs.Series.{tested, behind_name_at, attributes_50, attributes_53, attributes_other, children_60, children_52, children_30, children_31, children_61, children_other, children_none}
 use Rattle.decisions.proofs.Laws.{child_element, child_fragment, serializable_is}
-use Rattle.strings.specs.Carve.{Carved, close, carve, name_at, contained_parts, flags_at}
+use Rattle.strings.specs.Carve.{Carved, close, carve, contained_parts, flags_at}
 use Rattle.strings.proofs.TagLaws.{flags_same}
 use Rattle.strings.proofs.MergeLaws.{direct, child_direct}
-
--- ---- names
-
-module _ (a : Bytes) (t : ℕ) (e : t ≡ tag_of_front a) where
-  pub name_40 : t ≡ 0x40 → {b : Bytes} → b ≡ body_of a → name_at a ≡ normalize_dom_attr_name b
-  unfolding get_attr_name
-  name_40 k q = ap (λ n. get_attr_name n true) (attr_name_40 a t e k) ∙ ap normalize_dom_attr_name (sym q)
-
-  pub name_42 : t ≡ 0x42 → {b m n : Bytes} → b ≡ body_of a → m ≡ first_in (texts_in 0x40 (read b)) → n ≡ second_in (texts_in 0x40 (read b)) →
-      name_at a ≡ normalize_dom_attr_name (m ++ (58 ∷ n))
-  unfolding get_attr_name
-  name_42 k q u v = ap (λ n. get_attr_name n true) (attr_name_42 a t e k) ∙ rw (u, v, q)
-
-  pub name_other : (t ≡ 0x40 → ⊥) → (t ≡ 0x42 → ⊥) → name_at a ≡ []
-  unfolding get_attr_name normalize_dom_attr_name rename_in renamed among same hyphenated_names kept_names small_letters
-  name_other j k = ap (λ n. get_attr_name n true) (attr_name_other a t e j k)
 
 -- ---- attributes and children, the options as the walks hold them
 

@@ -1,22 +1,23 @@
 // Attributes in an opening tag. An attribute is given by the fields of its 50: the name in front, the value behind it.
-ghost use Rattle.std.specs.Prelude.{◌≡◌, ◌+◌, ◌<◌, ◌^◌, true, ◌∷◌, [], ◌++◌, length};
-ghost use Rattle.field.specs.Bytes.{pick};
+ghost use Rattle.std.specs.Prelude.{◌≡◌, ◌+◌, ◌<◌, ◌^◌, ◌||◌, ◌∷◌, [], length};
+ghost use Rattle.field.specs.Bytes.{ascii, same};
 ghost use Rattle.field.specs.Row.{read};
 ghost use Rattle.field.specs.Put.{Wrote};
 ghost use Rattle.text.specs.Escape.{escape_html};
-ghost use Rattle.page.specs.Tree.{attr_name_in, value_in, attributes_in, contained_in, contained_value};
+ghost use Rattle.page.specs.Tree.{attr_name_in, value_in, attributes_in, contained_in};
 ghost use Rattle.spec.specs.Pass.{chars};
-ghost use Rattle.spec.specs.Attributes.{attribute, serialize_attr, plain_attr, attr_parts, attrs_parts};
+ghost use Rattle.spec.specs.Attributes.{attribute, serialize_attr, attr_parts, attrs_parts};
 ghost use Rattle.spec.specs.Transform.{value, attributes};
-ghost use Rattle.decisions.specs.At.{opts, number_text};
-ghost use Rattle.strings.specs.Carve.{at, carve, name_at, Low};
+ghost use Rattle.decisions.specs.At.{opts, shape_of_contained};
+ghost use Rattle.strings.specs.Carve.{at, carve, name_at, text, attr_by, Low};
 
 use crate::writer::{Open, space_and_cut};
 use decisions::attribute::{
-    Value, first_name, is_boolean, is_key, is_listed, is_ref, second_name, value_at,
+    AttrName, Value, attr_name_at, is_boolean, is_key, is_listed, is_ref, value_at,
 };
 use decisions::expr::{Shape, put_number_at, shape_at};
-use field::reader::{behind, body, tag_at};
+use decisions::options::Options;
+use field::reader::{Fields, behind, body};
 use field::writer::{put_byte, put_bytes};
 use names::{normalize_dom_attr_name, normalize_namespaced, put_attr_name, put_namespaced};
 use text::escape::put_escaped;
@@ -26,71 +27,66 @@ pub fn put_name(out: &mut [u8], at: usize, a: &[u8]) -> usize
     requires { at + length (name_at a.now) < 2 ^ 63 }
     ensures { Wrote out.old at (name_at a.now) out.new result }
 {
-    match tag_at(a) {
-        0x40 => normalize_dom_attr_name(out, at, body(a)),
-        0x42 => {
-            let b = body(a);
-            normalize_namespaced(out, at, first_name(b), second_name(b))
-        }
-        _ => at,
+    match attr_name_at(a) {
+        AttrName::Ident(n) => normalize_dom_attr_name(out, at, n),
+        AttrName::Namespaced(ns, n) => normalize_namespaced(out, at, ns, n),
     }
 }
 
-// The normalised name, escaped: serialize_attr does so, and a boolean attribute without a value.
+// The normalised name, escaped, as serialize_attr puts it. Each of the two calls a pair of writers of its own, and they share no line but the match.
 fn put_escaped_name(out: &mut [u8], at: usize, a: &[u8]) -> usize
     requires { at + length (escape_html (name_at a.now)) < 2 ^ 63 }
     ensures { Wrote out.old at (escape_html (name_at a.now)) out.new result }
 {
-    match tag_at(a) {
-        0x40 => put_attr_name(out, at, body(a)),
-        0x42 => {
-            let b = body(a);
-            put_namespaced(out, at, first_name(b), second_name(b))
+    match attr_name_at(a) {
+        AttrName::Ident(n) => put_attr_name(out, at, n),
+        AttrName::Namespaced(ns, n) => put_namespaced(out, at, ns, n),
+    }
+}
+
+// The value of an attribute that is serialized.
+#[derive(Clone, Copy)]
+enum Text<'a> {
+    String(&'a [u8]),
+    // the number in front
+    Number(&'a [u8]),
+    Minus(&'a [u8]),
+}
+
+// Escaped; no escape changes a number.
+fn put_value(out: &mut [u8], at: usize, value: Text<'_>) -> usize
+    requires { at + length (escape_html (text value)) < 2 ^ 63 }
+    ensures { Wrote out.old at (escape_html (text value.entry)) out.new result }
+{
+    match value {
+        Text::String(s) => put_escaped(out, at, s),
+        Text::Number(c) => put_number_at(out, at, c),
+        Text::Minus(c) => {
+            let p = put_byte(out, at, b'-');
+            put_number_at(out, p, c)
         }
-        _ => at,
     }
 }
 
-// A space, the name, and all up to the value.
-fn put_attr_front(out: &mut [u8], at: usize, a: &[u8]) -> usize
-    requires { at + length (32 ∷ (escape_html (name_at a.now) ++ (61 ∷ 34 ∷ []))) < 2 ^ 63 }
-    ensures { Wrote out.old at (32 ∷ (escape_html (name_at a.now) ++ (61 ∷ 34 ∷ []))) out.new result }
+// serialize_attr. It and the next are inlined: a call holds the open string in memory, which takes 40 instructions more an attribute.
+#[inline(always)]
+#[tactic(auto, unfolding(crate::specs::Carve::carve, spec::specs::Attributes::serialize_attr))]
+fn put_serialized(out: &mut [u8], st: Open, a: &[u8], value: Text<'_>) -> Open
+    requires { Low (carve (chars (serialize_attr (name_at a.now) (text value)) ∷ []) (at out.old st)) }
+    ensures { at out.new result ≡ carve (chars (serialize_attr (name_at a.now) (text value.entry)) ∷ []) (at out.old st) }
 {
-    let p = put_byte(out, at, b' ');
+    let p = put_byte(out, st.end(), b' ');
     let q = put_escaped_name(out, p, a);
-    put_bytes(out, q, b"=\"")
-}
-
-// serialize_attr
-fn put_serialized(out: &mut [u8], st: Open, a: &[u8], v: &[u8]) -> Open
-    requires { Low (carve (chars (serialize_attr (name_at a.now) v.now) ∷ []) (at out.old st)) }
-    ensures { at out.new result ≡ carve (chars (serialize_attr (name_at a.now) v.now) ∷ []) (at out.old st) }
-{
-    let p = put_attr_front(out, st.end(), a);
-    let e = put_escaped(out, p, v);
+    let r = put_bytes(out, q, b"=\"");
+    let e = put_value(out, r, value);
     let f = put_byte(out, e, b'"');
     st.ended(f)
 }
 
-// The same of the number in front of c.
-fn put_serialized_number(out: &mut [u8], st: Open, a: &[u8], minus: bool, c: &[u8]) -> Open
-    requires { Low (carve (chars (serialize_attr (name_at a.now) (pick minus (45 ∷ number_text c.now) (number_text c.now))) ∷ []) (at out.old st)) }
-    ensures { at out.new result ≡ carve (chars (serialize_attr (name_at a.now) (pick minus (45 ∷ number_text c.now) (number_text c.now))) ∷ []) (at out.old st) }
-{
-    let p = put_attr_front(out, st.end(), a);
-    if minus {
-        let m = put_byte(out, p, b'-');
-        let e = put_number_at(out, m, c);
-        let f = put_byte(out, e, b'"');
-        return st.ended(f);
-    }
-    let e = put_number_at(out, p, c);
-    let f = put_byte(out, e, b'"');
-    st.ended(f)
-}
-
-// `disabled={true}`
-fn put_space_name(out: &mut [u8], st: Open, a: &[u8]) -> Open
+// `disabled`, or `disabled={true}`: no escape changes a boolean name.
+#[inline(always)]
+#[tactic(auto, unfolding(crate::specs::Carve::carve))]
+fn put_boolean_name(out: &mut [u8], st: Open, a: &[u8]) -> Open
     requires { Low (carve (chars (32 ∷ name_at a.now) ∷ []) (at out.old st)) }
     ensures { at out.new result ≡ carve (chars (32 ∷ name_at a.now) ∷ []) (at out.old st) }
 {
@@ -99,106 +95,70 @@ fn put_space_name(out: &mut [u8], st: Open, a: &[u8]) -> Open
     st.ended(q)
 }
 
-// `disabled`
-fn put_space_escaped_name(out: &mut [u8], st: Open, a: &[u8]) -> Open
-    requires { Low (carve (chars (32 ∷ escape_html (name_at a.now)) ∷ []) (at out.old st)) }
-    ensures { at out.new result ≡ carve (chars (32 ∷ escape_html (name_at a.now)) ∷ []) (at out.old st) }
-{
-    let p = put_byte(out, st.end(), b' ');
-    let q = put_escaped_name(out, p, a);
-    st.ended(q)
-}
-
 // What the fields of a container give, c.
-fn container_strings(
-    skip: &[u8],
-    props: &[u8],
-    a: &[u8],
-    c: &[u8],
-    out: &mut [u8],
-    st: Open,
-) -> Open
-    requires { Low (carve (plain_attr (name_at a.now) (value (opts skip.now props.now) (contained_value (contained_in (read c.now))))) (at out.old st)) }
-    ensures { at out.new result ≡ carve (plain_attr (name_at a.now) (value (opts skip.now props.now) (contained_value (contained_in (read c.now))))) (at out.old st) }
+#[tactic(auto, unfolding(crate::specs::Carve::carve))]
+fn container_strings(a: &[u8], c: &[u8], out: &mut [u8], st: Open) -> Open
+    requires { Low (carve (attr_by (name_at a.now) (shape_of_contained (contained_in (read c.now))) c.now) (at out.old st)) }
+    ensures { at out.new result ≡ carve (attr_by (name_at a.now) (shape_of_contained (contained_in (read c.now))) c.now) (at out.old st) }
 {
     match shape_at(c) {
         Shape::Empty => st,
-        Shape::String => put_serialized(out, st, a, body(c)),
-        Shape::Number => put_serialized_number(out, st, a, false, c),
+        Shape::String => put_serialized(out, st, a, Text::String(body(c))),
+        Shape::Number => put_serialized(out, st, a, Text::Number(c)),
+        Shape::Minus => put_serialized(out, st, a, Text::Minus(c)),
         Shape::Boolean(b) => {
-            if is_boolean(a) {
-                if b {
-                    return put_space_name(out, st, a);
-                }
-                return st;
+            if !is_boolean(a) {
+                space_and_cut(out, st)
+            } else if b {
+                put_boolean_name(out, st, a)
+            } else {
+                st
             }
-            space_and_cut(out, st)
         }
-        Shape::Minus => put_serialized_number(out, st, a, true, c),
         Shape::Null | Shape::Literal | Shape::Other => space_and_cut(out, st),
     }
 }
 
-fn attribute_strings<'a>(
-    skip: &[u8],
-    props: &'a [u8],
-    a: &'a [u8],
-    out: &mut [u8],
-    st: Open,
-) -> Open
-    requires { Low (carve (attr_parts (opts skip.now props.now) (attribute (attr_name_in (read a.now)) (value (opts skip.now props.now) (value_in (read a.now))))) (at out.old st)) }
-    ensures { at out.new result ≡ carve (attr_parts (opts skip.now props.now) (attribute (attr_name_in (read a.now)) (value (opts skip.now props.now) (value_in (read a.now))))) (at out.old st) }
+// A string under one of these names stays dynamic.
+fn is_key_or_ref(a: &[u8]) -> bool
+    ensures { result ≡ (same (name_at a.now) (ascii "key") || same (name_at a.now) (ascii "ref")) }
 {
-    if is_listed(props, a) {
+    is_key(a, true) || is_ref(a)
+}
+
+fn attribute_strings(options: &Options<'_>, a: &[u8], out: &mut [u8], st: Open) -> Open
+    requires { Low (carve (attr_parts (opts options.now.skip.now options.now.props.now) (attribute (attr_name_in (read a.now)) (value (opts options.now.skip.now options.now.props.now) (value_in (read a.now))))) (at out.old st)) }
+    ensures { at out.new result ≡ carve (attr_parts (opts options.now.skip.now options.now.props.now) (attribute (attr_name_in (read a.now)) (value (opts options.now.skip.now options.now.props.now) (value_in (read a.now))))) (at out.old st) }
+{
+    if is_listed(options.props, a) {
         return space_and_cut(out, st);
     }
     let Some(value) = value_at(a) else {
         if is_boolean(a) {
-            return put_space_escaped_name(out, st, a);
+            return put_boolean_name(out, st, a);
         }
         return space_and_cut(out, st);
     };
-    let v = body(behind(a));
     match value {
-        Value::String => {
-            if is_key(a, true) {
-                return space_and_cut(out, st);
-            }
-            if is_ref(a) {
-                return space_and_cut(out, st);
-            }
-            put_serialized(out, st, a, v)
-        }
-        Value::Container => container_strings(skip, props, a, v, out, st),
+        Value::String if is_key_or_ref(a) => space_and_cut(out, st),
+        Value::String => put_serialized(out, st, a, Text::String(body(behind(a)))),
+        Value::Container => container_strings(a, body(behind(a)), out, st),
         Value::Element | Value::Fragment => st,
     }
 }
 
 // Attributes stand before children: the first field that is none ends them.
-pub fn attributes_strings<'a>(
-    skip: &[u8],
-    props: &'a [u8],
-    s: &'a [u8],
-    out: &mut [u8],
-    st: Open,
-) -> Open
-    requires { Low (carve (attrs_parts (opts skip.now props.now) (attributes (opts skip.now props.now) (attributes_in (read s.now)))) (at out.old st)) }
-    ensures { at out.new result ≡ carve (attrs_parts (opts skip.now props.now) (attributes (opts skip.now props.now) (attributes_in (read s.now)))) (at out.old st) }
+pub fn attributes_strings(options: &Options<'_>, s: &[u8], out: &mut [u8], st: Open) -> Open
+    requires { Low (carve (attrs_parts (opts options.now.skip.now options.now.props.now) (attributes (opts options.now.skip.now options.now.props.now) (attributes_in (read s.now)))) (at out.old st)) }
+    ensures { at out.new result ≡ carve (attrs_parts (opts options.now.skip.now options.now.props.now) (attributes (opts options.now.skip.now options.now.props.now) (attributes_in (read s.now)))) (at out.old st) }
 {
-    let mut t = s;
     let mut cur = st;
-    loop {
-        match tag_at(t) {
-            0x50 => {
-                cur = attribute_strings(skip, props, body(t), out, cur);
-                t = behind(t);
-            }
-            0x53 => {
-                t = behind(t);
-            }
-            _ => {
-                return cur;
-            }
+    for field in Fields(s) {
+        match field.tag {
+            0x50 => cur = attribute_strings(options, field.body, out, cur),
+            0x53 => {}
+            _ => break,
         }
     }
+    cur
 }

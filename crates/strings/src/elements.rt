@@ -9,9 +9,9 @@ ghost use Rattle.names.specs.Table.{void_kind};
 ghost use Rattle.page.specs.Tree.{children_in, contained_in};
 ghost use Rattle.spec.specs.Pass.{chars};
 ghost use Rattle.spec.specs.Children.{children_to_string};
-ghost use Rattle.decisions.specs.At.{opts, children_at, element_at, serializable, is_none};
+ghost use Rattle.decisions.specs.At.{children_at, element_at, serializable, is_none};
 ghost use Rattle.strings.specs.Due.{graver, grave};
-ghost use Rattle.strings.specs.Carve.{at, carve, contained_parts, flags_at, opening, Low};
+ghost use Rattle.strings.specs.Carve.{at, carve, flags_at, opening, is_joined, joined_by, put_contained, Low};
 
 use crate::attributes::attributes_strings;
 use crate::due::{Due, graver};
@@ -19,13 +19,15 @@ use crate::writer::{Open, cut, put_chars, put_text};
 use decisions::children::children_at;
 use decisions::element::{identifier, is_serializable};
 use decisions::expr::{Shape, put_number_at, shape_at};
+use decisions::options::Options;
 use decisions::repeats::repeats;
-use field::reader::{behind, body, tag_at};
+use field::reader::{Fields, behind, body};
 use field::writer::{put_byte, put_bytes};
 use names::{Void, void_kind};
 use text::escape::{put_escaped, put_short_escaped};
 
 // `<name`
+#[tactic(auto, unfolding(crate::specs::Carve::carve))]
 fn put_open(out: &mut [u8], st: Open, n: &[u8]) -> Open
     requires { Low (carve (chars (60 ∷ escape_html n.now) ∷ []) (at out.old st)) }
     ensures { at out.new result ≡ carve (chars (60 ∷ escape_html n.now) ∷ []) (at out.old st) }
@@ -42,13 +44,13 @@ fn tag_due(due: Due, kind: Option<Void>, rest: &[u8]) -> Due
     if repeats(rest) {
         return graver(due, Due::Repeated);
     }
-    if kind == Some(Void::InSmallLetters) {
+    if let Some(Void::InSmallLetters) = kind {
         return graver(due, Due::Mixed);
     }
     due
 }
 
-fn open_tag<'a>(out: &mut [u8], st: Open, n: &'a [u8], kind: Option<Void>, rest: &'a [u8]) -> Open
+fn open_tag(out: &mut [u8], st: Open, n: &[u8], kind: Option<Void>, rest: &[u8]) -> Open
     requires { (kind ≡ void_kind n.now) × Low (carve (opening n.now rest.now) (at out.old st)) }
     ensures { at out.new result ≡ carve (opening n.now rest.now) (at out.old st) }
 {
@@ -75,6 +77,7 @@ fn put_short(out: &mut [u8], at: usize, s: &[u8]) -> usize
 }
 
 // `</name>`
+#[tactic(auto, unfolding(crate::specs::Carve::carve))]
 fn put_close(out: &mut [u8], st: Open, n: &[u8]) -> Open
     requires { Low (carve (chars (60 ∷ 47 ∷ (n.now ++ (62 ∷ []))) ∷ []) (at out.old st)) }
     ensures { at out.new result ≡ carve (chars (60 ∷ 47 ∷ (n.now ++ (62 ∷ []))) ∷ []) (at out.old st) }
@@ -86,113 +89,108 @@ fn put_close(out: &mut [u8], st: Open, n: &[u8]) -> Open
     st.ended(e)
 }
 
-// A container among children, by its fields c.
-fn container_child(skip: &[u8], props: &[u8], c: &[u8], out: &mut [u8], st: Open) -> Open
-    requires { Low (carve (contained_parts (opts skip.now props.now) (contained_in (read c.now))) (at out.old st)) }
-    ensures { at out.new result ≡ carve (contained_parts (opts skip.now props.now) (contained_in (read c.now))) (at out.old st) }
+// Whether a container, by its fields c, joins the text around it.
+pub fn joins(c: &[u8]) -> bool
+    ensures { result ≡ is_joined (contained_in (read c.now)) }
+{
+    matches!(
+        shape_at(c),
+        Shape::Empty | Shape::String | Shape::Number | Shape::Boolean(_)
+    )
+}
+
+// What a container adds to a run.
+pub fn put_joined(out: &mut [u8], at: usize, c: &[u8]) -> usize
+    requires { at + length (joined_by (contained_in (read c.now))) < 2 ^ 63 }
+    ensures { Wrote out.old at (joined_by (contained_in (read c.now))) out.new result }
 {
     match shape_at(c) {
-        Shape::Empty | Shape::Boolean(_) => st,
-        Shape::String => {
-            let end = put_escaped(out, st.end(), body(c));
-            st.ended(end)
-        }
-        Shape::Number => {
-            let end = put_number_at(out, st.end(), c);
-            st.ended(end)
-        }
-        Shape::Null | Shape::Literal | Shape::Minus | Shape::Other => cut(out, st),
+        Shape::String => put_escaped(out, at, body(c)),
+        Shape::Number => put_number_at(out, at, c),
+        Shape::Empty
+        | Shape::Boolean(_)
+        | Shape::Null
+        | Shape::Literal
+        | Shape::Minus
+        | Shape::Other => at,
     }
+}
+
+// A container among children.
+fn container_child(c: &[u8], out: &mut [u8], st: Open) -> Open
+    requires { Low (put_contained (contained_in (read c.now)) (at out.old st)) }
+    ensures { at out.new result ≡ put_contained (contained_in (read c.now)) (at out.old st) }
+{
+    if !joins(c) {
+        return cut(out, st);
+    }
+    let end = put_joined(out, st.end(), c);
+    st.ended(end)
 }
 
 // Whether no child follows, where that matters to a text's last line.
 fn is_last(parent: bool, s: &[u8]) -> bool
     ensures { result ≡ (parent && is_none (children_in (read s.now))) }
 {
-    if parent {
-        return children_at(s).len() == 0;
-    }
-    false
+    parent && children_at(s).is_empty()
 }
 
 // An element in a template: one that is no HTML leaves a gap.
 #[cycle(strings)]
-pub fn element_strings<'a>(
-    skip: &[u8],
-    props: &'a [u8],
-    b: &'a [u8],
-    out: &mut [u8],
-    st: Open,
-) -> Open
-    requires { Low (carve (element_at skip.now props.now b.now).to_string_vec (at out.old st)) }
-    ensures { at out.new result ≡ carve (element_at skip.now props.now b.now).to_string_vec (at out.old st) }
+pub fn element_strings(options: &Options<'_>, b: &[u8], out: &mut [u8], st: Open) -> Open
+    requires { Low (carve (element_at options.now.skip.now options.now.props.now b.now).to_string_vec (at out.old st)) }
+    ensures { at out.new result ≡ carve (element_at options.now.skip.now options.now.props.now b.now).to_string_vec (at out.old st) }
 {
-    if !is_serializable(skip, b) {
+    if !is_serializable(options.skip, b) {
         return cut(out, st);
     }
-    tag_strings(skip, props, b, out, st)
+    tag_strings(options, b, out, st)
 }
 
 // One that is known to be HTML: its tags, and what stands between them.
 #[cycle(strings)]
-pub fn tag_strings<'a>(skip: &[u8], props: &'a [u8], b: &'a [u8], out: &mut [u8], st: Open) -> Open
-    requires { (serializable skip.now b.now ≡ true) × Low (carve (element_at skip.now props.now b.now).to_string_vec (at out.old st)) }
-    ensures { at out.new result ≡ carve (element_at skip.now props.now b.now).to_string_vec (at out.old st) }
+pub fn tag_strings(options: &Options<'_>, b: &[u8], out: &mut [u8], st: Open) -> Open
+    requires { (serializable options.now.skip.now b.now ≡ true) × Low (carve (element_at options.now.skip.now options.now.props.now b.now).to_string_vec (at out.old st)) }
+    ensures { at out.new result ≡ carve (element_at options.now.skip.now options.now.props.now b.now).to_string_vec (at out.old st) }
 {
     let n = identifier(b);
     let rest = behind(b);
     let kind = void_kind(n);
     let p = open_tag(out, st, n, kind, rest);
-    let a = attributes_strings(skip, props, rest, out, p);
+    let a = attributes_strings(options, rest, out, p);
     let c = put_chars(out, a, b">");
-    if kind == Some(Void::AsWritten) {
+    if let Some(Void::AsWritten) = kind {
         return c;
     }
-    let d = children_strings(skip, props, rest, true, out, c);
+    let d = children_strings(options, rest, true, out, c);
     put_close(out, d, n)
 }
 
 // Children in a template; `parent` where they are an element's.
 #[cycle(strings)]
-pub fn children_strings<'a>(
-    skip: &[u8],
-    props: &'a [u8],
-    s: &'a [u8],
+pub fn children_strings(
+    options: &Options<'_>,
+    s: &[u8],
     parent: bool,
     out: &mut [u8],
     st: Open,
 ) -> Open
-    requires { Low (carve (children_to_string parent (children_at skip.now props.now (read s.now))) (at out.old st)) }
-    ensures { at out.new result ≡ carve (children_to_string parent (children_at skip.now props.now (read s.now))) (at out.old st) }
+    requires { Low (carve (children_to_string parent (children_at options.now.skip.now options.now.props.now (read s.now))) (at out.old st)) }
+    ensures { at out.new result ≡ carve (children_to_string parent (children_at options.now.skip.now options.now.props.now (read s.now))) (at out.old st) }
 {
-    let mut t = s;
     let mut cur = st;
-    loop {
-        match tag_at(t) {
+    let mut fields = Fields(s);
+    while let Some(field) = fields.next() {
+        match field.tag {
             0x60 => {
-                let r = behind(t);
-                let last = is_last(parent, r);
-                cur = put_text(out, cur, body(t), last);
-                t = r;
+                let last = is_last(parent, fields.0);
+                cur = put_text(out, cur, field.body, last);
             }
-            0x52 => {
-                cur = container_child(skip, props, body(t), out, cur);
-                t = behind(t);
-            }
-            0x30 => {
-                cur = element_strings(skip, props, body(t), out, cur);
-                t = behind(t);
-            }
-            0x31 => {
-                cur = children_strings(skip, props, body(t), false, out, cur);
-                t = behind(t);
-            }
-            256 => {
-                return cur;
-            }
-            _ => {
-                t = behind(t);
-            }
+            0x52 => cur = container_child(field.body, out, cur),
+            0x30 => cur = element_strings(options, field.body, out, cur),
+            0x31 => cur = children_strings(options, field.body, false, out, cur),
+            _ => {}
         }
     }
+    cur
 }

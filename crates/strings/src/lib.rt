@@ -10,6 +10,6 @@ mod merged;
 mod writer;
 
 pub use attributes::put_name;
-pub use elements::{children_strings, tag_strings};
-pub use merged::{joins, merged_children_strings, put_joined};
+pub use elements::{children_strings, joins, put_joined, tag_strings};
+pub use merged::merged_children_strings;
 pub use writer::{Open, cut};

@@ -47,12 +47,6 @@ kind_low None = omega arith
 kind_low (Some (Plus n)) = omega arith
 kind_low (Some (Minus n)) = omega arith
 
-pub before_low : (b : Before) → before_tag b ≤ 6
-unfolding before_tag
-before_low NoSum = omega arith
-before_low (SumPlus w) = omega (arith, kind_low w)
-before_low (SumMinus w) = omega (arith, kind_low w)
-
 pub factor_low : (f : Factor) → factor_tag f ≤ 3
 unfolding factor_tag
 factor_low None = omega arith

@@ -2,10 +2,10 @@
 -- Main statements: `tag_refused_printed`, `tag_stands`, `tag_card_is`. Assumes nothing.
 use Prim.Native.Nat.{ℕ, suc, ◌+◌, ◌-◌, ◌≤◌, ◌<◌}
 use native.Mathlib.Omega.{arith}
-use mathlib.Core.Path.{◌≡◌, refl, sym, ap, ap₂, ◌∙◌, subst}
+use mathlib.Core.Path.{◌≡◌, refl, sym, ap, ap₂, ◌∙◌}
 use mathlib.Core.List.{[], ◌∷◌, ◌++◌, append-nil}
 use lib.Dec.{eqb, leb→le}
-use mathlib.Core.Bool.{Bool, true, false, ◌&&◌}
+use mathlib.Core.Bool.{true, false}
 use lib.ListN.{length, take, drop, get_or}
 use lib.Seq.{drop-cons, drop-length}
 use Rattle.std.proofs.Math.Bool.{and-true}

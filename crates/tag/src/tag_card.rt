@@ -32,6 +32,8 @@ fn put_page(out: &mut [u8], tag: &[u8]) -> usize
     put_bytes(out, b, tag)
 }
 
+// Six buffers one by one: a struct of them would be filled in `main` and taken apart here, and nowhere else. The two calls that print a refusal
+// stand in print_card too: a function for both would take as many.
 pub fn print_tag(
     text: &[u8],
     tag: &mut [u8],

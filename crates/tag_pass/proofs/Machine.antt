@@ -1,7 +1,7 @@
 -- The grammar's reader at places of a text: white space, a sign behind it, and the text's end. Main statements: `sign`, `bad_sign`, `no_sign`.
 -- Assumes nothing.
 use Prim.Native.Nat.{ℕ, ◌+◌, ◌≤◌, ◌<◌}
-use mathlib.Core.Path.{◌≡◌, refl, ◌∙◌, ap, subst}
+use mathlib.Core.Path.{◌≡◌, refl, sym, ◌∙◌, ap, subst}
 use mathlib.Core.Bool.{Bool, true, false, not}
 use lib.Dec.{T}
 use lib.ListN.{length, drop, get_or, drop_of_length-le}
@@ -12,8 +12,9 @@ use Rattle.grammar.specs.Reader.{State, refused, no_reading, at_end, step, outco
 use Rattle.grammar.proofs.Complete.{go, refused_never}
 use Rattle.read_tag.specs.Runs.{Ran}
 use Rattle.read_tag.proofs.RunLaws.{next}
+use Rattle.tag_pass.specs.Signs.{SignAt}
 
-pub run_spaces : {s w r : Bytes} → Run space s w r → Spaces s r
+run_spaces : {s w r : Bytes} → Run space s w r → Spaces s r
 run_spaces (run_ends e) = no_space
 run_spaces (run_on t u) = space_on t (run_spaces u)
 
@@ -32,6 +33,16 @@ is_false false t = refl
 pub not_space : {s : Bytes} {i j : ℕ} → Ran space s i j → j < length s → space (get_or s j 0) ≡ false
 unfolding Ends
 not_space {s} {i} {j} r h = is_false (space (get_or s j 0)) (subst (Ends space) (next s j h) (run_stops r.run))
+
+-- the byte of a sign is that of the text
+pub reads : {s : Bytes} {i j c d : ℕ} → SignAt s i j c → c ≡ d → get_or s j 0 ≡ d
+reads at e = sym at.byte_is ∙ e
+
+pub differs : {s : Bytes} {i j c d : ℕ} → SignAt s i j c → (c ≡ d → ⊥) → get_or s j 0 ≡ d → ⊥
+differs at e y = e (at.byte_is ∙ y)
+
+pub told : {s : Bytes} {i j c : ℕ} {v : Bool} (f : ℕ → Bool) → SignAt s i j c → v ≡ f c → f (get_or s j 0) ≡ v
+told f at e = sym (e ∙ ap f at.byte_is)
 
 -- a byte further
 pub steps : (x y : State) (s : Bytes) (k : ℕ) → k < length s → step x (get_or s k 0) ≡ y → outcome x (drop k s) ≡ outcome y (drop (k + 1) s)

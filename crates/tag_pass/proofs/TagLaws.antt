@@ -5,10 +5,10 @@ use mathlib.Core.Bool.{Bool, true, false, ◌&&◌, ◌||◌, not}
 use mathlib.Core.List.{[], ◌∷◌, ◌++◌, append-nil}
 use native.Mathlib.Omega.{arith}
 use borrow.Author.Tests.{eq-eqb, ne_eqb}
-use lib.Dec.{T, leb, eqb}
+use lib.Dec.{T, leb}
 use lib.ListN.{length, drop, get_or, length-drop, length-append}
-use Rattle.std.specs.Prelude.{Option, Some, None}
-use Rattle.field.specs.Bytes.{Bytes, pick, same}
+use Rattle.std.specs.Prelude.{Option, Some, None, is_some}
+use Rattle.field.specs.Bytes.{Bytes, same}
 use Rattle.field.specs.Row.{bytes}
 use Rattle.field.specs.Put.{put, head, Wrote}
 use Rattle.field.proofs.PutLaws.{length_head, wrote_then}
@@ -25,19 +25,19 @@ use Rattle.tag_tree.specs.PageTag.{page_tag}
 use Rattle.tag_tree.specs.TagAnswer.{shallow}
 use Rattle.read_tag.specs.Progress.{tag_code, name_bytes, attributes_bytes, children_bytes, begun, Plain}
 use Rattle.read_tag.specs.Flags.{depth_of}
-use Rattle.read_tag.specs.Runs.{Ran}
 use Rattle.read_tag.specs.Shapes.{name_tag}
 use Rattle.read_tag.specs.Names.{named_if, FoundName, Scanned, NamePut, NamesCompared, name_depth}
 use Rattle.read_tag.specs.declared.name.ScannedName.{ScannedName}
 use Rattle.read_tag.proofs.FlagLaws.{and_true}
 use Rattle.read_tag.proofs.NameLimitLaws as NL
 use Rattle.tag_pass.specs.declared.state.Mode.TheVariants as M
+use Rattle.tag_pass.specs.Signs.{SignAt, Blank}
 use Rattle.tag_pass.specs.Worlds.{World, more, shallow_name, tag_world, children_world, world_of, Made}
-use Rattle.tag_pass.specs.States.{TagName, no_name, name_at, Named, Stands, Next, next_ended, next_refused}
-use Rattle.tag_pass.specs.Turns.{at_mode, at_more, at_begin, at_end_of, name_code, AttributeTurn, SlashedTurn, SpreadTurn, TagTurn, ClosingTurn, NamedTurn, FragmentTurn, Patched, TagEnded, ClosingCompared}
+use Rattle.tag_pass.specs.States.{TagName, no_name, name_at, Named, Stands, Next, next_ended, next_none}
+use Rattle.tag_pass.specs.Turns.{at_mode, at_more, at_begin, name_code, AttributeTurn, SlashedTurn, SpreadTurn, TagTurn, ClosingTurn, NamedTurn, FragmentTurn, TagEnded, ClosingCompared}
 use Rattle.tag_pass.specs.declared.state.Reading.{Reading}
 use Rattle.read_tag.proofs.RunLaws.{next}
-use Rattle.tag_pass.proofs.Machine.{spaces, not_space, steps, stuck, out_of}
+use Rattle.tag_pass.proofs.Machine.{reads, differs, told, spaces, not_space, steps, stuck, out_of}
 use Rattle.tag_pass.proofs.WorldLaws.{world_is, no_children_yet, tag_ended}
 use Rattle.tag_pass.proofs.Sizes.{name_size}
 use Rattle.tag_pass.proofs.AttributeLaws.{found, deep_enough}
@@ -45,12 +45,12 @@ use Rattle.tag_pass.proofs.Standing.{deeper_decides, made_as, made_wrote, made_i
 
 -- ---- names
 
-pub same_self : (n : Name) → same_name n n ≡ true
+same_self : (n : Name) → same_name n n ≡ true
 unfolding same_name
 same_self [] = refl
 same_self (part d w ∷ ps) = simp (eq-eqb d d refl, same_refl w, same_self ps)
 
-pub named_plain : (n : Name) (ps : Attributes) → Named n → Plain n ps
+named_plain : (n : Name) (ps : Attributes) → Named n → Plain n ps
 unfolding Named Plain
 named_plain [] ps m = absurd m
 named_plain (p ∷ n) ps m = tt
@@ -60,41 +60,6 @@ unfolding tag_name_fits attribute_name_fits member_fits Named
 fits_named [] t = absurd t
 fits_named (p ∷ n) t = tt
 
-name_named : {s r : Bytes} {n : Name} → IsName s n r → Named n
-unfolding Named
-name_named (is_name i p) = tt
-
--- the code and the comparison with an empty name go by the place
-code_named : (p : ℕ) (n : Name) → 0 < p → T (tag_name_fits n) → name_code p ≡ tag_code n
-unfolding name_code tag_code Named
-code_named p [] l t = absurd (fits_named [] t)
-code_named p (q ∷ n) l t = ap (λ (b : Bool). pick b 0x31 0x30) (ne_eqb p 0 (λ z. omega arith))
-
-code_at : {s : Bytes} {p : ℕ} {n : Name} → TagName s p n → name_code p ≡ tag_code n
-unfolding name_code tag_code
-code_at no_name = refl
-code_at (name_at {p} {n} r l i t) = code_named p n l t
-
-empty_named : (p : ℕ) (n : Name) → 0 < p → T (tag_name_fits n) → eqb p 0 ≡ same_name n []
-unfolding same_name Named
-empty_named p [] l t = absurd (fits_named [] t)
-empty_named p (q ∷ n) l t = ne_eqb p 0 (λ z. omega arith)
-
-empty_at : {s : Bytes} {p : ℕ} {n : Name} → TagName s p n → eqb p 0 ≡ same_name n []
-unfolding same_name
-empty_at no_name = refl
-empty_at (name_at {p} {n} r l i t) = empty_named p n l t
-
-pub same_none : {s : Bytes} {p : ℕ} (j : ℕ) → p ≡ 0 → ClosingCompared s p j false
-unfolding same_name
-same_none {s} {p} j e n m r no_name (is_name i q) = refl
-same_none {s} {p} j e n m r (name_at x l i t) q = absurd (omega arith)
-
-pub same_some : (s : Bytes) (p j : ℕ) (b : Bool) → NamesCompared s p j b → (p ≡ 0 → ⊥) → ClosingCompared s p j b
-unfolding NamesCompared
-same_some s p j b compared l n m r no_name q = absurd (l refl)
-same_some s p j b compared l n m r (name_at x k i t) q = compared n m x r i q
-
 not_letter : (b : Bool) → not b ≡ true → b ≡ false
 not_letter true e = sym e
 not_letter false e = refl
@@ -102,6 +67,39 @@ not_letter false e = refl
 pub is_letter : (b : Bool) → not b ≡ false → b ≡ true
 is_letter true e = refl
 is_letter false e = sym e
+
+-- the code and the comparison with an empty name go by the place
+code_named : (p : ℕ) (n : Name) → T (tag_name_fits n) → name_code (Some p) ≡ tag_code n
+unfolding name_code tag_code Named
+code_named p [] t = absurd (fits_named [] t)
+code_named p (q ∷ n) t = refl
+
+code_at : {s : Bytes} {p : Option ℕ} {n : Name} → TagName s p n → name_code p ≡ tag_code n
+unfolding name_code tag_code
+code_at no_name = refl
+code_at (name_at {p} {n} r i t) = code_named p n t
+
+empty_named : (b : Bool) (n : Name) → T (tag_name_fits n) → true ≡ not b → b ≡ same_name n []
+unfolding same_name Named
+empty_named b [] t e = absurd (fits_named [] t)
+empty_named b (q ∷ n) t e = not_letter b (sym e)
+
+empty_at : {s : Bytes} {p : Option ℕ} {n : Name} {b : Bool} → TagName s p n → is_some p ≡ not b → b ≡ same_name n []
+unfolding same_name
+empty_at {b = b} no_name e = is_letter b (sym e)
+empty_at {b = b} (name_at {p} {n} r i t) e = empty_named b n t e
+
+pub same_none : {s : Bytes} {p : Option ℕ} (j : ℕ) → p ≡ None → ClosingCompared s p j false
+unfolding same_name
+same_none {s} {p} j e n m r no_name (is_name i q) = refl
+same_none {s} {p} j e n m r (name_at x i t) q = cc
+
+pub same_some : (s : Bytes) (p : Option ℕ) (q j : ℕ) (b : Bool) → NamesCompared s q j b → p ≡ Some q → ClosingCompared s p j b
+unfolding NamesCompared
+same_some s p q j b compared e n m r no_name x = cc
+same_some s p q j b compared e n m r (name_at {p = place} y i t) x =
+    let z : place ≡ q = cc in
+    compared n m y r (subst (λ (k : ℕ). IsName (drop k s) n y) z i) x
 
 first : (a b : Bool) → T (not (a || b)) → a ≡ false
 first true b t = absurd t
@@ -119,14 +117,11 @@ unfolding children_world tag_world begun
 head_room W d n ps ks at h e f =
     omega (arith, length-append (W.bytes ++ (head (tag_code n) 0 ++ (name_bytes n ++ attributes_bytes ps))) (children_bytes ks), length-append W.bytes (head (tag_code n) 0 ++ (name_bytes n ++ attributes_bytes ps)), length-append (head (tag_code n) 0) (name_bytes n ++ attributes_bytes ps), length_head (tag_code n) 0)
 
-pub ended_tag : {out out' : Bytes} {st r : Reading} {b : Bool} {i t : ℕ} → Patched out st.head t st.at out' → t ≡ name_code st.name → r ≡ at_end_of st b i → TagEnded out st b i r out'
-ended_tag {out} {out'} {st} {r} {b} {i} {t} p c e = record { is = e; patched = λ l. p l ∙ ap (λ (z : ℕ). put out st.head (head z (st.at - st.head - 3))) c }
-
-pub tag_done : {s o out out' : Bytes} {n : Name} {K : Stack} {h i j : ℕ} {b : Bool} {st r : Reading} (m : Name) (ps : Attributes) (ks : Children) → Stands s o (closed (tag n ps ks m) K) (children_world (world_of K) (depth_of K) n ps ks) n K h st i out → Plain n ps → b ≡ same_name n m → TagEnded out st b i r out' → j < i → Next s o K h j r out'
+pub tag_done : {s o out out' : Bytes} {n : Name} {K : Stack} {h i j : ℕ} {b : Bool} {st r : Reading} (m : Name) (ps : Attributes) (ks : Children) → Stands s o (closed (tag n ps ks m) K) (children_world (world_of K) (depth_of K) n ps ks) n K h st i out → Plain n ps → b ≡ same_name n m → TagEnded out st b i r out' → j < i → Next s o K h j (Some r) out'
 tag_done {s} {o} {out} {out'} {n} {K} {h} {i} {j} {b} {st} {r} m ps ks g plain same ended l =
     let f : out' ≡ put out st.head (head (name_code st.name) (st.at - st.head - 3)) = ended.patched (head_room (world_of K) (depth_of K) n ps ks st.at st.head g.made.at_is g.head_is) in
     let f' = f ∙ ap (λ (z : ℕ). put out st.head (head z (st.at - st.head - 3))) (code_at g.name_is) in
-    subst (λ (z : Reading). Next s o K h j z out') (sym ended.is)
+    subst (λ (z : Reading). Next s o K h j (Some z) out') (sym ended.is)
     (next_ended (tag n ps ks m) refl l
     (record {
       reads = g.reads;
@@ -141,102 +136,100 @@ tag_done {s} {o} {out} {out'} {n} {K} {h} {i} {j} {b} {st} {r} m ps ks g plain s
 
 -- ---- behind `/`
 
-pub slashed_out : {s out out' : Bytes} {st r : Reading} {i j : ℕ} → Ran space s i j → length s ≤ j → r.mode ≡ M.Refused → SlashedTurn s st i out r out'
+pub slashed_out : {s out out' : Bytes} {st : Reading} {i : ℕ} → Blank s i → SlashedTurn s st i out None out'
 unfolding at_end
-slashed_out {s} {i = i} {j} ran hi m n ps K nm o h stands = refuses stands (skip_slashed n ps K (spaces ran) ∙ out_of (slashed n ps K) s j hi refl) m
+slashed_out {s} {i = i} at n ps K nm o h stands = refuses stands (skip_slashed n ps K (spaces at.ran) ∙ out_of (slashed n ps K) s at.j at.out refl)
 
-pub slashed_barred : {s out out' : Bytes} {st r : Reading} {i j : ℕ} → Ran space s i j → j < length s → (get_or s j 0 ≡ 62 → ⊥) → r.mode ≡ M.Refused → SlashedTurn s st i out r out'
+pub slashed_barred : {s out out' : Bytes} {st : Reading} {i j : ℕ} {c : ℕ} → SignAt s i j c → (c ≡ 62 → ⊥) → SlashedTurn s st i out None out'
 unfolding step choose
-slashed_barred {s} {i = i} {j} ran lo p m n ps K nm o h stands = refuses stands (skip_slashed n ps K (spaces ran) ∙ stuck (slashed n ps K) s j lo (simp (not_space ran lo, ne_eqb (get_or s j 0) 62 p))) m
+slashed_barred {s} {i = i} {j} at p n ps K nm o h stands = refuses stands (skip_slashed n ps K (spaces at.ran) ∙ stuck (slashed n ps K) s j at.inside (simp (not_space at.ran at.inside, ne_eqb (get_or s j 0) 62 (differs at p))))
 
-pub slashed_ends : {s out out' : Bytes} {st r : Reading} {i j : ℕ} → Ran space s i j → j < length s → get_or s j 0 ≡ 62 → TagEnded out st true (j + 1) r out' → SlashedTurn s st i out r out'
+pub slashed_ends : {s out out' : Bytes} {st r : Reading} {i j : ℕ} {c : ℕ} → SignAt s i j c → c ≡ 62 → TagEnded out st true (j + 1) r out' → SlashedTurn s st i out (Some r) out'
 unfolding step choose space
-slashed_ends {s} {i = i} {j} ran lo sign ended n ps K nm o h stands =
+slashed_ends {s} {i = i} {j} at sign ended n ps K nm o h stands =
     tag_done n ps no_children
-    (remade (move stands (skip_slashed n ps K (spaces ran) ∙ steps (slashed n ps K) (closed (tag n ps no_children n) K) s j lo (ap (step (slashed n ps K)) sign)) (omega (arith, ran.after)) (omega arith)) (made_is (sym (no_children_yet (world_of K) (depth_of K) n ps)) stands.made))
-    (named_plain n ps nm) (sym (same_self n)) ended (omega (arith, ran.after))
+    (remade (move stands (skip_slashed n ps K (spaces at.ran) ∙ steps (slashed n ps K) (closed (tag n ps no_children n) K) s j at.inside (ap (step (slashed n ps K)) (reads at sign))) (omega (arith, at.ran.after)) (omega arith)) (made_is (sym (no_children_yet (world_of K) (depth_of K) n ps)) stands.made))
+    (named_plain n ps nm) (sym (same_self n)) ended (omega (arith, at.ran.after))
 
 -- ---- in a tag
 
-pub tag_out : {s out out' : Bytes} {st r : Reading} {i j : ℕ} → Ran space s i j → length s ≤ j → r.mode ≡ M.Refused → TagTurn s st i out r out'
+pub tag_out : {s out out' : Bytes} {st : Reading} {i : ℕ} → Blank s i → TagTurn s st i out None out'
 unfolding at_end
-tag_out {s} {i = i} {j} ran hi m n ps K nm o h stands = refuses stands (skip_tag n ps K (spaces ran) ∙ out_of (in_tag n ps K) s j hi refl) m
+tag_out {s} {i = i} at n ps K nm o h stands = refuses stands (skip_tag n ps K (spaces at.ran) ∙ out_of (in_tag n ps K) s at.j at.out refl)
 
-pub tag_letter : {s out out' : Bytes} {st r : Reading} {i j : ℕ} {b : Bool} → Ran space s i j → j < length s → b ≡ letter (get_or s j 0) → b ≡ true → AttributeTurn s st j out r out' → TagTurn s st i out r out'
+pub tag_letter : {s out out' : Bytes} {st : Reading} {r : Option Reading} {i j : ℕ} {c : ℕ} → SignAt s i j c → true ≡ letter c → AttributeTurn s st j out r out' → TagTurn s st i out r out'
 unfolding step step_tag choose
-tag_letter {s} {i = i} {j} {b} ran lo is b_is turn n ps K nm o h stands =
-    let yes_letter : letter (get_or s j 0) ≡ true = sym is ∙ b_is in
-    later ran.after
+tag_letter {s} {i = i} {j} at is turn n ps K nm o h stands =
+    let yes_letter : letter (get_or s j 0) ≡ true = told letter at is in
+    later at.ran.after
     (turn n ps K nm o h
-    (move stands (skip_tag n ps K (spaces ran) ∙ steps (in_tag n ps K) (in_ident [] 0 (get_or s j 0 ∷ []) (for_attribute n ps K)) s j lo (simp (not_space ran lo, yes_letter))) (omega (arith, ran.after)) (omega arith)))
+    (move stands (skip_tag n ps K (spaces at.ran) ∙ steps (in_tag n ps K) (in_ident [] 0 (get_or s j 0 ∷ []) (for_attribute n ps K)) s j at.inside (simp (not_space at.ran at.inside, yes_letter))) (omega (arith, at.ran.after)) (omega arith)))
 
-pub tag_children : {s out : Bytes} {st r : Reading} {i j : ℕ} → Ran space s i j → j < length s → get_or s j 0 ≡ 62 → r ≡ at_mode st M.InChildren (j + 1) → TagTurn s st i out r out
+pub tag_children : {s out : Bytes} {st r : Reading} {i j : ℕ} {c : ℕ} → SignAt s i j c → c ≡ 62 → r ≡ at_mode st M.InChildren (j + 1) → TagTurn s st i out (Some r) out
 unfolding step step_tag choose space letter
-tag_children {s} {i = i} {j} ran lo sign rs n ps K nm o h stands =
+tag_children {s} {i = i} {j} at sign rs n ps K nm o h stands =
     to_children {ks = no_children}
-    (remade (move stands (skip_tag n ps K (spaces ran) ∙ steps (in_tag n ps K) (in_children n ps no_children K) s j lo (ap (step (in_tag n ps K)) sign)) (omega (arith, ran.after)) (omega arith)) (made_is (sym (no_children_yet (world_of K) (depth_of K) n ps)) stands.made))
-    (named_plain n ps nm) (omega (arith, ran.after)) rs
+    (remade (move stands (skip_tag n ps K (spaces at.ran) ∙ steps (in_tag n ps K) (in_children n ps no_children K) s j at.inside (ap (step (in_tag n ps K)) (reads at sign))) (omega (arith, at.ran.after)) (omega arith)) (made_is (sym (no_children_yet (world_of K) (depth_of K) n ps)) stands.made))
+    (named_plain n ps nm) (omega (arith, at.ran.after)) rs
 
-pub tag_slashed : {s out out' : Bytes} {st r : Reading} {i j : ℕ} → Ran space s i j → j < length s → get_or s j 0 ≡ 47 → SlashedTurn s st (j + 1) out r out' → TagTurn s st i out r out'
+pub tag_slashed : {s out out' : Bytes} {st : Reading} {r : Option Reading} {i j : ℕ} {c : ℕ} → SignAt s i j c → c ≡ 47 → SlashedTurn s st (j + 1) out r out' → TagTurn s st i out r out'
 unfolding step step_tag choose space letter
-tag_slashed {s} {i = i} {j} ran lo sign turn n ps K nm o h stands =
-    later (omega (arith, ran.after))
-    (turn n ps K nm o h (move stands (skip_tag n ps K (spaces ran) ∙ steps (in_tag n ps K) (slashed n ps K) s j lo (ap (step (in_tag n ps K)) sign)) (omega (arith, ran.after)) (omega arith)))
+tag_slashed {s} {i = i} {j} at sign turn n ps K nm o h stands =
+    later (omega (arith, at.ran.after))
+    (turn n ps K nm o h (move stands (skip_tag n ps K (spaces at.ran) ∙ steps (in_tag n ps K) (slashed n ps K) s j at.inside (ap (step (in_tag n ps K)) (reads at sign))) (omega (arith, at.ran.after)) (omega arith)))
 
-pub tag_spread : {s out out' : Bytes} {st r : Reading} {i j : ℕ} → Ran space s i j → j < length s → get_or s j 0 ≡ 123 → SpreadTurn s st (j + 1) out r out' → TagTurn s st i out r out'
+pub tag_spread : {s out out' : Bytes} {st : Reading} {r : Option Reading} {i j : ℕ} {c : ℕ} → SignAt s i j c → c ≡ 123 → SpreadTurn s st (j + 1) out r out' → TagTurn s st i out r out'
 unfolding step step_tag choose space letter
-tag_spread {s} {i = i} {j} ran lo sign turn n ps K nm o h stands =
-    later (omega (arith, ran.after))
-    (turn n ps K nm o h (move stands (skip_tag n ps K (spaces ran) ∙ steps (in_tag n ps K) (spread_opened n ps K) s j lo (ap (step (in_tag n ps K)) sign)) (omega (arith, ran.after)) (omega arith)))
+tag_spread {s} {i = i} {j} at sign turn n ps K nm o h stands =
+    later (omega (arith, at.ran.after))
+    (turn n ps K nm o h (move stands (skip_tag n ps K (spaces at.ran) ∙ steps (in_tag n ps K) (spread_opened n ps K) s j at.inside (ap (step (in_tag n ps K)) (reads at sign))) (omega (arith, at.ran.after)) (omega arith)))
 
-pub tag_barred : {s out out' : Bytes} {st r : Reading} {i j : ℕ} {b : Bool} → Ran space s i j → j < length s → b ≡ letter (get_or s j 0) → b ≡ false → (get_or s j 0 ≡ 62 → ⊥) → (get_or s j 0 ≡ 47 → ⊥) → (get_or s j 0 ≡ 123 → ⊥) → r.mode ≡ M.Refused → TagTurn s st i out r out'
+pub tag_barred : {s out out' : Bytes} {st : Reading} {i j : ℕ} {c : ℕ} → SignAt s i j c → false ≡ letter c → (c ≡ 62 → ⊥) → (c ≡ 47 → ⊥) → (c ≡ 123 → ⊥) → TagTurn s st i out None out'
 unfolding step step_tag choose
-tag_barred {s} {i = i} {j} {b} ran lo is b_is p q x m n ps K nm o h stands =
-    let no_letter : letter (get_or s j 0) ≡ false = sym is ∙ b_is in
-    refuses stands (skip_tag n ps K (spaces ran) ∙ stuck (in_tag n ps K) s j lo (simp (not_space ran lo, no_letter, ne_eqb (get_or s j 0) 62 p, ne_eqb (get_or s j 0) 47 q, ne_eqb (get_or s j 0) 123 x))) m
+tag_barred {s} {i = i} {j} at is p q x n ps K nm o h stands =
+    let no_letter : letter (get_or s j 0) ≡ false = told letter at is in
+    refuses stands (skip_tag n ps K (spaces at.ran) ∙ stuck (in_tag n ps K) s j at.inside (simp (not_space at.ran at.inside, no_letter, ne_eqb (get_or s j 0) 62 (differs at p), ne_eqb (get_or s j 0) 47 (differs at q), ne_eqb (get_or s j 0) 123 (differs at x))))
 
 -- ---- closing tags
 
-pub closing_out : {s out out' : Bytes} {st r : Reading} {i j : ℕ} → Ran space s i j → length s ≤ j → r.mode ≡ M.Refused → ClosingTurn s st i out r out'
+pub closing_out : {s out out' : Bytes} {st : Reading} {i : ℕ} → Blank s i → ClosingTurn s st i out None out'
 unfolding at_end
-closing_out {s} {i = i} {j} ran hi m n ps ks K plain o h stands = refuses stands (skip_closing n ps ks K (spaces ran) ∙ out_of (closing n ps ks K) s j hi refl) m
+closing_out {s} {i = i} at n ps ks K plain o h stands = refuses stands (skip_closing n ps ks K (spaces at.ran) ∙ out_of (closing n ps ks K) s at.j at.out refl)
 
-pub closing_fragment : {s out out' : Bytes} {st r : Reading} {i j : ℕ} → Ran space s i j → j < length s → get_or s j 0 ≡ 62 → TagEnded out st (eqb st.name 0) (j + 1) r out' → ClosingTurn s st i out r out'
+pub closing_fragment : {s out out' : Bytes} {st r : Reading} {i j : ℕ} {b : Bool} {c : ℕ} → SignAt s i j c → c ≡ 62 → is_some st.name ≡ not b → TagEnded out st b (j + 1) r out' → ClosingTurn s st i out (Some r) out'
 unfolding step choose space letter
-closing_fragment {s} {i = i} {j} ran lo sign ended n ps ks K plain o h stands =
+closing_fragment {s} {i = i} {j} at sign nameless ended n ps ks K plain o h stands =
     tag_done [] ps ks
-    (move stands (skip_closing n ps ks K (spaces ran) ∙ steps (closing n ps ks K) (closed (tag n ps ks []) K) s j lo (ap (step (closing n ps ks K)) sign)) (omega (arith, ran.after)) (omega arith))
-    plain (empty_at stands.name_is) ended (omega (arith, ran.after))
+    (move stands (skip_closing n ps ks K (spaces at.ran) ∙ steps (closing n ps ks K) (closed (tag n ps ks []) K) s j at.inside (ap (step (closing n ps ks K)) (reads at sign))) (omega (arith, at.ran.after)) (omega arith))
+    plain (empty_at stands.name_is nameless) ended (omega (arith, at.ran.after))
 
-pub closing_barred : {s out out' : Bytes} {st r : Reading} {i j : ℕ} {b : Bool} → Ran space s i j → j < length s → (get_or s j 0 ≡ 62 → ⊥) → b ≡ letter (get_or s j 0) → not b ≡ true → r.mode ≡ M.Refused → ClosingTurn s st i out r out'
+pub closing_barred : {s out out' : Bytes} {st : Reading} {i j : ℕ} {c : ℕ} → SignAt s i j c → (c ≡ 62 → ⊥) → false ≡ letter c → ClosingTurn s st i out None out'
 unfolding step choose
-closing_barred {s} {i = i} {j} {b} ran lo p is b_is m n ps ks K plain o h stands =
-    let no_letter : letter (get_or s j 0) ≡ false = not_letter (letter (get_or s j 0)) (ap not (sym is) ∙ b_is) in
-    refuses stands (skip_closing n ps ks K (spaces ran) ∙ stuck (closing n ps ks K) s j lo (simp (not_space ran lo, no_letter, ne_eqb (get_or s j 0) 62 p))) m
+closing_barred {s} {i = i} {j} at p is n ps ks K plain o h stands =
+    let no_letter : letter (get_or s j 0) ≡ false = told letter at is in
+    refuses stands (skip_closing n ps ks K (spaces at.ran) ∙ stuck (closing n ps ks K) s j at.inside (simp (not_space at.ran at.inside, no_letter, ne_eqb (get_or s j 0) 62 (differs at p))))
 
 -- at the first letter of the name
-to_name : {s : Bytes} {i j : ℕ} {b : Bool} (n : Name) (ps : Attributes) (ks : Children) (K : Stack) → Ran space s i j → j < length s → b ≡ letter (get_or s j 0) → not b ≡ false → outcome (closing n ps ks K) (drop i s) ≡ outcome (in_ident [] 0 (get_or s j 0 ∷ []) (for_closing n ps ks K)) (drop (j + 1) s)
+to_name : {s : Bytes} {i j c : ℕ} (n : Name) (ps : Attributes) (ks : Children) (K : Stack) → SignAt s i j c → true ≡ letter c → outcome (closing n ps ks K) (drop i s) ≡ outcome (in_ident [] 0 (get_or s j 0 ∷ []) (for_closing n ps ks K)) (drop (j + 1) s)
 unfolding step choose
-to_name {s} {i} {j} {b} n ps ks K ran lo is b_is =
-    let yes_letter : letter (get_or s j 0) ≡ true = is_letter (letter (get_or s j 0)) (ap not (sym is) ∙ b_is) in
-    skip_closing n ps ks K (spaces ran) ∙ steps (closing n ps ks K) (in_ident [] 0 (get_or s j 0 ∷ []) (for_closing n ps ks K)) s j lo (simp (not_space ran lo, yes_letter))
+to_name {s} {i} {j} n ps ks K at is =
+    let yes_letter : letter (get_or s j 0) ≡ true = told letter at is in
+    skip_closing n ps ks K (spaces at.ran) ∙ steps (closing n ps ks K) (in_ident [] 0 (get_or s j 0 ∷ []) (for_closing n ps ks K)) s j at.inside (simp (not_space at.ran at.inside, yes_letter))
 
-pub closing_none : {s out out' : Bytes} {st r : Reading} {i j : ℕ} {b : Bool} (q : Option ScannedName) → Ran space s i j → j < length s → b ≡ letter (get_or s j 0) → not b ≡ false → Scanned s j q → q ≡ None → r.mode ≡ M.Refused → ClosingTurn s st i out r out'
+pub closing_none : {s out out' : Bytes} {st : Reading} {i j c : ℕ} → SignAt s i j c → true ≡ letter c → Scanned s j None → ClosingTurn s st i out None out'
 unfolding Scanned
-closing_none {s} {i = i} {j} q ran lo is b_is t e m n ps ks K plain o h stands =
-    let unread : Scanned s j None = subst (Scanned s j) e t in
-    refuses stands (to_name n ps ks K ran lo is b_is ∙ unread (for_closing n ps ks K)) m
+closing_none at is unread n ps ks K plain o h stands = refuses stands (to_name n ps ks K at is ∙ unread (for_closing n ps ks K))
 
-behind : {s : Bytes} {i j tag e : ℕ} {b : Bool} (n : Name) (ps : Attributes) (ks : Children) (K : Stack) → Ran space s i j → j < length s → b ≡ letter (get_or s j 0) → not b ≡ false → (f : FoundName s j tag e) → outcome (closing n ps ks K) (drop i s) ≡ outcome (close_named f.name n ps ks K) (drop e s)
+behind : {s : Bytes} {i j c tag e : ℕ} (n : Name) (ps : Attributes) (ks : Children) (K : Stack) → SignAt s i j c → true ≡ letter c → (f : FoundName s j tag e) → outcome (closing n ps ks K) (drop i s) ≡ outcome (close_named f.name n ps ks K) (drop e s)
 unfolding named_if fits named
-behind {s} {e = e} n ps ks K ran lo is b_is f =
-    to_name n ps ks K ran lo is b_is ∙ f.leads (for_closing n ps ks K) ∙ ap (λ (x : State). outcome x (drop e s)) (chose (tag_name_fits f.name) (close_named f.name n ps ks K) refused f.fits_tag)
+behind {s} {e = e} n ps ks K at is f =
+    to_name n ps ks K at is ∙ f.leads (for_closing n ps ks K) ∙ ap (λ (x : State). outcome x (drop e s)) (chose (tag_name_fits f.name) (close_named f.name n ps ks K) refused f.fits_tag)
 
-pub closing_named_out : {s out out' : Bytes} {st r : Reading} {i j tag e : ℕ} {b : Bool} (q : Option ScannedName) → Ran space s i j → j < length s → b ≡ letter (get_or s j 0) → not b ≡ false → Scanned s j q → q ≡ Some record { tag = tag; end = e } → length s ≤ e → r.mode ≡ M.Refused → ClosingTurn s st i out r out'
+pub closing_named_out : {s out out' : Bytes} {st : Reading} {i j c : ℕ} (x : ScannedName) → SignAt s i j c → true ≡ letter c → Scanned s j (Some x) → length s ≤ x.end → ClosingTurn s st i out None out'
 unfolding at_end
-closing_named_out {s} {i = i} {j} {tag} {e} q ran lo is b_is t eq hi m n ps ks K plain o h stands =
-    let f : FoundName s j tag e = found q t eq in
-    refuses stands (behind n ps ks K ran lo is b_is f ∙ out_of (close_named f.name n ps ks K) s e hi refl) m
+closing_named_out {s} x at is t hi n ps ks K plain o h stands =
+    let f : FoundName _ _ x.tag x.end = found t in
+    refuses stands (behind n ps ks K at is f ∙ out_of (close_named f.name n ps ks K) s x.end hi refl)
 
 -- no white space follows a name that was read whole
 parts_end : {s r : Bytes} {ps : Name} → IsParts s ps r → Ends name_goes_on r
@@ -250,27 +243,25 @@ behind_no_space : {s : Bytes} {j tag e : ℕ} → FoundName s j tag e → e < le
 unfolding Ends name_goes_on
 behind_no_space {s} {j} {tag} {e} f lo = first (space (get_or s e 0)) _ (subst (Ends name_goes_on) (next s e lo) (name_end f.is))
 
-pub closing_named_barred : {s out out' : Bytes} {st r : Reading} {i j tag e : ℕ} {b : Bool} (q : Option ScannedName) → Ran space s i j → j < length s → b ≡ letter (get_or s j 0) → not b ≡ false → Scanned s j q → q ≡ Some record { tag = tag; end = e } → e < length s → (get_or s e 0 ≡ 62 → ⊥) → r.mode ≡ M.Refused → ClosingTurn s st i out r out'
+pub closing_named_barred : {s out out' : Bytes} {st : Reading} {i j c : ℕ} (x : ScannedName) → SignAt s i j c → true ≡ letter c → Scanned s j (Some x) → x.end < length s → (get_or s x.end 0 ≡ 62 → ⊥) → ClosingTurn s st i out None out'
 unfolding step step_close_named choose
-closing_named_barred {s} {i = i} {j} {tag} {e} q ran lo is b_is t eq hi p m n ps ks K plain o h stands =
-    let f : FoundName s j tag e = found q t eq in
-    refuses stands (behind n ps ks K ran lo is b_is f ∙ stuck (close_named f.name n ps ks K) s e hi (simp (behind_no_space f hi, ne_eqb (get_or s e 0) 62 p))) m
+closing_named_barred {s} x at is t lo p n ps ks K plain o h stands =
+    let f : FoundName _ _ x.tag x.end = found t in
+    refuses stands (behind n ps ks K at is f ∙ stuck (close_named f.name n ps ks K) s x.end lo (simp (behind_no_space f lo, ne_eqb (get_or s x.end 0) 62 p)))
 
-pub closing_named : {s out out' : Bytes} {st r : Reading} {i j tag e : ℕ} {b c : Bool} (q : Option ScannedName) → Ran space s i j → j < length s → b ≡ letter (get_or s j 0) → not b ≡ false → Scanned s j q → q ≡ Some record { tag = tag; end = e } → e < length s → get_or s e 0 ≡ 62 → ClosingCompared s st.name j c → TagEnded out st c (e + 1) r out' → ClosingTurn s st i out r out'
+pub closing_named : {s out out' : Bytes} {st r : Reading} {i j c : ℕ} {b : Bool} (x : ScannedName) → SignAt s i j c → true ≡ letter c → Scanned s j (Some x) → x.end < length s → get_or s x.end 0 ≡ 62 → ClosingCompared s st.name j b → TagEnded out st b (x.end + 1) r out' → ClosingTurn s st i out (Some r) out'
 unfolding step step_close_named choose space
-closing_named {s} {i = i} {j} {tag} {e} q ran lo is b_is t eq hi sign compared ended n ps ks K plain o h stands =
-    let f : FoundName s j tag e = found q t eq in
+closing_named {s} x at is t lo sign compared ended n ps ks K plain o h stands =
+    let f : FoundName _ _ x.tag x.end = found t in
     tag_done f.name ps ks
-    (move stands (behind n ps ks K ran lo is b_is f ∙ steps (close_named f.name n ps ks K) (closed (S.tag n ps ks f.name) K) s e hi (ap (step (close_named f.name n ps ks K)) sign)) (omega (arith, ran.after, f.after)) (omega arith))
-    plain (compared n f.name (drop e s) stands.name_is f.is) ended (omega (arith, ran.after, f.after))
+    (move stands (behind n ps ks K at is f ∙ steps (close_named f.name n ps ks K) (closed (S.tag n ps ks f.name) K) s x.end lo (ap (step (close_named f.name n ps ks K)) sign)) (omega (arith, at.ran.after, f.after)) (omega arith))
+    plain (compared n f.name (drop x.end s) stands.name_is f.is) ended (omega (arith, at.ran.after, f.after))
 
 -- ---- a tag opens
 
-pub named_none : {s out out' : Bytes} {st r : Reading} {i : ℕ} (p : Option ScannedName) → Scanned s i p → p ≡ None → r.mode ≡ M.Refused → NamedTurn s st i out r out'
+pub named_none : {s out out' : Bytes} {st : Reading} {i : ℕ} → Scanned s i None → NamedTurn s st i out None out'
 unfolding Scanned
-named_none {s} {i = i} p t e m K o h l opens =
-    let unread : Scanned s i None = subst (Scanned s i) e t in
-    next_refused m (opens.reads ∙ unread (for_tag K))
+named_none unread K o h opens = next_none (opens.reads ∙ unread (for_tag K))
 
 name_world : (W : World) (d : ℕ) (n : Name) → Named n → more W (head 0x30 0 ++ name_bytes n) true true (leb d 48 && shallow_name (suc d) n) ≡ tag_world W d n no_attributes
 unfolding Named tag_world begun tag_code attributes_bytes every_tag page_tag tag_row bytes shallow
@@ -279,10 +270,11 @@ name_world W d (p ∷ n) m =
     world_is (ap (λ (z : Bytes). W.bytes ++ (head 0x30 0 ++ z)) (sym (append-nil (name_bytes (p ∷ n))))) refl refl
     (ap (λ (z : Bool). W.shallow && (leb d 48 && z)) (sym (and_true (shallow_name (suc d) (p ∷ n)))))
 
-pub named_found : {s out out₁ out₂ : Bytes} {st w v r : Reading} {i tag e a b d y : ℕ} (p : Option ScannedName) → st.at ≤ 16 * i → Scanned s i p → p ≡ Some record { tag = tag; end = e } → Wrote out st.at (head 0x30 0) out₁ a → NamePut s i tag e out₁ a out₂ b → y ≡ st.depth + 1 → d ≡ name_depth tag y → w ≡ at_more st b true (leb d 48) → v ≡ at_begin w st.at i → r ≡ at_mode v M.InTag e → NamedTurn s st i out r out₂
+pub named_found : {s out out₁ out₂ : Bytes} {st w v r : Reading} {i a b d y : ℕ} (x : ScannedName) → st.at ≤ 16 * i → Scanned s i (Some x) → Wrote out st.at (head 0x30 0) out₁ a → NamePut s i x.tag x.end out₁ a out₂ b → y ≡ st.depth + 1 → d ≡ name_depth x.tag y → w ≡ at_more st b true (leb d 48) → v ≡ at_begin w st.at (Some i) → r ≡ at_mode v M.InTag x.end → NamedTurn s st i out (Some r) out₂
 unfolding NamePut named_if fits named
-named_found {s} {out} {out₁} {out₂} {st} {w} {v} {r} {i} {tag} {e} {a} {b} {d} {y} p grown t eq wr put_name ys ds ws vs rs K o h l opens =
-    let f : FoundName s i tag e = found p t eq in
+named_found {s} {out} {out₁} {out₂} {st} {w} {v} {r} {i} {a} {b} {d} {y} x grown t wr put_name ys ds ws vs rs K o h opens =
+    let e : ℕ = x.end in
+    let f : FoundName s i x.tag e = found t in
     let N : Name = f.name in
     let D : ℕ = depth_of K in
     let wn = put_name N f.is f.fits_tag f.tag_is in
@@ -294,29 +286,29 @@ named_found {s} {out} {out₁} {out₂} {st} {w} {v} {r} {i} {tag} {e} {a} {b} {
     let flag : leb d 48 ≡ G = sym (deeper_decides D d deep) ∙ ap (λ (z : Bool). leb D 48 && z) (ap (λ (z : ℕ). leb z 48) dd ∙ sym (name_shallow N (suc D) f.fits_tag)) in
     let m₁ : Made o (more (world_of K) (head 0x30 0 ++ name_bytes N) true true G) out₂ b st.names (st.numbers && true) (st.shallow && G) = made_wrote (head 0x30 0 ++ name_bytes N) true G opens.made both.end_is (λ z. both.out_is) in
     let size = name_size f.is in
-    to_tag {st = at_begin (at_more st b true (leb d 48)) st.at i}
+    to_tag {st = at_begin (at_more st b true (leb d 48)) st.at (Some i)}
     (record {
       reads = opens.reads ∙ (f.leads (for_tag K) ∙ ap (λ (x : State). outcome x (drop e s)) (chose (tag_name_fits N) (in_tag N no_attributes K) refused f.fits_tag));
       inside = f.inside;
       grown = omega (arith, wr.end_is, wn.end_is, length_head 0x30 0, size, f.after, f.inside, length-drop i s, length-drop e s);
       head_is = opens.made.at_is;
-      name_is = name_at (drop e s) l f.is f.fits_tag;
+      name_is = name_at (drop e s) f.is f.fits_tag;
       depth_is = opens.depth_is;
       height_is = opens.height_is;
       made = made_is (name_world (world_of K) D N (fits_named N f.fits_tag)) (made_as m₁ refl refl (ap (λ (z : Bool). st.shallow && z) flag));
     })
-    (fits_named N f.fits_tag) f.after (rs ∙ ap (λ (z : Reading). at_mode z M.InTag e) (vs ∙ ap (λ (z : Reading). at_begin z st.at i) ws))
+    (fits_named N f.fits_tag) f.after (rs ∙ ap (λ (z : Reading). at_mode z M.InTag e) (vs ∙ ap (λ (z : Reading). at_begin z st.at (Some i)) ws))
 
 fragment_world : (W : World) (d : ℕ) → more W (head 0x31 0) true true (leb d 48) ≡ children_world W d [] no_attributes no_children
 unfolding tag_world begun tag_code name_bytes attributes_bytes every_tag page_tag tag_row bytes shallow shallow_name
 fragment_world W d = world_is (ap (λ (z : Bytes). W.bytes ++ z) (sym (append-nil (head 0x31 0)))) refl refl (ap (λ (z : Bool). W.shallow && z) (sym (and_true (leb d 48)))) ∙ sym (no_children_yet W d [] no_attributes)
 
-pub fragment_opens : {out out₁ : Bytes} {st w v r : Reading} {i a : ℕ} → Wrote out st.at (head 0x31 0) out₁ a → w ≡ at_more st a true (leb st.depth 48) → v ≡ at_begin w st.at 0 → r ≡ at_mode v M.InChildren i → FragmentTurn st i out r out₁
+pub fragment_opens : {out out₁ : Bytes} {st w v r : Reading} {i a : ℕ} → Wrote out st.at (head 0x31 0) out₁ a → w ≡ at_more st a true (leb st.depth 48) → v ≡ at_begin w st.at None → r ≡ at_mode v M.InChildren i → FragmentTurn st i out (Some r) out₁
 unfolding Plain
 fragment_opens {out} {out₁} {st} {w} {v} {r} {i} {a} wr ws vs rs s K o h j l grown opens =
     let D : ℕ = depth_of K in
     let m₁ : Made o (more (world_of K) (head 0x31 0) true true (leb D 48)) out₁ a st.names (st.numbers && true) (st.shallow && leb D 48) = made_wrote (head 0x31 0) true (leb D 48) opens.made wr.end_is (λ z. wr.out_is) in
-    to_children {st = at_begin (at_more st a true (leb st.depth 48)) st.at 0}
+    to_children {st = at_begin (at_more st a true (leb st.depth 48)) st.at None}
     (record {
       reads = opens.reads;
       inside = opens.inside;
@@ -327,4 +319,4 @@ fragment_opens {out} {out₁} {st} {w} {v} {r} {i} {a} wr ws vs rs s K o h j l g
       height_is = opens.height_is;
       made = made_is (fragment_world (world_of K) D) (made_as m₁ refl refl (ap (λ (z : ℕ). st.shallow && leb z 48) opens.depth_is));
     })
-    refl l (rs ∙ ap (λ (z : Reading). at_mode z M.InChildren i) (vs ∙ ap (λ (z : Reading). at_begin z st.at 0) ws))
+    refl l (rs ∙ ap (λ (z : Reading). at_mode z M.InChildren i) (vs ∙ ap (λ (z : Reading). at_begin z st.at None) ws))

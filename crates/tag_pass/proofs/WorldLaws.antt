@@ -28,11 +28,11 @@ world_is e f g h = cc
 
 -- ---- tests joined
 
-pub and_left : (a b : Bool) → a && b ≡ true → a ≡ true
+and_left : (a b : Bool) → a && b ≡ true → a ≡ true
 and_left true b e = refl
 and_left false b e = absurd (false≢true e)
 
-pub and_right : (a b : Bool) → a && b ≡ true → b ≡ true
+and_right : (a b : Bool) → a && b ≡ true → b ≡ true
 and_right true b e = e
 and_right false b e = absurd (false≢true e)
 

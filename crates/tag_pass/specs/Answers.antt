@@ -1,12 +1,14 @@
--- The whole answer of the reader: `tag_outcome` in the numbers and bytes of a call. Main definition: `TagAnswers`.
+-- The whole answer of the reader: `tag_outcome` in the numbers and bytes of a call. Main definitions: `TagAnswers`, `reason`.
 -- Assumes nothing: these are definitions.
-use Rattle.std.specs.Prelude.{ℕ, ◌≡◌, Bool, true, false, not, ltb, length}
-use Rattle.field.specs.Bytes.{Bytes, pick}
-use Rattle.tag_tree.specs.TagAnswer.{tag_outcome, tag_number, bytes_of_tag, tag_left}
-use Rattle.tag_pass.specs.declared.state.Mode.{Mode}
-use Rattle.tag_pass.specs.declared.state.Mode.TheVariants as M
-use Rattle.tag_pass.specs.declared.state.Reading.{Reading}
+use Rattle.std.specs.Prelude.{ℕ, ◌≡◌, Bool, true, false, Result, Ok, Err, not, ltb, length}
+use Rattle.field.specs.Bytes.{Bytes}
+use Rattle.field.specs.Put.{put}
+use Rattle.page.specs.Page as P
+use Rattle.tag_tree.specs.TagAnswer.{TagRefusal, input_too_long, not_utf8, no_reading, names_differ, number_too_large, too_deep, output_too_long, tag_too_small, tag_refused, tag_accepted, tag_encode, tag_outcome, tag_number, bytes_of_tag, tag_left}
 use Rattle.tag_pass.specs.declared.answer.TagAnswer.{TagAnswer}
+use Rattle.tag_pass.specs.declared.answer.Unread.{Unread}
+use Rattle.tag_pass.specs.declared.answer.Unread.TheVariants as U
+use Rattle.tag_pass.specs.declared.state.Reading.{Reading}
 
 -- the number, the count, and every byte lent
 pub record TagAnswers (text out : Bytes) (r : TagAnswer) (out' : Bytes) : Type 0 where
@@ -14,16 +16,35 @@ pub record TagAnswers (text out : Bytes) (r : TagAnswer) (out' : Bytes) : Type 0
   pub bytes_is : r.tag_bytes ≡ bytes_of_tag (tag_outcome text (length out))
   pub out_is : out' ≡ tag_left (tag_outcome text (length out)) out
 
-unfoldable pub is_refused : Mode → Bool
-is_refused M.InTag = false
-is_refused M.InChildren = false
-is_refused M.Inner = false
-is_refused M.Ended = false
-is_refused M.Refused = true
-is_refused M.Done = false
+-- ---- the reasons of the code
 
--- 14, 15, 7, 8, 11, 13 in this order, by what the pass found; 0 where none is given
-unfoldable pub reading_number : Reading → ℕ → ℕ
-reading_number st room =
-    pick (is_refused st.mode) 14
-    (pick (not st.names) 15 (pick (not st.numbers) 7 (pick (not st.shallow) 8 (pick (ltb 65538 st.at) 11 (pick (ltb room st.at) 13 0)))))
+unfoldable pub reason : Unread → TagRefusal
+reason U.InputTooLong = input_too_long
+reason U.NotUtf8 = not_utf8
+reason U.NoReading = no_reading
+reason U.NamesDiffer = names_differ
+reason U.NumberTooLarge = number_too_large
+reason U.TooDeep = too_deep
+reason U.OutputTooLong = output_too_long
+reason U.TagTooSmall = tag_too_small
+
+unfoldable pub refused_if : Bool → Unread → Result ℕ Unread → Result ℕ Unread
+refused_if true e r = Err e
+refused_if false e r = r
+
+-- what is refused of a text that was read, in this order, or how much was written
+unfoldable pub checked : Reading → ℕ → Result ℕ Unread
+checked st room =
+    refused_if (not st.names) U.NamesDiffer
+    (refused_if (not st.numbers) U.NumberTooLarge (refused_if (not st.shallow) U.TooDeep (refused_if (ltb 65538 st.at) U.OutputTooLong (refused_if (ltb room st.at) U.TagTooSmall (Ok st.at)))))
+
+-- the tag's field stands in front, or there is a reason
+pub record FieldPut (text out : Bytes) (n : ℕ) (out' : Bytes) : Type 0 where
+  pub tag : P.Tag
+  pub accepted : tag_outcome text (length out) ≡ tag_accepted tag
+  pub count : n ≡ length (tag_encode tag)
+  pub out_is : out' ≡ put out 0 (tag_encode tag)
+
+abbrev pub FieldRead : Bytes → Bytes → Result ℕ Unread → Bytes → Type 0
+FieldRead text out (Ok n) out' = FieldPut text out n out'
+FieldRead text out (Err e) out' = tag_outcome text (length out) ≡ tag_refused (reason e)

@@ -6,11 +6,12 @@ ghost use Rattle.read_tag.specs.Names.{name_depth};
 ghost use Rattle.tag_pass.specs.Turns.{AttributeTurn, NoValueTurn, ValueTurn, StringTurn, SpreadTurn};
 
 use crate::braces::{braces, end_attribute, points};
-use crate::state::{Reading, SPREAD, VALUE, VALUE_BRACES, at_fifty, at_inner, refuse, wrote};
+use crate::sign::sign_behind;
+use crate::state::{Braced, Holder, Mode, Reading};
 use field::writer::put_head;
 use page::MAX_DEPTH;
-use read_tag::name::{ScannedName, put_name, scan_name};
-use read_tag::signs::{is_quote, skip_spaces};
+use read_tag::name::{put_name, scan_name};
+use read_tag::signs::is_quote;
 use read_tag::texts::read_string;
 
 // How deep a name goes whose field has that tag and stands at d.
@@ -18,90 +19,68 @@ pub fn name_depth(tag: u8, d: usize) -> usize
     requires { d < 65600 }
     ensures { result ≡ name_depth tag d }
 {
-    if tag == 0x40 {
-        return d;
-    }
-    d + 1
+    if tag == 0x40 { d } else { d + 1 }
 }
 
 // A string from i on, behind its quote q.
-fn string_value(text: &[u8], out: &mut [u8], st: Reading, i: usize, q: u8) -> Reading
+fn string_value(text: &[u8], out: &mut [u8], st: Reading, i: usize, q: u8) -> Option<Reading>
     requires { Bounded (length text.now) st i × (quote q ≡ true) }
     ensures { StringTurn text.now st i q out.old result out.new }
 {
-    let Some(run) = read_string(text, i, q, out, st.at) else {
-        return refuse(st);
-    };
-    let w = wrote(st, run.at, true, st.depth + 2 <= MAX_DEPTH);
-    end_attribute(out, w, run.end)
+    let run = read_string(text, i, q, out, st.at)?;
+    let w = st.wrote(run.at, true, st.depth + 2 <= MAX_DEPTH);
+    Some(end_attribute(out, w, run.end))
 }
 
 // Behind `=`.
-fn value(text: &[u8], out: &mut [u8], st: Reading, i: usize) -> Reading
+fn value(text: &[u8], out: &mut [u8], st: Reading, i: usize) -> Option<Reading>
     requires { Bounded (length text.now) st i }
     ensures { ValueTurn text.now st i out.old result out.new }
 {
-    let j = skip_spaces(text, i);
-    if text.len() <= j {
-        return refuse(st);
+    let sign = sign_behind(text, i)?;
+    match sign.byte {
+        q if is_quote(q) => string_value(text, out, st, sign.place + 1, q),
+        b'{' => braces(text, out, st, Braced::Value, sign.place + 1),
+        b'<' => Some(st.in_mode(Mode::Inner(Holder::Value), sign.place + 1)),
+        _ => None,
     }
-    let c = text[j];
-    if is_quote(c) {
-        return string_value(text, out, st, j + 1, c);
-    }
-    if c == b'{' {
-        return braces(text, out, st, VALUE_BRACES, j + 1);
-    }
-    if c == b'<' {
-        return at_inner(st, VALUE, j + 1);
-    }
-    refuse(st)
 }
 
 // Behind a name that ends at e.
-fn behind_name(text: &[u8], out: &mut [u8], st: Reading, e: usize) -> Reading
+fn behind_name(text: &[u8], out: &mut [u8], st: Reading, e: usize) -> Option<Reading>
     requires { Bounded (length text.now) st e }
     ensures { NoValueTurn text.now st e out.old result out.new }
 {
-    if text.len() <= e {
-        return refuse(st);
+    match *text.get(e)? {
+        b'=' => value(text, out, st, e + 1),
+        _ => Some(end_attribute(out, st, e)),
     }
-    if text[e] == b'=' {
-        return value(text, out, st, e + 1);
-    }
-    end_attribute(out, st, e)
 }
 
 // The attribute whose name begins at i.
-pub fn attribute(text: &[u8], out: &mut [u8], st: Reading, i: usize) -> Reading
+pub fn attribute(text: &[u8], out: &mut [u8], st: Reading, i: usize) -> Option<Reading>
     requires { Bounded (length text.now) st i × (i < length text.now) × (letter (get_or text.now i 0) ≡ true) }
     ensures { AttributeTurn text.now st i out.old result out.new }
 {
-    let Some(ScannedName { tag, end }) = scan_name(text, i) else {
-        return refuse(st);
-    };
-    if tag == 0x41 {
-        return refuse(st);
+    let name = scan_name(text, i)?;
+    if name.tag == 0x41 {
+        return None;
     }
-    let f = st.at;
-    let a = put_head(out, f, 0x50, 0);
-    let b = put_name(text, i, tag, end, out, a);
-    let d = name_depth(tag, st.depth + 2);
-    let w = wrote(st, b, true, d <= MAX_DEPTH);
-    behind_name(text, out, at_fifty(w, f), end)
+    let a = put_head(out, st.at, 0x50, 0);
+    let b = put_name(text, i, name.tag, name.end, out, a);
+    let d = name_depth(name.tag, st.depth + 2);
+    let w = st.wrote(b, true, d <= MAX_DEPTH);
+    behind_name(text, out, Reading { fifty: st.at, ..w }, name.end)
 }
 
 // Behind the `{` of a spread.
-pub fn spread(text: &[u8], out: &mut [u8], st: Reading, i: usize) -> Reading
+pub fn spread(text: &[u8], out: &mut [u8], st: Reading, i: usize) -> Option<Reading>
     requires { Bounded (length text.now) st i }
     ensures { SpreadTurn text.now st i out.old result out.new }
 {
-    let j = skip_spaces(text, i);
-    if text.len() <= j {
-        return refuse(st);
+    let sign = sign_behind(text, i)?;
+    match sign.byte {
+        b'.' => points(text, out, st, Braced::Spread, sign.place + 1),
+        _ => None,
     }
-    if text[j] != b'.' {
-        return refuse(st);
-    }
-    points(text, out, st, SPREAD, j + 1)
 }

@@ -1,84 +1,71 @@
-// The tags that are open around the one that is read: four words each, in a lent stack.
-ghost use Rattle.std.specs.Prelude.{◌≡◌, ◌+◌, ◌-◌, ◌%◌, ◌^◌, ◌≤◌, ◌<◌, length};
-ghost use Rattle.tag_pass.specs.Turns.{kind_added, Stored, pushed, popped};
+// The tags that are open around the one that is read, in a lent stack.
+ghost use Rattle.std.specs.Prelude.{◌≡◌, ◌+◌, ◌%◌, ◌^◌, ◌≤◌, ◌<◌, length, slice_set};
+ghost use Rattle.tag_pass.specs.Turns.{low_name, waits, pushed, popped};
 
-use crate::state::{Reading, VALUE_BRACES, WITHIN};
+use crate::state::{Holder, Reading};
 
-// How much deeper an inner tag is.
-fn depth_added(kind: usize) -> usize
-    ensures { result ≡ kind_added kind }
-{
-    if kind == WITHIN {
-        return 1;
-    }
-    if kind == VALUE_BRACES {
-        return 3;
-    }
-    2
+// A tag that waits for an inner one, and what holds that. Fixed memory: four bytes for a place, which is under 2^20.
+#[derive(Clone, Copy)]
+pub struct Waiting {
+    pub head: u32,
+    pub name: Option<u32>,
+    pub fifty: u32,
+    pub holder: Holder,
 }
 
+pub const IDLE: Waiting = Waiting {
+    head: 0,
+    name: None,
+    fifty: 0,
+    holder: Holder::Children,
+};
+
+// Cut, and not `u32::try_from`: that has an error, which never comes.
 fn low(x: usize) -> u32
     ensures { result ≡ x % 4294967296 }
 {
     (x % 4294967296) as u32
 }
 
-fn wide(x: u32) -> usize
-    ensures { result ≡ x }
+#[tactic(auto, unfolding(crate::specs::Turns::low_name))]
+fn low_name(name: Option<usize>) -> Option<u32>
+    ensures { result ≡ low_name name }
 {
-    x as usize
+    match name {
+        Some(p) => Some(low(p)),
+        None => None,
+    }
 }
 
-fn store(frames: &mut [u32], h: usize, a: u32, b: u32, c: u32, d: u32)
-    requires { h + 4 ≤ length frames.old }
-    ensures { Stored frames.old h a b c d frames.new }
+// The tag of st waits for an inner one in that holder.
+#[tactic(auto, using(crate::proofs::FrameLaws::inner_depth_small))]
+pub fn push(frames: &mut [Waiting], st: Reading, holder: Holder) -> Reading
+    requires { (st.height < length frames.old) × (st.height < 2 ^ 62) × (st.depth < 2 ^ 62) }
+    ensures { (result ≡ pushed st holder) × (frames.new ≡ slice_set frames.old st.height (waits st holder)) }
 {
-    frames[h] = a;
-    frames[h + 1] = b;
-    frames[h + 2] = c;
-    frames[h + 3] = d;
+    frames[st.height] = Waiting {
+        head: low(st.head),
+        name: low_name(st.name),
+        fifty: low(st.fifty),
+        holder,
+    };
+    Reading {
+        height: st.height + 1,
+        depth: st.depth + holder.depth(),
+        ..st
+    }
 }
 
-pub fn deeper(st: Reading) -> Reading
-    requires { (st.height < 2 ^ 62) × (st.depth < 2 ^ 62) }
-    ensures { result ≡ pushed st }
+// The tag that waited last is read again.
+pub fn resume(st: Reading, frame: Waiting) -> Reading
+    ensures { result ≡ popped frame st }
 {
-    let mut w = st;
-    w.height = st.height + 4;
-    w.depth = st.depth + depth_added(st.kind);
-    w
-}
-
-pub fn push(frames: &mut [u32], st: Reading) -> Reading
-    requires { (st.height + 4 ≤ length frames.old) × (st.height < 2 ^ 62) × (st.depth < 2 ^ 62) }
-    ensures { (result ≡ pushed st) × Stored frames.old st.height (st.head % 4294967296) (st.name % 4294967296) (st.kind % 4294967296) (st.fifty % 4294967296) frames.new }
-{
-    store(
-        frames,
-        st.height,
-        low(st.head),
-        low(st.name),
-        low(st.kind),
-        low(st.fifty),
-    );
-    deeper(st)
-}
-
-pub fn pop(frames: &[u32], st: Reading) -> Reading
-    requires { (4 ≤ st.height) × (st.height ≤ length frames.now) }
-    ensures { result ≡ popped frames.now (st.height - 4) st }
-{
-    let h = st.height - 4;
-    let kind = wide(frames[h + 2]);
-    let head = wide(frames[h]);
-    let name = wide(frames[h + 1]);
-    let fifty = wide(frames[h + 3]);
-    let mut w = st;
-    w.height = h;
-    w.head = head;
-    w.name = name;
-    w.kind = kind;
-    w.fifty = fifty;
-    w.depth = st.depth.saturating_sub(depth_added(kind));
-    w
+    Reading {
+        height: st.height.saturating_sub(1),
+        head: frame.head as usize,
+        name: frame.name.map(|p| p as usize),
+        fifty: frame.fifty as usize,
+        depth: st.depth.saturating_sub(frame.holder.depth()),
+        ..st
+    }
 }

@@ -1,211 +1,186 @@
 // The loop over the text, and what it does with the stack.
-ghost use Rattle.std.specs.Prelude.{◌≡◌, true, ◌+◌, ◌*◌, ◌≤◌, ◌<◌, length};
+ghost use Rattle.std.specs.Prelude.{◌≡◌, true, ◌*◌, ◌≤◌, ◌<◌, length};
 ghost use Rattle.tag_pass.specs.declared.state.Mode.TheVariants.{Ended};
-ghost use Rattle.tag_pass.specs.States.{goes_on, Bounded, Lent, Passed};
-ghost use Rattle.tag_pass.specs.Turns.{fresh_reading, InnerTurn, EndedTurn, BehindTurn, FrontTurn, StepTurn, PassTurn, OuterTurn, NamePlace};
+ghost use Rattle.tag_pass.specs.States.{goes_on, Bounded, Unended, Lent, Passed};
+ghost use Rattle.tag_pass.specs.Turns.{InnerTurn, EndedTurn, BehindTurn, FrontTurn, StepTurn, PassTurn, OuterTurn, NamePlace};
 
 use crate::braces::{end_attribute, end_braces};
 use crate::children::step_children;
-use crate::frames::{pop, push};
-use crate::state::{Mode, Reading, VALUE, WITHIN, in_mode, refuse};
+use crate::frames::{IDLE, Waiting, push, resume};
+use crate::sign::sign_behind;
+use crate::state::{Braced, Holder, Mode, Reading};
 use crate::tags::{closing, open_fragment, open_named, step_tag};
-use read_tag::signs::{is_letter, skip_spaces};
+use read_tag::signs::is_letter;
 
 // Behind the `<` of a tag in another one, whose numbers are still those of the pass.
-fn open_inner(text: &[u8], out: &mut [u8], frames: &mut [u32], st: Reading) -> Reading
-    requires { Bounded (length text.now) st st.place × NamePlace text.now st.name × (st.height + 4 ≤ length frames.old) × (st.depth ≤ 65550) × (st.height ≤ 65536) }
-    ensures { InnerTurn text.now frames.old st out.old result frames.new out.new }
+fn open_inner(
+    text: &[u8],
+    out: &mut [u8],
+    frames: &mut [Waiting],
+    st: Reading,
+    holder: Holder,
+) -> Option<Reading>
+    requires { Bounded (length text.now) st st.place × NamePlace text.now st.name × (st.height < length frames.old) × (st.depth ≤ 65550) × (st.height ≤ 65536) }
+    ensures { InnerTurn text.now frames.old st holder out.old result frames.new out.new }
 {
-    let i = skip_spaces(text, st.place);
-    if text.len() <= i {
-        return refuse(st);
+    let sign = sign_behind(text, st.place)?;
+    match sign.byte {
+        c if is_letter(c) => {
+            let w = push(frames, st, holder);
+            open_named(text, out, w, sign.place)
+        }
+        b'>' => {
+            let w = push(frames, st, holder);
+            Some(open_fragment(out, w, sign.place + 1))
+        }
+        b'/' => match holder {
+            Holder::Children => closing(text, out, st, sign.place + 1),
+            _ => None,
+        },
+        _ => None,
     }
-    let c = text[i];
-    if is_letter(c) {
-        let w = push(frames, st);
-        return open_named(text, out, w, i);
-    }
-    if c == b'>' {
-        let w = push(frames, st);
-        return open_fragment(out, w, i + 1);
-    }
-    if c != b'/' {
-        return refuse(st);
-    }
-    if st.kind == WITHIN {
-        return closing(text, out, st, i + 1);
-    }
-    refuse(st)
 }
 
 // Behind a tag in braces, whose head stands at p.
-fn behind(text: &[u8], out: &mut [u8], st: Reading, p: usize) -> Reading
+fn behind(text: &[u8], out: &mut [u8], st: Reading, kind: Braced, p: usize) -> Option<Reading>
     requires { Bounded (length text.now) st st.place }
-    ensures { BehindTurn text.now st p out.old result out.new × (result.mode ≡ Ended → ⊥) }
+    ensures { BehindTurn text.now st kind p out.old result out.new × Unended result }
 {
-    let j = skip_spaces(text, st.place);
-    if text.len() <= j {
-        return refuse(st);
+    let sign = sign_behind(text, st.place)?;
+    match sign.byte {
+        b'}' => {
+            let head = p.saturating_sub(3);
+            Some(end_braces(out, st, kind, head, sign.place + 1))
+        }
+        _ => None,
     }
-    if text[j] != b'}' {
-        return refuse(st);
-    }
-    end_braces(out, st, st.kind, p.saturating_sub(3), j + 1)
 }
 
 // A tag has ended: what it stands in goes on.
-fn ended(text: &[u8], out: &mut [u8], frames: &[u32], st: Reading) -> Reading
-    requires { Bounded (length text.now) st st.place × ((st.height ≡ 0 → ⊥) → 4 ≤ st.height) × (st.height ≤ length frames.now) }
-    ensures { EndedTurn text.now frames.now st out.old result out.new × (result.mode ≡ Ended → ⊥) }
+fn ended(text: &[u8], out: &mut [u8], frames: &[Waiting], st: Reading) -> Option<Reading>
+    requires { Bounded (length text.now) st st.place × (st.height ≤ length frames.now) }
+    ensures { EndedTurn text.now frames.now st out.old result out.new × Unended result }
 {
     if st.height == 0 {
         if st.place < text.len() {
-            return refuse(st);
+            return None;
         }
-        return in_mode(st, Mode::Done, st.place);
+        return Some(st.in_mode(Mode::Done, st.place));
     }
-    let p = st.head;
-    let w = pop(frames, st);
-    if w.kind == WITHIN {
-        return in_mode(w, Mode::InChildren, w.place);
+    let frame = frames[st.height - 1];
+    let w = resume(st, frame);
+    match frame.holder {
+        Holder::Children => Some(w.in_mode(Mode::InChildren, w.place)),
+        Holder::Value => Some(end_attribute(out, w, w.place)),
+        Holder::Braces(kind) => behind(text, out, w, kind, st.head),
     }
-    if w.kind == VALUE {
-        return end_attribute(out, w, w.place);
-    }
-    behind(text, out, w, p)
 }
 
 // A turn that leaves the stack as it is. Behind the `<` of an inner tag there is none.
-fn step(text: &[u8], out: &mut [u8], st: Reading) -> Reading
+fn step(text: &[u8], out: &mut [u8], st: Reading) -> Option<Reading>
     requires { Bounded (length text.now) st st.place × (goes_on st.mode ≡ true) }
     ensures { FrontTurn text.now st out.old result out.new }
 {
     match st.mode {
         Mode::InTag => step_tag(text, out, st),
         Mode::InChildren => step_children(text, out, st),
-        _ => st,
+        _ => Some(st),
     }
 }
 
 // Then the inner tag, where the pass stands before one: it is not worth a turn of its own.
-fn opened(text: &[u8], out: &mut [u8], frames: &mut [u32], st: Reading) -> Reading
+fn opened(text: &[u8], out: &mut [u8], frames: &mut [Waiting], st: Reading) -> Option<Reading>
     requires { Lent text.now frames.old st out.old × (goes_on st.mode ≡ true) }
     ensures { StepTurn text.now frames.old st out.old result frames.new out.new }
 {
-    let w = step(text, out, st);
+    let w = step(text, out, st)?;
     match w.mode {
-        Mode::Inner => open_inner(text, out, frames, w),
-        _ => w,
+        Mode::Inner(holder) => open_inner(text, out, frames, w, holder),
+        _ => Some(w),
     }
 }
 
-fn turn(text: &[u8], out: &mut [u8], frames: &mut [u32], st: Reading) -> Reading
+fn turn(text: &[u8], out: &mut [u8], frames: &mut [Waiting], st: Reading) -> Option<Reading>
     requires { Lent text.now frames.old st out.old × (goes_on st.mode ≡ true) }
-    ensures { StepTurn text.now frames.old st out.old result frames.new out.new × (result.mode ≡ Ended → ⊥) }
+    ensures { StepTurn text.now frames.old st out.old result frames.new out.new × Unended result }
 {
-    let w = opened(text, out, frames, st);
+    let w = opened(text, out, frames, st)?;
     match w.mode {
         Mode::Ended => ended(text, out, frames, w),
-        _ => w,
+        _ => Some(w),
     }
 }
 
-fn goes_on(mode: Mode) -> bool
-    ensures { result ≡ goes_on mode }
-{
-    matches!(mode, Mode::InTag | Mode::InChildren | Mode::Inner)
-}
-
-fn pass(text: &[u8], out: &mut [u8], frames: &mut [u32], first: Reading) -> Reading
+fn pass(text: &[u8], out: &mut [u8], frames: &mut [Waiting], first: Reading) -> Option<Reading>
     requires { Lent text.now frames.old first out.old × (first.mode ≡ Ended → ⊥) }
     ensures { PassTurn text.now frames.old first out.old result out.new }
 {
     let mut st = first;
-    while goes_on(st.mode) {
-        st = turn(text, out, frames, st);
+    while st.mode.goes_on() {
+        st = turn(text, out, frames, st)?;
     }
-    st
+    Some(st)
 }
 
-fn fresh() -> Reading
-    ensures { result ≡ fresh_reading }
-{
-    Reading {
-        mode: Mode::InTag,
-        place: 0,
-        at: 0,
-        height: 0,
-        head: 0,
-        name: 0,
-        depth: 3,
-        kind: 0,
-        fifty: 0,
-        names: true,
-        numbers: true,
-        shallow: true,
-    }
-}
+const START: Reading = Reading {
+    mode: Mode::InTag,
+    place: 0,
+    at: 0,
+    height: 0,
+    head: 0,
+    name: None,
+    depth: 3,
+    fifty: 0,
+    names: true,
+    numbers: true,
+    shallow: true,
+};
 
 // The outermost tag, up to its name.
-fn open_outer(text: &[u8], out: &mut [u8]) -> Reading
+fn open_outer(text: &[u8], out: &mut [u8]) -> Option<Reading>
     requires { length text.now ≤ 32768 }
-    ensures { OuterTurn text.now out.old result out.new × (result.mode ≡ Ended → ⊥) }
+    ensures { OuterTurn text.now out.old result out.new × Unended result }
 {
-    let st = fresh();
-    if text.len() == 0 {
-        return refuse(st);
+    if *text.first()? != b'<' {
+        return None;
     }
-    if text[0] != b'<' {
-        return refuse(st);
+    let sign = sign_behind(text, 1)?;
+    match sign.byte {
+        c if is_letter(c) => open_named(text, out, START, sign.place),
+        b'>' => Some(open_fragment(out, START, sign.place + 1)),
+        _ => None,
     }
-    let i = skip_spaces(text, 1);
-    if text.len() <= i {
-        return refuse(st);
-    }
-    let c = text[i];
-    if is_letter(c) {
-        return open_named(text, out, st, i);
-    }
-    if c == b'>' {
-        return open_fragment(out, st, i + 1);
-    }
-    refuse(st)
 }
 
 // With a stack that is long enough.
-fn pass_with(text: &[u8], out: &mut [u8], frames: &mut [u32]) -> Reading
-    requires { (length text.now ≤ 32768) × (2 * length text.now ≤ length frames.old) }
+fn pass_with(text: &[u8], out: &mut [u8], frames: &mut [Waiting]) -> Option<Reading>
+    requires { (length text.now ≤ 32768) × (length text.now ≤ 2 * length frames.old) }
     ensures { Passed text.now out.old result out.new }
 {
-    let st = open_outer(text, out);
+    let st = open_outer(text, out)?;
     pass(text, out, frames, st)
 }
 
-// With a stack of its own: four words for two bytes of text.
-fn pass_in<const WORDS: usize>(text: &[u8], out: &mut [u8]) -> Reading
-    requires { (length text.now ≤ 32768) × (2 * length text.now ≤ WORDS) × (WORDS ≤ 65536) }
+// With a stack of its own: a tag waits for two bytes of text. Out of line, or each text pays for the largest.
+#[inline(never)]
+fn pass_in<const FRAMES: usize>(text: &[u8], out: &mut [u8]) -> Option<Reading>
+    requires { (length text.now ≤ 32768) × (length text.now ≤ 2 * FRAMES) × (FRAMES ≤ 16384) }
     ensures { Passed text.now out.old result out.new }
 {
-    let mut frames = [0u32; WORDS];
+    let mut frames = [IDLE; FRAMES];
     pass_with(text, out, &mut frames)
 }
 
-// A stack is cleared before it is used: a text of over 64 bytes pays for at most eight times what it can need.
-pub fn read(text: &[u8], out: &mut [u8]) -> Reading
+// A stack is cleared before it is used: a text of over 64 bytes pays for at most eight times what it can need. None: no reading.
+pub fn read(text: &[u8], out: &mut [u8]) -> Option<Reading>
     requires { length text.now ≤ 32768 }
     ensures { Passed text.now out.old result out.new }
 {
-    if text.len() <= 64 {
-        return pass_in::<128>(text, out);
+    match text.len() {
+        0..=64 => pass_in::<32>(text, out),
+        65..=512 => pass_in::<256>(text, out),
+        513..=2048 => pass_in::<1024>(text, out),
+        2049..=8192 => pass_in::<4096>(text, out),
+        _ => pass_in::<16384>(text, out),
     }
-    if text.len() <= 512 {
-        return pass_in::<1024>(text, out);
-    }
-    if text.len() <= 2048 {
-        return pass_in::<4096>(text, out);
-    }
-    if text.len() <= 8192 {
-        return pass_in::<16384>(text, out);
-    }
-    pass_in::<65536>(text, out)
 }

@@ -1,9 +1,31 @@
 // Where the pass stands. Behind a mode stands a state of the grammar's reader (specs/States.antt).
-ghost use Rattle.std.specs.Prelude.{◌≡◌, ◌&&◌, ◌<◌, ◌^◌};
-ghost use Rattle.tag_pass.specs.declared.state.Mode.TheVariants.{Refused};
-ghost use Rattle.tag_pass.specs.Turns.{at_mode, at_inner, with_numbers, with_shallow, at_more, at_fifty, at_begin, Patched};
+ghost use Rattle.std.specs.Prelude.{◌≡◌, ◌<◌, ◌^◌};
+ghost use Rattle.tag_pass.specs.States.{goes_on};
+ghost use Rattle.tag_pass.specs.Turns.{at_mode, at_more, kind_code, kind_depth, inner_depth, Patched};
 
 use field::writer::put_head;
+
+// What is in braces.
+#[derive(Clone, Copy, Debug, PartialEq, Eq)]
+pub enum Braced {
+    // a child of a tag, without three points and with them
+    Child,
+    SpreadChild,
+    // a spread in a tag
+    Spread,
+    // the value of an attribute
+    Value,
+}
+
+// What an inner tag stands in.
+#[derive(Clone, Copy, Debug, PartialEq, Eq)]
+pub enum Holder {
+    // a tag, as its child
+    Children,
+    // an attribute, as its value
+    Value,
+    Braces(Braced),
+}
 
 #[derive(Clone, Copy, Debug, PartialEq, Eq)]
 pub enum Mode {
@@ -12,11 +34,9 @@ pub enum Mode {
     // among the children of a tag
     InChildren,
     // behind the `<` of an inner tag
-    Inner,
+    Inner(Holder),
     // a tag has ended
     Ended,
-    // no reading
-    Refused,
     // the outermost tag has ended, and the text with it
     Done,
 }
@@ -27,14 +47,13 @@ pub struct Reading {
     pub place: usize,
     // in what is written
     pub at: usize,
-    // words of the stack
+    // tags that wait on the stack
     pub height: usize,
-    // the tag: where its head is written, where its name stands in the text (0: a fragment), how deep it is
+    // the tag: where its head is written, where its name stands in the text (a fragment has none), how deep it is
     pub head: usize,
-    pub name: usize,
+    pub name: Option<usize>,
     pub depth: usize,
-    // what an inner tag stands in, and the head of the attribute around it
-    pub kind: usize,
+    // the head of the attribute that is read, or was last
     pub fifty: usize,
     // closing names agree, numbers are in range, nothing is too deep
     pub names: bool,
@@ -43,110 +62,85 @@ pub struct Reading {
     pub mode: Mode,
 }
 
-// What an inner tag stands in: a tag's children; braces there, with three points or without; a spread in a tag; the value of an attribute, and
-// braces there.
-pub const WITHIN: usize = 0;
-
-pub const CHILD: usize = 1;
-
-pub const SPREAD_CHILD: usize = 2;
-
-pub const SPREAD: usize = 3;
-
-pub const VALUE: usize = 4;
-
-pub const VALUE_BRACES: usize = 5;
-
-pub fn refuse(st: Reading) -> Reading
-    ensures { result.mode ≡ Refused }
-{
-    let mut w = st;
-    w.mode = Mode::Refused;
-    w
-}
-
-pub fn in_mode(st: Reading, mode: Mode, i: usize) -> Reading
-    ensures { result ≡ at_mode st mode i }
-{
-    let mut w = st;
-    w.mode = mode;
-    w.place = i;
-    w
-}
-
-// Behind the `<` of a tag that stands in that.
-pub fn at_inner(st: Reading, kind: usize, i: usize) -> Reading
-    ensures { result ≡ at_inner st kind i }
-{
-    let mut w = st;
-    w.mode = Mode::Inner;
-    w.kind = kind;
-    w.place = i;
-    w
-}
-
-// A number was read. A flag is set only where it changes: the three stand in one word, which is else taken apart and put together at each turn.
-fn counted(st: Reading, fits: bool) -> Reading
-    ensures { result ≡ with_numbers st (st.numbers && fits) }
-{
-    if fits {
-        return st;
+impl Braced {
+    // The tag of their field.
+    #[tactic(auto, unfolding(crate::specs::Turns::kind_code))]
+    pub fn tag(self) -> u8
+        ensures { result ≡ kind_code self }
+    {
+        match self {
+            Braced::SpreadChild => 0x61,
+            Braced::Spread => 0x53,
+            Braced::Child | Braced::Value => 0x52,
+        }
     }
-    let mut w = st;
-    w.numbers = false;
-    w
-}
 
-fn sunk(st: Reading, shallow: bool) -> Reading
-    ensures { result ≡ with_shallow st (st.shallow && shallow) }
-{
-    if shallow {
-        return st;
+    // How much deeper than the tag their field is.
+    #[tactic(auto, unfolding(crate::specs::Turns::kind_depth))]
+    pub fn depth(self) -> usize
+        ensures { result ≡ kind_depth self }
+    {
+        match self {
+            Braced::Value => 2,
+            Braced::Child | Braced::SpreadChild | Braced::Spread => 1,
+        }
     }
-    let mut w = st;
-    w.shallow = false;
-    w
 }
 
-// Something more was written.
-pub fn wrote(st: Reading, at: usize, fits: bool, shallow: bool) -> Reading
-    ensures { result ≡ at_more st at fits shallow }
-{
-    let mut w = st;
-    w.at = at;
-    let v = counted(w, fits);
-    sunk(v, shallow)
+impl Holder {
+    // How much deeper than the tag an inner one is.
+    #[tactic(auto, using(crate::proofs::FrameLaws::kind_depth_small), unfolding(crate::specs::Turns::inner_depth))]
+    pub fn depth(self) -> usize
+        ensures { result ≡ inner_depth self }
+    {
+        match self {
+            Holder::Children => 1,
+            Holder::Value => 2,
+            Holder::Braces(braced) => braced.depth() + 1,
+        }
+    }
 }
 
-// An attribute's head stands at f.
-pub fn at_fifty(st: Reading, f: usize) -> Reading
-    ensures { result ≡ at_fifty st f }
-{
-    let mut w = st;
-    w.fifty = f;
-    w
+impl Mode {
+    // There is more to read of a tag.
+    pub fn goes_on(self) -> bool
+        ensures { result ≡ goes_on self }
+    {
+        matches!(self, Mode::InTag | Mode::InChildren | Mode::Inner(_))
+    }
 }
 
-// A tag's head stands at h, its name at p in the text.
-pub fn at_begin(st: Reading, h: usize, p: usize) -> Reading
-    ensures { result ≡ at_begin st h p }
-{
-    let mut w = st;
-    w.head = h;
-    w.name = p;
-    w
+impl Reading {
+    pub fn in_mode(self, mode: Mode, i: usize) -> Reading
+        ensures { result ≡ at_mode self mode i }
+    {
+        Reading {
+            mode,
+            place: i,
+            ..self
+        }
+    }
+
+    // Something more was written.
+    pub fn wrote(self, at: usize, fits: bool, shallow: bool) -> Reading
+        ensures { result ≡ at_more self at fits shallow }
+    {
+        Reading {
+            at,
+            numbers: self.numbers & fits,
+            shallow: self.shallow & shallow,
+            ..self
+        }
+    }
 }
 
 // A field whose head stands at p has ended: it gets its length.
+#[inline(always)]
 pub fn patch(out: &mut [u8], p: usize, tag: u8, at: usize)
     requires { at < 2 ^ 62 }
     ensures { Patched out.old p tag at out.new }
 {
-    if at < 3 {
-        return;
+    if p.saturating_add(3) <= at {
+        put_head(out, p, tag, at - p - 3);
     }
-    if at - 3 < p {
-        return;
-    }
-    put_head(out, p, tag, at - p - 3);
 }

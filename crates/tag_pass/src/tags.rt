@@ -1,147 +1,133 @@
 // Tags: how they open and end.
-ghost use Rattle.std.specs.Prelude.{◌≡◌, true, ◌^◌, ◌<◌, length, get_or};
+ghost use Rattle.std.specs.Prelude.{◌≡◌, true, ◌^◌, ◌<◌, length, get_or, Some};
 ghost use Rattle.grammar.specs.Signs.{letter};
 ghost use Rattle.read_tag.specs.Names.{NameAt};
 ghost use Rattle.tag_pass.specs.States.{Bounded, Settled};
-ghost use Rattle.tag_pass.specs.Turns.{name_code, at_end_of, NamedTurn, FragmentTurn, TagTurn, SlashedTurn, ClosingTurn, TagEnded, NamePlace, ClosingCompared};
+ghost use Rattle.tag_pass.specs.Turns.{name_code, NamedTurn, FragmentTurn, TagTurn, SlashedTurn, ClosingTurn, TagEnded, NamePlace, ClosingCompared};
 
 use crate::attributes::{attribute, name_depth, spread};
-use crate::state::{Mode, Reading, at_begin, in_mode, patch, refuse, wrote};
+use crate::sign::sign_behind;
+use crate::state::{Mode, Reading, patch};
 use field::writer::put_head;
 use page::MAX_DEPTH;
-use read_tag::name::{ScannedName, put_name, same_names, scan_name};
-use read_tag::signs::{is_letter, skip_spaces};
+use read_tag::name::{put_name, same_names, scan_name};
+use read_tag::signs::is_letter;
 
 // The tag whose name begins at i.
-pub fn open_named(text: &[u8], out: &mut [u8], st: Reading, i: usize) -> Reading
+#[inline(always)]
+pub fn open_named(text: &[u8], out: &mut [u8], st: Reading, i: usize) -> Option<Reading>
     requires { Bounded (length text.now) st i × (i < length text.now) × (letter (get_or text.now i 0) ≡ true) }
     ensures { NamedTurn text.now st i out.old result out.new × Settled result }
 {
-    let Some(ScannedName { tag, end }) = scan_name(text, i) else {
-        return refuse(st);
-    };
-    let h = st.at;
-    let a = put_head(out, h, 0x30, 0);
-    let b = put_name(text, i, tag, end, out, a);
-    let d = name_depth(tag, st.depth + 1);
-    let w = wrote(st, b, true, d <= MAX_DEPTH);
-    in_mode(at_begin(w, h, i), Mode::InTag, end)
+    let name = scan_name(text, i)?;
+    let a = put_head(out, st.at, 0x30, 0);
+    let b = put_name(text, i, name.tag, name.end, out, a);
+    let d = name_depth(name.tag, st.depth + 1);
+    let w = st.wrote(b, true, d <= MAX_DEPTH);
+    Some(Reading {
+        head: st.at,
+        name: Some(i),
+        mode: Mode::InTag,
+        place: name.end,
+        ..w
+    })
 }
 
 // A fragment, behind its `>`.
+#[inline(always)]
 pub fn open_fragment(out: &mut [u8], st: Reading, i: usize) -> Reading
     requires { st.at < 2 ^ 62 }
-    ensures { FragmentTurn st i out.old result out.new × Settled result }
+    ensures { FragmentTurn st i out.old (Some result) out.new × Settled (Some result) }
 {
-    let h = st.at;
-    let a = put_head(out, h, 0x31, 0);
-    let w = wrote(st, a, true, st.depth <= MAX_DEPTH);
-    in_mode(at_begin(w, h, 0), Mode::InChildren, i)
+    let a = put_head(out, st.at, 0x31, 0);
+    let w = st.wrote(a, true, st.depth <= MAX_DEPTH);
+    Reading {
+        head: st.at,
+        name: None,
+        mode: Mode::InChildren,
+        place: i,
+        ..w
+    }
 }
 
-fn tag_code(name: usize) -> u8
+#[tactic(auto, unfolding(crate::specs::Turns::name_code))]
+fn tag_code(name: Option<usize>) -> u8
     ensures { result ≡ name_code name }
 {
-    if name == 0 {
-        return 0x31;
+    match name {
+        Some(_) => 0x30,
+        None => 0x31,
     }
-    0x30
-}
-
-fn at_ended(st: Reading, same: bool, i: usize) -> Reading
-    ensures { result ≡ at_end_of st same i }
-{
-    let mut w = st;
-    w.names = st.names & same;
-    w.mode = Mode::Ended;
-    w.place = i;
-    w
 }
 
 // A tag has ended at i.
+#[inline(always)]
 fn end_tag(out: &mut [u8], st: Reading, same: bool, i: usize) -> Reading
     requires { st.at < 2 ^ 62 }
     ensures { TagEnded out.old st same i result out.new }
 {
     patch(out, st.head, tag_code(st.name), st.at);
-    at_ended(st, same, i)
+    Reading {
+        names: st.names & same,
+        mode: Mode::Ended,
+        place: i,
+        ..st
+    }
 }
 
 // Behind the `/` of `/` `>`.
-fn slashed(text: &[u8], out: &mut [u8], st: Reading, i: usize) -> Reading
+fn slashed(text: &[u8], out: &mut [u8], st: Reading, i: usize) -> Option<Reading>
     requires { Bounded (length text.now) st i }
     ensures { SlashedTurn text.now st i out.old result out.new }
 {
-    let j = skip_spaces(text, i);
-    if text.len() <= j {
-        return refuse(st);
+    let sign = sign_behind(text, i)?;
+    match sign.byte {
+        b'>' => Some(end_tag(out, st, true, sign.place + 1)),
+        _ => None,
     }
-    if text[j] != b'>' {
-        return refuse(st);
-    }
-    end_tag(out, st, true, j + 1)
 }
 
-fn same_closing(text: &[u8], name: usize, j: usize) -> bool
+fn same_closing(text: &[u8], name: Option<usize>, j: usize) -> bool
     requires { NamePlace text.now name × NameAt text.now j }
     ensures { ClosingCompared text.now name j result }
 {
-    if name == 0 {
-        return false;
+    match name {
+        Some(p) => same_names(text, p, j),
+        None => false,
     }
-    same_names(text, name, j)
 }
 
 // Behind `<` and `/`.
-pub fn closing(text: &[u8], out: &mut [u8], st: Reading, i: usize) -> Reading
+pub fn closing(text: &[u8], out: &mut [u8], st: Reading, i: usize) -> Option<Reading>
     requires { Bounded (length text.now) st i × NamePlace text.now st.name }
     ensures { ClosingTurn text.now st i out.old result out.new }
 {
-    let j = skip_spaces(text, i);
-    if text.len() <= j {
-        return refuse(st);
+    let sign = sign_behind(text, i)?;
+    if sign.byte == b'>' {
+        return Some(end_tag(out, st, st.name.is_none(), sign.place + 1));
     }
-    let c = text[j];
-    if c == b'>' {
-        return end_tag(out, st, st.name == 0, j + 1);
+    if !is_letter(sign.byte) {
+        return None;
     }
-    if !is_letter(c) {
-        return refuse(st);
+    let name = scan_name(text, sign.place)?;
+    if *text.get(name.end)? != b'>' {
+        return None;
     }
-    let Some(ScannedName { tag: _, end }) = scan_name(text, j) else {
-        return refuse(st);
-    };
-    if text.len() <= end {
-        return refuse(st);
-    }
-    if text[end] != b'>' {
-        return refuse(st);
-    }
-    let same = same_closing(text, st.name, j);
-    end_tag(out, st, same, end + 1)
+    let same = same_closing(text, st.name, sign.place);
+    Some(end_tag(out, st, same, name.end + 1))
 }
 
 // In a tag, behind its name or an attribute.
-pub fn step_tag(text: &[u8], out: &mut [u8], st: Reading) -> Reading
+pub fn step_tag(text: &[u8], out: &mut [u8], st: Reading) -> Option<Reading>
     requires { Bounded (length text.now) st st.place }
     ensures { TagTurn text.now st st.place out.old result out.new }
 {
-    let i = skip_spaces(text, st.place);
-    if text.len() <= i {
-        return refuse(st);
+    let sign = sign_behind(text, st.place)?;
+    match sign.byte {
+        c if is_letter(c) => attribute(text, out, st, sign.place),
+        b'>' => Some(st.in_mode(Mode::InChildren, sign.place + 1)),
+        b'/' => slashed(text, out, st, sign.place + 1),
+        b'{' => spread(text, out, st, sign.place + 1),
+        _ => None,
     }
-    let c = text[i];
-    if is_letter(c) {
-        return attribute(text, out, st, i);
-    }
-    if c == b'>' {
-        return in_mode(st, Mode::InChildren, i + 1);
-    }
-    if c == b'/' {
-        return slashed(text, out, st, i + 1);
-    }
-    if c == b'{' {
-        return spread(text, out, st, i + 1);
-    }
-    refuse(st)
 }

@@ -11,7 +11,7 @@ use native.Mathlib.Omega.{arith}
 use mathlib.Core.List.{[], ◌∷◌, ◌++◌, reverse, reverse-cons, reverse-append, reverse-reverse}
 use lib.ListN.{length, get_or, take, drop, length-drop, length-reverse, drop_of_length-le}
 use lib.Seq.{drop-cons, take-suc, take_all, length-take-le, drop-drop}
-use borrow.Author.Tests.{ne_eqb, lt-leb}
+use borrow.Author.Tests.{eq-eqb, ne_eqb, lt-leb}
 use Rattle.field.specs.Bytes.{Bytes, pick}
 use Rattle.text.specs.Runs.{run, all, is_space}
 use Rattle.text.specs.Trim.{one_byte_space, two_byte_space, three_byte_space, space_by, front_space, back_space, trim_by, trim_start, trim_end}
@@ -205,78 +205,73 @@ module _ (c : ℕ) (low : 32 < c) (high : c < 0x80) where
   unfolding trim_end
   trim_visible t = rw (length-reverse, reverse-cons c t) (back_stays 0 (reverse t) (omega arith))
 
--- ---- the bytes at a place, and those in front of a place taken backwards
+-- the first bytes of s
+pub front_two : {s r t : Bytes} {a b : ℕ} → s ≡ a ∷ r → r ≡ b ∷ t → s ≡ a ∷ b ∷ t
+front_two {s} {r} {t} {a} {b} e f = e ∙ ap {B = Bytes} (λ x. a ∷ x) f
 
-pub drop_one : (s : Bytes) (i : ℕ) → i < length s → drop i s ≡ get_or s i 0 ∷ drop (i + 1) s
-drop_one s i h = rw (add-one, drop-cons s i 0)
+pub front_end : {s r : Bytes} {a : ℕ} → s ≡ a ∷ r → r ≡ [] → s ≡ a ∷ []
+front_end {s} {r} {a} e f = e ∙ ap {B = Bytes} (λ x. a ∷ x) f
 
-pub drop_two : (s : Bytes) (i : ℕ) → i + 1 < length s → drop i s ≡ get_or s i 0 ∷ get_or s (i + 1) 0 ∷ drop (i + 2) s
-drop_two s i h =
-    let e : i + 1 + 1 ≡ i + 2 = omega arith in
-    drop_one s i (omega arith) ∙ ap {B = Bytes} (λ t. get_or s i 0 ∷ t) (drop_one s (i + 1) h ∙ rw e)
+pub front_three : {s r q t : Bytes} {a b c : ℕ} → s ≡ a ∷ r → r ≡ b ∷ q → q ≡ c ∷ t → s ≡ a ∷ b ∷ c ∷ t
+front_three {s} {r} {q} {t} {a} {b} {c} e f g = front_two e f ∙ ap {B = Bytes} (λ x. a ∷ b ∷ x) g
 
-pub drop_three : (s : Bytes) (i : ℕ) → i + 2 < length s → drop i s ≡ get_or s i 0 ∷ get_or s (i + 1) 0 ∷ get_or s (i + 2) 0 ∷ drop (i + 2 + 1) s
-drop_three s i h = drop_two s i (omega arith) ∙ ap {B = Bytes} (λ t. get_or s i 0 ∷ get_or s (i + 1) 0 ∷ t) (drop_one s (i + 2) h)
+-- ---- what the code takes off either end: a character in u, which is s, and what is left behind it
 
-pub last_byte : (s : Bytes) (e : ℕ) → e < length s → reverse (take (suc e) s) ≡ get_or s e 0 ∷ reverse (take e s)
-last_byte s e h = rw (take-suc s e 0) (reverse-append (take e s) (get_or s e 0 ∷ []))
+module _ (two : ℕ → ℕ → Bool) (three : ℕ → ℕ → ℕ → Bool) {s u : Bytes} (e : s ≡ u) where
+  pub taken : {n : ℕ} {t : Bytes} → space_by two three u ≡ suc n → t ≡ drop (suc n) u → (0 < space_by two three s) × (t ≡ drop (space_by two three s) s)
+  taken {n} {t} q r =
+      let is : space_by two three s ≡ suc n = ap (λ (x : Bytes). space_by two three x) e ∙ q in
+      (omega arith, r ∙ sym (ap (λ (k : ℕ). drop k s) is ∙ ap (drop (suc n)) e))
 
-pub drop_last : (s : Bytes) (n e : ℕ) → n ≤ e → e ≤ length s → drop n (reverse (take e s)) ≡ reverse (take (e - n) s)
-drop_last s zero e h l = rw sub-zero
-drop_last s (suc n) zero h l = absurd (not-suc-le-zero h)
-drop_last s (suc n) (suc e) h l = rw (last_byte s e l, suc-sub-suc) (drop_last s n e (le_of_suc-le-suc h) (omega arith))
+  pub none_there : space_by two three u ≡ 0 → space_by two three s ≡ 0
+  none_there q = ap (λ (x : Bytes). space_by two three x) e ∙ q
 
-pub back_one : (s : Bytes) (e : ℕ) → 0 < e → e ≤ length s → reverse (take e s) ≡ get_or s (e - 1) 0 ∷ reverse (take (e - 1) s)
-back_one s e h l =
-    let q : e ≡ suc (e - 1) = omega arith in
-    ap (λ (k : ℕ). reverse (take k s)) q ∙ last_byte s (e - 1) (omega arith)
+pub nothing : (t : Bytes) → length t ≡ 0 → t ≡ []
+nothing [] h = refl
+nothing (c ∷ t) h = absurd (omega arith)
 
-pub back_two : (s : Bytes) (e : ℕ) → 1 < e → e ≤ length s → reverse (take e s) ≡ get_or s (e - 1) 0 ∷ get_or s (e - 2) 0 ∷ reverse (take (e - 2) s)
-back_two s e h l =
-    let q : e - 1 - 1 ≡ e - 2 = omega arith in
-    back_one s e (omega arith) l ∙ ap {B = Bytes} (λ t. get_or s (e - 1) 0 ∷ t) (back_one s (e - 1) (omega arith) (omega arith) ∙ rw q)
+pub nothing_back : (t : Bytes) → length t ≡ 0 → reverse t ≡ []
+nothing_back t h = ap {B = Bytes} reverse (nothing t h)
 
-pub back_three : (s : Bytes) (e : ℕ) → 2 < e → e ≤ length s → reverse (take e s) ≡ get_or s (e - 1) 0 ∷ get_or s (e - 2) 0 ∷ get_or s (e - 3) 0 ∷ reverse (take (e - 3) s)
-back_three s e h l =
-    let q : e - 2 - 1 ≡ e - 3 = omega arith in
-    back_two s e (omega arith) l ∙ ap {B = Bytes} (λ t. get_or s (e - 1) 0 ∷ get_or s (e - 2) 0 ∷ t) (back_one s (e - 2) (omega arith) (omega arith) ∙ rw q)
+-- the last byte comes first in bytes taken backwards
+pub last_first : {s : Bytes} {c : ℕ} (t : Bytes) → s ≡ t ++ (c ∷ []) → reverse s ≡ c ∷ reverse t
+last_first {s} {c} t e = ap {B = Bytes} reverse e ∙ reverse-append t (c ∷ [])
 
--- what was found in bytes that are known by their first ones
-pub found : {n : ℕ} {t u : Bytes} (two : ℕ → ℕ → Bool) (three : ℕ → ℕ → ℕ → Bool) → t ≡ u → space_by two three u ≡ n → n ≡ space_by two three t
-found two three p q = sym (ap (λ (x : Bytes). space_by two three x) p ∙ q)
+-- a space in front goes
+pub skip_on : (s : Bytes) → 1 ≤ length s → get_or s 0 0 ≡ 32 → drop (run is_space (take (length s - 1) (drop 1 s))) (take (length s - 1) (drop 1 s)) ≡ drop (run is_space s) s
+unfolding run is_space
+skip_on [] l h = absurd (omega arith)
+skip_on (c ∷ s) l h =
+    let rest : take (length (c ∷ s) - 1) s ≡ s = take_all (length (c ∷ s) - 1) s (omega arith) in
+    rw (rest, eq-eqb c 32 h)
+
+pub skip_stop : (s : Bytes) → (get_or s 0 0 ≡ 32 → ⊥) → s ≡ drop (run is_space s) s
+unfolding run is_space
+skip_stop [] h = refl
+skip_stop (c ∷ s) h = rw (ne_eqb c 32 h)
 
 -- ---- the two loops
 
-module _ (s : Bytes) (i k : ℕ) (within : i ≤ length s) (skipped : k ≡ i + run is_space (drop i s)) where
-  -- spaces are skipped, and the trimming goes on behind them
-  trim_behind : trim_start (drop k s) ≡ trim_start (drop i s)
-  trim_behind = rw (skipped, ← drop-drop (run is_space (drop i s)) i s) (trim_run (drop i s))
-
-  -- no white space stands there: the rest is the answer
-  pub trim_here : {n : ℕ} → n ≡ front_space (drop k s) → n ≡ 0 → trim_start (drop i s) ≡ trim_start s → take (length s - k) (drop k s) ≡ trim_start s
+module _ (s t : Bytes) (some : 0 < front_space s) (is : t ≡ drop (front_space s) s) where
+  pub trim_on : trim_start t ≡ trim_start s
   unfolding trim_start
-  trim_here e z inv =
-      let all = take_all (length s - k) (drop k s) (rw length-drop (omega arith)) in
-      all ∙ sym (trim_stop front_space (drop k s) (sym z ∙ e)) ∙ trim_behind ∙ inv
+  trim_on = ap trim_start is ∙ sym (trim_step front_space s (front_space s) refl)
 
-  -- a character is passed
-  pub trim_on : {n : ℕ} → n ≡ front_space (drop k s) → trim_start (drop i s) ≡ trim_start s → trim_start (drop (k + n) s) ≡ trim_start s
-  unfolding trim_start
-  trim_on {n} e inv = rw (← drop-drop n k s) (sym (trim_step front_space (drop k s) n e) ∙ trim_behind ∙ inv)
+  pub front_shorter : length t < length s
+  front_shorter = omega (arith, ap length is, length-drop (front_space s) s, front_le s)
 
-  pub behind_le : {n : ℕ} → k ≤ length s → n ≡ front_space (drop k s) → k + n ≤ length s
-  behind_le l e = omega (arith, front_le (drop k s), length-drop k s)
+pub trim_here : (s : Bytes) → front_space s ≡ 0 → trim_start s ≡ s
+unfolding trim_start
+trim_here s e = trim_stop front_space s (sym e)
 
-module _ (s : Bytes) (e : ℕ) (within : e ≤ length s) {n : ℕ} (told : n ≡ back_space (reverse (take e s))) where
-  -- the character lies within the bytes in front of the place
-  pub before_le : n ≤ e
-  before_le = omega (arith, back_le (reverse (take e s)), length-reverse (take e s), length-take-le e s within)
-
-  pub trim_back_here : n ≡ 0 → trim_by back_space 0 (reverse (take e s)) ≡ trim_by back_space 0 (reverse s) → take e s ≡ trim_end s
+module _ (s t : Bytes) (some : 0 < back_space (reverse s)) (is : reverse t ≡ drop (back_space (reverse s)) (reverse s)) where
+  pub trim_back_on : trim_end t ≡ trim_end s
   unfolding trim_end
-  trim_back_here z inv =
-      let stop = trim_stop back_space (reverse (take e s)) (sym z ∙ told) in
-      sym (ap {B = Bytes} reverse (sym inv ∙ stop) ∙ reverse-reverse (take e s))
+  trim_back_on = ap (λ (x : Bytes). reverse (trim_by back_space 0 x)) is ∙ sym (ap {B = Bytes} reverse (trim_step back_space (reverse s) (back_space (reverse s)) refl))
 
-  pub trim_back_on : trim_by back_space 0 (reverse (take e s)) ≡ trim_by back_space 0 (reverse s) → trim_by back_space 0 (reverse (take (e - n) s)) ≡ trim_by back_space 0 (reverse s)
-  trim_back_on inv = rw (← drop_last s n e before_le within) (sym (trim_step back_space (reverse (take e s)) n told) ∙ inv)
+  pub back_shorter : length t < length s
+  back_shorter = omega (arith, ap length is, length-drop (back_space (reverse s)) (reverse s), back_le (reverse s), length-reverse s, length-reverse t)
+
+pub trim_back_here : (s : Bytes) → back_space (reverse s) ≡ 0 → trim_end s ≡ s
+unfolding trim_end
+trim_back_here s e = ap {B = Bytes} reverse (trim_stop back_space (reverse s) (sym e)) ∙ reverse-reverse s

@@ -5,7 +5,7 @@ ghost use Rattle.field.specs.Put.{Wrote};
 ghost use Rattle.text.specs.Escape.{escape_byte, escape_html};
 ghost use Rattle.text.specs.Runs.{plain};
 
-use crate::runs::{Class, is_run, run_end};
+use crate::runs::{Class, is_run, long_run_end};
 use field::writer::{put_byte, put_bytes};
 
 fn is_plain(b: u8) -> bool
@@ -18,15 +18,15 @@ fn is_plain(b: u8) -> bool
 struct Plain;
 
 impl Class for Plain {
-    ghost holds = { plain };
+    ghost holds = { λ x b. plain b };
 
-    fn has(b: u8) -> bool {
+    fn has(&self, b: u8) -> bool {
         is_plain(b)
     }
 }
 
-// The bytes of an escape where they fit, tested once for all of them; put_bytes clips them.
-// One put_array in place of the three took 12 % more instructions in put_escaped, and 8 % in jsx_text_to_str.
+// The bytes of an escape where they fit, tested once for all of them; put_bytes clips them. One generic writer of an array by
+// copy_from_slice in place of the three took 12 % more instructions in put_escaped, and 8 % in jsx_text_to_str.
 fn put_four_bytes(out: &mut [u8], at: usize, a: u8, b: u8, c: u8, d: u8) -> usize
     requires { at + 4 < 2 ^ 64 }
     ensures { Wrote out.old at (a ∷ b ∷ c ∷ d ∷ []) out.new result }
@@ -86,6 +86,7 @@ fn put_escape(out: &mut [u8], at: usize, b: u8) -> usize
     }
 }
 
+// Byte by byte, but for runs of plain bytes, which are copied whole: a turn passes a run, and where it ends only long_run_end says.
 pub fn put_escaped(out: &mut [u8], at: usize, s: &[u8]) -> usize
     requires { at + length (escape_html s.now) < 2 ^ 63 }
     ensures { Wrote out.old at (escape_html s.now) out.new result }
@@ -96,7 +97,7 @@ pub fn put_escaped(out: &mut [u8], at: usize, s: &[u8]) -> usize
         let b = s[i];
         if is_plain(b) {
             // the byte itself is known to be plain
-            let e = run_end::<Plain, 16>(s, i + 1);
+            let e = long_run_end::<_, 16>(&Plain, s, i + 1);
             a = put_bytes(out, a, &s[i..e]);
             i = e;
         } else {
@@ -129,5 +130,5 @@ pub fn put_short_escaped(out: &mut [u8], at: usize, s: &[u8]) -> usize
 pub fn is_escaped(s: &[u8]) -> bool
     ensures { result ≡ same s.now (escape_html s.now) }
 {
-    is_run::<Plain, 16>(s)
+    is_run::<_, 16>(&Plain, s)
 }

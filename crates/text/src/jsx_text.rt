@@ -58,9 +58,9 @@ fn put_kept_line(out: &mut [u8], at: usize, s: &[u8], escape: bool, later: bool)
 struct Indent;
 
 impl Class for Indent {
-    ghost holds = { indent };
+    ghost holds = { λ x b. indent b };
 
-    fn has(b: u8) -> bool {
+    fn has(&self, b: u8) -> bool {
         (b == b' ') | (b == b'\n')
     }
 }
@@ -69,7 +69,7 @@ impl Class for Indent {
 fn is_indent(s: &[u8]) -> bool
     ensures { result ≡ all indent s.now }
 {
-    is_run::<Indent, 8>(s)
+    is_run::<_, 8>(&Indent, s)
 }
 
 fn starts_with_lf(s: &[u8]) -> bool

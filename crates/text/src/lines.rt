@@ -3,7 +3,7 @@ ghost use Rattle.std.specs.Prelude.{◌≡◌};
 ghost use Rattle.text.specs.Lines.{line_at, ReadsLine};
 ghost use Rattle.text.specs.Runs.{not_lf};
 
-use crate::runs::{Class, run_end};
+use crate::runs::{Class, long_run_end};
 
 // Where a line ends, and where the next one begins.
 #[derive(Clone, Copy)]
@@ -16,9 +16,9 @@ pub struct Line {
 struct NotLf;
 
 impl Class for NotLf {
-    ghost holds = { not_lf };
+    ghost holds = { λ x b. not_lf b };
 
-    fn has(b: u8) -> bool {
+    fn has(&self, b: u8) -> bool {
         b != b'\n'
     }
 }
@@ -39,7 +39,7 @@ fn line_at(s: &[u8], at: usize) -> Line
             next: at + 1,
         };
     }
-    let lf = run_end::<NotLf, 16>(s, at);
+    let lf = long_run_end::<_, 16>(&NotLf, s, at);
     if lf == n {
         return Line { end: n, next: n };
     }

@@ -21,14 +21,6 @@ use Rattle.walk.specs.See.{at, see}
 use Rattle.transform.specs.Run.{module_mid, has_statement, items_before, items_from, started}
 use Rattle.transform.proofs.RunLaws.{not_due, statement_same}
 
-pub statement_from : (is : Page) → has_statement (items_from is) ≡ has_statement is
-unfolding has_statement items_from
-statement_from [] = refl
-statement_from (P.export_item ps ∷ is) = refl
-statement_from (P.declaration_item ps ∷ is) = statement_from is
-statement_from (P.statement_item ps ∷ is) = refl
-statement_from (P.empty_item ∷ is) = statement_from is
-
 -- the bytes of a row are a and then b; and with the place of the templates, where there are any, it stands between them
 pub record Cut (ts : List Template) (v : Row) (a b : Bytes) : Type 0 where
   pub whole : bytes v ≡ a ++ b

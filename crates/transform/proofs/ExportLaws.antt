@@ -1,8 +1,9 @@
 -- What the code of the export learns at each return and at each turn of a loop: the checks, the options, and the items of a page.
--- Main statements: `inputs_*`, `outputs_*`, `cleared_*`, `listed_*`, `source_*`, `sums_*`, `items_*`, `statement_*`, `from_*`, `html_*`, `piece_*`. Assumes nothing.
+-- Main statements: `inputs_*`, `outputs_*`, `cleared_*`, `listed_*`, `source_*`, `sums_*`, `items_*`, `html_*`, `piece_*`. Assumes nothing.
 use mathlib.Core.Path.{◌≡◌, refl, sym, ap, ◌∙◌}
 use mathlib.Core.Bool.{Bool, true, false, ◌||◌}
 use Prim.Native.Nat.{ℕ, ◌≤◌, ◌<◌}
+use native.Mathlib.Omega.{arith}
 use mathlib.Core.List.{[], ◌∷◌}
 use lib.Dec.{leb}
 use lib.ListN.{length}
@@ -27,7 +28,7 @@ use Rattle.decisions.specs.At.{opts, element_name, behind_name, element_at, seri
 use Rattle.decisions.proofs.Series.{ended, any_field, pieces_none, pieces_30, pieces_31, pieces_20, pieces_other, fragment_is, tested}
 use Rattle.decisions.proofs.Laws.{element_serializable}
 use Rattle.walk.specs.declared.state.Walk.{Walk}
-use Rattle.transform.specs.Run.{has_statement, items_from, has_html, piece_html, tag_html, due_verdict, verdict_of}
+use Rattle.transform.specs.Run.{has_html, piece_html, tag_html, due_verdict, verdict_of}
 
 -- ---- 1 to 8
 
@@ -179,48 +180,6 @@ module _ (s : Bytes) (t : ℕ) (e : t ≡ tag_of_front s) where
       any_field (λ (r : Row). module_items_in r ≡ P.empty_item ∷ module_items_in (read (behind_of s))) s t e h λ f i.
       rw (ne_eqb t 0x10 a, ne_eqb t 0x11 b, ne_eqb t 0x12 c)
 
--- ---- whether an export or a statement stands among them
-
-pub statement_none : (s : Bytes) → Ended (read s) → false ≡ has_statement (module_items_in (read s))
-unfolding has_statement
-statement_none s i = sym (ap has_statement (items_none s i))
-
-module _ (s : Bytes) (t : ℕ) (e : t ≡ tag_of_front s) where
-  pub statement_10 : t ≡ 0x10 → true ≡ has_statement (module_items_in (read s))
-  unfolding has_statement
-  statement_10 k = sym (ap has_statement (items_10 s t e k))
-
-  pub statement_12 : t ≡ 0x12 → true ≡ has_statement (module_items_in (read s))
-  unfolding has_statement
-  statement_12 k = sym (ap has_statement (items_12 s t e k))
-
-  pub statement_past : (t ≡ 256 → ⊥) → (t ≡ 0x10 → ⊥) → (t ≡ 0x12 → ⊥) → {r : Bytes} → r ≡ behind_of s → has_statement (module_items_in (read r)) ≡ has_statement (module_items_in (read s))
-  unfolding has_statement
-  statement_past h a b {r} v =
-      ap (λ (x : Bytes). has_statement (module_items_in (read x))) v
-      ∙ sym (tested t 0x11 (λ k. ap has_statement (items_11 s t e k)) λ c. ap has_statement (items_other s t e h a c b))
-
--- ---- from the first of them on
-
-pub from_none : (s : Bytes) → Ended (read s) → module_items_in (read s) ≡ items_from (module_items_in (read s))
-unfolding items_from
-from_none s i = items_none s i ∙ sym (ap items_from (items_none s i))
-
-module _ (s : Bytes) (t : ℕ) (e : t ≡ tag_of_front s) where
-  pub from_10 : t ≡ 0x10 → module_items_in (read s) ≡ items_from (module_items_in (read s))
-  unfolding items_from
-  from_10 k = items_10 s t e k ∙ sym (ap items_from (items_10 s t e k))
-
-  pub from_12 : t ≡ 0x12 → module_items_in (read s) ≡ items_from (module_items_in (read s))
-  unfolding items_from
-  from_12 k = items_12 s t e k ∙ sym (ap items_from (items_12 s t e k))
-
-  pub from_past : (t ≡ 256 → ⊥) → (t ≡ 0x10 → ⊥) → (t ≡ 0x12 → ⊥) → {r : Bytes} → r ≡ behind_of s → items_from (module_items_in (read r)) ≡ items_from (module_items_in (read s))
-  unfolding items_from
-  from_past h a b {r} v =
-      ap (λ (x : Bytes). items_from (module_items_in (read x))) v
-      ∙ sym (tested t 0x11 (λ k. ap items_from (items_11 s t e k)) λ c. ap items_from (items_other s t e h a c b))
-
 -- ---- whether an element that becomes a template stands among the pieces, and among those of the items
 
 module _ (k : Bytes) where
@@ -270,41 +229,18 @@ module _ (k : Bytes) where
       abbrev Front : Type 0
       Front = has_html (opts k []) (module_items_in (read s)) ≡ (v || has_html (opts k []) (module_items_in (read (behind_of s))))
 
-      html_10 : t ≡ 0x10 → Front
+      html_front : 0x10 ≤ t → t ≤ 0x12 → Front
       unfolding has_html
-      html_10 h = ap (has_html (opts k [])) (items_10 s t e h) ∙ rw (g, q)
+      html_front l h =
+          tested t 0x10 (λ z. ap (has_html (opts k [])) (items_10 s t e z) ∙ rw (g, q)) λ x.
+          tested t 0x11 (λ z. ap (has_html (opts k [])) (items_11 s t e z) ∙ rw (g, q)) λ y.
+          ap (has_html (opts k [])) (items_12 s t e (omega arith)) ∙ rw (g, q)
 
-      html_11 : t ≡ 0x11 → Front
-      unfolding has_html
-      html_11 h = ap (has_html (opts k [])) (items_11 s t e h) ∙ rw (g, q)
+      pub html_here : 0x10 ≤ t → t ≤ 0x12 → v ≡ true → true ≡ has_html (opts k []) (module_items_in (read s))
+      html_here l h z = sym (html_front l h ∙ rw z)
 
-      html_12 : t ≡ 0x12 → Front
-      unfolding has_html
-      html_12 h = ap (has_html (opts k [])) (items_12 s t e h) ∙ rw (g, q)
-
-      html_yes : v ≡ true → Front → true ≡ has_html (opts k []) (module_items_in (read s))
-      html_yes z f = sym (f ∙ rw z)
-
-      html_no : v ≡ false → {r : Bytes} → r ≡ behind_of s → Front → has_html (opts k []) (module_items_in (read r)) ≡ has_html (opts k []) (module_items_in (read s))
-      html_no z u f = sym (f ∙ rw (z, u))
-
-      pub html_here_10 : v ≡ true → t ≡ 0x10 → true ≡ has_html (opts k []) (module_items_in (read s))
-      html_here_10 z h = html_yes z (html_10 h)
-
-      pub html_here_11 : v ≡ true → t ≡ 0x11 → true ≡ has_html (opts k []) (module_items_in (read s))
-      html_here_11 z h = html_yes z (html_11 h)
-
-      pub html_here_12 : v ≡ true → t ≡ 0x12 → true ≡ has_html (opts k []) (module_items_in (read s))
-      html_here_12 z h = html_yes z (html_12 h)
-
-      pub html_on_10 : v ≡ false → t ≡ 0x10 → {r : Bytes} → r ≡ behind_of s → has_html (opts k []) (module_items_in (read r)) ≡ has_html (opts k []) (module_items_in (read s))
-      html_on_10 z h u = html_no z u (html_10 h)
-
-      pub html_on_11 : v ≡ false → t ≡ 0x11 → {r : Bytes} → r ≡ behind_of s → has_html (opts k []) (module_items_in (read r)) ≡ has_html (opts k []) (module_items_in (read s))
-      html_on_11 z h u = html_no z u (html_11 h)
-
-      pub html_on_12 : v ≡ false → t ≡ 0x12 → {r : Bytes} → r ≡ behind_of s → has_html (opts k []) (module_items_in (read r)) ≡ has_html (opts k []) (module_items_in (read s))
-      html_on_12 z h u = html_no z u (html_12 h)
+      pub html_on : 0x10 ≤ t → t ≤ 0x12 → v ≡ false → {r : Bytes} → r ≡ behind_of s → has_html (opts k []) (module_items_in (read r)) ≡ has_html (opts k []) (module_items_in (read s))
+      html_on l h z u = sym (html_front l h ∙ rw (z, u))
 
     pub html_past : (t ≡ 256 → ⊥) → (t ≡ 0x10 → ⊥) → (t ≡ 0x11 → ⊥) → (t ≡ 0x12 → ⊥) → {r : Bytes} → r ≡ behind_of s → has_html (opts k []) (module_items_in (read r)) ≡ has_html (opts k []) (module_items_in (read s))
     unfolding has_html

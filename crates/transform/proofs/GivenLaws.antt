@@ -86,20 +86,10 @@ module _ (page options : Bytes) (n : ℕ) (ready : Ready page options n) (short 
       }
 
   -- what is written of it is written of the worked page
-  pub written_worked : {b : Bool} → b ≡ true → (t g : Bytes) {t' g' : Bytes} {w : Walk} → at t' g' w ≡ written_page (options_in (read options)) (transform (options_in (read options)) (worked_if false (page_in (read (take k o'))))) t g →
-      at t' g' w ≡ written_page (options_in (read options)) (transform (options_in (read options)) (worked_if b (page_in (read page)))) t g
+  pub written_worked : (t g : Bytes) {t' g' : Bytes} {w : Walk} → at t' g' w ≡ written_page (options_in (read options)) (transform (options_in (read options)) (page_in (read (take k o')))) t g →
+      at t' g' w ≡ written_page (options_in (read options)) (transform (options_in (read options)) (worked_if true (page_in (read page)))) t g
   unfolding worked_if
-  written_worked {b} e t g h =
-      let p : page_in (read (take k o')) ≡ worked_if b (page_in (read page)) = buffer_worked page short room u ∙ ap (λ (c : Bool). worked_if c (page_in (read page))) (sym e) in
-      h ∙ ap (λ (x : Page). written_page (options_in (read options)) (transform (options_in (read options)) x) t g) p
-
--- a page without sums is not worked out again
-pub no_sums : {A : Type 0} → false ≡ true → A
-no_sums h = absurd (let z : ◌≡◌ {A = ℕ} 0 1 = cc in omega arith)
-
-pub sums_fall : (b : Bool) {n : ℕ} → pick b 1 0 ≡ n → b ≡ true → pick false 1 0 < n
-sums_fall true e h = omega (arith, e)
-sums_fall false e h = no_sums h
+  written_worked t g h = h ∙ ap (λ (x : Page). written_page (options_in (read options)) (transform (options_in (read options)) x) t g) (buffer_worked page short room u)
 
 -- ---- one or the other
 

@@ -6,6 +6,7 @@ pub mod HeadLaws
 pub mod WrittenLaws
 pub mod ExportLaws
 pub mod OptionLaws
+pub mod SplitLaws
 pub mod ItemLaws
 pub mod PageLaws
 pub mod GivenLaws

@@ -1,5 +1,6 @@
 -- A page's items from the page's bytes: room for the walk over them, whatever they are, and for what is put in; and both outputs, written.
--- Main statements: `page_body`, `source_short`, `items_room`, `before_room`, `from_room`, `heads_room`, `page_shown`, `page_moved`. Assumes nothing.
+-- Main statements: `page_body`, `source_short`, `items_room`, `all_low`, `before_room`,
+-- `from_room`, `heads_room`, `page_shown`, `page_headed`, `page_moved`. Assumes nothing.
 use mathlib.Core.Path.{◌≡◌, refl, sym, ap, ap₂, ◌∙◌}
 use mathlib.Core.Bool.{Bool, true, false}
 use Prim.Native.Nat.{ℕ, ◌+◌, ◌*◌, ◌≤◌, ◌<◌, ◌^◌}
@@ -29,12 +30,13 @@ use Rattle.decisions.proofs.Series.{tested, any_front}
 use Rattle.walk.specs.declared.state.Walk.{Walk}
 use Rattle.walk.specs.See.{World, at, see, Low}
 use Rattle.walk.proofs.SeeLaws.{see_grows, low_is}
+use Rattle.spec.specs.Pass.{Mid, ◌+++◌}
 use Rattle.visits.proofs.FieldLaws.{turn_low, turn_on}
-use Rattle.transform.specs.Run.{module_mid, has_statement, items_from, items_mid, has_html, started, sum_of, import_bytes, Headed, written_page, fronted}
+use Rattle.transform.specs.Run.{module_mid, has_statement, Splits, items_mid, has_html, started, sum_of, import_bytes, Headed, written_page, fronted}
 use Rattle.transform.proofs.RunLaws.{has_html_takes, walked, world, items_walked, module_walked}
-use Rattle.transform.proofs.CutLaws.{statement_from, parts, first_part, first_page}
+use Rattle.transform.proofs.CutLaws.{parts, first_part, first_page}
 use Rattle.transform.proofs.WrittenLaws.{written_import, written_moved}
-use Rattle.transform.proofs.ItemLaws.{module_at, before_at, bit_low}
+use Rattle.transform.proofs.ItemLaws.{module_at}
 
 -- whichever is taken
 chosen : {A : Type 0} (P : A → Type 0) (b : Bool) (f g : Unit {0} → A) → P (f tt) → P (g tt) → P (choose b f g)
@@ -121,32 +123,35 @@ module _ (k p s : Bytes) (short : length s < 2 ^ 32) where
       low_is (ap (λ (x : Walk). see (items_mid (opts k p) items_of) (at t g x)) e ∙ items_walked (opts k p) items_of q t g (omega (arith, h, counted (opts k p) items_of)))
       (walked_low (with_templates result.templates result.value) q (placed_size result.templates result.value) l)
 
-  -- and in two parts
+  -- or without the heads: at once
   module _ (t g : Bytes) {x : Walk} (e : x ≡ started 0) where
-    all_walked : see (module_at k p false s) (at t g x) ≡ world result result.value 0 t g
-    all_walked = ap (λ (x : Walk). see (module_at k p false s) (at t g x)) e ∙ module_walked (opts k p) items_of 0 t g
+    all_walked : see (module_at k p s) (at t g x) ≡ world result result.value 0 t g
+    all_walked = ap (λ (x : Walk). see (module_at k p s) (at t g x)) e ∙ module_walked (opts k p) items_of 0 t g
 
-    all_low : Low (see (module_at k p false s) (at t g x)).st
+    pub all_low : Low (see (module_at k p s) (at t g x)).st
     all_low = low_is all_walked (walked_low result.value 0 (omega arith) (omega arith))
 
-    pub before_room : Low (see (before_at k p s) (at t g x)).st
-    before_room = turn_low (before_at k p s) (module_mid (opts k p) false (items_from items_of)) (parts (opts k p) items_of) (at t g x) refl all_low
+    -- room for what is due
+    pub moved_low : {t₂ g₂ : Bytes} {z : Walk} → at t₂ g₂ z ≡ see (module_at k p s) (at t g x) → z.page < 2 ^ 62
+    moved_low f = omega (arith, ap (λ (w : World). w.st.page) (f ∙ all_walked), growth (opts k p) items_of, encoded s)
 
-    module _ {t₁ g₁ : Bytes} {y : Walk} (d : at t₁ g₁ y ≡ see (before_at k p s) (at t g x)) (u : Bytes) (j : module_items_in (read u) ≡ items_from items_of) where
-      from_is : see (module_at k p false u) (at t₁ g₁ y) ≡ see (module_at k p false s) (at t g x)
-      from_is =
-          ap (λ (i : Page). see (module_mid (opts k p) false i) (at t₁ g₁ y)) j
-          ∙ turn_on (before_at k p s) (module_mid (opts k p) false (items_from items_of)) (parts (opts k p) items_of) (at t g x) refl d
+    -- or in two parts
+    module _ {a b : Bytes} (c : Splits s a b) where
+      cut_is : module_at k p s ≡ module_at k p a +++ module_at k p b
+      cut_is = parts (opts k p) items_of ∙ ap₂ (λ (x y : Page). module_mid (opts k p) false x +++ module_mid (opts k p) false y) (sym c.before) (sym c.from)
 
-      pub from_room : Low (see (module_at k p false u) (at t₁ g₁ y)).st
-      from_room = low_is from_is all_low
+      pub before_room : Low (see (module_at k p a) (at t g x)).st
+      before_room = turn_low (module_at k p a) (module_at k p b) cut_is (at t g x) refl all_low
 
-      -- room for what is due; q is the place of the templates
-      pub heads_room : {t₂ g₂ : Bytes} {z : Walk} → at t₂ g₂ z ≡ see (module_at k p false u) (at t₁ g₁ y) → {q : ℕ} → q ≡ pick (has_statement (module_items_in (read u))) y.page 0 → (q ≤ z.page) × (z.page < 2 ^ 62)
-      heads_room {z = z} f {q} c =
-          let n : z.page ≡ 0 + length (bytes result.value) = ap (λ (w : World). w.st.page) (f ∙ from_is ∙ all_walked) in
-          let l : y.page ≤ z.page = omega (arith, (see_grows (module_at k p false u) (at t₁ g₁ y)).g_page, ap (λ (w : World). w.st.page) f) in
-          (omega (arith, bit_low (has_statement (module_items_in (read u))) y.page c), omega (arith, growth (opts k p) items_of, encoded s))
+      module _ {t₁ g₁ : Bytes} {y : Walk} (d : at t₁ g₁ y ≡ see (module_at k p a) (at t g x)) where
+        pub from_is : see (module_at k p b) (at t₁ g₁ y) ≡ see (module_at k p s) (at t g x)
+        from_is = turn_on (module_at k p a) (module_at k p b) cut_is (at t g x) refl d
+
+        pub from_room : Low (see (module_at k p b) (at t₁ g₁ y)).st
+        from_room = low_is from_is all_low
+
+        pub heads_room : {t₂ g₂ : Bytes} {z : Walk} → at t₂ g₂ z ≡ see (module_at k p b) (at t₁ g₁ y) → (y.page ≤ z.page) × (z.page < 2 ^ 62)
+        heads_room f = (omega (arith, (see_grows (module_at k p b) (at t₁ g₁ y)).g_page, ap (λ (w : World). w.st.page) f), moved_low (f ∙ from_is))
 
 pub import_short : (n : ℕ) {q : ℕ} → q ≡ 19 + n → n ≤ 4101 → q ≤ 8192
 import_short n e l = omega arith
@@ -173,15 +178,23 @@ module _ (k p : Bytes) (r : Row) (e : (n : Bytes) → among n (names_of k) ≡ a
       ∙ written_import k p r items_read e f (counted (opts k p) items_read) (called (opts k p) items_read) q t g (at t' g' y) h l (v ∙ ap (λ (x : Walk). see (items_mid (opts k p) items_read) (at t g x)) s)
       ∙ same_page
 
-  -- in two parts, and what is due put in; u has the second part, q is the place of the templates
-  pub page_moved : length b < 2 ^ 32 → {x : Walk} → x ≡ started 0 → {t₁ g₁ : Bytes} {y : Walk} → at t₁ g₁ y ≡ see (before_at k p b) (at t g x) → (u : Bytes) → module_items_in (read u) ≡ items_from items_read →
-      {t₂ g₂ : Bytes} {z : Walk} → at t₂ g₂ z ≡ see (module_at k p false u) (at t₁ g₁ y) → {q : ℕ} → q ≡ pick (has_statement (module_items_in (read u))) y.page 0 →
-      {g₃ : Bytes} {w : Walk} → ((o a c : Bytes) → g₂ ≡ put o 0 (a ++ c) → q ≡ length a → z.page ≡ length a + length c → Headed (source_in r) z o a c g₃ w) →
+  -- without them, and what is due put in: before all items
+  pub page_headed : has_statement items_read ≡ false → {x : Walk} → x ≡ started 0 →
+      {t₂ g₂ : Bytes} {z : Walk} → at t₂ g₂ z ≡ see (module_at k p b) (at t g x) →
+      {g₃ : Bytes} {w : Walk} → ((o a c : Bytes) → g₂ ≡ put o 0 (a ++ c) → 0 ≡ length a → z.page ≡ length a + length c → Headed (source_in r) z o a c g₃ w) →
       at t₂ g₃ w ≡ written_page (options_in r) (transform (options_in r) is) t g
-  page_moved short {x} s {y = y} d u i v {q} c put_in =
-      let all = v ∙ from_is k p b short t g s d u i ∙ ap (λ (x : Walk). see (module_at k p false b) (at t g x)) s in
-      let first : y.page ≡ length (bytes (first_part (opts k p) items_read 1).value) = ap (λ (w : World). w.st.page) (d ∙ ap (λ (x : Walk). see (before_at k p b) (at t g x)) s) ∙ first_page (opts k p) items_read t g in
-      let place : q ≡ pick (has_statement items_read) (length (bytes (first_part (opts k p) items_read 1).value)) 0 =
-      c ∙ ap₂ (λ (h : Bool) (n : ℕ). pick h n 0) (ap has_statement i ∙ statement_from items_read) first in
-      written_moved k p r items_read e f (counted (opts k p) items_read) (called (opts k p) items_read) t g all put_in (has_statement items_read) refl place
+  page_headed h s v put_in =
+      written_moved k p r items_read e f (counted (opts k p) items_read) (called (opts k p) items_read) t g (v ∙ ap (λ (x : Walk). see (module_at k p b) (at t g x)) s) put_in false h refl
+      ∙ same_page
+
+  -- or before the first 10 or 12, before which the items are cut into b₀ and b₁
+  pub page_moved : length b < 2 ^ 32 → {b₀ b₁ : Bytes} (c : Splits b b₀ b₁) {x : Walk} → x ≡ started 0 → {t₁ g₁ : Bytes} {y : Walk} → at t₁ g₁ y ≡ see (module_at k p b₀) (at t g x) →
+      {t₂ g₂ : Bytes} {z : Walk} → at t₂ g₂ z ≡ see (module_at k p b₁) (at t₁ g₁ y) →
+      {g₃ : Bytes} {w : Walk} → ((o a c : Bytes) → g₂ ≡ put o 0 (a ++ c) → y.page ≡ length a → z.page ≡ length a + length c → Headed (source_in r) z o a c g₃ w) →
+      at t₂ g₃ w ≡ written_page (options_in r) (transform (options_in r) is) t g
+  page_moved short c s {y = y} d v put_in =
+      let all = v ∙ from_is k p b short t g s c d ∙ ap (λ (x : Walk). see (module_at k p b) (at t g x)) s in
+      let first : y.page ≡ length (bytes (first_part (opts k p) items_read 1).value) =
+      ap (λ (w : World). w.st.page) (d ∙ ap₂ (λ (x : Walk) (i : Page). see (module_mid (opts k p) false i) (at t g x)) s c.before) ∙ first_page (opts k p) items_read t g in
+      written_moved k p r items_read e f (counted (opts k p) items_read) (called (opts k p) items_read) t g all put_in true c.stands first
       ∙ same_page

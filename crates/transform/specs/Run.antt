@@ -5,7 +5,7 @@ use Rattle.field.specs.Row.{Row, end, loose, field, bytes, read, long_body}
 use Rattle.field.specs.Put.{put, head}
 use Rattle.page.specs.Page as P
 use Rattle.page.specs.Page.{Options, Page}
-use Rattle.page.specs.Tree.{pieces_in}
+use Rattle.page.specs.Tree.{pieces_in, module_items_in}
 use Rattle.page.specs.Refusal.{Verdict, Fine, Refused, unless, after}
 use Rattle.page.specs.declared.Refusal.TheVariants as R
 use Rattle.spec.specs.Pass.{Done, Mid, none, node}
@@ -27,11 +27,7 @@ use Rattle.transform.specs.declared.Answer.{Answer}
 abbrev pub item_mid : Options → ℕ → Row → Mid
 item_mid o t r = node t [] (pieces o (pieces_in r)) none
 
-abbrev pub place_mid : Bool → Mid
-place_mid true = leaf 0x83 []
-place_mid false = none
-
--- in front of others
+-- the place of the templates, in front of others
 abbrev pub placed_before : Bool → Mid → Mid
 placed_before true m = node 0x83 [] none m
 placed_before false m = m
@@ -66,6 +62,13 @@ items_from (P.export_item ps ∷ is) = P.export_item ps ∷ is
 items_from (P.declaration_item ps ∷ is) = items_from is
 items_from (P.statement_item ps ∷ is) = P.statement_item ps ∷ is
 items_from (P.empty_item ∷ is) = items_from is
+
+-- s is cut before the first 10 or 12 into a and b
+pub record Splits (s a b : Bytes) : Type 0 where
+  pub sizes : length a + length b ≡ length s
+  pub stands : has_statement (module_items_in (read s)) ≡ true
+  pub before : module_items_in (read a) ≡ items_before (module_items_in (read s))
+  pub from : module_items_in (read b) ≡ items_from (module_items_in (read s))
 
 -- with the place of the templates before the first 10 or 12; none stands: before all items
 abbrev pub items_mid : Options → Page → Mid

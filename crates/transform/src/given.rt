@@ -1,13 +1,13 @@
 // 02, A12: with a 05 the walks go over the page with its sums worked out, which stands in a buffer of its own. Its frame is a function's
 // own, so that pages without a 05 do not pay for it.
-ghost use Rattle.std.specs.Prelude.{◌≡◌, true, ◌≤◌, length};
+ghost use Rattle.std.specs.Prelude.{◌≡◌, true, length};
 ghost use Rattle.field.specs.Row.{read};
 ghost use Rattle.page.specs.Tree.{page_in, options_in};
 ghost use Rattle.page.specs.Refusal.{Fine};
 ghost use Rattle.spec.specs.Answer.{check_inputs, worked_if, page_given};
 ghost use Rattle.spec.specs.Transform.{transform};
 ghost use Rattle.walk.specs.See.{at};
-ghost use Rattle.transform.specs.Run.{written_page, Ready};
+ghost use Rattle.transform.specs.Run.{written_page};
 
 use crate::module::write_page;
 use crate::options::{room, works_sums};
@@ -17,33 +17,27 @@ use worked::work_page;
 // A worked page: at most eleven sevenths of 32,768 bytes.
 const PAGE_ROOM: usize = 51493;
 
-// The page, with its sums worked out where sums is set: it is worked out and written as a page without sums. It has a long frame, and is
-// not merged into its caller.
+// The page with its sums worked out. It has a long frame, and is not merged into its caller.
 #[inline(never)]
-fn write_worked<'a>(
-    input: &'a [u8],
-    options: &'a [u8],
-    sums: bool,
+fn write_worked(
+    input: &[u8],
+    options: &[u8],
     scratch: &mut [u8],
     templates: &mut [u8],
     page: &mut [u8],
 ) -> Walk
-    requires ready { Ready input.now options.now (length scratch.old) }
-    requires input_len_bound { sums ≡ true → length input.now ≤ 32768 }
-    ensures { at templates.new page.new result ≡ written_page (options_in (read options.now)) (transform (options_in (read options.now)) (worked_if sums (page_in (read input.now)))) templates.old page.old }
+    requires { check_inputs input.now options.now (length scratch.old) ≡ Fine }
+    ensures { at templates.new page.new result ≡ written_page (options_in (read options.now)) (transform (options_in (read options.now)) (worked_if true (page_in (read input.now)))) templates.old page.old }
 {
-    if sums {
-        let mut worked = room::<PAGE_ROOM>();
-        let n = work_page(input, &mut worked);
-        return write_worked(&worked[..n], options, false, scratch, templates, page);
-    }
-    write_page(input, options, scratch, templates, page)
+    let mut worked = room::<PAGE_ROOM>();
+    let n = work_page(input, &mut worked);
+    write_page(&worked[..n], options, scratch, templates, page)
 }
 
 // The page that is given, written.
-pub fn write_given<'a>(
-    input: &'a [u8],
-    options: &'a [u8],
+pub fn write_given(
+    input: &[u8],
+    options: &[u8],
     scratch: &mut [u8],
     templates: &mut [u8],
     page: &mut [u8],
@@ -52,7 +46,7 @@ pub fn write_given<'a>(
     ensures { at templates.new page.new result ≡ written_page (options_in (read options.now)) (transform (options_in (read options.now)) (page_given input.now options.now)) templates.old page.old }
 {
     if works_sums(options) {
-        return write_worked(input, options, true, scratch, templates, page);
+        return write_worked(input, options, scratch, templates, page);
     }
     write_page(input, options, scratch, templates, page)
 }

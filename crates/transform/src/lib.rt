@@ -27,7 +27,7 @@ pub struct Answer {
 }
 
 // 1 to 8.
-fn check_inputs<'a>(page: &'a [u8], options: &'a [u8], scratch: usize) -> Result<(), Refusal>
+fn check_inputs(page: &[u8], options: &[u8], scratch: usize) -> Result<(), Refusal>
     ensures { result ≡ check_inputs page.now options.now scratch }
 {
     if scratch < 65536 {
@@ -96,9 +96,9 @@ fn refuse(r: Refusal, scratch: &mut [u8], templates: &mut [u8], page: &mut [u8])
 }
 
 // Inputs that are fine.
-fn transform_checked<'a>(
-    input: &'a [u8],
-    options: &'a [u8],
+fn transform_checked(
+    input: &[u8],
+    options: &[u8],
     scratch: &mut [u8],
     templates: &mut [u8],
     page: &mut [u8],
@@ -121,9 +121,9 @@ fn transform_checked<'a>(
     }
 }
 
-pub fn transform<'a>(
-    page: &'a [u8],
-    options: &'a [u8],
+pub fn transform(
+    page: &[u8],
+    options: &[u8],
     scratch: &mut [u8],
     templates_out: &mut [u8],
     page_out: &mut [u8],

@@ -4,43 +4,32 @@ ghost use Rattle.field.specs.Row.{read, fields_after, inside};
 ghost use Rattle.transform.specs.Options.{LacksTag, HasTag};
 ghost use Rattle.page.specs.Tree.{texts_in, listed_in, source_in, works_sums};
 
-use field::reader::{behind, body, tag_at};
+use field::reader::Fields;
 
 // What the first field with that tag holds.
-fn first_with(options: &[u8], tag: usize) -> Option<&[u8]>
+fn first_with(options: &[u8], tag: u8) -> Option<&[u8]>
     ensures { MatchOption result (LacksTag tag options.now) (λ b. HasTag tag options.now b.now) }
 {
-    let mut t = options;
-    loop {
-        let k = tag_at(t);
-        if k == 256 {
-            return None;
+    for field in Fields(options) {
+        if field.tag == tag {
+            return Some(field.body);
         }
-        if k == tag {
-            return Some(body(t));
-        }
-        t = behind(t);
     }
+    None
 }
 
 // The names in the first field with that tag, if it is a tag that holds fields.
-pub fn names_in(options: &[u8], tag: usize) -> &[u8]
+pub fn names_in(options: &[u8], tag: u8) -> &[u8]
     ensures { (inside tag ≡ fields_after 0 → texts_in 0x20 (read result.now) ≡ listed_in tag (read options.now)) × (length result.now ≤ length options.now) }
 {
-    match first_with(options, tag) {
-        Some(b) => b,
-        None => b"",
-    }
+    first_with(options, tag).unwrap_or(b"")
 }
 
 // The import's source.
 pub fn source(options: &[u8]) -> &[u8]
     ensures { result.now ≡ source_in (read options.now) }
 {
-    match first_with(options, 0x04) {
-        Some(b) => b,
-        None => b"react",
-    }
+    first_with(options, 0x04).unwrap_or(b"react")
 }
 
 // Whether a 05 stands.
@@ -50,7 +39,8 @@ pub fn works_sums(options: &[u8]) -> bool
     first_with(options, 0x05).is_some()
 }
 
-// Room for N bytes. What it holds is proved once, here: its callers need not go through it.
+// Room for N bytes. What it holds is proved once, here: its callers need not go through it. Not that of `input`, a crate which reads standard
+// input: the transform reads nothing but what it is given.
 pub fn room<const N: usize>() -> [u8; N]
     ensures { (length result ≡ N) × ((i : ℕ) → get_or result i 0 ≡ 0) }
 {

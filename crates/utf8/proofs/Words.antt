@@ -1,17 +1,18 @@
 -- Eight bytes tested as one number: no highest bit is set exactly if each byte is ASCII; and words of eight bytes one after the other.
--- Main statements: word-step, from n bytes to one more in front; word-passed and word-failed, from m bytes to a word more in front; last_word.
--- Assumes nothing.
+-- Main statements: `word_ascii`, and `words_on` for one word more. Assumes nothing.
 use mathlib.Core.Path.{◌≡◌, refl, sym, ap, ◌∙◌}
-use Prim.Native.Nat.{ℕ, zero, suc, ◌+◌, ◌-◌, ◌*◌, ◌/◌, ◌≤◌, ◌<◌}
+use Prim.Native.Nat.{ℕ, zero, suc, ◌+◌, ◌*◌, ◌/◌, ◌≤◌, ◌<◌}
 use native.Mathlib.Omega.{arith}
-use native.Mathlib.Numerals.{add-one}
-use mathlib.Core.Bool.{Bool, true, false, ◌&&◌, not, and_assoc, and-eq-true_iff}
+use native.Mathlib.Nat.{not-suc-le-zero, le_of_suc-le-suc}
+use mathlib.Core.Bool.{Bool, true, false, ◌&&◌, and_assoc, and-eq-true_iff}
 use mathlib.Core.List.{List, [], ◌∷◌, ◌++◌}
-use borrow.Author.Tests.{eq-eqb, ne_eqb, ltb-true, ltb-false, not-true, not-false}
+use borrow.Author.Tests.{eq-eqb, ne_eqb, ltb-true, ltb-false}
 use lib.Bits.{bit_and, and_block, and_high}
 use lib.Dec.{eqb, ltb, eqb-suc-zero}
-use lib.ListN.{length, take, drop, get_or, length-drop}
-use lib.Seq.{drop-cons, drop-drop, take-add, take_all}
+use lib.ListN.{length, take, drop, get_or, length-drop, drop_of_length-le}
+use lib.Seq.{drop-drop, take-add, get_or-drop}
+use Rattle.std.specs.Simd.{first_chunks}
+use Rattle.std.proofs.lemmas.List.{length-take-le}
 use Rattle.utf8.specs.Utf8.{ascii}
 
 -- the highest bits of n bytes
@@ -41,48 +42,68 @@ one_more b x m h =
     ∙ both_zero (bit_and x m) (bit_and b 128)
     ∙ ap (λ (v : Bool). v && eqb (bit_and x m) 0) (highest_bit b h)
 
--- x is the number of the n bytes at k of s, and y that of those with the byte before them
-pub word_step :
-    (s : List ℕ) (n x y j k : ℕ) → j < length s → k ≡ j + 1 → get_or s j 0 < 256 → y ≡ get_or s j 0 + 256 * x →
-    eqb (bit_and x (mask n)) 0 ≡ ascii (take n (drop k s)) → eqb (bit_and y (mask (suc n))) 0 ≡ ascii (take (suc n) (drop j s))
+-- the number of bytes, the lowest first
+abbrev little : List ℕ → ℕ
+little [] = 0
+little (b ∷ bs) = b + 256 * little bs
+
+little_ascii : (w : List ℕ) → ((k : ℕ) → get_or w k 0 < 256) → eqb (bit_and (little w) (mask (length w))) 0 ≡ ascii w
 unfolding ascii
-word_step s n x y j k l e h q ih =
-    ap (λ (z : ℕ). eqb (bit_and z (mask (suc n))) 0) q
-    ∙ one_more (get_or s j 0) x (mask n) h
-    ∙ ap (λ (v : Bool). ltb (get_or s j 0) 128 && v) (ih ∙ ap (λ (z : ℕ). ascii (take n (drop z s))) (e ∙ add-one j))
-    ∙ ap (λ (t : List ℕ). ascii (take (suc n) t)) (sym (drop-cons s j 0 l))
+little_ascii [] h = refl
+little_ascii (b ∷ w) h = one_more b (little w) (mask (length w)) (h 0) ∙ ap (λ (v : Bool). ltb b 128 && v) (little_ascii w (λ k. h (suc k)))
+
+little_at : (k : ℕ) (w : List ℕ) → little (drop k w) ≡ get_or w k 0 + 256 * little (drop (suc k) w)
+little_at zero [] = refl
+little_at zero (b ∷ w) = refl
+little_at (suc k) [] = refl
+little_at (suc k) (b ∷ w) = little_at k w
+
+-- the number of eight bytes, as from_le_bytes has it
+abbrev value : List ℕ → ℕ
+value w =
+    get_or w 0 0 + get_or w 1 0 * 256 + get_or w 2 0 * 65536 + get_or w 3 0 * 16777216
+    + get_or w 4 0 * 4294967296 + get_or w 5 0 * 1099511627776 + get_or w 6 0 * 281474976710656 + get_or w 7 0 * 72057594037927936
+
+word_ascii : (w : List ℕ) → length w ≡ 8 → ((k : ℕ) → get_or w k 0 < 256) → eqb (bit_and (value w) (mask 8)) 0 ≡ ascii w
+word_ascii w n h =
+    let rest : little (drop 8 w) ≡ 0 = ap little (drop_of_length-le w {i = 8} (omega arith)) in
+    let is : value w ≡ little w = omega (arith, rest, little_at 0 w, little_at 1 w, little_at 2 w, little_at 3 w, little_at 4 w, little_at 5 w, little_at 6 w, little_at 7 w) in
+    ap (λ (y : ℕ). eqb (bit_and y (mask 8)) 0) is ∙ ap (λ (m : ℕ). eqb (bit_and (little w) (mask m)) 0) (sym n) ∙ little_ascii w h
 
 -- ---- words one after the other
 
-ascii_append : (a b : List ℕ) → ascii (a ++ b) ≡ (ascii a && ascii b)
+pub ascii_append : (a b : List ℕ) → ascii (a ++ b) ≡ (ascii a && ascii b)
 unfolding ascii
 ascii_append [] b = refl
 ascii_append (x ∷ a) b = rw (ascii_append a b) (sym (and_assoc (ltb x 0x80) (ascii a) (ascii b)))
 
--- v is what was answered of the word at i, and m bytes behind it are still to be tested
-module _ {v : Bool} (s : List ℕ) (i j m : ℕ) (next : j ≡ i + 8) (word : v ≡ ascii (take 8 (drop i s))) where
-  word_cut : ascii (take (8 + m) (drop i s)) ≡ (v && ascii (take m (drop j s)))
-  word_cut =
-      ap ascii (take-add 8 m (drop i s))
-      ∙ ascii_append (take 8 (drop i s)) (take m (drop 8 (drop i s)))
-      ∙ rw (word, next, drop-drop)
-
-  pub word_passed : not v ≡ false → ascii (take (8 + m) (drop i s)) ≡ ascii (take m (drop j s))
-  word_passed t = word_cut ∙ rw (not-false v t)
-
-  pub word_failed : not v ≡ true → ascii (take (8 + m) (drop i s)) ≡ false
-  word_failed t = word_cut ∙ rw (not-true v t)
-
-ascii_drop : (j : ℕ) (t : List ℕ) → ascii t ≡ true → ascii (drop j t) ≡ true
+pub ascii_drop : (j : ℕ) (t : List ℕ) → ascii t ≡ true → ascii (drop j t) ≡ true
 unfolding ascii
 ascii_drop zero t h = h
 ascii_drop (suc j) [] h = refl
 ascii_drop (suc j) (c ∷ cs) h = ascii_drop j cs ((and-eq-true_iff (ltb c 0x80) (ascii cs)).0 h).1
 
--- the last word, which may begin in front of the place k
-pub last_word : (s : List ℕ) (k : ℕ) → k ≤ length s → 8 ≤ length s → length s - k < 8 → ascii (take 8 (drop (length s - 8) s)) ≡ true → ascii (drop k s) ≡ true
-last_word s k h l w e =
-    let m = length s - 8 in
-    let j : m + (k - m) ≡ k = omega arith in
-    let word = take_all 8 (drop m s) (rw length-drop (omega arith)) in
-    rw (← j, ← drop-drop (k - m) m s) (ascii_drop (k - m) (drop m s) (rw word at e))
+-- a word among the words of s
+chunk_at : (k i : ℕ) (s : List ℕ) → i < k → get_or (first_chunks 8 k s) i [] ≡ take 8 (drop (8 * i) s)
+chunk_at zero i s h = absurd (not-suc-le-zero h)
+chunk_at (suc k) zero s h = refl
+chunk_at (suc k) (suc i) s h = chunk_at k i (drop 8 s) (le_of_suc-le-suc h) ∙ ap (take 8) (drop-drop (8 * i) 8 s ∙ ap (λ (x : ℕ). drop x s) (omega arith))
+
+take_bytes : (n : ℕ) (s : List ℕ) (h : (k : ℕ) → get_or s k 0 < 256) (k : ℕ) → get_or (take n s) k 0 < 256
+take_bytes zero s h zero = omega arith
+take_bytes zero s h (suc k) = omega arith
+take_bytes (suc n) [] h k = h k
+take_bytes (suc n) (b ∷ s) h zero = h 0
+take_bytes (suc n) (b ∷ s) h (suc k) = take_bytes n s (λ j. h (suc j)) k
+
+-- one word more
+pub words_on :
+    {v : Bool} (s : List ℕ) (ws : List (List ℕ)) (n i x : ℕ) → ((k : ℕ) → get_or s k 0 < 256) → ws ≡ first_chunks 8 n s → 8 * n ≤ length s → i < n →
+    x ≡ value (get_or ws i []) → v ≡ ascii (take (8 * i) s) → (v && eqb (bit_and x (mask 8)) 0) ≡ ascii (take (8 * (i + 1)) s)
+words_on {v} s ws n i x h e l m q f =
+    let t = drop (8 * i) s in
+    let w : get_or ws i [] ≡ take 8 t = ap (λ (z : List (List ℕ)). get_or z i []) e ∙ chunk_at n i s m in
+    let size : length (take 8 t) ≡ 8 = length-take-le 8 t (rw length-drop (omega arith)) in
+    let word : eqb (bit_and x (mask 8)) 0 ≡ ascii (take 8 t) =
+    ap (λ (y : ℕ). eqb (bit_and y (mask 8)) 0) (q ∙ ap value w) ∙ word_ascii (take 8 t) size (take_bytes 8 t (λ k. rw get_or-drop (h (8 * i + k)))) in
+    rw (f, word) (sym (ascii_append (take (8 * i) s) (take 8 t)) ∙ ap ascii (sym (take-add (8 * i) 8 s)) ∙ ap (λ (k : ℕ). ascii (take k s)) (omega arith))

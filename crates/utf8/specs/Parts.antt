@@ -1,15 +1,24 @@
--- What the parts of is_utf8 promise: r is an answer about the list s at the place i.
+-- What the parts of is_utf8 promise: t is what they leave of the list s.
 -- Assumes nothing: these are definitions.
-use Rattle.std.specs.Prelude.{◌≡◌, ℕ, ◌+◌, ◌≤◌, Bool, ◌&&◌, List, ltb, length, drop}
-use Rattle.utf8.specs.Utf8.{utf8}
+use Rattle.std.specs.Prelude.{◌≡◌, ℕ, ◌≤◌, ◌<◌, true, false, List, ◌++◌, length}
+use Rattle.utf8.specs.Utf8.{Range, utf8_behind, utf8, ascii}
 
--- from i on nothing changes up to the place r
-pub record Skips (s : List ℕ) (i r : ℕ) : Type 0 where
-  pub after : i ≤ r
-  pub inside : r ≤ length s
-  pub same : utf8 (drop i s) ≡ utf8 (drop r s)
+-- ASCII alone stands in front of it
+pub record Skips (s t : List ℕ) : Type 0 where
+  pub front : List ℕ
+  pub plain : ascii front ≡ true
+  pub is : s ≡ front ++ t
 
--- the character at i has r bytes, and u says what is said behind it; or there is none, r is 0 and u is false
-pub record Takes (u : Bool) (s : List ℕ) (i r : ℕ) : Type 0 where
-  pub inside : i + r ≤ length s
-  pub same : u ≡ (ltb 0 r && utf8 (drop (i + r) s))
+-- a character stands in front of it
+pub record Leaves (s t : List ℕ) : Type 0 where
+  pub shorter : length t < length s
+  pub same : utf8 s ≡ utf8 t
+
+-- a byte in each of the ranges stands in front of it, whatever ranges are to follow
+pub record Passes (rs : List Range) (s t : List ℕ) : Type 0 where
+  pub inside : length t ≤ length s
+  pub same : (qs : List Range) → utf8_behind (rs ++ qs) s ≡ utf8_behind qs t
+
+-- there are no such bytes in front of s
+pub record Lacks (rs : List Range) (s : List ℕ) : Type 0 where
+  pub refused : (qs : List Range) → utf8_behind (rs ++ qs) s ≡ false

@@ -1,191 +1,129 @@
-// UTF-8 (RFC 3629): one pass over the bytes, eight at a time while they are ASCII.
+// UTF-8 (RFC 3629): one pass over the bytes, whole words at a time while they are ASCII.
 // It promises that is_utf8 equals the definition utf8 of specs/Utf8.antt on every slice. What the text means is left to others.
 #![tactic(auto)]
 
-ghost use Rattle.std.specs.Prelude.{◌≡◌, [], ◌∷◌, ◌+◌, ◌*◌, ◌^◌, ◌<◌, ◌≤◌, length, take, drop};
-ghost use Rattle.utf8.specs.Utf8.{◌to◌, within, tail, utf8_behind, utf8, ascii};
-ghost use Rattle.utf8.specs.Parts.{Skips, Takes};
+ghost use Rattle.std.specs.Prelude.{◌≡◌, false, ◌∷◌, ◌%◌, ◌<◌, ◌≤◌, length, replicate, MatchOption};
+ghost use Rattle.utf8.specs.Utf8.{◌to◌, tail, utf8, ascii};
+ghost use Rattle.utf8.specs.Parts.{Skips, Leaves, Passes, Lacks};
+
+// The high bits of the bytes of a word.
+const HIGH_BITS: u64 = 0x8080_8080_8080_8080;
 
 // Whether s is UTF-8.
 pub fn is_utf8(s: &[u8]) -> bool
     ensures { result ≡ utf8 s.now }
 {
-    let mut i = skip_ascii(s, 0);
-    while i < s.len() {
-        if s[i] < 0x80 {
-            i = skip_ascii(s, i + 1);
+    let mut left = skip_ascii(s);
+    while let [first, rest @ ..] = left {
+        if first.is_ascii() {
+            left = skip_ascii(rest);
         } else {
-            let w = width_at(s, i);
-            if w == 0 {
+            let Some(behind) = character(*first, rest) else {
                 return false;
-            }
-            i += w;
+            };
+            left = behind;
         }
     }
     true
 }
 
-// The place behind the ASCII bytes that stand at i.
-fn skip_ascii(s: &[u8], i: usize) -> usize
-    requires { i ≤ length s.now }
-    ensures { Skips s.now i result }
+// What is left behind the ASCII bytes in front.
+fn skip_ascii(s: &[u8]) -> &[u8]
+    ensures { Skips s.now result.now }
 {
-    let mut k = skip_words(s, i);
-    while k < s.len() {
-        if 0x80 <= s[k] {
-            return k;
-        }
-        k += 1;
+    let mut left = skip_words(s);
+    while let [0x00..=0x7F, rest @ ..] = left {
+        left = rest;
     }
-    k
+    left
 }
 
-// The same by words of eight bytes, four at a time while there are as many.
-fn skip_words(s: &[u8], i: usize) -> usize
-    requires { i ≤ length s.now }
-    ensures { Skips s.now i result }
+// The same by words of eight bytes, eight at a time while there are as many.
+fn skip_words(s: &[u8]) -> &[u8]
+    ensures { Skips s.now result.now }
 {
-    let n = s.len();
-    if n - i < 8 {
-        return i;
-    }
     // one word apart, so that bytes which are no ASCII are soon left to others
-    if !ascii_word(s, i) {
-        return i;
+    let Some((word, rest)) = s.split_first_chunk::<8>() else {
+        return s;
+    };
+    if !is_ascii(word) {
+        return s;
     }
-    let mut k = i + 8;
-    while 32 <= n - k {
-        if !ascii_words(s, k) {
-            return k;
-        }
-        k += 32;
-    }
-    while 8 <= n - k {
-        if !ascii_word(s, k) {
-            return k;
-        }
-        k += 8;
-    }
+    let left = skip_blocks::<8>(skip_blocks::<64>(rest));
     // fewer than eight are left: the last eight, some of them anew
-    if ascii_word(s, n - 8) {
-        return n;
-    }
-    k
-}
-
-// Whether the four words at i are ASCII. Four tests: LLVM makes more of one test of all.
-fn ascii_words(s: &[u8], i: usize) -> bool
-    requires { i + 32 ≤ length s.now }
-    ensures { result ≡ ascii (take 32 (drop i s.now)) }
-{
-    if !ascii_word(s, i) {
-        return false;
-    }
-    if !ascii_word(s, i + 8) {
-        return false;
-    }
-    if !ascii_word(s, i + 16) {
-        return false;
-    }
-    ascii_word(s, i + 24)
-}
-
-// Whether the eight bytes at i are ASCII. LLVM makes one load and one test of the whole function.
-fn ascii_word(s: &[u8], i: usize) -> bool
-    requires { i + 8 ≤ length s.now }
-    ensures { result ≡ ascii (take 8 (drop i s.now)) }
-{
-    let h = digits(s[i + 7], 0);
-    let g = digits(s[i + 6], h);
-    let f = digits(s[i + 5], g);
-    let e = digits(s[i + 4], f);
-    let d = digits(s[i + 3], e);
-    let c = digits(s[i + 2], d);
-    let b = digits(s[i + 1], c);
-    digits(s[i], b) & 0x8080_8080_8080_8080 == 0
-}
-
-// The number whose lowest byte is b and whose others are those of x.
-fn digits(b: u8, x: u64) -> u64
-    requires { x < 2 ^ 56 }
-    ensures { (result ≡ b + 256 * x) × (result < 256 * (x + 1)) }
-{
-    (b as u64) + 256 * x
-}
-
-// How many bytes the character at i has, by its first byte as in the table of the RFC; 0 where there is none.
-fn width_at(s: &[u8], i: usize) -> usize
-    requires { i < length s.now }
-    ensures { Takes (utf8 (drop i s.now)) s.now i result }
-{
-    match s[i] {
-        0x00..=0x7F => 1,
-        0xC2..=0xDF => two_at(s, i),
-        0xE0 => three_at(s, i, 0xA0, 0xBF),
-        0xE1..=0xEC => three_at(s, i, 0x80, 0xBF),
-        0xED => three_at(s, i, 0x80, 0x9F),
-        0xEE..=0xEF => three_at(s, i, 0x80, 0xBF),
-        0xF0 => four_at(s, i, 0x90, 0xBF),
-        0xF1..=0xF3 => four_at(s, i, 0x80, 0xBF),
-        0xF4 => four_at(s, i, 0x80, 0x8F),
-        _ => 0,
+    match s.last_chunk::<8>() {
+        Some(word) if left.len() < 8 && is_ascii(word) => &[],
+        _ => left,
     }
 }
 
-// 2, if a tail stands behind the byte at i; else 0.
-fn two_at(s: &[u8], i: usize) -> usize
-    requires { i < length s.now }
-    ensures { Takes (utf8_behind (tail ∷ []) (drop (i + 1) s.now)) s.now i result }
+// The same by blocks of N bytes.
+fn skip_blocks<const N: usize>(s: &[u8]) -> &[u8]
+    requires { (0 < N) × (N ≤ 64) × (N % 8 ≡ 0) }
+    ensures { Skips s.now result.now }
 {
-    if s.len() - i < 2 {
-        return 0;
+    let mut left = s;
+    while let Some((block, rest)) = left.split_first_chunk::<N>() {
+        if !is_ascii(block) {
+            break;
+        }
+        left = rest;
     }
-    if !is_within(s[i + 1], 0x80, 0xBF) {
-        return 0;
-    }
-    2
+    left
 }
 
-// 3, if a byte from low to high and a tail stand behind the byte at i; else 0.
-fn three_at(s: &[u8], i: usize, low: u8, high: u8) -> usize
-    requires { i < length s.now }
-    ensures { Takes (utf8_behind (low to high ∷ tail ∷ []) (drop (i + 1) s.now)) s.now i result }
+// Whether whole words are ASCII. No short-circuit: LLVM then makes one test of them all.
+fn is_ascii(block: &[u8]) -> bool
+    requires { length block.now % 8 ≡ 0 }
+    ensures { result ≡ ascii block.now }
 {
-    if s.len() - i < 3 {
-        return 0;
+    let (words, _) = block.as_chunks::<8>();
+    let mut is = true;
+    for word in words {
+        is = is & (u64::from_le_bytes(*word) & HIGH_BITS == 0);
     }
-    if !is_within(s[i + 1], low, high) {
-        return 0;
-    }
-    if !is_within(s[i + 2], 0x80, 0xBF) {
-        return 0;
-    }
-    3
+    is
 }
 
-// 4, if a byte from low to high and two tails stand behind the byte at i; else 0.
-fn four_at(s: &[u8], i: usize, low: u8, high: u8) -> usize
-    requires { i < length s.now }
-    ensures { Takes (utf8_behind (low to high ∷ tail ∷ tail ∷ []) (drop (i + 1) s.now)) s.now i result }
+// What is left behind the character that begins with the byte first, by the table of the RFC; None where there is no such character.
+fn character(first: u8, rest: &[u8]) -> Option<&[u8]>
+    ensures { MatchOption result (utf8 (first ∷ rest.now) ≡ false) (λ t. Leaves (first ∷ rest.now) t.now) }
 {
-    if s.len() - i < 4 {
-        return 0;
+    match first {
+        0x00..=0x7F => Some(rest),
+        0x80..=0xC1 => None,
+        0xC2..=0xDF => tails::<1>(rest),
+        0xE0 => ranged::<1>(rest, 0xA0, 0xBF),
+        0xE1..=0xEC => tails::<2>(rest),
+        0xED => ranged::<1>(rest, 0x80, 0x9F),
+        0xEE..=0xEF => tails::<2>(rest),
+        0xF0 => ranged::<2>(rest, 0x90, 0xBF),
+        0xF1..=0xF3 => tails::<3>(rest),
+        0xF4 => ranged::<2>(rest, 0x80, 0x8F),
+        0xF5..=0xFF => None,
     }
-    if !is_within(s[i + 1], low, high) {
-        return 0;
-    }
-    if !is_within(s[i + 2], 0x80, 0xBF) {
-        return 0;
-    }
-    if !is_within(s[i + 3], 0x80, 0xBF) {
-        return 0;
-    }
-    4
 }
 
-// Whether b is from low to high. Written with &, so that the answer is one value and no branch.
-fn is_within(b: u8, low: u8, high: u8) -> bool
-    ensures { result ≡ within (low to high) b }
+// What is left behind a byte from low to high and N tails, if such bytes stand in front.
+fn ranged<const N: usize>(s: &[u8], low: u8, high: u8) -> Option<&[u8]>
+    requires { N ≤ 3 }
+    ensures { MatchOption result (Lacks (low to high ∷ replicate N tail) s.now) (λ t. Passes (low to high ∷ replicate N tail) s.now t.now) }
 {
-    (low <= b) & (b <= high)
+    let (first, rest) = s.split_first()?;
+    if (low..=high).contains(first) {
+        return tails::<N>(rest);
+    }
+    None
+}
+
+// What is left behind N tails, if as many stand in front.
+fn tails<const N: usize>(s: &[u8]) -> Option<&[u8]>
+    requires { N ≤ 3 }
+    ensures { MatchOption result (Lacks (replicate N tail) s.now) (λ t. Passes (replicate N tail) s.now t.now) }
+{
+    let (bytes, rest) = s.split_first_chunk::<N>()?;
+    if bytes.iter().all(|b| matches!(*b, 0x80..=0xBF)) {
+        return Some(rest);
+    }
+    None
 }

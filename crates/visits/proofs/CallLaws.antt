@@ -411,11 +411,6 @@ module _ (skip props : Bytes) (p : ℕ) (m : Mid) (v : P.Value) (d : m ≡ key_f
   pub key_on : (s' : Bytes) (r : Walk) → at [] s' r ≡ see (key_string (value (opts [] []) v)) (at [] s x) → key_left p (key_held (value (opts skip props) v)) (at o s' r) ≡ total
   key_on s' r e = ap (key_left p (key_held (value (opts skip props) v))) (lift o s s' x r key_before (key_plain (value (opts [] []) v)) e) ∙ held_left
 
--- no attribute decides it
-pub no_key : (skip props : Bytes) {m : Mid} (a : Bytes) → length a ≡ 0 → m ≡ key_from (value (opts skip props) (value_in (read a))) S.none → S.none ≡ m
-unfolding key_from value value_in
-no_key skip props a h d = sym (d ∙ ap (λ (x : Row). key_from (value (opts skip props) (value_in x)) S.none) (read_empty a h))
-
 module _ (p : ℕ) (m n : Mid) (e : n ≡ m) (w total : World) (g : key_left p m w ≡ total) where
   held_is : wrap 0x94 p (see n w) ≡ total
   unfolding key_left

@@ -26,7 +26,7 @@ use Rattle.walk.specs.Plan.{key_string, key_held}
 use Rattle.walk.proofs.SeeLaws.{see_grows, see_none}
 use Rattle.walk.proofs.ActLaws.{act_grows, is_none}
 use Rattle.visits.specs.Visiting.{is_found, found_out}
-use Rattle.visits.proofs.CallLaws.{stands_by, lacks_by, found_stands, Call, call_of, call_is, name_plain, key_left, props_left, child_left, found_left, children_left, attributes_left, named_left, name_left, call_left, children_front, grew, front_grew, front_past, child_grew, closed_grew, begin_room, name_room, props_begin_room, props_room, front_room, found_room, child_room, closed_room, begun_on, name_on, props_begun_on, front_on, child_on, closed_on, props_on, found_on, key_room, key_on, held_room, no_key, bare_lacks, bare_room, bare_on, call_low, call_done}
+use Rattle.visits.proofs.CallLaws.{stands_by, lacks_by, found_stands, Call, call_of, call_is, name_plain, key_left, props_left, child_left, found_left, children_left, attributes_left, named_left, name_left, call_left, children_front, grew, front_grew, front_past, child_grew, closed_grew, begin_room, name_room, props_begin_room, props_room, front_room, found_room, child_room, closed_room, begun_on, name_on, props_begun_on, front_on, child_on, closed_on, props_on, found_on, key_room, key_on, held_room, bare_lacks, bare_room, bare_on, call_low, call_done}
 
 -- b is the element, rest what lies behind its name; z is whether it is a component, s whether `children` stands
 module _ (skip props b o p : Bytes) (st : Walk) {rest : Bytes} (q : rest ≡ behind_of b) {z : Bool} (e : z ≡ is_component (element_name (read b))) where
@@ -137,16 +137,16 @@ module _ (skip props b o p : Bytes) (st : Walk) {rest : Bytes} (q : rest ≡ beh
                     closed_past : st.page + 3 ≤ y₈.page
                     closed_past = omega (arith, named_past, childed_past, closed_grew y₂.page _ _ y₇ _ e₈)
 
+                    -- there is no key
+                    module _ (g : key_of (not z) (attributes_at skip props (read rest)) none ≡ none) where
+                      pub keyless_asked : Low whole.st → (st.page + 3 ≤ y₈.page) × Low y₈
+                      keyless_asked l = (closed_past, call_low _ _ _ (sym g) _ _ props_close _ _ _ (sym (see_none _)) l)
+
+                      pub keyless_done : {p₉ : Bytes} {y₉ : Walk} → at [] p₉ y₉ ≡ wrap 0x94 st.page (at [] p₈ y₈) → at o₆ p₉ y₉ ≡ whole
+                      keyless_done e₉ = call_done _ _ _ (sym g) _ _ props_close _ _ _ (sym (see_none _)) _ _ e₉
+
                     -- a is the attribute that decides the key
                     module _ (a : Bytes) (g : key_of (not z) (attributes_at skip props (read rest)) none ≡ key_from (value (opts skip props) (value_in (read a))) none) where
-                      -- there is none
-                      module _ (h : length a ≡ 0) where
-                        pub keyless_asked : Low whole.st → (st.page + 3 ≤ y₈.page) × Low y₈
-                        keyless_asked l = (closed_past, call_low _ _ _ (no_key skip props _ h g) _ _ props_close _ _ _ (sym (see_none _)) l)
-
-                        pub keyless_done : {p₉ : Bytes} {y₉ : Walk} → at [] p₉ y₉ ≡ wrap 0x94 st.page (at [] p₈ y₈) → at o₆ p₉ y₉ ≡ whole
-                        keyless_done e₉ = call_done _ _ _ (no_key skip props _ h g) _ _ props_close _ _ _ (sym (see_none _)) _ _ e₉
-
                       pub key_asked : Low whole.st → Low (see (key_string (value (opts [] []) (value_in (read a)))) (at [] p₈ y₈)).st
                       key_asked l = key_room skip props _ _ (value_in (read a)) g _ _ _ _ props_close l
 

@@ -172,13 +172,14 @@ module _ (k p : Bytes) where
       items_item h a c = ap (items (opts k p)) (items_other t n e h a c) ∙ expr_rest (opts k p) (expr_in (read t)) (items_at k p (behind_of t)) ∙ rw u
 
     module _ (w : World) {total : World} (g : see (items_at k p t) w ≡ total) where
-      -- an expression in front of the others
+      -- an expression in front of the others, where x starts
       module _ (h : n ≡ 256 → ⊥) (a : n ≡ 0x77 → ⊥) (c : n ≡ 0x78 → ⊥) where
-        pub item_room : Low total.st → Low (see (expr_at k p t) w).st
-        item_room = turn_low (expr_at k p t) (items_at k p (behind_of t)) (items_item refl h a c) w g
+        module _ {x : Bytes} (y : x ≡ t) where
+          pub item_room : Low total.st → Low (see (expr_at k p x) w).st
+          item_room l = subst (λ (z : Bytes). Low (see (expr_at k p z) w).st) (sym y) (turn_low (expr_at k p t) (items_at k p (behind_of t)) (items_item refl h a c) w g l)
 
-        pub item_on : {r : Bytes} → r ≡ behind_of t → {w' : World} → w' ≡ see (expr_at k p t) w → see (items_at k p r) w' ≡ total
-        item_on {r} u = turn_on (expr_at k p t) (items_at k p r) (items_item u h a c) w g
+          pub item_on : {r : Bytes} → r ≡ behind_of t → {w' : World} → w' ≡ see (expr_at k p x) w → see (items_at k p r) w' ≡ total
+          item_on {r} u e' = turn_on (expr_at k p t) (items_at k p r) (items_item u h a c) w g (e' ∙ ap (λ (z : Bytes). see (expr_at k p z) w) y)
 
       pub items_end : Ended (read t) → w ≡ total
       unfolding items

@@ -1,20 +1,43 @@
 -- A field begins, something is done, and it is closed: the room at each step, and what stands then; with a number, only where it is asked
 -- for, or with something in front. Two things one after the other. What a function writes to page out alone, in both outs. Room of a part.
--- Main statements: `field_*`, `template_*`, `field_if_*`, `fronted_*`, `started_*`, `then_low`, `then_on`, `turn_low`, `turn_on`,
+-- Main statements: `front_some`, `front_none`, `field_*`, `template_*`, `field_if_*`, `fronted_*`, `started_*`, `then_low`, `then_on`, `turn_low`, `turn_on`,
 -- `page_low`, `see_kept`, `kept_since`, `room_part`. Assumes nothing.
-use mathlib.Core.Path.{◌≡◌, sym, ap, ◌∙◌}
+use mathlib.Core.Path.{◌≡◌, sym, ap, ◌∙◌, subst}
 use Prim.Native.Nat.{ℕ, ◌+◌, ◌≤◌, ◌<◌, ◌^◌}
 use native.Mathlib.Omega.{arith}
 use mathlib.Core.List.{[]}
-use mathlib.Core.Bool.{Bool, true, false, false≢true}
+use mathlib.Core.Bool.{Bool, true, false, not, false≢true}
 use lib.ListN.{length}
+use Rattle.std.specs.Prelude.{Option, Some, None}
+use Rattle.std.specs.Option.{is_some}
 use Rattle.field.specs.Bytes.{Bytes}
+use Rattle.field.specs.Row.{read, Ended}
+use Rattle.field.specs.Front.{tag_of_front, behind_of}
+use Rattle.field.specs.Fields.{IsFront, IsEnd, FieldAt}
+use Rattle.field.specs.declared.reader.Field.{Field}
 use Rattle.spec.specs.Pass.{Pass, Mid, ◌+++◌}
 use Rattle.walk.specs.declared.state.Walk.{Walk}
 use Rattle.walk.specs.See.{World, at, see, act, to_page, begun, numbered, wrap, begun_if, wrap_if, Low}
 use Rattle.walk.proofs.SeeLaws.{Grows, grows_then, low_back, low_is, begun_grows, see_grows, see_templates_length, see_page_length, lift, lift_wrap, lift_wrap_if, lift_numbered, lift_begun, lift_begun_if, plain}
 use Rattle.walk.proofs.ActLaws.{see_append, act_templates_length, act_page_length}
 use Rattle.visits.specs.Visiting.{Room}
+
+-- ---- what stands in front
+
+pub front_some : {s : Bytes} {r : Option Field} {f : Field} → FieldAt s r → r ≡ Some f → IsFront s f.tag f.body.now (behind_of s)
+front_some {s} a e = subst (FieldAt s) e a
+
+pub front_none : {s : Bytes} {r : Option Field} → FieldAt s r → r ≡ None → IsEnd s s
+front_none {s} a e = subst (FieldAt s) e a
+
+-- b is whether nothing does
+pub no_front : (s : Bytes) (r : Option Field) {b : Bool} → FieldAt s r → is_some r ≡ not b → b ≡ true → Ended (read s)
+no_front s None a e h = a.ended
+no_front s (Some f) a e h = absurd (false≢true (sym (e ∙ ap not h)))
+
+pub some_front : (s : Bytes) (r : Option Field) {b : Bool} → FieldAt s r → is_some r ≡ not b → b ≡ false → tag_of_front s ≡ 256 → ⊥
+some_front s None a e h z = absurd (false≢true (e ∙ ap not h))
+some_front s (Some f) a e h z = omega (arith, a.tag_is, a.tag_below, z)
 
 -- ---- what grows
 

@@ -10,7 +10,7 @@ use mathlib.Core.Option.{Option, none, some}
 use lib.Dec.{eqb}
 use lib.ListN.{length, drop, length-drop}
 use lib.Seq.{length-take-le}
-use borrow.Author.Tests.{eqb-true}
+use borrow.Author.Tests.{ne_eqb}
 use Rattle.field.specs.Bytes.{Bytes, pick}
 use Rattle.field.specs.Row.{Row, read}
 use Rattle.field.specs.Front.{tag_of_front, body_of}
@@ -39,7 +39,7 @@ use Rattle.walk.specs.declared.state.Walk.{Walk}
 use Rattle.walk.specs.See.{World, at, see, act, begun, numbered, wrap, begun_if, wrap_if, hole_mid, Low}
 use Rattle.walk.proofs.SeeLaws.{plain, low_is, see_node, see_state, lift}
 use Rattle.walk.proofs.ActLaws.{act_grows, act_long, act_gen_template, act_chars, act_gap, act_dynamic_append, act_no_entries, act_one_entry, act_still, act_nothing_found, act_one_found, act_array_found, elements_of, act_found_expr, act_spliced_expr}
-use Rattle.visits.specs.Visiting.{Place, expr_at, items_at, found_out, Given, Room}
+use Rattle.visits.specs.Visiting.{Place, expr_at, items_at, found_out, Given, Room, Spliced}
 use Rattle.visits.proofs.FieldLaws.{template_begin, template_inner, template_close, template_done, field_if_begin, field_if_inner, field_if_close, field_if_done, room_part, room_is}
 use Rattle.visits.proofs.PartLaws.{parts_direct}
 
@@ -145,18 +145,15 @@ module _ (o : Options) where
       (chosen (Alone o) (eqb t 0x74) _ _ refl (chosen (Alone o) (is_minus t) _ _ refl (passed_by (Alone o) (eqb t 0x76) _ _ h
       (chosen (Alone o) (eqb t 0x79) _ _ refl (chosen (Alone o) (eqb t 0x30) _ _ refl (chosen (Alone o) (eqb t 0x31) _ _ refl refl))))))))
 
-  module _ (u : Bytes) {n : ℕ} (e : n ≡ tag_of_front u) where
-    pub alone : eqb n 0x76 ≡ false → Alone o (expr_in (read u))
-    unfolding expr_in elements_of
-    alone h = any_front (λ (r : Row). Alone o (expr_in r)) u n e refl (λ b. refl) λ f j. alone_by n f _ _ _ _ h
+  alone : (u : Bytes) → (tag_of_front u ≡ 0x76 → ⊥) → Alone o (expr_in (read u))
+  unfolding expr_in elements_of
+  alone u h =
+      let n = tag_of_front u in
+      any_front (λ (r : Row). Alone o (expr_in r)) u n refl refl (λ b. refl) λ f j. alone_by n f _ _ _ _ (ne_eqb n 0x76 h)
 
-    elements_76 : eqb n 0x76 ≡ true → {c : Bytes} → c ≡ body_of u → elements_of o (expr_in (read u)) ≡ items o (items_in (read c))
-    unfolding elements_of
-    elements_76 h {c} q = ap (elements_of o) (expr_76 u n e (eqb-true n 0x76 h)) ∙ ap (λ (x : Bytes). items o (items_in (read x))) (sym q)
-
--- where nothing is spliced that is not asked
-pub unspliced : {X : Type 0} {b : Bool} → b ≡ false → b ≡ true → X
-unspliced h z = absurd (false≢true (sym h ∙ z))
+  elements_76 : (u : Bytes) → tag_of_front u ≡ 0x76 → {c : Bytes} → c ≡ body_of u → elements_of o (expr_in (read u)) ≡ items o (items_in (read c))
+  unfolding elements_of
+  elements_76 u h {c} q = ap (elements_of o) (expr_76 u (tag_of_front u) refl h) ∙ ap (λ (x : Bytes). items o (items_in (read x))) (sym q)
 
 out_expr : (o : Options) (e : P.Expr) (b : Bool) (w : World) → (b ≡ true → Alone o e) → act (found_out b (found_of (expr o e S.none))) w ≡ see (expr o e S.none) w
 unfolding found_out
@@ -242,16 +239,16 @@ module _ {skip props s : Bytes} {f : Place} (g : Given skip props s f) {u : Byte
         is_found r.found_is ∙ out_one (at t p st) b (still (string_node r.run)) ∙ sym (act_one_entry (still (string_node r.run)) (at t p st))
         ∙ ap (λ (es : List Entry). act (entries_pass es) (at t p st)) (sym r.among_all)
 
-    expr_is : f.kind ≡ K.Expr → (b ≡ true → Alone (opts skip props) (expr_in (read u))) → given_out skip props s b (at t p st) ≡ see (expr_at skip props u) (at t p st)
-    expr_is k h = is_found (found_as K.Expr k) ∙ out_expr (opts skip props) (expr_in (read u)) b (at t p st) h
+    expr_is : f.kind ≡ K.Expr → (b ≡ true → tag_of_front u ≡ 0x76 → ⊥) → given_out skip props s b (at t p st) ≡ see (expr_at skip props u) (at t p st)
+    expr_is k h = is_found (found_as K.Expr k) ∙ out_expr (opts skip props) (expr_in (read u)) b (at t p st) (λ z. alone (opts skip props) u (h z))
 
-    items_is : f.kind ≡ K.Expr → b ≡ true → {n : ℕ} → n ≡ tag_of_front u → eqb n 0x76 ≡ true → {c : Bytes} → c ≡ body_of u →
+    items_is : f.kind ≡ K.Expr → {c : Bytes} → Spliced u b c →
         given_out skip props s b (at t p st) ≡ see (items_at skip props c) (at t p st)
     unfolding found_out
-    items_is k z {n} e h q =
-        is_found (found_as K.Expr k) ∙ ap (λ (x : Bool). act (found_out x (found_of (expr_at skip props u))) (at t p st)) z
+    items_is k q =
+        is_found (found_as K.Expr k) ∙ ap (λ (x : Bool). act (found_out x (found_of (expr_at skip props u))) (at t p st)) q.asked
         ∙ act_spliced_expr (opts skip props) (at t p st) (expr_in (read u))
-        ∙ ap (λ (m : Mid). see m (at t p st)) (elements_76 (opts skip props) u e h q)
+        ∙ ap (λ (m : Mid). see m (at t p st)) (elements_76 (opts skip props) u q.tag_is q.body_is)
 
     -- there is room for these
     part_room : (c : Bytes) (w : World) → length c ≤ length s → given_out skip props s b (at t p st) ≡ w → {scratch : Bytes} → Room scratch s (given_out skip props s b (at t p st)) → Room scratch c w
@@ -264,13 +261,13 @@ module _ {skip props s : Bytes} {f : Place} (g : Given skip props s f) {u : Byte
     pub run_room : f.kind ≡ K.Run → {scratch : Bytes} → Room scratch s (given_out skip props s b (at t p st)) → Room scratch u (act (entries_pass (entries_at skip props u)) (at t p st))
     run_room k = part_room u (act (entries_pass (entries_at skip props u)) (at t p st)) found_short (run_is k)
 
-    pub expr_room : f.kind ≡ K.Expr → (b ≡ true → Alone (opts skip props) (expr_in (read u))) → {scratch : Bytes} → Room scratch s (given_out skip props s b (at t p st)) →
+    pub expr_room : f.kind ≡ K.Expr → (b ≡ true → tag_of_front u ≡ 0x76 → ⊥) → {scratch : Bytes} → Room scratch s (given_out skip props s b (at t p st)) →
         Room scratch u (see (expr_at skip props u) (at t p st))
     expr_room k h = part_room u (see (expr_at skip props u) (at t p st)) found_short (expr_is k h)
 
-    pub items_room : f.kind ≡ K.Expr → b ≡ true → {n : ℕ} → n ≡ tag_of_front u → eqb n 0x76 ≡ true → {c : Bytes} → c ≡ body_of u → {scratch : Bytes} →
+    pub items_room : f.kind ≡ K.Expr → {c : Bytes} → Spliced u b c → {scratch : Bytes} →
         Room scratch s (given_out skip props s b (at t p st)) → Room scratch c (see (items_at skip props c) (at t p st))
-    items_room k z e h {c} q = part_room c (see (items_at skip props c) (at t p st)) (items_short q) (items_is k z e h q)
+    items_room k {c} q = part_room c (see (items_at skip props c) (at t p st)) (items_short q.body_is) (items_is k q)
 
     pub element_done : f.kind ≡ K.Element → {c : Bytes} → c ≡ body_of u → {t₂ p₂ : Bytes} {st₂ : Walk} → at t₂ p₂ st₂ ≡ act (serialize_jsx (element_at skip props c)) (at t p st) → at t₂ p₂ st₂ ≡ given_out skip props s b (at t p st)
     element_done k q d = d ∙ sym (element_is k q)
@@ -278,12 +275,12 @@ module _ {skip props s : Bytes} {f : Place} (g : Given skip props s f) {u : Byte
     pub run_done : f.kind ≡ K.Run → {t₂ p₂ : Bytes} {st₂ : Walk} → at t₂ p₂ st₂ ≡ act (entries_pass (entries_at skip props u)) (at t p st) → at t₂ p₂ st₂ ≡ given_out skip props s b (at t p st)
     run_done k d = d ∙ sym (run_is k)
 
-    pub expr_done : f.kind ≡ K.Expr → (b ≡ true → Alone (opts skip props) (expr_in (read u))) → {t₂ p₂ : Bytes} {st₂ : Walk} → at t₂ p₂ st₂ ≡ see (expr_at skip props u) (at t p st) → at t₂ p₂ st₂ ≡ given_out skip props s b (at t p st)
+    pub expr_done : f.kind ≡ K.Expr → (b ≡ true → tag_of_front u ≡ 0x76 → ⊥) → {t₂ p₂ : Bytes} {st₂ : Walk} → at t₂ p₂ st₂ ≡ see (expr_at skip props u) (at t p st) → at t₂ p₂ st₂ ≡ given_out skip props s b (at t p st)
     expr_done k h d = d ∙ sym (expr_is k h)
 
-    pub items_done : f.kind ≡ K.Expr → b ≡ true → {n : ℕ} → n ≡ tag_of_front u → eqb n 0x76 ≡ true → {c : Bytes} → c ≡ body_of u → {t₂ p₂ : Bytes} {st₂ : Walk} →
+    pub items_done : f.kind ≡ K.Expr → {c : Bytes} → Spliced u b c → {t₂ p₂ : Bytes} {st₂ : Walk} →
         at t₂ p₂ st₂ ≡ see (items_at skip props c) (at t p st) → at t₂ p₂ st₂ ≡ given_out skip props s b (at t p st)
-    items_done k z e h q d = d ∙ sym (items_is k z e h q)
+    items_done k q d = d ∙ sym (items_is k q)
 
     -- a template of the children at the place
     module _ (k : f.kind ≡ K.Template) where

@@ -1,7 +1,6 @@
 -- Laws of the page walk's cycle.
 pub mod FieldLaws
 pub mod ExprLaws
-pub mod StateLaws
 pub mod PartLaws
 pub mod CallLaws
 pub mod CallSteps

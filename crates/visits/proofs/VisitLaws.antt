@@ -1,7 +1,6 @@
 -- A visit: the record walk, and then both passes with the numbers behind it. What a first pass gives is no tag, or the tag is left. What the
 -- children of a fragment give, by its kind; a fragment, by how many children it has and by the first.
--- Main statements: `see_visit`; `element_*`, `template_*` and `given_*` for the steps of a visit; `left_room`, `left_done`; `found_nothing`,
--- `found_tag`, `found_given`; `fragment_*`. Assumes nothing.
+-- Main statements: `see_visit`; `element_*`, `template_*` and `found_*` for the steps of a visit; `left_room`, `left_done`; `fragment_*`. Assumes nothing.
 use mathlib.Core.Path.{◌≡◌, refl, sym, ap, ◌∙◌, subst}
 use Prim.Native.Nat.{ℕ, ◌+◌, ◌≤◌}
 use native.Mathlib.Omega.{arith}
@@ -10,8 +9,6 @@ use mathlib.Core.Bool.{Bool, true, false, ◌||◌, or-false, false≢true}
 use lib.Dec.{eqb}
 use lib.ListN.{length, drop, length-take, length-drop}
 use borrow.Author.Tests.{ne_eqb}
-use denote.Enum.Declared.{tag_of}
-use types.Run.{OneOf, miss}
 use Rattle.field.specs.Bytes.{Bytes, pick}
 use Rattle.field.specs.Row.{Row, end, field, read, bytes, long_body}
 use Rattle.field.specs.Front.{tag_of_front, body_of, behind_of}
@@ -40,13 +37,12 @@ use Rattle.records.specs.Keep.{keep}
 use Rattle.found.specs.Finds.{Finds, part}
 use Rattle.found.specs.declared.Kind.{Kind}
 use Rattle.found.specs.declared.Kind.TheVariants as F
-use Rattle.found.specs.contracts.Kind.{the_type}
 use Rattle.walk.specs.declared.state.Walk.{Walk}
 use Rattle.strings.specs.Due.{graver, long_due, grave}
 use Rattle.walk.specs.See.{World, at, wrote, see, passed, act, numbered, wrap, left, Low}
 use Rattle.walk.proofs.SeeLaws.{Split, wrote_then, lift, lift_left, low_is}
 use Rattle.walk.proofs.ActLaws.{see_raw, after_fields, passed_see, act_gen_template, act_grows, act_first}
-use Rattle.visits.specs.Visiting.{Place, expr_at, element_mid, fragment_mid, untagged_kind, found_out, recording, entered, enter, with_first, returned, Given, Untagged}
+use Rattle.visits.specs.Visiting.{Place, expr_at, element_mid, fragment_mid, is_left, found_out, recording, entered, enter, with_first, returned, Given}
 use Rattle.visits.proofs.FieldLaws.{template_begin, template_inner, template_close, template_done}
 
 -- ---- a visit
@@ -274,9 +270,9 @@ module _ (skip props b : Bytes) where
       any_front (λ (r : Row). is_raw (found_pass (found_of (expr (opts skip props) (expr_in r) none)) n).value ≡ false) b t refl refl (λ x. refl) λ x y.
       rw (ne_eqb t 0x70 a, ne_eqb t 0x71 c, ne_eqb t 0x72 d, ne_eqb t 0x74 e, ne_eqb t 0x75 f, ne_eqb t 0x76 g, ne_eqb t 0x79 i, ne_eqb t 0x7a j, ne_eqb t 0x7b l, k.0, k.1)
 
-  finds_untagged : (x : M.Found) (k : Kind) → Finds skip props x k b → untagged_kind k b → (n : ℕ) → is_raw (found_pass x n).value ≡ false
+  finds_untagged : (x : M.Found) (k : Kind) → Finds skip props x k b → is_left k b ≡ false → (n : ℕ) → is_raw (found_pass x n).value ≡ false
   unfolding found_pass entry_pass pure map raise gen_template
-  finds_untagged x F.Nothing e u n = absurd u
+  finds_untagged x F.Nothing e u n = absurd (false≢true (sym u))
   finds_untagged x F.Empty e u n = ap (λ (y : M.Found). is_raw (found_pass y n).value) e
   finds_untagged x F.Many e u n = ap (λ (y : M.Found). is_raw (found_pass y n).value) e.0
   finds_untagged x F.Run e u n = ap (λ (y : M.Found). is_raw (found_pass y n).value) e.found_is
@@ -287,45 +283,13 @@ module _ (skip props b : Bytes) where
   finds_untagged x F.Item e u n = absurd e
   finds_untagged x F.Hole e u n = ap (λ (y : M.Found). is_raw (found_pass y n).value) e
 
-pub given_untagged : (skip props s : Bytes) (f : Place) → Given skip props s f → Untagged skip props s f → (n : ℕ) →
+pub given_untagged : (skip props s : Bytes) (f : Place) → Given skip props s f → is_left f.kind (part s f) ≡ false → (n : ℕ) →
     is_raw (found_pass (children_to_expr (children_at skip props (read s))) n).value ≡ false
 given_untagged skip props s f e u n = finds_untagged skip props (part s f) (children_to_expr (children_at skip props (read s))) f.kind e.finds u n
 
 -- a place is no longer than what it lies in
 pub part_short : (s : Bytes) (f : Place) {c : Bytes} → c ≡ part s f → length c ≤ length s
 part_short s f q = omega (arith, ap length q, length-take f.len (drop f.from s), length-drop f.from s)
-
--- all kinds but two
-abbrev pub Rest : Kind → Type 0
-Rest k = OneOf (1 ∷ 2 ∷ 3 ∷ 4 ∷ 5 ∷ 6 ∷ 8 ∷ 9 ∷ []) (tag_of the_type k)
-
-pub rest_untagged : (k : Kind) (b : Bytes) → Rest k → untagged_kind k b
-rest_untagged F.Nothing b h = absurd (miss (1 ∷ 2 ∷ 3 ∷ 4 ∷ 5 ∷ 6 ∷ 8 ∷ 9 ∷ []) 0 tt h)
-rest_untagged F.Empty b h = tt
-rest_untagged F.Many b h = tt
-rest_untagged F.Run b h = tt
-rest_untagged F.Text b h = tt
-rest_untagged F.Element b h = tt
-rest_untagged F.Template b h = tt
-rest_untagged F.Expr b h = absurd (miss (1 ∷ 2 ∷ 3 ∷ 4 ∷ 5 ∷ 6 ∷ 8 ∷ 9 ∷ []) 7 tt h)
-rest_untagged F.Item b h = tt
-rest_untagged F.Hole b h = tt
-
-abbrev pub given_raw : (skip props s : Bytes) → Raw
-given_raw skip props s = visit_after (found_pass (children_to_expr (children_at skip props (read s))))
-
-module _ (skip props s : Bytes) (f : Place) (j : Given skip props s f) (u : Untagged skip props s f) (o g : Bytes) (st : Walk) {rs : Records} (e : rs ≡ recording st) where
-  pub given_recorded : Low (see (raw (given_raw skip props s) none) (at o g st)).st → K.Low (keep (found_pass (children_to_expr (children_at skip props (read s)))) (K.at o rs))
-  given_recorded = visit_recorded (given_raw skip props s) (found_pass (children_to_expr (children_at skip props (read s)))) o g st refl (given_untagged skip props s f j u st.later) e
-
-  module _ {o₁ : Bytes} {k : Records} (d : K.at o₁ k ≡ keep (found_pass (children_to_expr (children_at skip props (read s)))) (K.at o rs)) {x : Walk} (q : x ≡ entered k st) where
-    pub given_paged : Low (see (raw (given_raw skip props s) none) (at o g st)).st → Low (act (found_out false (children_to_expr (children_at skip props (read s)))) (at o₁ g x)).st
-    unfolding found_out
-    given_paged = visit_paged (given_raw skip props s) (found_pass (children_to_expr (children_at skip props (read s)))) o g st refl (given_untagged skip props s f j u st.later) e d q
-
-    pub given_done : {o₂ g₂ : Bytes} {y : Walk} → at o₂ g₂ y ≡ act (found_out false (children_to_expr (children_at skip props (read s)))) (at o₁ g x) → {z : Walk} → z ≡ with_first st.first y → at o₂ g₂ z ≡ see (raw (given_raw skip props s) none) (at o g st)
-    unfolding found_out
-    given_done a b = visit_done (given_raw skip props s) (found_pass (children_to_expr (children_at skip props (read s)))) o g st refl (given_untagged skip props s f j u st.later) e d q a b
 
 -- ---- a fragment in a fragment, by what its children give
 
@@ -367,9 +331,9 @@ module _ (o : Options) (n : ℕ) where
   visit_expr (P.tag_expr t) = refl
 
 module _ (skip props b : Bytes) (n : ℕ) where
-  visit_given : (x : M.Found) (k : Kind) → Finds skip props x k b → untagged_kind k b → visit_found x n ≡ visit_after (found_pass x) n
+  visit_given : (x : M.Found) (k : Kind) → Finds skip props x k b → is_left k b ≡ false → visit_found x n ≡ visit_after (found_pass x) n
   unfolding visit_found
-  visit_given x F.Nothing e u = absurd u
+  visit_given x F.Nothing e u = absurd (false≢true (sym u))
   visit_given x F.Empty e u = subst (λ (y : M.Found). visit_found y n ≡ visit_after (found_pass y) n) (sym e) refl
   visit_given x F.Many e u = subst (λ (y : M.Found). visit_found y n ≡ visit_after (found_pass y) n) (sym e.0) refl
   visit_given x F.Run e u = subst (λ (y : M.Found). visit_found y n ≡ visit_after (found_pass y) n) (sym e.found_is) refl
@@ -380,30 +344,44 @@ module _ (skip props b : Bytes) (n : ℕ) where
   visit_given x F.Item e u = absurd e
   visit_given x F.Hole e u = subst (λ (y : M.Found). visit_found y n ≡ visit_after (found_pass y) n) (sym e) refl
 
-module _ (skip props s : Bytes) (f : Place) (e : Finds skip props (children_to_expr (children_at skip props (read s))) f.kind (part s f)) (w : World) where
-  found_by : (k : Kind) → f.kind ≡ k → Finds skip props (children_to_expr (children_at skip props (read s))) k (part s f)
-  found_by k h = subst (λ (y : Kind). Finds skip props (children_to_expr (children_at skip props (read s))) y (part s f)) h e
-
-  pub found_nothing : f.kind ≡ F.Nothing → see (raw (found_raw skip props s) none) w ≡ left w
+  visit_left : (x : M.Found) (k : Kind) → Finds skip props x k b → is_left k b ≡ true → visit_found x n ≡ leave n
   unfolding visit_found
-  found_nothing h = see_visited (found_raw skip props s) leave w (ap (λ (x : M.Found). visit_found x w.st.later) (found_by F.Nothing h)) ∙ see_left w
+  visit_left x F.Nothing e u = ap (λ (y : M.Found). visit_found y n) e
+  visit_left x F.Empty e u = absurd (false≢true u)
+  visit_left x F.Many e u = absurd (false≢true u)
+  visit_left x F.Run e u = absurd (false≢true u)
+  visit_left x F.Text e u = absurd (false≢true u)
+  visit_left x F.Element e u = absurd (false≢true u)
+  visit_left x F.Template e u = absurd (false≢true u)
+  visit_left x F.Expr e u =
+      let g = tagged b u in
+      ap (λ (y : M.Found). visit_found y n) e ∙ ap (λ (y : P.Expr). visit_found (found_of (expr (opts skip props) y none)) n) g.expr_is ∙ left_tag (opts skip props) n g.the_tag
+  visit_left x F.Item e u = absurd (false≢true u)
+  visit_left x F.Hole e u = absurd (false≢true u)
 
-  module _ (h : f.kind ≡ F.Expr) {c : Bytes} (q : c ≡ part s f) where
-    pub found_tag : {t : Bool} → t ≡ (eqb (tag_of_front c) 0x30 || eqb (tag_of_front c) 0x31) → t ≡ true → see (raw (found_raw skip props s) none) w ≡ left w
-    found_tag k l =
-        let g = tagged c (sym k ∙ l) in
-        see_visited (found_raw skip props s) leave w
-        (ap (λ (x : M.Found). visit_found x w.st.later) (found_by F.Expr h ∙ (ap (λ (x : Bytes). found_of (expr_at skip props x)) (sym q) ∙ ap (λ (x : P.Expr). found_of (expr (opts skip props) x none)) g.expr_is))
-        ∙ left_tag (opts skip props) w.st.later g.the_tag)
-        ∙ see_left w
+module _ (skip props s : Bytes) (f : Place) (e : Finds skip props (children_to_expr (children_at skip props (read s))) f.kind (part s f)) (w : World) where
+  pub found_left : is_left f.kind (part s f) ≡ true → see (raw (found_raw skip props s) none) w ≡ left w
+  found_left u =
+      see_visited (found_raw skip props s) leave w
+      (visit_left skip props (part s f) w.st.later (children_to_expr (children_at skip props (read s))) f.kind e u)
+      ∙ see_left w
 
-    pub expr_no_tag : {t : Bool} → t ≡ (eqb (tag_of_front c) 0x30 || eqb (tag_of_front c) 0x31) → t ≡ false → Untagged skip props s f
-    expr_no_tag k l = subst (λ (y : Kind). untagged_kind y (part s f)) (sym h) (subst (λ (x : Bytes). (eqb (tag_of_front x) 0x30 || eqb (tag_of_front x) 0x31) ≡ false) q (sym k ∙ l))
+-- and anything else is visited
+module _ (skip props s : Bytes) (f : Place) (j : Given skip props s f) (u : is_left f.kind (part s f) ≡ false) (o g : Bytes) (st : Walk) {rs : Records} (e : rs ≡ recording st) where
+  found_visited : found_raw skip props s st.later ≡ visit_after (found_pass (children_to_expr (children_at skip props (read s)))) st.later
+  found_visited = visit_given skip props (part s f) st.later (children_to_expr (children_at skip props (read s))) f.kind j.finds u
 
-  pub found_given : Untagged skip props s f → see (raw (found_raw skip props s) none) w ≡ see (raw (given_raw skip props s) none) w
-  found_given u =
-      see_visited (found_raw skip props s) (given_raw skip props s) w
-      (visit_given skip props (part s f) w.st.later (children_to_expr (children_at skip props (read s))) f.kind e u)
+  pub found_recorded : Low (see (raw (found_raw skip props s) none) (at o g st)).st → K.Low (keep (found_pass (children_to_expr (children_at skip props (read s)))) (K.at o rs))
+  found_recorded = visit_recorded (found_raw skip props s) (found_pass (children_to_expr (children_at skip props (read s)))) o g st found_visited (given_untagged skip props s f j u st.later) e
+
+  module _ {o₁ : Bytes} {k : Records} (d : K.at o₁ k ≡ keep (found_pass (children_to_expr (children_at skip props (read s)))) (K.at o rs)) {x : Walk} (q : x ≡ entered k st) where
+    pub found_paged : Low (see (raw (found_raw skip props s) none) (at o g st)).st → Low (act (found_out false (children_to_expr (children_at skip props (read s)))) (at o₁ g x)).st
+    unfolding found_out
+    found_paged = visit_paged (found_raw skip props s) (found_pass (children_to_expr (children_at skip props (read s)))) o g st found_visited (given_untagged skip props s f j u st.later) e d q
+
+    pub found_done : {o₂ g₂ : Bytes} {y : Walk} → at o₂ g₂ y ≡ act (found_out false (children_to_expr (children_at skip props (read s)))) (at o₁ g x) → {z : Walk} → z ≡ with_first st.first y → at o₂ g₂ z ≡ see (raw (found_raw skip props s) none) (at o g st)
+    unfolding found_out
+    found_done a b = visit_done (found_raw skip props s) (found_pass (children_to_expr (children_at skip props (read s)))) o g st found_visited (given_untagged skip props s f j u st.later) e d q a b
 
 -- ---- a fragment
 

@@ -2,7 +2,7 @@
 use Rattle.std.specs.Prelude.{ℕ, ◌≤◌, ◌<◌, ◌^◌, Bool, true, false, ◌||◌, ◌≡◌, eqb, length}
 use Rattle.field.specs.Bytes.{Bytes}
 use Rattle.field.specs.Row.{read}
-use Rattle.field.specs.Front.{tag_of_front}
+use Rattle.field.specs.Front.{tag_of_front, body_of}
 use Rattle.page.specs.Tree.{expr_in, items_in, pieces_in, contained_in}
 use Rattle.spec.specs.Pass as S
 use Rattle.spec.specs.Pass.{Pass, Mid, raw}
@@ -48,15 +48,12 @@ module _ (skip props : Bytes) where
   abbrev pub fragment_mid : Bytes → Mid
   fragment_mid s = raw (visit_fragment (children_at skip props (read s))) S.none
 
-  -- a fragment's children as a template; what they give, where they stand in a fragment, and where that is no tag
+  -- a fragment's children as a template; what they give, where they stand in a fragment
   abbrev pub template_mid : Bytes → Mid
   template_mid s = raw (visit_after (gen_template (children_to_string false (children_at skip props (read s))))) S.none
 
   abbrev pub found_mid : Bytes → Mid
   found_mid s = raw (visit_found (children_to_expr (children_at skip props (read s)))) S.none
-
-  abbrev pub given_mid : Bytes → Mid
-  given_mid s = raw (visit_after (found_pass (children_to_expr (children_at skip props (read s))))) S.none
 
 -- what children give, as one expression, or spliced into an array
 unfoldable pub found_out : (splice : Bool) → Found → Pass Mid
@@ -75,17 +72,24 @@ is_found F.Expr = true
 is_found F.Item = true
 is_found F.Hole = true
 
-abbrev pub untagged_kind : Kind → Bytes → Type 0
-untagged_kind F.Nothing b = ⊥
-untagged_kind F.Empty b = Unit {0}
-untagged_kind F.Many b = Unit {0}
-untagged_kind F.Run b = Unit {0}
-untagged_kind F.Text b = Unit {0}
-untagged_kind F.Element b = Unit {0}
-untagged_kind F.Template b = Unit {0}
-untagged_kind F.Expr b = (eqb (tag_of_front b) 0x30 || eqb (tag_of_front b) 0x31) ≡ false
-untagged_kind F.Item b = Unit {0}
-untagged_kind F.Hole b = Unit {0}
+-- a fragment leaves what its children give: nothing, or a tag
+abbrev pub is_left : Kind → Bytes → Bool
+is_left F.Nothing b = true
+is_left F.Empty b = false
+is_left F.Many b = false
+is_left F.Run b = false
+is_left F.Text b = false
+is_left F.Element b = false
+is_left F.Template b = false
+is_left F.Expr b = eqb (tag_of_front b) 0x30 || eqb (tag_of_front b) 0x31
+is_left F.Item b = false
+is_left F.Hole b = false
+
+-- w holds the elements of the array literal in front, which is spliced
+pub record Spliced (u : Bytes) (splice : Bool) (w : Bytes) : Type 0 where
+  pub asked : splice ≡ true
+  pub tag_is : tag_of_front u ≡ 0x76
+  pub body_is : w ≡ body_of u
 
 -- ---- a visit
 
@@ -118,10 +122,6 @@ returned n w = at w.templates w.page (with_first n w.st)
 pub record Given (skip props s : Bytes) (f : Place) : Type 0 where
   pub within : Finds.Within f s
   pub finds : Finds.Finds skip props (children_to_expr (children_at skip props (read s))) f.kind (Finds.part s f)
-
--- and it is no tag
-abbrev pub Untagged : (skip props s : Bytes) → Place → Type 0
-Untagged skip props s f = untagged_kind f.kind (Finds.part s f)
 
 -- ---- room: for the desk, for the record walk over s, and for all that is written
 pub record Room (scratch s : Bytes) (w : World) : Type 0 where

@@ -1,10 +1,11 @@
 // How a visit begins and ends, and what is told apart before it.
-ghost use Rattle.std.specs.Prelude.{◌≡◌, ◌||◌, eqb};
+ghost use Rattle.std.specs.Prelude.{◌≡◌, true, MatchOption};
 ghost use Rattle.field.specs.Front.{tag_of_front};
+ghost use Rattle.found.specs.Finds.{Within, part};
 ghost use Rattle.visits.specs.Visiting as Visiting;
-ghost use Rattle.visits.specs.Visiting.{recording, entered, with_first};
+ghost use Rattle.visits.specs.Visiting.{recording, entered, with_first, Spliced};
 
-use field::reader::tag_at;
+use field::reader::{Field, field_at};
 use found::{Found, Kind};
 use records::Records;
 use walk::state::{Seen, Walk};
@@ -40,20 +41,37 @@ pub fn returned(st: Walk, first: usize) -> Walk
     Walk { first, ..st }
 }
 
-// Whether a tag stands in front.
-pub fn is_tag(c: &[u8]) -> bool
-    ensures { result ≡ (eqb (tag_of_front c.now) 0x30 || eqb (tag_of_front c.now) 0x31) }
+// Whether a fragment leaves what its children give: nothing, or a tag.
+pub fn is_left(f: Found, s: &[u8]) -> bool
+    requires { Within f s.now }
+    ensures { result ≡ Visiting.is_left f.kind (part s.now f) }
 {
-    let t = tag_at(c);
-    t == 0x30 || t == 0x31
+    match f.kind {
+        Kind::Nothing => true,
+        Kind::Expr => matches!(
+            field_at(f.part(s)),
+            Some(Field {
+                tag: 0x30 | 0x31,
+                ..
+            })
+        ),
+        _ => false,
+    }
 }
 
 // Whether children give something.
 pub fn is_found(f: Found) -> bool
     ensures { result ≡ Visiting.is_found f.kind }
 {
-    match f.kind {
-        Kind::Nothing => false,
-        _ => true,
+    !matches!(f.kind, Kind::Nothing)
+}
+
+// The elements of the array literal in front, where it is spliced.
+pub fn elements(u: &[u8], splice: bool) -> Option<&[u8]>
+    ensures { MatchOption result (splice ≡ true → tag_of_front u.now ≡ 0x76 → ⊥) (λ w. Spliced u.now splice w.now) }
+{
+    match field_at(u) {
+        Some(Field { tag: 0x76, body }) if splice => Some(body),
+        _ => None,
     }
 }

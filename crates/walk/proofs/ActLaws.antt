@@ -22,11 +22,11 @@ use Rattle.page.specs.Page.{Name, Options}
 use Rattle.spec.specs.Pass.{Done, Pass, pure, map, both, bind, raise, join, long_if, Raw, Mid, none, node, raw, ◌+++◌, ◌⧺◌, Part, chars, gap, mark}
 use Rattle.spec.specs.declared.Flags.{Flags}
 use Rattle.spec.specs.Output.{leaf, string_node, null_node, prop_node, dynamic_exprs, gen_template}
-use Rattle.spec.specs.Merge.{Entry, still, Found, nothing_found, one_found, array_found, Child, text, empty, container, element, fragment, spread}
+use Rattle.spec.specs.Merge.{Entry, still, nothing_found, one_found, array_found, Child}
 use Rattle.spec.specs.Attributes as Held
 use Rattle.spec.specs.Attributes.{Attribute, is_component, props_of, prop_of, key_of}
-use Rattle.spec.specs.Children.{stills, found_of, spliced, entry_pass, entries_pass, found_pass, children_prop, props_node, name_expr, call_node, children_to_expr, to_call_expr, serialize_jsx}
-use Rattle.spec.specs.Visit.{visit_exprs, visit_inside, visit_after, visit_found, visit_only_child, visit_fragment, leave}
+use Rattle.spec.specs.Children.{stills, found_of, spliced, entry_pass, entries_pass, found_pass, children_prop, props_node, name_expr, call_node, children_to_expr, to_call_expr}
+use Rattle.spec.specs.Visit.{visit_exprs, visit_inside, visit_after, leave}
 use Rattle.spec.specs.Transform.{stands, expr, raw_tag, items, pieces}
 use Rattle.spec.specs.declared.Flags.{Flags}
 use Rattle.walk.specs.See.{World, at, wrote, see, passed, act, to_page, begun, numbered, wrap, props_closed}
@@ -108,27 +108,6 @@ pub after_fields : (p : Pass Mid) (n : ℕ) → (visit_after p n).value ⧺ end 
 unfolding visit_after bind
 after_fields p n = inside_fields (p n).value (n + (p n).taken)
 
-found_fields : (f : Found) (n : ℕ) → (visit_found f n).value ⧺ end ≡ (visit_found f n).value
-unfolding visit_found leave raise pure ◌⧺◌
-found_fields nothing_found n = refl
-found_fields (one_found e) n = after_fields (found_pass (one_found e)) n
-found_fields (array_found es) n = after_fields (found_pass (array_found es)) n
-
-child_fields : (c : Child) (n : ℕ) → (visit_only_child c n).value ⧺ end ≡ (visit_only_child c n).value
-unfolding visit_only_child leave raise pure ◌⧺◌
-child_fields (text t) n = after_fields _ n
-child_fields empty n = after_fields _ n
-child_fields (container s m) n = after_fields _ n
-child_fields (element e) n = after_fields (serialize_jsx e) n
-child_fields (fragment f) n = found_fields f.to_expr n
-child_fields (spread m) n = refl
-
-pub fragment_fields : (cs : List Child) (n : ℕ) → (visit_fragment cs n).value ⧺ end ≡ (visit_fragment cs n).value
-unfolding visit_fragment pure ◌⧺◌
-fragment_fields [] n = refl
-fragment_fields (c ∷ []) n = child_fields c n
-fragment_fields (c ∷ c' ∷ cs) n = after_fields _ n
-
 -- ---- what a first pass leaves goes through what is written
 
 -- the state with another first number
@@ -139,12 +118,6 @@ module _ (d : Done Mid) where
   pub passed_see : (m : Mid) (w : World) → passed d (see m w) ≡ see m (passed d w)
   unfolding see
   passed_see m w = refl
-
-  pub passed_wrap : (t p : ℕ) (w : World) → passed d (wrap t p w) ≡ wrap t p (passed d w)
-  passed_wrap t p w = refl
-
-  pub passed_begun : (w : World) → passed d (begun w) ≡ begun (passed d w)
-  passed_begun w = refl
 
   passed_pick : (b : Bool) (x y : World) → passed d (pick b x y) ≡ pick b (passed d x) (passed d y)
   passed_pick true x y = refl

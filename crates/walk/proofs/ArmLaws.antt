@@ -1,10 +1,10 @@
 -- What an arm of the page walk's writers writes, by the tag, the test or the gap that it is for: literals, names, the `children` property, the
--- end of properties, both ends of what an attribute leaves, the key. Main statements: `literal_70` and the like, `names_on`, `namespaced_done`,
--- `name_expr_41` and the like, `stands_is`, `props_is`, `front_true` and the like, `back_plain` and the like, `key_51`. Assumes nothing.
+-- end of properties, both ends of what an attribute leaves. Main statements: `literal_bytes` and the like, `names_on`, `namespaced_done`,
+-- `name_expr_41` and the like, `stands_is`, `props_is`, `front_done`, `front_room`, `back_plain` and the like. Assumes nothing.
 use Rattle.std.specs.Prelude.{Option, Some, None}
-use mathlib.Core.Path.{◌≡◌, refl, sym, ap, ◌∙◌}
+use mathlib.Core.Path.{◌≡◌, refl, sym, ap, ◌∙◌, subst}
 use mathlib.Core.Logic.{◌⊎◌, ⊎_elim}
-use mathlib.Core.Bool.{Bool, true, false}
+use mathlib.Core.Bool.{Bool, true, false, true≢false, false≢true}
 use mathlib.Core.List.{List, [], ◌∷◌, ◌++◌}
 use Prim.Native.Nat.{ℕ, ◌+◌, ◌≤◌, ◌<◌, ◌^◌}
 use native.Mathlib.Omega.{arith}
@@ -14,84 +14,79 @@ use borrow.Author.Tests.{eq-eqb, ne_eqb}
 use Rattle.field.specs.Bytes.{Bytes, pick}
 use Rattle.field.specs.Row.{read, Ended}
 use Rattle.field.specs.Front.{tag_of_front, body_of, behind_of}
+use Rattle.field.specs.Fields.{IsFront, IsEnd, FieldAt}
+use Rattle.field.specs.declared.reader.Field.{Field}
+use mir.Val.{bool_byte}
 use Rattle.field.specs.Put.{Wrote}
 use Rattle.field.proofs.PutLaws.{wrote_then}
 use Rattle.names.specs.Names.{AttrName, get_attr_name}
-use Rattle.text.specs.Text.{normalize_lit_str}
 use Rattle.page.specs.Number.{number_tag, minus_tag, number_in, number_bytes}
-use Rattle.page.specs.Page as P
-use Rattle.page.specs.Page.{Options}
-use Rattle.page.specs.Tree.{boolean_in, texts_in, first_in, second_in, expr_in, value_in}
+use Rattle.page.specs.Tree.{boolean_in, texts_in, first_in, second_in, expr_in}
+use Rattle.page.specs.Page.{identifier}
 use Rattle.page.specs.Encode.{boolean_byte}
 use Rattle.spec.specs.Pass.{Mid, none, node}
 use Rattle.spec.specs.Output.{leaf, string_node, true_node, null_node}
 use Rattle.spec.specs.Attributes as A
 use Rattle.spec.specs.Attributes.{first_upper}
 use Rattle.spec.specs.Children.{members_row, name_expr}
-use Rattle.spec.specs.Transform.{value}
-use Rattle.decisions.specs.At.{element_name, identifier_bytes, value_of, number_at}
-use Rattle.decisions.specs.declared.attribute.Value.{Value}
-use Rattle.decisions.specs.declared.attribute.Value.TheVariants as Held
-use Rattle.decisions.proofs.Series.{tested, texts_none, texts_40, texts_past, name_41, name_42, expr_none, expr_70, expr_71, expr_72, expr_74, expr_75, expr_76, expr_79, expr_7a, expr_7b, expr_30, expr_31, expr_other}
-use Rattle.decisions.proofs.ElementLaws.{name_is_identifier}
-use Rattle.decisions.proofs.Laws.{string_held}
+use Rattle.decisions.specs.At.{element_name, identifier_bytes, number_at}
+use Rattle.decisions.proofs.Series.{tested, texts_none, texts_40, texts_past, name_40, name_41, name_42, name_other, expr_none, expr_70, expr_71, expr_72, expr_74, expr_75, expr_76, expr_79, expr_7a, expr_7b, expr_30, expr_31, expr_other}
 use Rattle.walk.specs.declared.attribute.Gap.{Gap}
 use Rattle.walk.specs.declared.attribute.Gap.TheVariants as G
 use Rattle.walk.specs.declared.state.Walk.{Walk}
 use Rattle.walk.specs.See.{World, at, see, to_page, begun, wrap, props_closed, literal, namespaced_leaf, Low}
-use Rattle.walk.specs.Plan.{string_of, attr_plan, prop_plan, plan_by, plan_front, plan_back, key_string}
-use Rattle.walk.proofs.SeeLaws.{see_none, see_grows, see_page_length}
+use Rattle.walk.specs.Plan.{string_of, attr_plan, prop_plan, plan_by, plan_front, plan_back}
+use Rattle.walk.proofs.SeeLaws.{see_none, see_grows}
 use Rattle.walk.proofs.LeafLaws.{low_world, low_seen, pick_true, pick_false, leaf_room, leaf_close, leaf_is, low_as, done_as, front_low, rest_is}
 
 -- ---- an expression in which no tag stands, by its tag
 
-module _ (s : Bytes) (t : ℕ) (e : t ≡ tag_of_front s) where
-  module _ {b : Bytes} (q : b ≡ body_of s) where
-    pub literal_70 : t ≡ 0x70 → literal (expr_in (read s)) ≡ leaf 0x70 b
-    unfolding literal
-    literal_70 k = ap literal (expr_70 s t e k) ∙ ap (leaf 0x70) (sym q)
+module _ (s : Bytes) {t : ℕ} {b r : Bytes} (f : IsFront s t b r) where
+  -- bytes as they stand
+  pub literal_bytes : (t ≡ 0x70) ⊎ (t ≡ 0x74) → literal (expr_in (read s)) ≡ leaf t b
+  unfolding literal
+  literal_bytes d =
+      ⊎_elim (λ k. ap literal (expr_70 s t f.tag_is k) ∙ under k) (λ k. ap literal (expr_74 s t f.tag_is k) ∙ under k) d
+    where
+      under : {u : ℕ} → t ≡ u → leaf u (body_of s) ≡ leaf t b
+      under k = λ i. leaf (sym k i) (sym f.body_is i)
 
-    pub literal_74 : t ≡ 0x74 → literal (expr_in (read s)) ≡ leaf 0x74 b
-    unfolding literal
-    literal_74 k = ap literal (expr_74 s t e k) ∙ ap (leaf 0x74) (sym q)
-
-    module _ (k : t ≡ 0x72) {v : Bool} (h : v ≡ boolean_in b) where
-      literal_72 : literal (expr_in (read s)) ≡ leaf 0x72 (boolean_byte v ∷ [])
-      unfolding literal
-      literal_72 = ap literal (expr_72 s t e k) ∙ ap (λ (x : Bool). leaf 0x72 (boolean_byte x ∷ [])) (sym (h ∙ ap boolean_in q))
-
-      pub literal_true : v ≡ true → literal (expr_in (read s)) ≡ leaf 0x72 (1 ∷ [])
-      literal_true g = literal_72 ∙ ap (λ (x : Bool). leaf 0x72 (boolean_byte x ∷ [])) g
-
-      pub literal_false : v ≡ false → literal (expr_in (read s)) ≡ leaf 0x72 (0 ∷ [])
-      literal_false g = literal_72 ∙ ap (λ (x : Bool). leaf 0x72 (boolean_byte x ∷ [])) g
+  pub literal_boolean : t ≡ 0x72 → {w : Bool} → w ≡ boolean_in b → {v : ℕ} → v ≡ bool_byte w → literal (expr_in (read s)) ≡ leaf t (v ∷ [])
+  unfolding literal
+  literal_boolean k {w} e q = ap literal (expr_72 s t f.tag_is k) ∙ (λ i. leaf (sym k i) (boolean_byte (boolean_in (sym f.body_is i)) ∷ [])) ∙ ap (λ (x : Bool). leaf t (boolean_byte x ∷ [])) (sym e) ∙ ap (λ (x : ℕ). leaf t (x ∷ [])) (on w ∙ sym q)
+    where
+      on : (x : Bool) → boolean_byte x ≡ bool_byte x
+      on true = refl
+      on false = refl
 
   -- a number under its tag
-  pub literal_number : (t ≡ 0x71) ⊎ (t ≡ 0x7a) → literal (expr_in (read s)) ≡ leaf t (number_bytes (number_at s))
-  unfolding literal number_tag number_in
-  literal_number k =
-      ⊎_elim (λ z. ap literal (expr_71 s t e z) ∙ under (sym e ∙ z) z refl) (λ z. ap literal (expr_7a s t e z) ∙ under (sym e ∙ z) z refl) k
+  pub literal_number : ((t ≡ 0x71 → ⊥) → (t ≡ 0x75 → ⊥) → (t ≡ 0x7a → ⊥) → t ≡ 0x7b) → literal (expr_in (read s)) ≡ leaf t (number_bytes (number_at s))
+  unfolding literal number_tag minus_tag number_in
+  literal_number d =
+      tested t 0x71 (λ z. ap literal (expr_71 s t f.tag_is z) ∙ plain (sym f.tag_is ∙ z) z refl) λ a.
+      tested t 0x75 (λ z. ap literal (expr_75 s t f.tag_is z) ∙ minus (sym f.tag_is ∙ z) z refl) λ b.
+      tested t 0x7a (λ z. ap literal (expr_7a s t f.tag_is z) ∙ plain (sym f.tag_is ∙ z) z refl) λ c.
+      ap literal (expr_7b s t f.tag_is (d a b c)) ∙ minus (sym f.tag_is ∙ d a b c) (d a b c) refl
     where
-      under : {u : ℕ} → tag_of_front s ≡ u → t ≡ u → number_tag (number_in u (body_of s)) ≡ u → leaf (number_tag (number_at s)) (number_bytes (number_at s)) ≡ leaf t (number_bytes (number_at s))
-      under g h q = ap (λ (x : ℕ). leaf x (number_bytes (number_at s))) (ap (λ (x : ℕ). number_tag (number_in x (body_of s))) g ∙ q ∙ sym h)
+      plain : {u : ℕ} → tag_of_front s ≡ u → t ≡ u → number_tag (number_in u (body_of s)) ≡ u → leaf (number_tag (number_at s)) (number_bytes (number_at s)) ≡ leaf t (number_bytes (number_at s))
+      plain g h q = ap (λ (x : ℕ). leaf x (number_bytes (number_at s))) (ap (λ (x : ℕ). number_tag (number_in x (body_of s))) g ∙ q ∙ sym h)
 
-  pub literal_minus : (t ≡ 0x75) ⊎ (t ≡ 0x7b) → literal (expr_in (read s)) ≡ leaf t (number_bytes (number_at s))
-  unfolding literal minus_tag number_in
-  literal_minus k =
-      ⊎_elim (λ z. ap literal (expr_75 s t e z) ∙ under (sym e ∙ z) z refl) (λ z. ap literal (expr_7b s t e z) ∙ under (sym e ∙ z) z refl) k
-    where
-      under : {u : ℕ} → tag_of_front s ≡ u → t ≡ u → minus_tag (number_in u (body_of s)) ≡ u → leaf (minus_tag (number_at s)) (number_bytes (number_at s)) ≡ leaf t (number_bytes (number_at s))
-      under g h q = ap (λ (x : ℕ). leaf x (number_bytes (number_at s))) (ap (λ (x : ℕ). minus_tag (number_in x (body_of s))) g ∙ q ∙ sym h)
+      minus : {u : ℕ} → tag_of_front s ≡ u → t ≡ u → minus_tag (number_in u (body_of s)) ≡ u → leaf (minus_tag (number_at s)) (number_bytes (number_at s)) ≡ leaf t (number_bytes (number_at s))
+      minus g h q = ap (λ (x : ℕ). leaf x (number_bytes (number_at s))) (ap (λ (x : ℕ). minus_tag (number_in x (body_of s))) g ∙ q ∙ sym h)
 
-  pub literal_other : (t ≡ 256 → Ended (read s)) → (t ≡ 0x70 → ⊥) → ((t ≡ 0x71) ⊎ (t ≡ 0x7a) → ⊥) → (t ≡ 0x72 → ⊥) → (t ≡ 0x74 → ⊥) → ((t ≡ 0x75) ⊎ (t ≡ 0x7b) → ⊥) → literal (expr_in (read s)) ≡ null_node
+  -- any other is null, or not written here
+  pub literal_other : (t ≡ 0x70 → ⊥) → (t ≡ 0x71 → ⊥) → (t ≡ 0x72 → ⊥) → (t ≡ 0x74 → ⊥) → (t ≡ 0x75 → ⊥) → (t ≡ 0x7a → ⊥) → (t ≡ 0x7b → ⊥) → literal (expr_in (read s)) ≡ null_node
   unfolding literal
-  literal_other z a b c d f =
-      tested t 256 (λ k. ap literal (expr_none (read s) (z k))) λ n.
-      tested t 0x76 (λ k. ap literal (expr_76 s t e k)) λ g.
-      tested t 0x79 (λ k. ap literal (expr_79 s t e k)) λ h.
-      tested t 0x30 (λ k. ap literal (expr_30 s t e k)) λ i.
-      tested t 0x31 (λ k. ap literal (expr_31 s t e k)) λ j.
-      ap literal (expr_other s t e n a b c d f g h i j)
+  literal_other a b c d e g h =
+      tested t 0x76 (λ k. ap literal (expr_76 s t f.tag_is k)) λ l.
+      tested t 0x79 (λ k. ap literal (expr_79 s t f.tag_is k)) λ m.
+      tested t 0x30 (λ k. ap literal (expr_30 s t f.tag_is k)) λ i.
+      tested t 0x31 (λ k. ap literal (expr_31 s t f.tag_is k)) λ j.
+      ap literal (expr_other s t f.tag_is (λ z. omega (arith, z, f.tag_below)) a (⊎_elim b g) c d (⊎_elim e h) l m i j)
+
+pub literal_none : (s : Bytes) → Ended (read s) → literal (expr_in (read s)) ≡ null_node
+unfolding literal
+literal_none s e = ap literal (expr_none (read s) e)
 
 -- ---- member names: the names that are left are seen, and all is done
 
@@ -102,23 +97,21 @@ pub names_end : (s : Bytes) (w : World) {total : World} → Ended (read s) → s
 unfolding members_row
 names_end s w i g = sym (ap (λ (ns : List Bytes). see (members_row ns) w) (texts_none (read s) i 0x40) ∙ see_none w) ∙ g
 
-module _ (s : Bytes) (t : ℕ) (e : t ≡ tag_of_front s) (w : World) {total : World} (g : see (names_at s) w ≡ total) where
-  pub names_past : (t ≡ 256 → ⊥) → (t ≡ 0x40 → ⊥) → {r : Bytes} → r ≡ behind_of s → see (names_at r) w ≡ total
-  names_past h k {r} u = ap (λ (x : Bytes). see (names_at x) w) u ∙ ap (λ (ns : List Bytes). see (members_row ns) w) (sym (texts_past s t e 0x40 h k)) ∙ g
+module _ (s : Bytes) {t : ℕ} {b r : Bytes} (f : IsFront s t b r) (w : World) {total : World} (g : see (names_at s) w ≡ total) where
+  pub names_past : (t ≡ 0x40 → ⊥) → see (names_at r) w ≡ total
+  names_past k =
+      ap (λ (x : Bytes). see (names_at x) w) f.behind_is ∙ ap (λ (ns : List Bytes). see (members_row ns) w) (sym (texts_past s t f.tag_is 0x40 (λ z. omega (arith, z, f.tag_below)) k)) ∙ g
 
-  module _ (k : t ≡ 0x40) {b : Bytes} (q : b ≡ body_of s) where
+  module _ (k : t ≡ 0x40) where
     names_40 : names_at s ≡ node 0x40 b none (names_at (behind_of s))
     unfolding members_row
-    names_40 = ap members_row (texts_40 s t e k) ∙ ap (λ (x : Bytes). node 0x40 x none (names_at (behind_of s))) (sym q)
+    names_40 = ap members_row (texts_40 s t f.tag_is k) ∙ ap (λ (x : Bytes). node 0x40 x none (names_at (behind_of s))) (sym f.body_is)
 
     pub names_low : Low total.st → Low (see (leaf 0x40 b) w).st
     names_low l = front_low 0x40 b (names_at (behind_of s)) w (low_as w names_40 (low_world (sym g) l))
 
-    pub names_on : {w' : World} → w' ≡ see (leaf 0x40 b) w → {r : Bytes} → r ≡ behind_of s → see (names_at r) w' ≡ total
-    names_on {w'} f {r} u = ap (λ (x : Bytes). see (names_at x) w') u ∙ done_as w names_40 (rest_is 0x40 b (names_at (behind_of s)) w f refl) ∙ g
-
-pub names_kept : (m m' : Mid) (w w' : World) → see m w ≡ see m' w' → length w.page ≡ length w'.page
-names_kept m m' w w' g = sym (see_page_length m w) ∙ ap (λ (x : World). length x.page) g ∙ see_page_length m' w'
+    pub names_on : {w' : World} → w' ≡ see (leaf 0x40 b) w → see (names_at r) w' ≡ total
+    names_on {w'} e = ap (λ (x : Bytes). see (names_at x) w') f.behind_is ∙ done_as w names_40 (rest_is 0x40 b (names_at (behind_of s)) w e refl) ∙ g
 
 -- ---- a namespaced name
 
@@ -144,23 +137,38 @@ module _ (o : Bytes) (st : Walk) (c : Bytes) {x y : Bytes} (ex : x ≡ first_in 
 
 -- ---- the first argument of a call, by the tag of the name
 
-module _ (s : Bytes) (t : ℕ) (e : t ≡ tag_of_front s) where
-  pub name_expr_41 : t ≡ 0x41 → {c : Bytes} → c ≡ body_of s → name_expr (element_name (read s)) ≡ node 0x41 [] (names_at c) none
+-- what the code found in front, and where it found none
+pub front_is : {s : Bytes} {o : Option Field} {f : Field} → FieldAt s o → o ≡ Some f → IsFront s f.tag f.body.now (behind_of s)
+front_is {s} h e = subst (FieldAt s) e h
+
+pub front_none : {s : Bytes} {o : Option Field} → FieldAt s o → o ≡ None → IsEnd s s
+front_none {s} h e = subst (FieldAt s) e h
+
+module _ (s : Bytes) {t : ℕ} {c r : Bytes} (f : IsFront s t c r) where
+  pub name_expr_41 : t ≡ 0x41 → name_expr (element_name (read s)) ≡ node 0x41 [] (names_at c) none
   unfolding name_expr
-  name_expr_41 k {c} q = ap name_expr (name_41 s t e k) ∙ ap (λ (x : Bytes). node 0x41 [] (names_at x) none) (sym q)
+  name_expr_41 k = ap name_expr (name_41 s t f.tag_is k) ∙ ap (λ (x : Bytes). node 0x41 [] (names_at x) none) (sym f.body_is)
 
-  pub name_expr_42 : t ≡ 0x42 → {c : Bytes} → c ≡ body_of s → name_expr (element_name (read s)) ≡ namespaced_leaf (read c)
+  pub name_expr_42 : t ≡ 0x42 → name_expr (element_name (read s)) ≡ namespaced_leaf (read c)
   unfolding name_expr
-  name_expr_42 k {c} q = ap name_expr (name_42 s t e k) ∙ ap (λ (x : Bytes). namespaced_leaf (read x)) (sym q)
+  name_expr_42 k = ap name_expr (name_42 s t f.tag_is k) ∙ ap (λ (x : Bytes). namespaced_leaf (read x)) (sym f.body_is)
 
-  module _ (h : t ≡ 0x41 → ⊥) (k : t ≡ 0x42 → ⊥) {n : Bytes} (q : n ≡ identifier_bytes (element_name (read s))) {v : Bool} (u : v ≡ first_upper n) where
-    pub name_expr_upper : v ≡ true → name_expr (element_name (read s)) ≡ leaf 0x40 n
-    unfolding name_expr
-    name_expr_upper g = ap name_expr (name_is_identifier s t e h k q) ∙ pick_true (first_upper n) (leaf 0x40 n) (leaf 0x81 n) (sym u ∙ g)
+-- neither members nor a namespace: an identifier
+name_is_identifier : (s : Bytes) {t : ℕ} → t ≡ tag_of_front s → (t ≡ 0x41 → ⊥) → (t ≡ 0x42 → ⊥) → {n : Bytes} → n ≡ identifier_bytes (element_name (read s)) → element_name (read s) ≡ identifier n
+name_is_identifier s {t} e a b {n} q =
+    tested t 0x40
+    (λ k. name_40 s t e k ∙ ap identifier (sym (q ∙ ap identifier_bytes (name_40 s t e k))))
+    λ c. name_other s t e c a b ∙ ap identifier (sym (q ∙ ap identifier_bytes (name_other s t e c a b)))
 
-    pub name_expr_lower : v ≡ false → name_expr (element_name (read s)) ≡ leaf 0x81 n
-    unfolding name_expr
-    name_expr_lower g = ap name_expr (name_is_identifier s t e h k q) ∙ pick_false (first_upper n) (leaf 0x40 n) (leaf 0x81 n) (sym u ∙ g)
+-- an identifier is a component's where it begins with a capital
+pub name_expr_plain : (s : Bytes) {t : ℕ} → t ≡ tag_of_front s → (t ≡ 0x41 → ⊥) → (t ≡ 0x42 → ⊥) → {n : Bytes} → n ≡ identifier_bytes (element_name (read s)) →
+    {u : ℕ} → u ≡ pick (first_upper n) 0x40 0x81 → name_expr (element_name (read s)) ≡ leaf u n
+unfolding name_expr
+name_expr_plain s {t} e h k {n} q g = ap name_expr (name_is_identifier s e h k q) ∙ on (first_upper n) ∙ ap (λ (x : ℕ). leaf x n) (sym g)
+  where
+    on : (b : Bool) → pick b (leaf 0x40 n) (leaf 0x81 n) ≡ leaf (pick b 0x40 0x81) n
+    on true = refl
+    on false = refl
 
 -- ---- the `children` property begins
 
@@ -198,109 +206,115 @@ module _ (q : ℕ) (o : Bytes) (st : Walk) where
     pub props_is : {w : World} → w ≡ wrap 0x95 q (at [] o st) → w ≡ props_closed q (at [] o st)
     props_is g = g ∙ sym props_some
 
--- ---- what an attribute leaves, by its gap
+-- ---- what stands before the expression, by the gap
 
-module _ (t : ℕ) (text : Bytes → Bytes) (g : Gap) (n : AttrName) (v : A.Value) (w : World) where
-  front_by : {h : Gap} → g ≡ h → plan_front (plan_by t text g n v) w ≡ plan_front (plan_by t text h n v) w
-  front_by e = ap (λ (x : Gap). plan_front (plan_by t text x n v) w) e
+abbrev pub front_by : (text : Bytes → Bytes) → Gap → AttrName → Bytes → World → World
+front_by text G.Nothing n b w = w
+front_by text (G.True norm) n b w = see (node 0x81 (get_attr_name n norm) none true_node) (begun w)
+front_by text (G.String norm) n b w = see (node 0x81 (get_attr_name n norm) none (string_node (text b))) (begun w)
+front_by text G.Null n b w = see (node 0x81 (get_attr_name n false) none null_node) (begun w)
+front_by text (G.Attr norm) n b w = see (leaf 0x81 (get_attr_name n norm)) (begun w)
+front_by text G.Choice n b w = begun w
 
-  pub front_nothing : g ≡ G.Nothing → plan_front (plan_by t text g n v) w ≡ w
-  unfolding plan_by
-  front_nothing e = front_by e
-
-  pub front_true : {norm : Bool} → g ≡ G.True norm → plan_front (plan_by t text g n v) w ≡ see (node 0x81 (get_attr_name n norm) none true_node) (begun w)
-  unfolding plan_by
-  front_true e = front_by e
-
-  pub front_string : {norm : Bool} → g ≡ G.String norm → {b : Bytes} → b ≡ string_of v → plan_front (plan_by t text g n v) w ≡ see (node 0x81 (get_attr_name n norm) none (string_node (text b))) (begun w)
-  unfolding plan_by
-  front_string {norm} e {b} q =
-      front_by e ∙ ap (λ (x : Bytes). see (node 0x81 (get_attr_name n norm) none (string_node (text x))) (begun w)) (sym q)
-
-  pub front_null : g ≡ G.Null → plan_front (plan_by t text g n v) w ≡ see (node 0x81 (get_attr_name n false) none null_node) (begun w)
-  unfolding plan_by
-  front_null e = front_by e
-
-  pub front_attr : {norm : Bool} → g ≡ G.Attr norm → plan_front (plan_by t text g n v) w ≡ see (leaf 0x81 (get_attr_name n norm)) (begun w)
-  unfolding plan_by
-  front_attr e = front_by e
-
-  pub front_choice : g ≡ G.Choice → plan_front (plan_by t text g n v) w ≡ begun w
-  unfolding plan_by
-  front_choice e = front_by e ∙ see_none (begun w)
-
-  -- it stands, and ends with a head u behind x
-  module _ (p : ℕ) where
-    abbrev Ends : ℕ → World → Type 0
-    Ends u x = ((plan_by t text g n v).stands ≡ true) × (plan_back (plan_by t text g n v) p w ≡ wrap u p x)
-
-    stands_by : {h : Gap} → g ≡ h → (plan_by t text g n v).stands ≡ (plan_by t text h n v).stands
-    stands_by e = ap (λ (x : Gap). (plan_by t text x n v).stands) e
-
-    back_by : {h : Gap} → g ≡ h → plan_back (plan_by t text g n v) p w ≡ plan_back (plan_by t text h n v) p w
-    back_by e = ap (λ (x : Gap). plan_back (plan_by t text x n v) p w) e
-
-    pub back_nothing : g ≡ G.Nothing → plan_back (plan_by t text g n v) p w ≡ w
-    unfolding plan_by
-    back_nothing e = back_by e
-
-    -- a name, and what else stands before the expression
-    pub back_plain : ((norm : Bool) × (g ≡ G.True norm)) ⊎ (((norm : Bool) × (g ≡ G.String norm)) ⊎ ((g ≡ G.Null) ⊎ ((norm : Bool) × (g ≡ G.Attr norm)))) → Ends t w
-    unfolding plan_by
-    back_plain d =
-        ⊎_elim (λ h. (stands_by h.1, back_by h.1 ∙ ap (wrap t p) (see_none w)))
-        (⊎_elim (λ h. (stands_by h.1, back_by h.1 ∙ ap (wrap t p) (see_none w))) (⊎_elim (λ e. (stands_by e, back_by e ∙ ap (wrap t p) (see_none w))) (λ h. (stands_by h.1, back_by h.1 ∙ ap (wrap t p) (see_none w))))) d
-
-    pub back_choice : g ≡ G.Choice → Ends 0x93 (see (leaf 0x81 (get_attr_name n true)) w)
-    unfolding plan_by
-    back_choice e = (stands_by e, back_by e)
-
-    pub back_low : (u : ℕ) (x : World) → Ends u x → ((plan_by t text g n v).stands ≡ true → p + 3 ≤ w.st.page) × Low (plan_back (plan_by t text g n v) p w).st → (p + 3 ≤ w.st.page) × Low x.st
-    back_low u x e l = (l.0 e.0, low_seen (low_world e.1 l.1))
-
--- a row was seen before the head is written
-pub seen_low : (p : ℕ) (m : Mid) (w : World) {o : Bytes} {r : Walk} → at [] o r ≡ see m w → (p + 3 ≤ w.st.page) × Low (see m w).st → (p + 3 ≤ r.page) × Low r
-seen_low p m w e l = let n = see_grows m w in (omega (arith, n.g_page, l.0, ap (λ (x : World). x.st.page) e), low_world (sym e) l.1)
-
--- ---- the key
-
-abbrev is_text : Option Value → ℕ
-is_text None = 0
-is_text (Some Held.String) = 1
-is_text (Some Held.Container) = 0
-is_text (Some Held.Element) = 0
-is_text (Some Held.Fragment) = 0
-
-pub absent_other : {v : Option Value} → v ≡ None → v ≡ Some Held.String → ⊥
-absent_other a b = let n : ◌≡◌ {A = ℕ} 0 1 = ap is_text (sym a ∙ b) in omega (arith, n)
-
-pub field_other : {v : Option Value} {t : Value} → v ≡ Some t → (t ≡ Held.Container) ⊎ ((t ≡ Held.Element) ⊎ (t ≡ Held.Fragment)) → v ≡ Some Held.String → ⊥
-field_other {v} {t} a d b = let n : ◌≡◌ {A = ℕ} 0 1 = sym (⊎_elim (none refl) (⊎_elim (none refl) (none refl)) d) ∙ ap is_text b in omega (arith, n)
-  where
-    none : {u : Value} → is_text (Some u) ≡ 0 → t ≡ u → is_text v ≡ 0
-    none e q = ap is_text (a ∙ ap Some q) ∙ e
-
--- a value that is no string gives none here
-pub key_none : (o : Options) (v : P.Value) {t : Option Value} → t ≡ value_of v → (t ≡ Some Held.String → ⊥) → key_string (value o v) ≡ none
-unfolding key_string value value_of
-key_none o P.absent e h = refl
-key_none o (P.string_value b) e h = absurd (h e)
-key_none o P.empty_value e h = refl
-key_none o (P.container_value x) e h = refl
-key_none o (P.tag_value x) e h = refl
-
-pub key_51 : (o : Options) (a : Bytes) {v : Option Value} {t : Value} → v ≡ value_of (value_in (read a)) → v ≡ Some t → t ≡ Held.String → {s : Bytes} → s ≡ behind_of a → {b : Bytes} → b ≡ body_of s →
-    key_string (value o (value_in (read a))) ≡ string_node (normalize_lit_str b)
-unfolding key_string value
-key_51 o a e h k q u =
-    ap (λ (x : P.Value). key_string (value o x)) (string_held a (sym e ∙ h ∙ ap Some k)) ∙ ap (λ (x : Bytes). string_node (normalize_lit_str x)) (sym (u ∙ ap body_of q))
-
--- ---- the fronts in an opening tag and in a call are the same, but for a string
-
-pub fronts_agree : (a : Bytes) (w : World) (g : Gap) → (g ≡ G.Nothing) ⊎ (((b : Bool) × (g ≡ G.True b)) ⊎ ((g ≡ G.Null) ⊎ (((b : Bool) × (g ≡ G.Attr b)) ⊎ (g ≡ G.Choice)))) →
-    plan_front (attr_plan [] [] g a) w ≡ plan_front (prop_plan [] [] g a) w
+pub plan_front_is : (t : ℕ) (text : Bytes → Bytes) (g : Gap) (n : AttrName) (v : A.Value) (w : World) → plan_front (plan_by t text g n v) w ≡ front_by text g n (string_of v) w
 unfolding plan_by
-fronts_agree a w g d = ⊎_elim (by G.Nothing refl) (⊎_elim (λ h. by (G.True h.0) refl h.1) (⊎_elim (by G.Null refl) (⊎_elim (λ h. by (G.Attr h.0) refl h.1) (by G.Choice refl)))) d
-  where
-    by : (h : Gap) → plan_front (attr_plan [] [] h a) w ≡ plan_front (prop_plan [] [] h a) w → g ≡ h → plan_front (attr_plan [] [] g a) w ≡ plan_front (prop_plan [] [] g a) w
-    by h e q = ap (λ (x : Gap). plan_front (attr_plan [] [] x a) w) q ∙ e ∙ sym (ap (λ (x : Gap). plan_front (prop_plan [] [] x a) w) q)
+plan_front_is t text G.Nothing n v w = refl
+plan_front_is t text (G.True norm) n v w = refl
+plan_front_is t text (G.String norm) n v w = refl
+plan_front_is t text G.Null n v w = refl
+plan_front_is t text (G.Attr norm) n v w = refl
+plan_front_is t text G.Choice n v w = see_none (begun w)
+
+module _ (t : ℕ) (text : Bytes → Bytes) (n : AttrName) (v : A.Value) (w : World) {g h : Gap} (e : g ≡ h) where
+  pub front_done : plan_front (plan_by t text g n v) w ≡ front_by text h n (string_of v) w
+  front_done = plan_front_is t text g n v w ∙ ap (λ (x : Gap). front_by text x n (string_of v) w) e
+
+  pub front_room : Low (plan_front (plan_by t text g n v) w).st → Low (front_by text h n (string_of v) w).st
+  front_room l = low_world front_done l
+
+-- a string's front, by its text
+pub text_room : (text : Bytes → Bytes) (norm : Bool) (n : AttrName) (w : World) {b c : Bytes} → b ≡ c → Low (front_by text (G.String norm) n c w).st → Low (front_by text (G.String norm) n b w).st
+text_room text norm n w e l = subst (λ (x : Bytes). Low (front_by text (G.String norm) n x w).st) (sym e) l
+
+pub text_done : (text : Bytes → Bytes) (norm : Bool) (n : AttrName) (w : World) {b c : Bytes} → b ≡ c → {x : World} → x ≡ front_by text (G.String norm) n b w → x ≡ front_by text (G.String norm) n c w
+text_done text norm n w e g = g ∙ ap (λ (x : Bytes). front_by text (G.String norm) n x w) e
+
+-- in an opening tag and in a call it is the same, but for a string
+abbrev pub is_string : Gap → Bool
+is_string G.Nothing = false
+is_string (G.True norm) = false
+is_string (G.String norm) = true
+is_string G.Null = false
+is_string (G.Attr norm) = false
+is_string G.Choice = false
+
+pub fronts_agree : (a : Bytes) (w : World) (g : Gap) → is_string g ≡ false → plan_front (attr_plan [] [] g a) w ≡ plan_front (prop_plan [] [] g a) w
+unfolding plan_by
+fronts_agree a w G.Nothing h = refl
+fronts_agree a w (G.True norm) h = refl
+fronts_agree a w (G.String norm) h = absurd (true≢false h)
+fronts_agree a w G.Null h = refl
+fronts_agree a w (G.Attr norm) h = refl
+fronts_agree a w G.Choice h = refl
+
+-- ---- what stands behind it, by the gap
+
+-- a field whose head alone is written
+abbrev pub is_plain : Gap → Bool
+is_plain G.Nothing = false
+is_plain (G.True norm) = true
+is_plain (G.String norm) = true
+is_plain G.Null = true
+is_plain (G.Attr norm) = true
+is_plain G.Choice = false
+
+module _ (t : ℕ) (text : Bytes → Bytes) (n : AttrName) (v : A.Value) (p : ℕ) (w : World) (g : Gap) where
+  pub back_nothing : g ≡ G.Nothing → w ≡ plan_back (plan_by t text g n v) p w
+  unfolding plan_by
+  back_nothing e = sym (ap (λ (x : Gap). plan_back (plan_by t text x n v) p w) e)
+
+  pub back_plain : is_plain g ≡ true → wrap t p w ≡ plan_back (plan_by t text g n v) p w
+  unfolding plan_by
+  back_plain h = on g h
+    where
+      on : (g : Gap) → is_plain g ≡ true → wrap t p w ≡ plan_back (plan_by t text g n v) p w
+      on G.Nothing h = absurd (false≢true h)
+      on (G.True norm) h = ap (wrap t p) (sym (see_none w))
+      on (G.String norm) h = ap (wrap t p) (sym (see_none w))
+      on G.Null h = ap (wrap t p) (sym (see_none w))
+      on (G.Attr norm) h = ap (wrap t p) (sym (see_none w))
+      on G.Choice h = absurd (false≢true h)
+
+  stands_plain : is_plain g ≡ true → (plan_by t text g n v).stands ≡ true
+  unfolding plan_by
+  stands_plain h = on g h
+    where
+      on : (g : Gap) → is_plain g ≡ true → (plan_by t text g n v).stands ≡ true
+      on G.Nothing h = absurd (false≢true h)
+      on (G.True norm) h = refl
+      on (G.String norm) h = refl
+      on G.Null h = refl
+      on (G.Attr norm) h = refl
+      on G.Choice h = absurd (false≢true h)
+
+  pub back_choice : g ≡ G.Choice → wrap 0x93 p (see (leaf 0x81 (get_attr_name n true)) w) ≡ plan_back (plan_by t text g n v) p w
+  unfolding plan_by
+  back_choice e = sym (ap (λ (x : Gap). plan_back (plan_by t text x n v) p w) e)
+
+  stands_choice : g ≡ G.Choice → (plan_by t text g n v).stands ≡ true
+  unfolding plan_by
+  stands_choice e = ap (λ (x : Gap). (plan_by t text x n v).stands) e
+
+  module _ (l : ((plan_by t text g n v).stands ≡ true → p + 3 ≤ w.st.page) × Low (plan_back (plan_by t text g n v) p w).st) where
+    pub plain_room : is_plain g ≡ true → (p + 3 ≤ w.st.page) × Low w.st
+    plain_room h = (l.0 (stands_plain h), low_seen (low_world (sym (back_plain h)) l.1))
+
+    module _ (e : g ≡ G.Choice) where
+      pub choice_room : Low (see (leaf 0x81 (get_attr_name n true)) w).st
+      choice_room = low_seen (low_world (sym (back_choice e)) l.1)
+
+      -- the name was seen before the head is written
+      pub choice_close : {o : Bytes} {r : Walk} → at [] o r ≡ see (leaf 0x81 (get_attr_name n true)) w → (p + 3 ≤ r.page) × Low r
+      choice_close q =
+          let x = see_grows (leaf 0x81 (get_attr_name n true)) w in
+          (omega (arith, x.g_page, l.0 (stands_choice e), ap (λ (x : World). x.st.page) q), low_world (sym q) choice_room)

@@ -1,5 +1,5 @@
 -- What an attribute, a property, a key and a child in braces leave in page out, as the first pass gives it. Main statements:
--- `attr_parts_plan`, `prop_plan_is`, `key_is`, `contained_gap`; `plan_same`, `plan_front_same`, `plan_back_same`: what stands around what is
+-- `attr_parts_plan`, `prop_plan_is`, `key_is`, `contained_gap`; `plan_front_same`, `plan_back_same`: what stands around what is
 -- held is the same whatever the options are. Assumes nothing.
 use mathlib.Core.Path.{◌≡◌, refl, sym, ap}
 use Prim.Native.Nat.{ℕ}
@@ -163,27 +163,6 @@ key_string_same o p (P.string_value b) = refl
 key_string_same o p P.empty_value = refl
 key_string_same o p (P.container_value e) = refl
 key_string_same o p (P.tag_value t) = refl
-
-pub record SamePlan (p q : Plan) : Type 0 where
-  pub same_stands : p.stands ≡ q.stands
-  pub same_tag : p.tag ≡ q.tag
-  pub same_front : p.front ≡ q.front
-  pub same_behind : p.behind ≡ q.behind
-
-pub plan_same : (o p : Options) (t : ℕ) (text : Bytes → Bytes) (g : Gap) (n : AttrName) (x : P.Value) → SamePlan (plan_by t text g n (value o x)) (plan_by t text g n (value p x))
-unfolding plan_by
-plan_same o p t text G.Nothing n x = record { same_stands = refl; same_tag = refl; same_front = refl; same_behind = refl }
-plan_same o p t text (G.True norm) n x = record { same_stands = refl; same_tag = refl; same_front = refl; same_behind = refl }
-plan_same o p t text (G.String norm) n x =
-    record {
-      same_stands = refl;
-      same_tag = refl;
-      same_front = ap (λ (b : Bytes). node 0x81 (get_attr_name n norm) none (string_node (text b))) (string_same o p x);
-      same_behind = refl;
-    }
-plan_same o p t text G.Null n x = record { same_stands = refl; same_tag = refl; same_front = refl; same_behind = refl }
-plan_same o p t text (G.Attr norm) n x = record { same_stands = refl; same_tag = refl; same_front = refl; same_behind = refl }
-plan_same o p t text G.Choice n x = record { same_stands = refl; same_tag = refl; same_front = refl; same_behind = refl }
 
 -- both ends, as the code writes them; the back does not look at the value
 pub plan_front_same : (o p : Options) (t : ℕ) (text : Bytes → Bytes) (g : Gap) (n : AttrName) (x : P.Value) (w : World) →

@@ -1,47 +1,30 @@
--- What every writer of the page walk shows: what was come upon, a head, a run that becomes a 70, a leaf by its bytes, fields behind an open
--- head, a field around fields, a leaf and a row behind it. Main statements: `mark_is`, `close_is`, `run_is`, `numbered_is`, `leaf_is`,
--- `begun_is`, `node_is`, `rest_is`, `left_done`; beside each the room that it needs. Assumes nothing.
+-- What every writer of the page walk shows: a leaf by its bytes, fields behind an open head, a field around fields, a leaf and a row behind
+-- it. Main statements: `numbered_is`, `leaf_is`, `begun_is`, `node_is`, `rest_is`, `left_done`; beside each the room that it needs. Assumes
+-- nothing.
 use mathlib.Core.Path.{◌≡◌, refl, sym, ap, ◌∙◌, subst}
-use mathlib.Core.Bool.{Bool, true, false, ◌||◌}
+use mathlib.Core.Bool.{Bool, true, false}
 use mathlib.Core.List.{[]}
-use Prim.Native.Nat.{ℕ, ◌+◌, ◌-◌, ◌≤◌, ◌<◌, ◌^◌}
+use Prim.Native.Nat.{ℕ, ◌+◌, ◌≤◌, ◌<◌, ◌^◌}
 use native.Mathlib.Omega.{arith}
-use lib.Dec.{eqb, ltb}
 use lib.ListN.{length}
-use borrow.Author.Tests.{ne_eqb}
 use Rattle.field.specs.Bytes.{Bytes, pick}
 use Rattle.field.specs.Number.{big_endian}
-use Rattle.field.specs.Put.{head, Wrote}
+use Rattle.field.specs.Put.{Wrote}
 use Rattle.spec.specs.Pass.{Mid, none, node}
 use Rattle.spec.specs.Output.{leaf}
 use Rattle.strings.specs.declared.due.Due.{Due}
 use Rattle.strings.specs.declared.due.Due.TheVariants.{Left}
-use Rattle.strings.specs.Due.{graver, long_due}
+use Rattle.strings.specs.Due.{graver}
 use Rattle.walk.specs.declared.state.Seen.{Seen}
 use Rattle.walk.specs.declared.state.Walk.{Walk}
-use Rattle.walk.specs.See.{World, at, see, to_page, along, begun, numbered, marked, wrap, begun_if, wrap_if, left, flushed, Low}
+use Rattle.walk.specs.See.{World, at, see, to_page, begun, numbered, wrap, left, Low}
 use Rattle.walk.proofs.SeeLaws.{see_leaf, see_rest, see_node, left_noted, left_is, see_grows, low_back}
-
--- ---- what was come upon
-
-pub or_taken : (b : Bool) {a t : Bool} → a ≡ true → t ≡ a → t ≡ (a || b)
-or_taken b {a} {t} h e = e ∙ h ∙ sym (ap (λ (x : Bool). x || b) h)
-
-pub or_left : (b : Bool) {a t : Bool} → a ≡ false → t ≡ b → t ≡ (a || b)
-or_left b {a} {t} h e = e ∙ sym (ap (λ (x : Bool). x || b) h)
-
-pub mark_is : (t n : ℕ) (s : Seen) {a b c : Bool} {d : Due} → a ≡ (s.jsx || eqb t 0x94) → b ≡ (s.attr || eqb t 0x91) → c ≡ (s.escape || eqb t 0x92) → d ≡ graver s.due (long_due (ltb 65535 n)) →
-    ◌≡◌ {A = Seen} (record { jsx = a; attr = b; escape = c; due = d }) (marked t n s)
-mark_is t n s ea eb ec ed = λ i. record { jsx = ea i; attr = eb i; escape = ec i; due = ed i }
 
 -- ---- a world by another name, and a state with other flags
 
 module _ {w w' : World} (e : w ≡ w') where
   pub low_world : Low w.st → Low w'.st
   low_world l = subst (λ (x : World). Low x.st) e l
-
-  pub done_world : {x : World} → x ≡ w' → x ≡ w
-  done_world g = g ∙ sym e
 
 pub low_seen : {st : Walk} {s : Seen} → Low (record { first = st.first; later = st.later; templates = st.templates; page = st.page; seen = s }) → Low st
 low_seen l = record { low_first = l.low_first; low_later = l.low_later; low_templates = l.low_templates; low_page = l.low_page }
@@ -54,48 +37,6 @@ module _ {A : Type 0} (b : Bool) (x y : A) where
 
   pub pick_false : b ≡ false → pick b x y ≡ y
   pick_false h = ap (λ (c : Bool). pick c x y) h
-
-pub begun_taken : (b : Bool) (st : Walk) {r : Walk} → b ≡ true → r ≡ to_page (st.page + 3) st → at [] [] r ≡ begun_if b (at [] [] st)
-begun_taken b st h e = ap (at [] []) e ∙ sym (pick_true b (begun (at [] [] st)) (at [] [] st) h)
-
-pub begun_left : (b : Bool) (st : Walk) → b ≡ false → at [] [] st ≡ begun_if b (at [] [] st)
-begun_left b st h = sym (pick_false b (begun (at [] [] st)) (at [] [] st) h)
-
--- ---- a head
-
-module _ (o : Bytes) (st : Walk) (p t : ℕ) where
-  pub close_is : {o' : Bytes} {n : ℕ} {s : Seen} → Wrote o p (head t (st.page - (p + 3))) o' n → s ≡ marked t (st.page - (p + 3)) st.seen →
-      at [] o' (record { first = st.first; later = st.later; templates = st.templates; page = st.page; seen = s }) ≡ wrap t p (at [] o st)
-  close_is w e = λ i. at [] (w.out_is i) (record { first = st.first; later = st.later; templates = st.templates; page = st.page; seen = e i })
-
-  pub close_taken : (b : Bool) {w : World} → b ≡ true → w ≡ wrap t p (at [] o st) → w ≡ wrap_if b t p (at [] o st)
-  close_taken b h e = e ∙ sym (pick_true b (wrap t p (at [] o st)) (at [] o st) h)
-
-  pub close_left : (b : Bool) → b ≡ false → at [] o st ≡ wrap_if b t p (at [] o st)
-  close_left b h = sym (pick_false b (wrap t p (at [] o st)) (at [] o st) h)
-
--- ---- a run behind an open head
-
-module _ (n : ℕ) (o : Bytes) (st : Walk) where
-  pub run_none : n ≡ 0 → at [] o st ≡ flushed n (at [] o st)
-  run_none h = sym (ap (λ (k : ℕ). flushed k (at [] o st)) h)
-
-  module _ (h : n ≡ 0 → ⊥) where
-    run_some : flushed n (at [] o st) ≡ wrap 0x70 st.page (along (3 + n) (at [] o st))
-    run_some = pick_false (eqb n 0) (at [] o st) (wrap 0x70 st.page (along (3 + n) (at [] o st))) (ne_eqb n 0 h)
-
-    run_low : Low (flushed n (at [] o st)).st → Low (to_page (st.page + (3 + n)) st)
-    run_low l = low_seen (low_world run_some l)
-
-    pub run_room : Low (flushed n (at [] o st)).st → st.page + (3 + n) < 2 ^ 63
-    run_room l = let m = run_low l in omega (arith, m.low_page)
-
-    module _ {r : Walk} (e : r ≡ to_page (st.page + (3 + n)) st) where
-      pub run_close : Low (flushed n (at [] o st)).st → (st.page + 3 ≤ r.page) × Low r
-      run_close l = (omega (arith, ap (λ (x : Walk). x.page) e), subst Low (sym e) (run_low l))
-
-      pub run_is : {w : World} → w ≡ wrap 0x70 st.page (at [] o r) → w ≡ flushed n (at [] o st)
-      run_is g = g ∙ ap (λ (x : Walk). wrap 0x70 st.page (at [] o x)) e ∙ sym run_some
 
 -- ---- a call of a template
 

@@ -14,7 +14,7 @@ use Rattle.field.specs.Number.{big_endian}
 use Rattle.field.specs.Row.{Row, end, field, field_bytes, bytes, long_body}
 use Rattle.field.specs.Put.{put, head}
 use Rattle.field.proofs.PutLaws.{put_put, put_nil, put_back, length_put, length_field_bytes}
-use Rattle.spec.specs.Pass.{Template, Done, pure, both, raise, join, no_flags, Mid, none, node, raw, ◌+++◌}
+use Rattle.spec.specs.Pass.{Template, Done, pure, both, raise, join, no_flags, Mid, none, node, raw}
 use Rattle.spec.specs.Output.{leaf, string_node, null_node}
 use Rattle.spec.specs.Visit as W
 use Rattle.spec.specs.Visit.{visit_exprs}
@@ -206,16 +206,10 @@ module _ (t : ℕ) (i : Mid) (w : World) where
   pub see_node : see (node t [] i none) w ≡ wrap t w.st.page (see i (begun w))
   see_node = see_front t [] i w ∙ ap (λ (x : World). wrap t w.st.page (see i x)) (fronted_none w)
 
-  pub see_node_rest : (r : Mid) → see (node t [] i r) w ≡ see r (wrap t w.st.page (see i (begun w)))
-  see_node_rest r = see_rest t [] i w r ∙ ap (see r) see_node
-
 -- a leaf as code writes it: the bytes, and then the head
 module _ (t : ℕ) (b : Bytes) (w : World) where
   pub see_leaf : see (leaf t b) w ≡ wrap t w.st.page (fronted b w)
   see_leaf = see_front t b none w ∙ ap (wrap t w.st.page) (see_none (fronted b w))
-
-  pub see_leaf_rest : (r : Mid) → see (node t b none r) w ≡ see r (wrap t w.st.page (fronted b w))
-  see_leaf_rest r = see_rest t b none w r ∙ ap (see r) see_leaf
 
 -- a row behind a row in which no tag stands
 abbrev pub plain : Mid → Bool
@@ -227,18 +221,7 @@ both_true : (a b : Bool) → (a && b) ≡ true → (a ≡ true) × (b ≡ true)
 both_true true b e = (refl, e)
 both_true false b e = absurd (false≢true e)
 
-pub see_append_plain : (a b : Mid) (w : World) → plain a ≡ true → see (a +++ b) w ≡ see b (see a w)
-unfolding ◌+++◌
-see_append_plain none b w h = ap (see b) (sym (see_none w))
-see_append_plain (node t f i r) b w h =
-    see_rest t f i w (r +++ b) ∙ see_append_plain r b (see (node t f i none) w) (both_true (plain i) (plain r) h).1 ∙ ap (see b) (sym (see_rest t f i w r))
-see_append_plain (raw q r) b w h = absurd (false≢true h)
-
 -- ---- runs
-
--- an empty run is no field
-pub flushed_none : (w : World) → flushed 0 w ≡ w
-flushed_none w = refl
 
 -- a run that stands behind an open head
 pub see_string : (b : Bytes) (n : ℕ) (w : World) → n ≡ length b → (n ≡ 0 → ⊥) →
@@ -391,9 +374,6 @@ low_is e l = subst (λ (x : World). Low x.st) (sym e) l
 
 pub begun_grows : (w : World) → Grows w (begun w)
 begun_grows w = record { g_first = omega arith; g_later = omega arith; g_templates = omega arith; g_page = omega arith }
-
-pub numbered_grows : (w : World) → Grows w (numbered w)
-numbered_grows w = record { g_first = omega arith; g_later = omega arith; g_templates = omega arith; g_page = omega arith }
 
 pub wrap_grows : (t p : ℕ) (w : World) → Grows w (wrap t p w)
 wrap_grows t p w = record { g_first = omega arith; g_later = omega arith; g_templates = omega arith; g_page = omega arith }

@@ -1,22 +1,39 @@
 -- What stands in page out for an attribute in an opening tag, and for a property of a call: a field with a front, an expression that is held
 -- in the page and visited, and what is written behind it. Assumes nothing: these are definitions.
-use Rattle.std.specs.Prelude.{ℕ, Bool, true, false, ◌||◌, List, []}
+use Rattle.std.specs.Prelude.{ℕ, Bool, true, false, ◌||◌, List, [], ◌≡◌, ◌≤◌, length, Option, Some, None}
 use Rattle.field.specs.Bytes.{Bytes, ascii, pick, same, among}
 use Rattle.field.specs.Row.{read}
 use Rattle.names.specs.Names.{AttrName, get_attr_name, is_boolean_attr}
 use Rattle.text.specs.Text.{normalize_lit_str}
 use Rattle.page.specs.Page as P
 use Rattle.page.specs.Page.{Options}
-use Rattle.page.specs.Tree.{attr_name_in, value_in, Contained, nothing_contained, contained}
+use Rattle.page.specs.Tree.{attr_name_in, value_in, Contained, nothing_contained, contained, contained_value, contained_in}
 use Rattle.spec.specs.Pass.{Mid, none, node, raw}
 use Rattle.spec.specs.Output.{leaf, string_node, true_node, null_node}
 use Rattle.spec.specs.Merge.{Shape, string_shape, number_shape, boolean_shape, null_shape, literal_shape, minus_shape, other_shape}
 use Rattle.spec.specs.Attributes as A
 use Rattle.spec.specs.Transform.{expr, shape_of, value}
 use Rattle.decisions.specs.At.{opts}
+use Rattle.walk.specs.declared.attribute.Held.{Held}
+use Rattle.walk.specs.declared.attribute.Held.TheVariants as H
 use Rattle.walk.specs.declared.attribute.Gap.{Gap}
 use Rattle.walk.specs.declared.attribute.Gap.TheVariants as G
 use Rattle.walk.specs.See.{World, see, begun, wrap}
+
+-- ---- an attribute's value, by its fields
+
+-- a tag, which is an expression too
+pub record TagHeld (v : P.Value) (t : Bytes) : Type 0 where
+  pub tag : P.Tag
+  pub value_is : v ≡ P.tag_value tag
+  pub expression_is : contained_in (read t) ≡ contained (P.tag_expr tag)
+
+-- the value and its bytes, which lie in the attribute's
+abbrev pub Holds : Bytes → Option Held → Type 0
+Holds a None = value_in (read a) ≡ P.absent
+Holds a (Some (H.String b)) = value_in (read a) ≡ P.string_value b.now
+Holds a (Some (H.Braces c)) = (value_in (read a) ≡ contained_value (contained_in (read c.now))) × (length c.now ≤ length a)
+Holds a (Some (H.Tag t)) = TagHeld (value_in (read a)) t.now × (length t.now ≤ length a)
 
 -- ---- what an attribute leaves
 

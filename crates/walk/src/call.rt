@@ -11,9 +11,9 @@ ghost use Rattle.decisions.specs.At.{element_name, identifier_bytes};
 ghost use Rattle.walk.specs.See.{at, see, begun, props_closed, namespaced_leaf, hole_mid, Low};
 
 use crate::state::{Walk, at_page, begin, close, leaf};
-use decisions::attribute::{first_name, second_name};
+use decisions::attribute::two_names;
 use decisions::element::{identifier, is_upper};
-use field::reader::{behind, body, tag_at};
+use field::reader::{Field, Fields, behind, field_at};
 use field::writer::{put_byte, put_bytes};
 use names::is_void_element;
 
@@ -21,22 +21,13 @@ fn member_names(page: &mut [u8], st: Walk, s: &[u8]) -> Walk
     requires { Low (see (members_row (texts_in 0x40 (read s.now))) (at [] page.old st)).st }
     ensures { at [] page.new result ≡ see (members_row (texts_in 0x40 (read s.now))) (at [] page.old st) }
 {
-    let mut t = s;
     let mut cur = st;
-    loop {
-        match tag_at(t) {
-            0x40 => {
-                cur = leaf(page, cur, 0x40, body(t));
-                t = behind(t);
-            }
-            256 => {
-                return cur;
-            }
-            _ => {
-                t = behind(t);
-            }
+    for field in Fields(s) {
+        if field.tag == 0x40 {
+            cur = leaf(page, cur, 0x40, field.body);
         }
     }
+    cur
 }
 
 // A namespaced name.
@@ -45,9 +36,10 @@ fn namespaced_leaf(page: &mut [u8], st: Walk, c: &[u8]) -> Walk
     ensures { at [] page.new result ≡ see (namespaced_leaf (read c.now)) (at [] page.old st) }
 {
     let p = st.page;
-    let x = put_bytes(page, p + 3, first_name(c));
+    let (ns, n) = two_names(c);
+    let x = put_bytes(page, p + 3, ns);
     let y = put_byte(page, x, b':');
-    let z = put_bytes(page, y, second_name(c));
+    let z = put_bytes(page, y, n);
     close(page, at_page(st, z), p, 0x81)
 }
 
@@ -56,19 +48,16 @@ pub fn name_expr(page: &mut [u8], st: Walk, b: &[u8]) -> Walk
     requires { Low (see (name_expr (element_name (read b.now))) (at [] page.old st)).st }
     ensures { at [] page.new result ≡ see (name_expr (element_name (read b.now))) (at [] page.old st) }
 {
-    match tag_at(b) {
-        0x41 => {
+    match field_at(b) {
+        Some(Field { tag: 0x41, body }) => {
             let p = st.page;
-            let a = member_names(page, begin(st), body(b));
+            let a = member_names(page, begin(st), body);
             close(page, a, p, 0x41)
         }
-        0x42 => namespaced_leaf(page, st, body(b)),
+        Some(Field { tag: 0x42, body }) => namespaced_leaf(page, st, body),
         _ => {
             let n = identifier(b);
-            if is_upper(n) {
-                return leaf(page, st, 0x40, n);
-            }
-            leaf(page, st, 0x81, n)
+            leaf(page, st, if is_upper(n) { 0x40 } else { 0x81 }, n)
         }
     }
 }
@@ -79,9 +68,10 @@ pub fn children_front(page: &mut [u8], st: Walk, stands: bool) -> Walk
     ensures { at [] page.new result ≡ pick stands (see (O.leaf 0x81 (ascii "children")) (begun (at [] page.old st))) (at [] page.old st) }
 {
     if stands {
-        return leaf(page, begin(st), 0x81, b"children");
+        leaf(page, begin(st), 0x81, b"children")
+    } else {
+        st
     }
-    st
 }
 
 // The properties that began at q end: null for none.
@@ -113,7 +103,8 @@ pub fn inner_children(b: &[u8]) -> &[u8]
     ensures { result.now ≡ pick (is_void_element (identifier_bytes (element_name (read b.now)))) [] (behind_of b.now) }
 {
     if is_void_element(identifier(b)) {
-        return &b[..0];
+        &[]
+    } else {
+        behind(b)
     }
-    behind(b)
 }

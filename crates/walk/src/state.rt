@@ -12,7 +12,7 @@ ghost use Rattle.strings.specs.Carve.{joined_by};
 ghost use Rattle.walk.specs.See.{at, see, to_page, marked, begun, begun_if, wrap, wrap_if, numbered, left, flushed, literal, Low};
 
 use decisions::expr::{boolean_in, put_number_bytes_at};
-use field::reader::{body, tag_at};
+use field::reader::{Field, field_at};
 use field::writer::{put_bytes, put_four, put_head};
 use strings::due::{Due, graver, with_body};
 use strings::put_joined;
@@ -67,10 +67,7 @@ pub fn begin_if(st: Walk, b: bool) -> Walk
     requires { st.page + 3 < 2 ^ 63 }
     ensures { at [] [] result ≡ begun_if b (at [] [] st) }
 {
-    if b {
-        return begin(st);
-    }
-    st
+    if b { begin(st) } else { st }
 }
 
 // The head at p of a field that ends here.
@@ -91,12 +88,12 @@ pub fn close_if(page: &mut [u8], st: Walk, p: usize, tag: u8, b: bool) -> Walk
     requires { (b ≡ true → p + 3 ≤ st.page) × Low st }
     ensures { at [] page.new result ≡ wrap_if b tag p (at [] page.old st) }
 {
-    if b {
-        return close(page, st, p, tag);
-    }
-    st
+    if b { close(page, st, p, tag) } else { st }
 }
 
+// The leaves here, and those of names, differ in the call that writes the body. One function over what writes it would take a type and an impl
+// for each of the six, longer than the function that it replaces.
+#[tactic(auto, using(crate::proofs::LeafLaws::leaf_room, crate::proofs::LeafLaws::leaf_is))]
 pub fn leaf(page: &mut [u8], st: Walk, tag: u8, b: &[u8]) -> Walk
     requires { Low (see (O.leaf tag b.now) (at [] page.old st)).st }
     ensures { at [] page.new result ≡ see (O.leaf tag b.now) (at [] page.old st) }
@@ -107,6 +104,7 @@ pub fn leaf(page: &mut [u8], st: Walk, tag: u8, b: &[u8]) -> Walk
 }
 
 // A number in front of s under its tag, its body as it came.
+#[tactic(auto, using(crate::proofs::LeafLaws::leaf_room, crate::proofs::LeafLaws::leaf_is))]
 fn number_leaf(page: &mut [u8], st: Walk, tag: u8, s: &[u8]) -> Walk
     requires { Low (see (O.leaf tag (number_bytes (number_at s.now))) (at [] page.old st)).st }
     ensures { at [] page.new result ≡ see (O.leaf tag (number_bytes (number_at s.now))) (at [] page.old st) }
@@ -121,24 +119,19 @@ pub fn literal_leaf(page: &mut [u8], st: Walk, s: &[u8]) -> Walk
     requires { Low (see (literal (expr_in (read s.now))) (at [] page.old st)).st }
     ensures { at [] page.new result ≡ see (literal (expr_in (read s.now))) (at [] page.old st) }
 {
-    let b = body(s);
-    let t = tag_at(s);
-    match t {
-        0x70 => leaf(page, st, 0x70, b),
-        0x71 | 0x7a => number_leaf(page, st, t as u8, s),
-        0x72 => {
-            if boolean_in(b) {
-                return leaf(page, st, 0x72, b"\x01");
-            }
-            leaf(page, st, 0x72, b"\x00")
-        }
-        0x74 => leaf(page, st, 0x74, b),
-        0x75 | 0x7b => number_leaf(page, st, t as u8, s),
-        _ => leaf(page, st, 0x73, b""),
+    match field_at(s) {
+        Some(Field { tag, body }) => match tag {
+            0x70 | 0x74 => leaf(page, st, tag, body),
+            0x71 | 0x75 | 0x7a | 0x7b => number_leaf(page, st, tag, s),
+            0x72 => leaf(page, st, tag, &[u8::from(boolean_in(body))]),
+            _ => leaf(page, st, 0x73, b""),
+        },
+        None => leaf(page, st, 0x73, b""),
     }
 }
 
 // A 70 with the text of an attribute string.
+#[tactic(auto, using(crate::proofs::LeafLaws::leaf_room, crate::proofs::LeafLaws::leaf_is))]
 pub fn attr_string_leaf(page: &mut [u8], st: Walk, s: &[u8]) -> Walk
     requires { Low (see (string_node (normalize_lit_str s.now)) (at [] page.old st)).st }
     ensures { at [] page.new result ≡ see (string_node (normalize_lit_str s.now)) (at [] page.old st) }
@@ -149,6 +142,7 @@ pub fn attr_string_leaf(page: &mut [u8], st: Walk, s: &[u8]) -> Walk
 }
 
 // A 70 with the text of an only child.
+#[tactic(auto, using(crate::proofs::LeafLaws::leaf_room, crate::proofs::LeafLaws::leaf_is))]
 pub fn text_leaf(page: &mut [u8], st: Walk, s: &[u8]) -> Walk
     requires { Low (see (string_node (jsx_text_to_str s.now false true)) (at [] page.old st)).st }
     ensures { at [] page.new result ≡ see (string_node (jsx_text_to_str s.now false true)) (at [] page.old st) }
@@ -200,6 +194,7 @@ pub fn begin_template(page: &mut [u8], st: Walk) -> Walk
 }
 
 // A tag is left: a 30 stands in the result.
+#[tactic(auto, using(crate::proofs::LeafLaws::left_low))]
 pub fn leave(page: &mut [u8], st: Walk) -> Walk
     requires { Low (left (at [] page.old st)).st }
     ensures { at [] page.new result ≡ left (at [] page.old st) }

@@ -1,24 +1,22 @@
 -- What the code leaves in the lent buffer. Main statements: `number_written`; of a field `leaf_written`, `plus_written`, `minus_written`,
 -- `nest_written`; of a row `left_start`, `left_on`, `left_end`. Assumes nothing.
 use Prim.Native.Nat.{ℕ, ◌+◌, ◌-◌, ◌*◌, ◌≤◌}
-use mathlib.Core.Path.{◌≡◌, refl, sym, ◌∙◌, ap}
+use mathlib.Core.Path.{◌≡◌, refl, sym, ◌∙◌, ap, ap₂}
 use mathlib.Core.Bool.{Bool, true, false}
 use mathlib.Core.List.{[], ◌++◌}
 use native.Mathlib.Omega.{arith}
-use lib.ListN.{length, take, drop, length-append}
+use lib.ListN.{length, length-append}
 use Rattle.field.specs.Bytes.{Bytes, AllBytes}
 use Rattle.field.specs.Number.{big_endian}
-use Rattle.field.specs.Row.{field_bytes, read}
-use Rattle.field.specs.Header.{header_of}
-use Rattle.field.specs.declared.reader.Header.{Header}
+use Rattle.field.specs.Row.{field_bytes, read, next, Ended}
+use Rattle.field.specs.Fields.{IsFront}
 use Rattle.field.specs.Put.{put, Wrote, head}
-use Rattle.field.proofs.RowLaws.{next_sizes}
-use Rattle.field.proofs.HeaderLaws.{next_field, no_field_read}
+use Rattle.field.proofs.FrontLaws.{next_at}
 use Rattle.field.proofs.PutLaws.{put_put, wrote_is, wrote_field, wrote_behind}
 use Rattle.page.specs.Number.{whole, number_bytes}
 use Rattle.sums.specs.Value.{Worked}
 use Rattle.sums.specs.declared.value.Sum.TheVariants as W
-use Rattle.std.specs.Prelude.{Option, Some, None}
+use Rattle.std.specs.Prelude.{Some, None}
 use Rattle.worked.specs.Row.{holds, field_sum, worked_bytes, worked_field}
 use Rattle.worked.proofs.Fields.{worked_front, worked_none, worked_leaf, worked_nest, worked_plus, worked_minus}
 use Rattle.worked.proofs.Sizes.{field_room}
@@ -37,39 +35,28 @@ pub record Left (s o : Bytes) (at : ℕ) (t out : Bytes) (a : ℕ) : Type 0 wher
 pub left_start : (s o : Bytes) (at : ℕ) → Left s o at s o at
 left_start s o at = record { rest = refl; place = refl; room = omega arith; short = omega arith }
 
--- the parts of the field in front, as the code cuts them
-abbrev pub body_at : ℕ → Bytes → Bytes
-body_at e t = take (e - 3) (drop 3 t)
+module _ {t : Bytes} {u : ℕ} {w r : Bytes} (g : IsFront t u w r) where
+  front_is : worked_bytes t ≡ worked_field u w ++ worked_bytes r
+  front_is = worked_front t u w r (next_at t u g.tag_is (λ z. omega (arith, z, g.tag_below)) ∙ ap₂ (λ (x y : Bytes). next u x y) (sym g.body_is) (sym g.behind_is))
 
-abbrev pub behind_at : ℕ → Bytes → Bytes
-behind_at e t = take (length t - e) (drop e t)
-
-module _ (t : Bytes) {v : Option Header} (q : v ≡ header_of t) where
-  module _ {x : Header} (h : v ≡ Some x) where
-    pub part_sizes : 3 + length (body_at x.end t) + length (behind_at x.end t) ≡ length t
-    part_sizes = next_sizes t x.tag (body_at x.end t) (behind_at x.end t) (next_field t x (sym q ∙ h))
-
-    pub left_on : {s o out out₂ : Bytes} {at a a₂ : ℕ} → Left s o at t out a → Wrote out a (worked_field x.tag (body_at x.end t)) out₂ a₂ → Left s o at (behind_at x.end t) out₂ a₂
-    left_on {s} {o} {out} {out₂} {at} {a} {a₂} l u =
-        let w : Bytes = body_at x.end t in
-        let r : Bytes = behind_at x.end t in
-        let f : worked_bytes t ≡ worked_field x.tag w ++ worked_bytes r = worked_front t x.tag w r (next_field t x (sym q ∙ h)) in
-        let k : length (worked_bytes t) ≡ length (worked_field x.tag w) + length (worked_bytes r) = ap length f ∙ length-append (worked_field x.tag w) (worked_bytes r) in
-        let p : put (put out a (worked_field x.tag w)) (a + length (worked_field x.tag w)) (worked_bytes r) ≡ put out a (worked_bytes t) = put_put out a (worked_field x.tag w) (worked_bytes r) ∙ ap (put out a) (sym f) in
-        record {
-          rest = ap (λ (y : Bytes). put y a₂ (worked_bytes r)) u.out_is ∙ ap (λ (y : ℕ). put (put out a (worked_field x.tag w)) y (worked_bytes r)) u.end_is ∙ p ∙ l.rest;
-          place = omega (arith, u.end_is, k, l.place);
-          room = omega (arith, u.end_is, field_room x.tag w, part_sizes, l.room);
-          short = omega (arith, part_sizes, l.short);
-        }
-
-  pub left_end : v ≡ None → {s o out out₂ : Bytes} {at a a₂ : ℕ} → Left s o at t out a → Wrote out a t out₂ a₂ → Wrote o at (worked_bytes s) out₂ a₂
-  left_end h {s} {o} {out} {out₂} {at} {a} {a₂} l u =
-      let f : t ≡ worked_bytes t = worked_none t (no_field_read t q h) in
+  pub left_on : {s o out out₂ : Bytes} {at a a₂ : ℕ} → Left s o at t out a → Wrote out a (worked_field u w) out₂ a₂ → Left s o at r out₂ a₂
+  left_on {s} {o} {out} {out₂} {at} {a} {a₂} l v =
+      let k : length (worked_bytes t) ≡ length (worked_field u w) + length (worked_bytes r) = ap length front_is ∙ length-append (worked_field u w) (worked_bytes r) in
+      let p : put (put out a (worked_field u w)) (a + length (worked_field u w)) (worked_bytes r) ≡ put out a (worked_bytes t) = put_put out a (worked_field u w) (worked_bytes r) ∙ ap (put out a) (sym front_is) in
       record {
-        out_is = u.out_is ∙ ap (put out a) f ∙ l.rest;
-        end_is = omega (arith, u.end_is, ap length f, l.place);
+        rest = ap (λ (y : Bytes). put y a₂ (worked_bytes r)) v.out_is ∙ ap (λ (y : ℕ). put (put out a (worked_field u w)) y (worked_bytes r)) v.end_is ∙ p ∙ l.rest;
+        place = omega (arith, v.end_is, k, l.place);
+        room = omega (arith, v.end_is, field_room u w, g.sizes, l.room);
+        short = omega (arith, g.sizes, l.short);
       }
+
+pub left_end : {t : Bytes} → Ended (read t) → {s o out out₂ : Bytes} {at a a₂ : ℕ} → Left s o at t out a → Wrote out a t out₂ a₂ → Wrote o at (worked_bytes s) out₂ a₂
+left_end {t} h {s} {o} {out} {out₂} {at} {a} {a₂} l u =
+    let f : t ≡ worked_bytes t = worked_none t h in
+    record {
+      out_is = u.out_is ∙ ap (put out a) f ∙ l.rest;
+      end_is = omega (arith, u.end_is, ap length f, l.place);
+    }
 
 -- ---- one field
 module _ (t : ℕ) (w : Bytes) {o o₁ : Bytes} {n n₁ : ℕ} {b : Bool} (q : b ≡ holds t) where

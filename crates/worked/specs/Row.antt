@@ -1,10 +1,12 @@
 -- The same on rows of fields, whatever the fields: a 79 goes by the tree that its pieces are read as. Assumes nothing: these are
 -- definitions.
-use Rattle.std.specs.Prelude.{ℕ, Bool, ◌&&◌, ◌||◌, [], leb, eqb}
+use Rattle.std.specs.Prelude.{ℕ, ◌≡◌, ◌≤◌, Bool, ◌&&◌, ◌||◌, [], leb, eqb, length, Option}
 use Rattle.field.specs.Bytes.{Bytes, pick}
 use Rattle.field.specs.Row.{Row, end, loose, field, bytes, inside, opened, read}
 use Rattle.page.specs.Number.{whole, number_bytes}
-use Rattle.page.specs.Tree.{choose, pieces_in}
+use Rattle.field.specs.declared.reader.Field.{Field}
+use Rattle.page.specs.Page.{Pieces, no_pieces, source_piece, tag_piece}
+use Rattle.page.specs.Tree.{choose, pieces_in, element_in, fragment_in}
 use Rattle.sums.specs.Value.{Worked}
 use Rattle.sums.specs.declared.value.Sum.TheVariants.{Plus, Minus}
 use Rattle.std.specs.Prelude.{Some, None}
@@ -36,6 +38,19 @@ worked_bytes s = bytes (worked_row (read s))
 unfoldable pub worked_field : ℕ → Bytes → Bytes
 worked_field t w = bytes (worked_row (opened (inside t) read t w []))
 
--- a 20, 30 or 31, or no field at all: what is not passed over in search of a piece
+-- a 20, 30 or 31
 unfoldable pub is_piece : ℕ → Bool
-is_piece t = eqb t 0x20 || (eqb t 0x30 || (eqb t 0x31 || eqb t 256))
+is_piece t = eqb t 0x20 || (eqb t 0x30 || eqb t 0x31)
+
+-- such a field in front of other pieces
+unfoldable pub piece_before : ℕ → Bytes → Pieces → Pieces
+piece_before t w ps = choose (eqb t 0x20) (λ _. source_piece w ps) λ _. choose (eqb t 0x30) (λ _. tag_piece (element_in (read w)) ps) λ _. tag_piece (fragment_in (read w)) ps
+
+-- the next piece of a row, and the row behind it; no piece is left where there is none
+pub record IsPiece (s : Bytes) (t : ℕ) (w r : Bytes) : Type 0 where
+  pub pieces_are : pieces_in (read s) ≡ piece_before t w (pieces_in (read r))
+  pub body_within : length w ≤ length s
+
+abbrev pub NextPiece : Bytes → Option Field → Bytes → Type 0
+NextPiece s None r = pieces_in (read s) ≡ no_pieces
+NextPiece s (Some f) r = IsPiece s f.tag f.body.now r

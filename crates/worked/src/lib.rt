@@ -6,13 +6,11 @@
 ghost use Rattle.std.specs.Prelude.{◌≡◌, true, ◌+◌, ◌*◌, ◌≤◌, ◌<◌, ◌^◌, length};
 ghost use Rattle.field.specs.Row.{read};
 ghost use Rattle.field.specs.Put.{Wrote};
-ghost use Rattle.field.specs.Front.{tag_of_front};
 ghost use Rattle.field.specs.Row.{field_bytes};
-ghost use Rattle.page.specs.Tree.{pieces_in};
 ghost use Rattle.page.specs.Number.{whole, number_bytes};
-ghost use Rattle.worked.specs.Row.{holds, field_sum, worked_bytes, worked_field, is_piece};
+ghost use Rattle.worked.specs.Row.{holds, field_sum, worked_bytes, worked_field, is_piece, NextPiece};
 
-use field::reader::{behind, body, read_header, tag_at};
+use field::reader::{Field, Fields};
 use field::writer::{put_bytes, put_eight, put_head};
 use sums::reader::{ROOM, sum_in};
 use sums::value::Sum;
@@ -28,23 +26,24 @@ fn may_hold(tag: u8) -> bool
     )
 }
 
-// A 20, 30 or 31, or no field at all.
+// A 20, 30 or 31.
 #[tactic(auto, unfolding(crate::specs::Row::is_piece))]
-fn is_piece(tag: usize) -> bool
+fn is_piece(tag: u8) -> bool
     ensures { result ≡ is_piece tag }
 {
-    matches!(tag, 0x20 | 0x30 | 0x31 | 256)
+    matches!(tag, 0x20 | 0x30 | 0x31)
 }
 
-// The row from its first 20, 30 or 31 on.
-fn to_piece(s: &[u8]) -> &[u8]
-    ensures { (pieces_in (read result.now) ≡ pieces_in (read s.now)) × (is_piece (tag_of_front result.now) ≡ true) × (length result.now ≤ length s.now) }
+// The next piece of a row.
+fn next_piece<'a>(fields: &mut Fields<'a>) -> Option<Field<'a>>
+    ensures { NextPiece fields.old.0.now result fields.new.0.now }
 {
-    let mut t = s;
-    while !is_piece(tag_at(t)) {
-        t = behind(t);
+    while let Some(field) = fields.next() {
+        if is_piece(field.tag) {
+            return Some(field);
+        }
     }
-    t
+    None
 }
 
 // What a field comes to, by its tag and body: a number only where it is a 79 of one source piece that is a sum.
@@ -55,15 +54,15 @@ fn sum_of_field(tag: u8, w: &[u8], words: &mut [u64; ROOM]) -> Option<Sum>
     if tag != 0x79 {
         return None;
     }
-    let p = to_piece(w);
-    if tag_at(p) != 0x20 {
+    let mut pieces = Fields(w);
+    let first = next_piece(&mut pieces)?;
+    if first.tag != 0x20 {
         return None;
     }
-    let q = to_piece(behind(p));
-    if tag_at(q) != 256 {
-        return None;
+    match next_piece(&mut pieces) {
+        Some(_) => None,
+        None => sum_in(first.body, words),
     }
-    sum_in(body(p), words)
 }
 
 // A field with a number of eight bytes.
@@ -102,13 +101,12 @@ fn work_fields(s: &[u8], words: &mut [u64; ROOM], out: &mut [u8], at: usize) -> 
     requires { (length s.now ≤ 32768) × (length words.old ≡ 16384) × (at + 2 * length s.now < 2 ^ 63) }
     ensures { Wrote out.old at (worked_bytes s.now) out.new result × (length words.new ≡ 16384) }
 {
-    let mut t = s;
+    let mut fields = Fields(s);
     let mut a = at;
-    while let Some(h) = read_header(t) {
-        a = work_field(h.tag, &t[3..h.end], words, out, a);
-        t = &t[h.end..];
+    while let Some(field) = fields.next() {
+        a = work_field(field.tag, field.body, words, out, a);
     }
-    put_bytes(out, a, t)
+    put_bytes(out, a, fields.0)
 }
 
 // The page with its sums worked out, at the front of out.

@@ -1,10 +1,10 @@
-use Prim.Native.Nat.{◌-◌}
 use lib.ListN.{length}
-use Rattle.utf8.specs.Parts.{Skips}
+use mathlib.Core.Path.{◌≡◌}
+use Rattle.utf8.specs.Utf8.{utf8}
 use Rattle.utf8.proofs.is_utf8.Given as goal
 
-abbrev pub invariant-loop-i : goal.invariant-loop-i
-invariant-loop-i l = Skips l.s 0 l.i
+abbrev pub invariant-loop-left : goal.invariant-loop-left
+invariant-loop-left l = utf8 l.s ≡ utf8 l.left
 
-abbrev pub decreases-loop-i : goal.decreases-loop-i
-decreases-loop-i l = length l.s - l.i
+abbrev pub decreases-loop-left : goal.decreases-loop-left
+decreases-loop-left l = length l.left

@@ -5,9 +5,8 @@ use Rattle.std.specs.Prelude.{Some}
 use native.Mathlib.Omega.{arith}
 use lib.ListN.{length}
 use Rattle.field.proofs.NumberLaws.{all_from}
-use Rattle.field.proofs.HeaderLaws.{within_field}
-use Rattle.field.proofs.PutLaws.{length_head, wrote_length}
-use Rattle.worked.proofs.Writes.{left_start, left_on, left_end, part_sizes, leaf_written, plus_written, minus_written, nest_written}
+use Rattle.field.proofs.PutLaws.{length_head, wrote_length, wrote_is}
+use Rattle.worked.proofs.Writes.{left_start, left_on, left_end, leaf_written, plus_written, minus_written, nest_written}
 use Rattle.worked.proofs.+work.Goals as goal
 
 pub work_field-put_head-a-requires : goal.work_field-put_head-a-requires
@@ -64,41 +63,23 @@ work_field-shape_of-out-in-None t c = wrote_length (nest_written _ _ c.may_hold.
 pub work_field-returns-in-None : goal.work_field-returns-in-None
 work_field-returns-in-None t c = (nest_written _ _ c.may_hold.ensures c.if-not-may_hold.false c.sum_of_field.ensures.0 c.in-None.is refl c.work_fields-e.ensures.0 c.put_head.ensures, c.work_fields-e.ensures.1)
 
-pub work_fields-loop-h-init : goal.work_fields-loop-h-init
-work_fields-loop-h-init t c = (left_start _ _ _, c.requires.1)
+pub work_fields-loop-field-init : goal.work_fields-loop-field-init
+work_fields-loop-field-init t c = (left_start _ _ _, c.requires.1)
 
 pub work_fields-put_bytes-requires : goal.work_fields-put_bytes-requires
-work_fields-put_bytes-requires t c = omega (arith, c.loop-h.invariant.0.room, c.requires.2)
+work_fields-put_bytes-requires t c = omega (arith, c.loop-field.invariant.0.room, c.requires.2)
 
 pub work_fields-shape_of-out : goal.work_fields-shape_of-out
-work_fields-shape_of-out t c = wrote_length (left_end _ c.read_header.ensures.0 c.in_default.is c.loop-h.invariant.0 c.put_bytes.ensures)
+work_fields-shape_of-out t c = wrote_length (left_end c.in_default.ensures.steps.ended c.loop-field.invariant.0 (wrote_is c.in_default.ensures.steps.stays c.put_bytes.ensures))
 
 pub work_fields-returns : goal.work_fields-returns
-work_fields-returns t c = (left_end _ c.read_header.ensures.0 c.in_default.is c.loop-h.invariant.0 c.put_bytes.ensures, c.loop-h.invariant.1)
-
-pub work_fields-slice_bounds-work_field-count : goal.work_fields-slice_bounds-work_field-count
-work_fields-slice_bounds-work_field-count t c = omega (arith, within_field c.read_header.ensures.1 c.in-Some.is)
-
-pub work_fields-slice_bounds-work_field-start : goal.work_fields-slice_bounds-work_field-start
-work_fields-slice_bounds-work_field-start t c = omega (arith, within_field c.read_header.ensures.1 c.in-Some.is)
-
-pub work_fields-slice_bounds-work_field-end : goal.work_fields-slice_bounds-work_field-end
-work_fields-slice_bounds-work_field-end t c = omega (arith, within_field c.read_header.ensures.1 c.in-Some.is)
-
-pub work_fields-slice_bounds-t-count : goal.work_fields-slice_bounds-t-count
-work_fields-slice_bounds-t-count t c = omega (arith, within_field c.read_header.ensures.1 c.in-Some.is)
-
-pub work_fields-slice_bounds-t-start : goal.work_fields-slice_bounds-t-start
-work_fields-slice_bounds-t-start t c = omega (arith, within_field c.read_header.ensures.1 c.in-Some.is)
-
-pub work_fields-slice_bounds-t-end : goal.work_fields-slice_bounds-t-end
-work_fields-slice_bounds-t-end t c = omega (arith, within_field c.read_header.ensures.1 c.in-Some.is)
+work_fields-returns t c = (left_end c.in_default.ensures.steps.ended c.loop-field.invariant.0 (wrote_is c.in_default.ensures.steps.stays c.put_bytes.ensures), c.loop-field.invariant.1)
 
 pub work_fields-work_field-a-requires : goal.work_fields-work_field-a-requires
-work_fields-work_field-a-requires t c = (omega (arith, c.decreases, c.loop-h.invariant.0.short, part_sizes _ c.read_header.ensures.0 c.in-Some.is), (omega (arith, c.requires.0, c.loop-h.invariant.0.short, part_sizes _ c.read_header.ensures.0 c.in-Some.is), c.loop-h.invariant.1, omega (arith, c.requires.2, c.loop-h.invariant.0.room, part_sizes _ c.read_header.ensures.0 c.in-Some.is)))
+work_fields-work_field-a-requires t c =
+    let i = c.loop-field.invariant in
+    let z = c.in-Some.ensures.steps.sizes in
+    (omega (arith, c.decreases, i.0.short, z), (omega (arith, c.requires.0, i.0.short, z), i.1, omega (arith, c.requires.2, i.0.room, z)))
 
-pub work_fields-loop-h-smaller : goal.work_fields-loop-h-smaller
-work_fields-loop-h-smaller t c = omega (arith, part_sizes _ c.read_header.ensures.0 c.in-Some.is)
-
-pub work_fields-loop-h-preserved : goal.work_fields-loop-h-preserved
-work_fields-loop-h-preserved t c = (left_on _ c.read_header.ensures.0 c.in-Some.is c.loop-h.invariant.0 c.work_field-a.ensures.0, c.work_field-a.ensures.1)
+pub work_fields-loop-field-preserved : goal.work_fields-loop-field-preserved
+work_fields-loop-field-preserved t c = (left_on c.in-Some.ensures.steps c.loop-field.invariant.0 c.work_field-a.ensures.0, c.work_field-a.ensures.1)

@@ -10,8 +10,5 @@ decreases-work_field l = 2 * length l.w.now + 1
 abbrev pub decreases-work_fields : goal.decreases-work_fields
 decreases-work_fields l = 2 * length l.s.now
 
-abbrev pub invariant-work_fields-loop-h : goal.invariant-work_fields-loop-h
-invariant-work_fields-loop-h l = Left l.s l.initial.out l.at l.t l.out l.a × (length l.words ≡ 16384)
-
-abbrev pub decreases-work_fields-loop-h : goal.decreases-work_fields-loop-h
-decreases-work_fields-loop-h l = length l.t
+abbrev pub invariant-work_fields-loop-field : goal.invariant-work_fields-loop-field
+invariant-work_fields-loop-field l = Left l.s l.initial.out l.at l.fields.0.now l.out l.a × (length l.words ≡ 16384)

@@ -1,8 +1,8 @@
 -- `templates::lower_record` meets its contract: the three writes make the record. Assumes nothing.
-use mathlib.Core.Path.{sym}
+use mathlib.Core.Path.{refl, sym}
 use native.Mathlib.Omega.{arith}
 use lib.Seq.{length-take-le}
-use Rattle.convert.proofs.TemplateLaws.{front_at, lower_room, lower_wrote, head_end, number_end}
+use Rattle.convert.proofs.TemplateLaws.{front_at, lower_room, lower_number_stops, lower_kinds_stop, lower_wrote, head_end, number_end}
 use Rattle.convert.proofs.templates.lower_record.Goals as goal
 
 pub slice_bounds-number_in-end : goal.slice_bounds-number_in-end
@@ -29,5 +29,11 @@ put_two-b-requires c = omega (arith, lower_room c.args.w.now c.args.at c.require
 pub put_bytes-e-requires : goal.put_bytes-e-requires
 put_bytes-e-requires c = omega (arith, lower_room c.args.w.now c.args.at c.requires.1 _ (front_at c.args.w.now c.number_in.ensures), head_end _ _ c.put_head-a.ensures, number_end 2 _ c.put_two-b.ensures)
 
+pub returns-then-number-gt-LARGEST : goal.returns-then-number-gt-LARGEST
+returns-then-number-gt-LARGEST c = lower_number_stops c.args.w.now _ _ _ (front_at c.args.w.now c.number_in.ensures) c.number_in-number.ensures refl c.if-number-gt-LARGEST.true
+
+pub returns-then-not-are_kinds : goal.returns-then-not-are_kinds
+returns-then-not-are_kinds c = lower_kinds_stop c.args.w.now _ _ _ (front_at c.args.w.now c.number_in.ensures) c.number_in-number.ensures c.are_kinds.ensures c.if-not-are_kinds.true
+
 pub returns : goal.returns
-returns c = lower_wrote c.args.w.now _ (front_at c.args.w.now c.number_in.ensures) c.number_in-number.ensures c.put_head-a.ensures c.put_two-b.ensures c.put_bytes-e.ensures c.are_kinds.ensures
+returns c = lower_wrote c.args.w.now _ _ _ (front_at c.args.w.now c.number_in.ensures) c.number_in-number.ensures c.are_kinds.ensures c.if-number-gt-LARGEST.false c.if-not-are_kinds.false c.put_head-a.ensures c.put_two-b.ensures c.put_bytes-e.ensures

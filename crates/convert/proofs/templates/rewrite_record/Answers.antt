@@ -10,7 +10,7 @@ pub lower_record-requires : goal.lower_record-requires
 lower_record-requires c = room_of c.args.w.now c.args.at c.in-New.is c.requires
 
 pub returns-in-Old : goal.returns-in-Old
-returns-in-Old c = rewrites_of (sym c.in-Old.is) c.raise_record.ensures
+returns-in-Old c = rewrites_of _ _ _ _ _ (sym c.in-Old.is) c.raise_record.ensures
 
 pub returns-in-New : goal.returns-in-New
-returns-in-New c = rewrites_of (sym c.in-New.is) c.lower_record.ensures
+returns-in-New c = rewrites_of _ _ _ _ _ (sym c.in-New.is) c.lower_record.ensures

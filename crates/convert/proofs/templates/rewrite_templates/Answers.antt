@@ -1,24 +1,23 @@
 -- `templates::rewrite_templates` meets its contract: each turn keeps `Keeps`. Assumes nothing.
 use native.Mathlib.Omega.{arith}
 use Rattle.field.proofs.NumberLaws.{all_from}
-use Rattle.convert.proofs.KindLaws.{behind_far}
-use Rattle.convert.proofs.TemplateLaws.{keeps_begins, fits_body, keeps_on, keeps_end}
+use Rattle.convert.proofs.TemplateLaws.{keeps_begins, fits_body, keeps_on, keeps_stops, keeps_end}
 use Rattle.convert.proofs.templates.rewrite_templates.Goals as goal
 
-pub loop-t-init : goal.loop-t-init
-loop-t-init c = keeps_begins _ _ _ (all_from _ (λ i. (c.type_inv.s i).fits)) c.requires (omega (arith, c.well_formed.0.1))
+pub loop-record-init : goal.loop-record-init
+loop-record-init c = rw c.into_iter-record-iterator.ensures.into_iter_gives (keeps_begins _ _ _ (all_from _ (λ i. (c.type_inv.s i).fits)) c.requires (omega (arith, c.well_formed.0.1)))
 
-pub shape_of-out : goal.shape_of-out
-shape_of-out c = c.loop-t.invariant.same_size
+pub rewrite_record-requires : goal.rewrite_record-requires
+rewrite_record-requires c = let f = c.in-Some.ensures.steps in fits_body c.loop-record.invariant f.tag_is (λ z. omega (arith, f.tag_below, z)) f.body_is
+
+pub returns-in_err-w : goal.returns-in_err-w
+returns-in_err-w c = let f = c.in-Some.ensures.steps in rw c.from_residual.ensures (keeps_stops c.loop-record.invariant f.tag_is (λ z. omega (arith, f.tag_below, z)) f.body_is c.in_err-w.ensures)
+
+pub loop-record-preserved : goal.loop-record-preserved
+loop-record-preserved c = let f = c.in-Some.ensures.steps in keeps_on c.loop-record.invariant f.tag_is (λ z. omega (arith, f.tag_below, z)) f.body_is c.in_ok-w.ensures f.behind_is
 
 pub returns : goal.returns
-returns c = keeps_end c.loop-t.invariant (c.tag_at.ensures.1 c.loop-t-test.false)
+returns c = keeps_end c.loop-record.invariant c.in-None.ensures.steps.ended
 
-pub rewrite_record-w-requires : goal.rewrite_record-w-requires
-rewrite_record-w-requires c = fits_body c.loop-t.invariant c.tag_at.ensures.0 c.loop-t-test.true c.body.ensures
-
-pub loop-t-smaller : goal.loop-t-smaller
-loop-t-smaller c = omega (arith, behind_far c.loop-t.t.now c.tag_at.ensures.0 c.loop-t-test.true c.behind-t.ensures)
-
-pub loop-t-preserved : goal.loop-t-preserved
-loop-t-preserved c = keeps_on c.loop-t.invariant c.tag_at.ensures.0 c.loop-t-test.true c.body.ensures c.rewrite_record-w.ensures c.behind-t.ensures
+pub shape_of-out : goal.shape_of-out
+shape_of-out c = c.loop-record.invariant.same_size

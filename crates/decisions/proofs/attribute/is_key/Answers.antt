@@ -1,12 +1,13 @@
+use mathlib.Core.Bool.{true, false}
+use mathlib.Core.Path.{ap, sym, ◌∙◌}
+use borrow.Author.Rules.{rules}
 use Rattle.field.specs.Bytes.{ascii, same}
-use Rattle.decisions.proofs.AttributeLaws.{named_40, never_key}
+use Rattle.names.specs.Names.{get_attr_name}
+use Rattle.decisions.proofs.AttributeLaws.{asked_key}
 use Rattle.decisions.proofs.attribute.is_key.Goals as goal
 
 pub returns-then-norm : goal.returns-then-norm
-returns-then-norm c = named_40 _ _ c.tag_at.ensures.0 (λ x. same x (ascii "key")) c.if-tag_at-eq64.true c.body.ensures c.if-norm.true c.normalizes_to_key.ensures
-
-pub returns-then-tag_at-eq64 : goal.returns-then-tag_at-eq64
-returns-then-tag_at-eq64 c = named_40 _ _ c.tag_at.ensures.0 (λ x. same x (ascii "key")) c.if-tag_at-eq64.true c.body-then-tag_at-eq64.ensures c.if-norm.false c.same_bytes.ensures
+returns-then-norm c = rw c.if-norm.true (asked_key _ _ c.ident_at-name.ensures (λ e. search rules) true (λ b e. search rules))
 
 pub returns : goal.returns
-returns c = never_key _ _ c.tag_at.ensures.0 c.if-tag_at-eq64.false _
+returns c = rw c.if-norm.false (asked_key _ _ c.ident_at-name.ensures (λ e. search rules) false (λ b e. search rules))

@@ -1,10 +1,6 @@
-use mathlib.Core.Path.{refl}
-use Rattle.field.specs.Bytes.{ascii, same}
-use Rattle.decisions.proofs.AttributeLaws.{named_40, never_ref}
+use borrow.Author.Rules.{rules}
+use Rattle.decisions.proofs.AttributeLaws.{asked_ref}
 use Rattle.decisions.proofs.attribute.is_ref.Goals as goal
 
-pub returns-then-tag_at-eq64 : goal.returns-then-tag_at-eq64
-returns-then-tag_at-eq64 c = named_40 _ _ c.tag_at.ensures.0 (λ x. same x (ascii "ref")) c.if-tag_at-eq64.true c.body.ensures refl c.normalizes_to_ref.ensures
-
 pub returns : goal.returns
-returns c = never_ref _ _ c.tag_at.ensures.0 c.if-tag_at-eq64.false
+returns c = asked_ref _ _ c.ident_at.ensures (λ e. search rules) (λ b e. search rules)

@@ -1,45 +1,34 @@
--- The invariant: the tags that were passed, at most one, and those that are left are as many as the whole has. Assumes nothing.
-use mathlib.Core.Path.{◌∙◌}
-use native.Mathlib.Nat.{zero-add}
+-- The invariant: the tags that were passed, at most one, and those that are left are as many as the whole has.
+use mathlib.Core.Path.{ap, ◌∙◌}
 use native.Mathlib.Omega.{arith}
 use Rattle.field.specs.Row.{read}
-use Rattle.field.proofs.FrontLaws.{behind_less}
 use Rattle.page.specs.Tree.{children_in}
-use Rattle.decisions.proofs.ChildrenLaws.{no_tag, tag_counted, tag_passed, tag_other, becomes_none, becomes_one, becomes_two}
+use Rattle.decisions.proofs.ChildrenLaws.{passed, no_tag, tag_counted, tag_passed, tag_other, becomes_none, becomes_one, becomes_two}
 use Rattle.decisions.proofs.children.becomes_template.Goals as goal
+use Rattle.decisions.proofs.children.becomes_template.Goals.{else-field-eq48-via-then-field-eq48+else-is_serializable, else-field-eq48-via-else-field-eq48}
 
-pub loop-r-init : goal.loop-r-init
-loop-r-init c = (omega arith, zero-add _)
+pub returns-then-tagged : goal.returns-then-tagged
+returns-then-tagged c =
+    let f = c.in-Some.ensures.steps in
+    let h = tag_counted c.args.skip.now _ _ f.tag_is f.behind_is f.body_is c.if-field-eq48.true c.is_serializable.ensures c.if-is_serializable.true in
+    becomes_two c.args.skip.now (children_in (read c.args.s.now)) (let t = ap passed c.if-tagged.true in omega (arith, h, c.loop-field.invariant, t))
 
-pub returns-then-tags-eq1 : goal.returns-then-tags-eq1
-returns-then-tags-eq1 c = let args = c.args in let h = tag_counted args.skip.now c.loop-r.t.now _ c.tag_at.ensures.0 c.behind-r.ensures c.body.ensures c.in-48.is c.is_serializable.ensures c.if-is_serializable.true in
-    becomes_two args.skip.now (children_in (read args.s.now)) (omega (arith, h, c.loop-r.invariant.1, c.if-tags-eq1.true))
+pub loop-field-preserved-then-is_serializable : goal.loop-field-preserved-then-is_serializable
+loop-field-preserved-then-is_serializable c =
+    let f = c.in-Some.ensures.steps in
+    let h = tag_counted c.args.skip.now _ _ f.tag_is f.behind_is f.body_is c.if-field-eq48.true c.is_serializable.ensures c.if-is_serializable.true in
+    let t = ap passed c.if-tagged.false in omega (arith, h, c.loop-field.invariant, t)
 
-pub loop-r-smaller-then-is_serializable : goal.loop-r-smaller-then-is_serializable
-loop-r-smaller-then-is_serializable c = behind_less _ _ c.tag_at.ensures.0 (λ z. omega (arith, c.in-48.is)) c.behind-r.ensures
+pub loop-field-preserved : goal.loop-field-preserved
+loop-field-preserved c =
+    let f = c.in-Some.ensures.steps in
+    elim c.else-field-eq48.branch [
+      | else-field-eq48-via-then-field-eq48+else-is_serializable w ↦ let h = tag_passed c.args.skip.now _ _ f.tag_is f.behind_is f.body_is w.if-field-eq48.true w.is_serializable.ensures w.if-is_serializable.false in omega (arith, h, c.loop-field.invariant)
+      | else-field-eq48-via-else-field-eq48 w ↦ let h = tag_other c.args.skip.now _ _ f.tag_is f.behind_is (λ z. omega (arith, f.tag_below, z)) w.if-field-eq48.false in omega (arith, h, c.loop-field.invariant)
+    ]
 
-pub loop-r-preserved-then-is_serializable : goal.loop-r-preserved-then-is_serializable
-loop-r-preserved-then-is_serializable c = let args = c.args in let h = tag_counted args.skip.now c.loop-r.t.now _ c.tag_at.ensures.0 c.behind-r.ensures c.body.ensures c.in-48.is c.is_serializable.ensures c.if-is_serializable.true in
-    (omega arith, omega (arith, h, c.loop-r.invariant.0, c.loop-r.invariant.1, c.if-tags-eq1.false))
+pub returns-then-tagged-2 : goal.returns-then-tagged-2
+returns-then-tagged-2 c = c.has_text.ensures ∙ becomes_one c.args.skip.now (children_in (read c.args.s.now)) (let h = no_tag c.args.skip.now _ c.in-None.ensures.steps.ended in let t = ap passed c.if-tagged-2.true in omega (arith, h, c.loop-field.invariant, t))
 
-pub loop-r-smaller-else-is_serializable : goal.loop-r-smaller-else-is_serializable
-loop-r-smaller-else-is_serializable c = behind_less _ _ c.tag_at.ensures.0 (λ z. omega (arith, c.in-48.is)) c.behind-r.ensures
-
-pub loop-r-preserved-else-is_serializable : goal.loop-r-preserved-else-is_serializable
-loop-r-preserved-else-is_serializable c = let args = c.args in let h = tag_passed args.skip.now c.loop-r.t.now _ c.tag_at.ensures.0 c.behind-r.ensures c.body.ensures c.in-48.is c.is_serializable.ensures c.if-is_serializable.false in
-    (c.loop-r.invariant.0, omega (arith, h, c.loop-r.invariant.1))
-
-pub returns-then-tags-eq0 : goal.returns-then-tags-eq0
-returns-then-tags-eq0 c = let args = c.args in let h = no_tag args.skip.now c.loop-r.t.now (c.tag_at.ensures.1 c.in-256.is) in
-    becomes_none args.skip.now (children_in (read args.s.now)) (omega (arith, h, c.loop-r.invariant.1, c.if-tags-eq0.true))
-
-pub returns-in-256 : goal.returns-in-256
-returns-in-256 c = let args = c.args in let h = no_tag args.skip.now c.loop-r.t.now (c.tag_at.ensures.1 c.in-256.is) in
-    c.has_text.ensures ∙ becomes_one args.skip.now (children_in (read args.s.now)) (omega (arith, h, c.loop-r.invariant.0, c.loop-r.invariant.1, c.if-tags-eq0.false))
-
-pub loop-r-smaller : goal.loop-r-smaller
-loop-r-smaller c = behind_less _ _ c.tag_at.ensures.0 c.in_default.in_default-own.rest.1 c.behind-t.ensures
-
-pub loop-r-preserved : goal.loop-r-preserved
-loop-r-preserved c = let args = c.args in let h = tag_other args.skip.now c.loop-r.t.now _ c.tag_at.ensures.0 c.behind-t.ensures c.in_default.in_default-own.rest.1 c.in_default.in_default-own.rest.0.1 in
-    (c.loop-r.invariant.0, omega (arith, h, c.loop-r.invariant.1))
+pub returns-else-tagged-2 : goal.returns-else-tagged-2
+returns-else-tagged-2 c = c.if-tagged-2.false ∙ becomes_none c.args.skip.now (children_in (read c.args.s.now)) (let h = no_tag c.args.skip.now _ c.in-None.ensures.steps.ended in let t = ap passed c.if-tagged-2.false in omega (arith, h, c.loop-field.invariant, t))

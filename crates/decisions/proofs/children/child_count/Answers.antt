@@ -1,11 +1,12 @@
+use native.Mathlib.Omega.{arith}
 use Rattle.decisions.proofs.ChildrenLaws.{few_none, few_one, few_more}
 use Rattle.decisions.proofs.children.child_count.Goals as goal
 
-pub returns-then-a-eq0 : goal.returns-then-a-eq0
-returns-then-a-eq0 c = few_none _ _ c.children_at-a.ensures.first c.if-a-eq0.true
+pub returns-then-is_empty : goal.returns-then-is_empty
+returns-then-is_empty c = few_none _ _ c.children_at-first.ensures.first (grind arith)
 
-pub returns-then-b-eq0 : goal.returns-then-b-eq0
-returns-then-b-eq0 c = few_one _ _ c.children_at-a.ensures.first c.if-a-eq0.false c.behind.ensures _ c.children_at-b.ensures.first c.if-b-eq0.true
+pub returns-then-is_empty-2 : goal.returns-then-is_empty-2
+returns-then-is_empty-2 c = few_one _ _ c.children_at-first.ensures.first (λ z. grind (arith, z)) c.behind.ensures _ c.children_at.ensures.first (grind arith)
 
 pub returns : goal.returns
-returns c = few_more _ _ c.children_at-a.ensures.first c.if-a-eq0.false c.behind.ensures _ c.children_at-b.ensures.first c.if-b-eq0.false
+returns c = few_more _ _ c.children_at-first.ensures.first (λ z. grind (arith, z)) c.behind.ensures _ c.children_at.ensures.first (λ z. grind (arith, z))

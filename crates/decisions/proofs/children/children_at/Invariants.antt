@@ -5,8 +5,5 @@ use Rattle.field.specs.Row.{read}
 use Rattle.page.specs.Tree.{children_in}
 use Rattle.decisions.proofs.children.children_at.Given as goal
 
-abbrev pub invariant-loop-t : goal.invariant-loop-t
-invariant-loop-t l = (children_in (read l.t) ≡ children_in (read l.s)) × ((length l.t ≤ length l.s) × (l.t ≡ drop (length l.s - length l.t) l.s))
-
-abbrev pub decreases-loop-t : goal.decreases-loop-t
-decreases-loop-t l = length l.t
+abbrev pub invariant-loop-field : goal.invariant-loop-field
+invariant-loop-field l = (l.left ≡ l.fields.0.now) × (children_in (read l.fields.0.now) ≡ children_in (read l.s)) × (length l.fields.0.now ≤ length l.s) × (l.fields.0.now ≡ drop (length l.s - length l.fields.0.now) l.s)

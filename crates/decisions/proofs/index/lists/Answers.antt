@@ -1,7 +1,8 @@
--- `lists` meets its contract: nothing stands among no names. Assumes nothing.
-use mathlib.Core.Path.{sym}
+-- Nothing stands among no names.
+use mathlib.Core.Path.{sym, ◌∙◌}
+use native.Mathlib.Omega.{arith}
 use Rattle.decisions.proofs.IndexLaws.{listed_empty}
 use Rattle.decisions.proofs.index.lists.Goals as goal
 
-pub returns-then-list-eq0 : goal.returns-then-list-eq0
-returns-then-list-eq0 c = sym (listed_empty _ _ c.if-list-eq0.true)
+pub returns-else-not-is_empty : goal.returns-else-not-is_empty
+returns-else-not-is_empty c = rw c.if-not-is_empty.false (sym (listed_empty _ _ (grind arith)))

@@ -1,65 +1,49 @@
--- The loop keeps that no two of the names that it passed are one, and that each is noted under both halves of its hash.
-use mathlib.Core.Path.{refl, ap, ◌∙◌}
+-- The invariant: no two of the names that were passed are one, and each is noted under both halves of its hash.
+use mathlib.Core.Path.{◌≡◌, refl, sym, ap, ◌∙◌, subst}
+use Prim.Native.Nat.{◌/◌, ◌%◌}
+use mathlib.Core.Bool.{Bool, true, false}
+use mathlib.Core.List.{List, map, [], ◌∷◌, ◌++◌}
 use native.Mathlib.Omega.{arith}
-use lib.ListN.{length, take}
-use Rattle.field.specs.Row.{read}
-use Rattle.field.proofs.FrontLaws.{behind_less}
-use Rattle.page.specs.Tree.{attributes_in}
-use Rattle.decisions.specs.Repeats.{name_hash, html_names, low_half, high_half}
-use Rattle.decisions.proofs.RepeatLaws.{passed_none, passed_all, passed_spread, passed_found, passed_less, passed_room, passed_one, passed_noted, low_key, high_key, noted_none, may_not, noted_length, half_low, half_high}
+use lib.ListN.{length, length-append}
+use Rattle.std.proofs.lemmas.List.{map-append, length-map}
+use Rattle.field.specs.Bytes.{Bytes, among}
+use Rattle.decisions.specs.declared.repeats.Attributes.{Attributes}
+use Rattle.decisions.specs.Repeats.{name_hash, name_in, names_in}
+use Rattle.decisions.proofs.RepeatLaws.{Passed, passed_none, passed_found, passed_one, passed_all, passed_front, noted_none, noted_more, not_noted, low_key, high_key}
 use Rattle.decisions.proofs.repeats.by_hashes.Goals as goal
+use Rattle.decisions.proofs.repeats.by_hashes.Goals.{else-low-i-via-then-low-i+then-high-j+else-earlier_has, else-low-i-via-then-low-i+else-high-j, else-low-i-via-else-low-i}
 
-pub loop-a-init : goal.loop-a-init
-loop-a-init c = (passed_none c.args.s.now, c.requires.0, refl, c.requires.1, noted_none (low_key (length c.args.low.now)) c.args.low.now, noted_none (high_key (length c.args.low.now)) c.args.high.now)
+pub loop-k-init : goal.loop-k-init
+loop-k-init c =
+    let g = c.into_iter-k-iterator.ensures.into_iter_gives in
+    let e = c.enumerate-k-items.ensures in
+    (subst (λ (x : Attributes). Passed (names_in c.args.s.now) [] (names_in x.0.now)) (sym (ap (λ i. i.iter) g ∙ e.source)) (passed_none _), ap (λ i. i.count) g ∙ e.count, noted_none (low_key (length c.args.low.now)) c.args.low.now, noted_none (high_key (length c.args.high.now)) c.args.high.now)
 
-pub nonzero_rem-i : goal.nonzero_rem-i
-nonzero_rem-i c = c.loop-a.invariant.1
+pub returns-then-earlier_has : goal.returns-then-earlier_has
+returns-then-earlier_has c =
+    let i = c.loop-k.invariant in
+    let f = c.in-Some.ensures.steps in
+    let k = f.1 ∙ i.1 ∙ sym (length-map c.loop-k.yielded (λ p. name_in p.1.now)) in
+    passed_found i.0 f.0 (c.earlier_has.ensures ∙ ap (among (name_in c.in-Some.a.now)) (passed_front i.0 f.0 k)) c.if-earlier_has.true
 
-pub nonzero_rem-j : goal.nonzero_rem-j
-nonzero_rem-j c = c.loop-a.invariant.1
+pub loop-k-preserved : goal.loop-k-preserved
+loop-k-preserved c =
+    let i = c.loop-k.invariant in
+    let f = c.in-Some.ensures.steps in
+    let x = name_in c.in-Some.a.now in
+    let P : List Bytes = map (λ p. name_in p.1.now) c.loop-k.yielded in
+    let h : c.hash-hash.result ≡ name_hash x = c.hash-hash.ensures ∙ ap name_hash c.of_attr.ensures in
+    let low : c.hash-hash.result % length c.loop-k.low ≡ low_key (length c.args.low.now) x = rw (h, c.loop-k.auto.low) in
+    let high : c.hash-hash.result / 65536 % length c.loop-k.high ≡ high_key (length c.args.high.now) x = rw (h, c.loop-k.auto.high) in
+    let k = f.1 ∙ i.1 ∙ sym (length-map c.loop-k.yielded (λ p. name_in p.1.now)) in
+    let new : among x P ≡ false =
+    elim c.else-low-i.branch [
+      | else-low-i-via-then-low-i+then-high-j+else-earlier_has w ↦ ap (among x) (sym (passed_front i.0 f.0 k)) ∙ sym w.earlier_has.ensures ∙ w.if-earlier_has.false
+      | else-low-i-via-then-low-i+else-high-j w ↦ not_noted (high_key (length c.args.high.now)) c.loop-k.high P x high w.if-high-j.false i.3
+      | else-low-i-via-else-low-i w ↦ not_noted (low_key (length c.args.low.now)) c.loop-k.low P x low w.if-low-i.false i.2
+    ] in
+    rw (map-append (λ p. name_in p.1.now) c.loop-k.yielded ((c.in-Some.k, c.in-Some.a) ∷ []))
+    (passed_one i.0 f.0 new, omega (arith, f.2, i.1, length-append c.loop-k.yielded ((c.in-Some.k, c.in-Some.a) ∷ [])), noted_more (low_key (length c.args.low.now)) c.loop-k.low P x low (omega (arith, c.requires.0, c.loop-k.auto.low)) i.2, noted_more (high_key (length c.args.high.now)) c.loop-k.high P x high (omega (arith, c.requires.1, c.loop-k.auto.high)) i.3)
 
-pub is_noted-may-requires : goal.is_noted-may-requires
-is_noted-may-requires c = let i = c.loop-a.invariant in let h = c.hash-h.result in (omega (arith, half_low _ h i.1, i.2), omega (arith, half_high _ h i.1, i.3))
-
-pub earlier_may-requires : goal.earlier_may-requires
-earlier_may-requires c = let s = c.args.s.now in λ f. may_not (length c.args.low.now) c.loop-a.low c.loop-a.high (take c.loop-a.k (html_names (attributes_in (read s)))) _ c.hash-h.result c.loop-a.invariant.4 c.loop-a.invariant.5 (c.hash-h.ensures ∙ ap name_hash c.of_attr.ensures) c.is_noted-may.ensures f
-
-pub shape_of-low-then-earlier_may : goal.shape_of-low-then-earlier_may
-shape_of-low-then-earlier_may c = c.loop-a.invariant.2
-
-pub shape_of-high-then-earlier_may : goal.shape_of-high-then-earlier_may
-shape_of-high-then-earlier_may c = omega (arith, c.loop-a.invariant.3, c.requires.1)
-
-pub returns-then-earlier_may : goal.returns-then-earlier_may
-returns-then-earlier_may c = passed_found c.loop-a.invariant.0 c.tag_at.ensures.0 c.in-80.is c.body-a.ensures c.earlier_may.ensures c.if-earlier_may.true
-
-pub note-requires : goal.note-requires
-note-requires c = let i = c.loop-a.invariant in omega (arith, half_low _ c.hash-h.result i.1, i.2)
-
-pub note-requires-in-80 : goal.note-requires-in-80
-note-requires-in-80 c = let i = c.loop-a.invariant in omega (arith, half_high _ c.hash-h.result i.1, i.3)
-
-pub overflow_add-k : goal.overflow_add-k
-overflow_add-k c = omega (arith, passed_room c.loop-a.invariant.0 c.tag_at.ensures.0 c.in-80.is c.body-a.ensures c.behind-t.ensures, c.well_formed.0.0)
-
-pub loop-a-smaller-in-80 : goal.loop-a-smaller-in-80
-loop-a-smaller-in-80 c = passed_less c.loop-a.invariant.0 c.tag_at.ensures.0 c.in-80.is c.body-a.ensures c.behind-t.ensures
-
-pub loop-a-preserved-in-80 : goal.loop-a-preserved-in-80
-loop-a-preserved-in-80 c = let i = c.loop-a.invariant in let n = length c.args.low.now in
-    (passed_one c.loop-a.invariant.0 c.tag_at.ensures.0 c.in-80.is c.body-a.ensures c.behind-t.ensures c.earlier_may.ensures c.if-earlier_may.false, i.1, noted_length c.loop-a.low _ (low_half n c.hash-h.result) c.note.ensures i.2, noted_length c.loop-a.high _ (high_half n c.hash-h.result) c.note-in-80.ensures i.3, passed_noted c.loop-a.invariant.0 c.tag_at.ensures.0 c.in-80.is c.body-a.ensures c.behind-t.ensures (low_key n) c.loop-a.low _ (low_half n c.hash-h.result) (ap (low_half n) (c.hash-h.ensures ∙ ap name_hash c.of_attr.ensures)) (omega (arith, half_low n c.hash-h.result i.1, i.2)) c.note.ensures i.4, passed_noted c.loop-a.invariant.0 c.tag_at.ensures.0 c.in-80.is c.body-a.ensures c.behind-t.ensures (high_key n) c.loop-a.high _ (high_half n c.hash-h.result) (ap (high_half n) (c.hash-h.ensures ∙ ap name_hash c.of_attr.ensures)) (omega (arith, half_high n c.hash-h.result i.1, i.3)) c.note-in-80.ensures i.5)
-
-pub loop-a-smaller : goal.loop-a-smaller
-loop-a-smaller c = behind_less _ _ c.tag_at.ensures.0 (λ z. omega (arith, c.in-83.is, z)) c.behind-t-in-83.ensures
-
-pub loop-a-preserved : goal.loop-a-preserved
-loop-a-preserved c = let i = c.loop-a.invariant in (passed_spread i.0 c.tag_at.ensures.0 c.in-83.is c.behind-t-in-83.ensures, i.1, i.2, i.3, i.4, i.5)
-
-pub shape_of-low-in_default : goal.shape_of-low-in_default
-shape_of-low-in_default c = c.loop-a.invariant.2
-
-pub shape_of-high-in_default : goal.shape_of-high-in_default
-shape_of-high-in_default c = omega (arith, c.loop-a.invariant.3, c.requires.1)
-
-pub returns-in_default : goal.returns-in_default
-returns-in_default c = passed_all c.loop-a.invariant.0 c.tag_at.ensures.0 c.in_default.in_default-own.rest.0.1 c.in_default.in_default-own.rest.1
+pub returns : goal.returns
+returns c = passed_all c.loop-k.invariant.0 c.in-None.ensures.steps.0.0

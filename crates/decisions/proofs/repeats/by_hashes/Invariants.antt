@@ -1,14 +1,13 @@
+use mathlib.Core.List.{map}
 use mathlib.Core.Path.{◌≡◌}
-use Prim.Native.Nat.{◌<◌}
-use lib.ListN.{length, take}
-use Rattle.field.specs.Row.{read}
-use Rattle.page.specs.Tree.{attributes_in}
-use Rattle.decisions.specs.Repeats.{html_names}
+use lib.ListN.{length}
+use Rattle.decisions.specs.Repeats.{name_in, names_in}
 use Rattle.decisions.proofs.RepeatLaws.{Passed, Noted, low_key, high_key}
 use Rattle.decisions.proofs.repeats.by_hashes.Given as goal
 
-abbrev pub invariant-loop-a : goal.invariant-loop-a
-invariant-loop-a l = Passed l.s l.k l.t × (0 < l.n) × (length l.low ≡ l.n) × (length l.high ≡ l.n) × Noted (low_key l.n) l.low (take l.k (html_names (attributes_in (read l.s)))) × Noted (high_key l.n) l.high (take l.k (html_names (attributes_in (read l.s))))
-
-abbrev pub decreases-loop-a : goal.decreases-loop-a
-decreases-loop-a l = length l.t
+abbrev pub invariant-loop-k : goal.invariant-loop-k
+invariant-loop-k l =
+    Passed (names_in l.s) (map (λ p. name_in p.1.now) l.yielded) (names_in l.k-iterator.iter.0.now)
+    × (l.k-iterator.count ≡ length l.yielded)
+    × Noted (low_key (length l.fn.low)) l.low (map (λ p. name_in p.1.now) l.yielded)
+    × Noted (high_key (length l.fn.high)) l.high (map (λ p. name_in p.1.now) l.yielded)

@@ -1,20 +1,18 @@
 -- By the letters of a name, where they tell.
-use mathlib.Core.Path.{sym, ◌∙◌}
-use Rattle.decisions.specs.Repeats.{untold}
-use Rattle.decisions.proofs.RepeatLaws.{keyed, key_of_one, key_of_more}
+use mathlib.Core.Path.{◌≡◌, sym, ap, ◌∙◌}
+use native.Mathlib.Omega.{arith}
+use Prim.Native.Nat.{ℕ}
+use lib.ListN.{get_or}
+use Rattle.decisions.specs.Repeats.{last_letter, letter_key, key_by}
+use Rattle.decisions.proofs.RepeatLaws.{keyed, last_of_one, key_of_one, key_of_more}
 use Rattle.decisions.proofs.repeats.key_of.Goals as goal
-
-pub returns-then-tag_at-ne64 : goal.returns-then-tag_at-ne64
-returns-then-tag_at-ne64 c = untold
-
-pub returns-then-l-eq0 : goal.returns-then-l-eq0
-returns-then-l-eq0 c = untold
-
-pub returns-then-d-lt97 : goal.returns-then-d-lt97
-returns-then-d-lt97 c = untold
-
-pub returns-then-l-eq1 : goal.returns-then-l-eq1
-returns-then-l-eq1 c = let n = c.body-n.result.now in keyed c.args.a.now n _ c.tag_at.ensures.0 c.if-tag_at-ne64.false c.body-n.ensures c.if-d-lt97.false _ (c.key_by.ensures ∙ sym (key_of_one n c.if-l-eq1.true))
+use Rattle.decisions.proofs.repeats.key_of.Goals.{in-len1, in-len2-up}
 
 pub returns : goal.returns
-returns c = let n = c.body-n.result.now in keyed c.args.a.now n _ c.tag_at.ensures.0 c.if-tag_at-ne64.false c.body-n.ensures c.if-d-lt97.false _ (c.key_by-2.ensures ∙ sym (key_of_more n c.if-l-eq0.false c.if-l-eq1.false))
+returns c =
+    let n = c.in_ok-name.name.now in
+    let k = λ (p : ℕ × ℕ). key_by (get_or n 0 0) p.0 p.1 in
+    elim c.if-name-lt2.branch [
+      | in-len1 w ↦ keyed c.args.a.now n c.in_ok-name.ensures (omega (arith, ap (λ p. p.1) w.before-is, last_of_one n (omega arith))) _ (c.key_by.ensures ∙ ap k w.before-is ∙ sym (key_of_one n (omega arith)))
+      | in-len2-up w ↦ keyed c.args.a.now n c.in_ok-name.ensures (omega (arith, ap (λ p. p.1) w.before-is)) _ (c.key_by.ensures ∙ ap k w.before-is ∙ sym (key_of_more n w.in-len2-up.len_at_least))
+    ]

@@ -1,15 +1,15 @@
 use Rattle.names.specs.Table.{spelt}
-use Rattle.decisions.proofs.RepeatLaws.{ident_whole, ident_signed, ident_small}
+use Rattle.decisions.proofs.RepeatLaws.{plain_letters, plain_signed, ident_whole, ident_signed, ident_small}
 use Rattle.decisions.proofs.repeats.of_ident.Goals as goal
 
 pub returns-in-Whole : goal.returns-in-Whole
 unfolding spelt
-returns-in-Whole c = ident_whole c.args.n.now c.in-Whole.ensures.0 c.plain.ensures
+returns-in-Whole c = ident_whole c.args.n.now c.in-Whole.ensures.0 (plain_letters c.plain.ensures)
 
 pub returns-in-Signed : goal.returns-in-Signed
 unfolding spelt
-returns-in-Signed c = ident_signed c.args.n.now _ c.in-Signed.ensures.0
+returns-in-Signed c = ident_signed c.args.n.now _ c.in-Signed.ensures.0 (plain_signed c.plain-in-Signed.ensures _)
 
 pub returns-in-Small : goal.returns-in-Small
 unfolding spelt
-returns-in-Small c = ident_small c.args.n.now c.in-Small.ensures.0 c.plain-in-Small.ensures
+returns-in-Small c = ident_small c.args.n.now c.in-Small.ensures.0 (plain_letters c.plain-in-Small.ensures)

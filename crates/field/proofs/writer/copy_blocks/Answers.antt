@@ -10,7 +10,7 @@ use Rattle.field.specs.Bytes.{Bytes}
 use Rattle.field.specs.Put.{put}
 use Rattle.field.proofs.PutLaws.{length_put, put_nil, put_put, put_over}
 use Rattle.field.proofs.writer.copy_blocks.Goals as goal
-use Rattle.field.proofs.writer.copy_blocks.Goals.{After-copy_block-2}
+use Rattle.field.proofs.writer.copy_blocks.Goals.{After-copy_block-2, else-loop-i-test, then-loop-i-test+else-i-end-i-gt16}
 
 module _ {o₁ o₂ : Bytes} (o : Bytes) (at : ℕ) (s : Bytes) (i : ℕ) (done : o₁ ≡ put o at (take i s)) where
   -- a block behind what is written
@@ -43,7 +43,15 @@ pub copy_block-requires-2 : goal.copy_block-requires-2
 copy_block-requires-2 c = let e = ap length c.loop-i.invariant.1 ∙ length_put _ _ _ in (omega (arith, e), omega arith)
 
 written : (c : After-copy_block-2) → c.copy_block-2.new.out ≡ put c.args.out.now c.args.at (take c.args.n c.args.s.now)
-written c = let args = c.args in block_last args.out.now args.at args.s.now c.loop-i.i c.loop-i.invariant.1 args.n (omega arith) (omega arith) (omega arith) (omega arith) c.copy_block-2.ensures
+written c =
+    let args = c.args in
+    let o = args.out.now in
+    let n = args.n in
+    elim c.loop-i-test.branch [
+      | else-loop-i-test w ↦ block_last o args.at args.s.now c.loop-i.i (w.out-is ∙ c.loop-i.invariant.1) n (omega arith) (omega arith) (omega arith) (omega (arith, w.loop-i-test)) c.copy_block-2.ensures
+      | then-loop-i-test+else-i-end-i-gt16 w ↦ block_last o args.at args.s.now (c.loop-i.i + 16)
+          (w.out-is ∙ block_more o args.at args.s.now c.loop-i.i c.loop-i.invariant.1 (omega arith) w.copy_block.ensures) n (omega arith) (omega arith) (omega (arith, w.loop-i-test.true)) (omega arith) c.copy_block-2.ensures
+    ]
 
 pub shape_of-out : goal.shape_of-out
 shape_of-out c = ap length (written (goal.at.shape_of-out c).After-copy_block-2) ∙ length_put _ _ _

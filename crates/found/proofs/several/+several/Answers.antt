@@ -1,107 +1,99 @@
--- The invariant of has_one: what is left, and the fragment that is looked into last, have no more entries that stay than all the children. A
--- fragment's body is shorter than the series; gives calls has_one on the same bytes, so its measure is the greater one.
-use mathlib.Core.Logic.{⊎_elim}
-use mathlib.Core.Path.{refl}
+-- The invariant: what was passed surely has so many entries, and those of the fragment that is looked into last.
+use Rattle.std.specs.Prelude.{Option, MatchOption}
+use mathlib.Core.Path.{refl, sym, ◌∙◌}
+use Prim.Native.Nat.{ℕ, ◌+◌, ◌<◌}
 use native.Mathlib.Omega.{arith}
-use Rattle.field.proofs.FrontLaws.{behind_less, body_less}
-use Rattle.found.proofs.Places.{tail_room, stands_room}
-use Rattle.found.proofs.FoundLaws.{stands_inside}
-use Rattle.found.proofs.SteadyLaws.{never}
-use Rattle.found.proofs.OneLaws.{gives_60, gives_52, gives_30, gives_31, gives_template, gives_many, one_text, one_joined, one_expr, one_element, one_fragment, one_aside, ahead_start, ahead_blank, ahead_joined, ahead_expr, ahead_fragment, ahead_aside, ahead_other}
+use lib.ListN.{length}
+use Rattle.std.proofs.Common.{Bor}
+use Rattle.field.specs.Bytes.{Bytes}
+use Rattle.found.proofs.FoundLaws.{Only}
+use Rattle.field.specs.Fields.{IsFront}
+use Rattle.found.proofs.OneLaws.{gives_plain, gives_52, gives_31, gives_template, gives_many}
+use Rattle.found.proofs.SeveralLaws.{Seen, bytes_of, going_start, counted_on, seen_enough, heavy_shorter, heavy_last, other_seen, blank_seen, run_seen, text_seen, joined_seen, more_longer, more_seen, expr_unsure, expr_seen, element_seen, fragment_heavy, fragment_unsure, fragment_seen}
 use Rattle.found.proofs.several.+several.Goals as goal
+use Rattle.found.proofs.several.+several.Goals.{gives-After-children_at, has-Joined-field, has-in-96+else-run+else-is_blank, has-in-82+in-Something+else-run-2, has-in-82+in-Apart+else-n-eq1, has-else-n-eq1-via-then-n-eq1+else-not-stays, has-else-n-eq1-via-else-n-eq1, has-in-48, has-in-49+else-s-b+else-not-gives, has-then-run-via-then-run, has-then-run-via-else-run+then-is_blank}
 
-pub gives-slice_bounds-a-count : goal.gives-slice_bounds-a-count
-gives-slice_bounds-a-count t c = c.first_child-at.ensures.inside
-
-pub gives-gives-requires : goal.gives-gives-requires
-gives-gives-requires t c = (omega (arith, c.decreases, stands_room _ _ _ (stands_inside c.args.skip.now _ c.child_count.ensures c.in-One.is _ c.first_child-at.ensures refl _ c.tag_at.ensures.0 c.body-b.ensures (λ z. omega (arith, c.in-49.is)))), tt)
-
-pub gives-returns-then-becomes_template : goal.gives-returns-then-becomes_template
-gives-returns-then-becomes_template t c = λ h. gives_template _ _ c.child_count.ensures c.in-More.is c.becomes_template.ensures c.if-becomes_template.true
-
-pub gives-has_one-requires : goal.gives-has_one-requires
-gives-has_one-requires t c = (omega (arith, c.decreases), tt)
-
-pub gives-returns-in-Zero : goal.gives-returns-in-Zero
-gives-returns-in-Zero t c = λ h. absurd (never h)
+-- the field in front of the only child
+only : (t : ℕ) (c : gives-After-children_at t) {u : ℕ} {b r : Bytes} → IsFront c.children_at.result.now u b r → Only c.args.s.now c.children_at.result.now u b
+only t c {r = r} f = record { rest = r; one = c.in-One.ensures; first = c.children_at.ensures.first; place = c.children_at.ensures.place; front = f }
 
 pub gives-returns-in-96 : goal.gives-returns-in-96
-gives-returns-in-96 t c = λ h. ⊎_elim (λ k. gives_30 _ _ c.child_count.ensures c.in-One.is _ c.first_child-at.ensures refl _ c.tag_at.ensures.0 k) (λ k. gives_60 _ _ c.child_count.ensures c.in-One.is _ c.first_child-at.ensures refl _ c.tag_at.ensures.0 k) c.in-96.is
+gives-returns-in-96 t c = λ h. gives_plain _ _ (only t (goal.at.gives-returns-in-96 t c).After-children_at c.in-Some.ensures) c.in-96.is
 
-pub gives-returns-then-tag_at-ne256 : goal.gives-returns-then-tag_at-ne256
-gives-returns-then-tag_at-ne256 t c = λ h. gives_52 _ _ c.child_count.ensures c.in-One.is _ c.first_child-at.ensures refl _ c.tag_at.ensures.0 c.body-b.ensures c.in-82.is _ c.tag_at-in-82.ensures.0 c.if-tag_at-ne256.true (c.stays.ensures h)
+pub gives-returns-in-82 : goal.gives-returns-in-82
+gives-returns-in-82 t c = λ h. gives_52 _ _ (only t (goal.at.gives-returns-in-82 t c).After-children_at c.in-Some.ensures) c.in-82.is (c.stays.ensures.stands h) (c.stays.ensures.kept h)
 
 pub gives-returns-in-49 : goal.gives-returns-in-49
-gives-returns-in-49 t c = λ h. gives_31 _ _ c.child_count.ensures c.in-One.is _ c.first_child-at.ensures refl _ c.tag_at.ensures.0 c.body-b.ensures c.in-49.is (c.gives.ensures h)
+gives-returns-in-49 t c = λ h. gives_31 _ _ (only t (goal.at.gives-returns-in-49 t c).After-children_at c.in-Some.ensures) c.in-49.is (c.gives.ensures h)
 
-pub gives-returns-in_default : goal.gives-returns-in_default
-gives-returns-in_default t c = λ h. absurd (never h)
+pub gives-returns-then-becomes_template : goal.gives-returns-then-becomes_template
+gives-returns-then-becomes_template t c = gives_template _ _ c.in-More.ensures c.becomes_template.ensures
 
 pub gives-returns-else-becomes_template : goal.gives-returns-else-becomes_template
-gives-returns-else-becomes_template t c = λ h. gives_many _ _ c.child_count.ensures c.in-More.is c.becomes_template.ensures c.if-becomes_template.false (c.has_one.ensures h)
+gives-returns-else-becomes_template t c = λ h. gives_many _ _ c.in-More.ensures c.becomes_template.ensures c.if-becomes_template.false (c.has.ensures h)
 
-pub has_one-loop-t-init : goal.has_one-loop-t-init
-has_one-loop-t-init t c = ahead_start _ _ refl
+pub has-loop-field-init : goal.has-loop-field-init
+has-loop-field-init t c = rw c.into_iter-field-iterator.ensures.into_iter_gives (going_start _ _ _ c.requires)
 
-pub has_one-returns-then-not-is_blank : goal.has_one-returns-then-not-is_blank
-has_one-returns-then-not-is_blank t c = λ h. one_text _ _ _ _ c.loop-t.invariant _ c.tag_at.ensures.0 c.in-96.is c.body.ensures c.is_blank.ensures c.if-not-is_blank.true
+pub has-loop-field-preserved-then-run : goal.has-loop-field-preserved-then-run
+has-loop-field-preserved-then-run t c =
+    let i = c.loop-field.invariant in
+    let f = c.in-Some.ensures.steps in
+    elim c.then-run.branch [
+      | has-then-run-via-then-run w ↦ run_seen _ _ _ _ _ _ _ i f c.in-96.is w.if-run.true
+      | has-then-run-via-else-run+then-is_blank w ↦ blank_seen _ _ _ _ _ _ _ i f c.in-96.is (sym w.is_blank.ensures ∙ w.if-is_blank.true)
+    ]
 
-pub has_one-loop-t-smaller-in-96 : goal.has_one-loop-t-smaller-in-96
-has_one-loop-t-smaller-in-96 t c = behind_less _ _ c.tag_at.ensures.0 (λ z. omega (arith, c.in-96.is)) c.behind-t.ensures
+pub has-loop-field-preserved-in-Nothing : goal.has-loop-field-preserved-in-Nothing
+has-loop-field-preserved-in-Nothing t c = joined_seen _ _ _ _ _ _ _ c.loop-field.invariant c.in-Some.ensures.steps c.in-82.is c.in-Nothing.ensures
 
-pub has_one-loop-t-preserved-in-96 : goal.has_one-loop-t-preserved-in-96
-has_one-loop-t-preserved-in-96 t c = ahead_blank _ _ _ _ c.loop-t.invariant _ c.tag_at.ensures.0 c.behind-t.ensures c.in-96.is c.body.ensures c.is_blank.ensures c.if-not-is_blank.false
+pub has-loop-field-preserved-then-run-2 : goal.has-loop-field-preserved-then-run-2
+has-loop-field-preserved-then-run-2 t c = more_longer _ _ _ _ _ _ _ c.loop-field.invariant c.in-Some.ensures.steps c.in-82.is c.in-Something.ensures c.if-run-2.true
 
-pub has_one-loop-t-smaller-in-Nothing : goal.has_one-loop-t-smaller-in-Nothing
-has_one-loop-t-smaller-in-Nothing t c = behind_less _ _ c.tag_at.ensures.0 (λ z. omega (arith, c.in-82.is)) c.behind-t-in-Nothing.ensures
+pub has-loop-field-preserved-then-not-stays : goal.has-loop-field-preserved-then-not-stays
+has-loop-field-preserved-then-not-stays t c = expr_unsure _ _ _ _ _ _ _ c.loop-field.invariant c.in-Some.ensures.steps c.in-82.is c.in-Apart.ensures
 
-pub has_one-loop-t-preserved-in-Nothing : goal.has_one-loop-t-preserved-in-Nothing
-has_one-loop-t-preserved-in-Nothing t c = ahead_joined _ _ _ _ c.loop-t.invariant _ c.tag_at.ensures.0 c.behind-t-in-Nothing.ensures c.in-82.is c.body-c.ensures c.joined_at.ensures c.in-Nothing.is
+pub has-loop-field-preserved-then-s-b : goal.has-loop-field-preserved-then-s-b
+has-loop-field-preserved-then-s-b t c = fragment_heavy _ _ _ _ _ _ _ c.loop-field.invariant c.in-Some.ensures.steps c.in-49.is refl
 
-pub has_one-returns-in-Something : goal.has_one-returns-in-Something
-has_one-returns-in-Something t c = λ h. one_joined _ _ _ _ c.loop-t.invariant _ c.tag_at.ensures.0 c.in-82.is c.body-c.ensures c.joined_at.ensures c.in-Something.is
+pub has-loop-field-preserved-then-not-gives : goal.has-loop-field-preserved-then-not-gives
+has-loop-field-preserved-then-not-gives t c = fragment_unsure _ _ _ _ _ _ _ c.loop-field.invariant c.in-Some.ensures.steps c.in-49.is
 
-pub has_one-returns-then-stays : goal.has_one-returns-then-stays
-has_one-returns-then-stays t c = λ h. one_expr _ _ _ _ c.loop-t.invariant _ c.tag_at.ensures.0 c.in-82.is c.body-c.ensures c.joined_at.ensures c.in-Apart.is (c.stays.ensures c.if-stays.true)
+pub has-loop-field-preserved-in_default : goal.has-loop-field-preserved-in_default
+has-loop-field-preserved-in_default t c = other_seen _ _ _ _ _ _ _ c.loop-field.invariant c.in-Some.ensures.steps (grind arith) (grind arith) (grind arith) (grind arith)
 
-pub has_one-loop-t-smaller-in-Apart : goal.has_one-loop-t-smaller-in-Apart
-has_one-loop-t-smaller-in-Apart t c = behind_less _ _ c.tag_at.ensures.0 (λ z. omega (arith, c.in-82.is)) c.behind-t-in-Apart.ensures
+pub has-overflow_add-sure : goal.has-overflow_add-sure
+has-overflow_add-sure t c = omega (arith, c.loop-field.invariant.fewer)
 
-pub has_one-loop-t-preserved-in-Apart : goal.has_one-loop-t-preserved-in-Apart
-has_one-loop-t-preserved-in-Apart t c = ahead_expr _ _ _ _ c.loop-t.invariant _ c.tag_at.ensures.0 c.behind-t-in-Apart.ensures c.in-82.is c.body-c.ensures c.joined_at.ensures c.in-Apart.is
+-- the field in front surely adds an entry
+one_more : (t : ℕ) (c : has-Joined-field t) → Seen c.args.n c.args.skip.now c.args.s.now c.next.new.self.0.now (bytes_of c.loop-field.heavy) c.match-field.run (c.loop-field.sure + 1)
+one_more t c =
+    let i = c.loop-field.invariant in
+    let f = c.in-Some.ensures.steps in
+    elim c.match-field.branch [
+      | has-in-96+else-run+else-is_blank w ↦ rw w.run-is (text_seen _ _ _ _ _ _ _ i f w.in-96.is (sym w.is_blank.ensures ∙ w.if-is_blank.false) w.if-run.false)
+      | has-in-82+in-Something+else-run-2 w ↦ rw w.run-is (more_seen _ _ _ _ _ _ _ i f w.in-82.is w.in-Something.ensures w.if-run-2.false)
+      | has-in-82+in-Apart+else-n-eq1 w ↦
+          rw w.run-is (expr_seen _ _ _ _ _ _ _ i f w.in-82.is w.in-Apart.ensures
+          (elim w.else-n-eq1.branch [
+            | has-else-n-eq1-via-then-n-eq1+else-not-stays v ↦ λ z. v.stays.ensures.kept v.if-not-stays.false
+            | has-else-n-eq1-via-else-n-eq1 v ↦ λ z. absurd (v.if-n-eq1.false z)
+          ]))
+      | has-in-48 w ↦ rw w.run-is (element_seen _ _ _ _ _ _ _ i f w.in-48.is)
+      | has-in-49+else-s-b+else-not-gives w ↦ rw w.run-is (fragment_seen _ _ _ _ _ _ _ i f w.in-49.is (w.gives.ensures w.if-not-gives.false))
+    ]
 
-pub has_one-returns-in-48 : goal.has_one-returns-in-48
-has_one-returns-in-48 t c = λ h. one_element _ _ _ _ c.loop-t.invariant _ c.tag_at.ensures.0 c.in-48.is
+pub has-returns-then-sure-n : goal.has-returns-then-sure-n
+has-returns-then-sure-n t c = λ h. seen_enough _ _ _ _ _ _ _ (one_more t (goal.at.has-returns-then-sure-n t c).Joined-field) c.if-sure-n.true
 
-pub has_one-loop-t-smaller-then-s-b : goal.has_one-loop-t-smaller-then-s-b
-has_one-loop-t-smaller-then-s-b t c = behind_less _ _ c.tag_at.ensures.0 (λ z. omega (arith, c.in-49.is)) c.behind-t-then-s-b.ensures
+pub has-loop-field-preserved : goal.has-loop-field-preserved
+has-loop-field-preserved t c = counted_on _ _ _ _ _ _ _ c.loop-field.invariant c.in-Some.ensures.steps (one_more t (goal.at.has-loop-field-preserved t c).Joined-field) c.if-sure-n.false
 
-pub has_one-loop-t-preserved-then-s-b : goal.has_one-loop-t-preserved-then-s-b
-has_one-loop-t-preserved-then-s-b t c = ahead_aside _ _ _ _ c.loop-t.invariant _ c.tag_at.ensures.0 c.behind-t-then-s-b.ensures c.in-49.is c.body-b.ensures
+pub has-overflow_add-sure-in-Some-heavy : goal.has-overflow_add-sure-in-Some-heavy
+has-overflow_add-sure-in-Some-heavy t c = omega (arith, c.loop-field.invariant.fewer)
 
-pub has_one-gives-requires : goal.has_one-gives-requires
-has_one-gives-requires t c = (omega (arith, c.decreases, body_less _ _ c.tag_at.ensures.0 (λ z. omega (arith, c.in-49.is)) c.body-b.ensures, tail_room _ _ c.loop-t.invariant.tail), tt)
+pub has-gives-requires-then-sure-n-2 : goal.has-gives-requires-then-sure-n-2
+has-gives-requires-then-sure-n-2 t c = (omega (arith, c.decreases, heavy_shorter _ _ _ _ _ _ c.loop-field.invariant c.in-Some-heavy.is), tt)
 
-pub has_one-returns-then-gives : goal.has_one-returns-then-gives
-has_one-returns-then-gives t c = λ h. one_fragment _ _ _ _ c.loop-t.invariant _ c.tag_at.ensures.0 c.in-49.is c.body-b.ensures (c.gives.ensures c.if-gives.true)
-
-pub has_one-loop-t-smaller-else-gives : goal.has_one-loop-t-smaller-else-gives
-has_one-loop-t-smaller-else-gives t c = behind_less _ _ c.tag_at.ensures.0 (λ z. omega (arith, c.in-49.is)) c.behind-t-else-gives.ensures
-
-pub has_one-loop-t-preserved-else-gives : goal.has_one-loop-t-preserved-else-gives
-has_one-loop-t-preserved-else-gives t c = ahead_fragment _ _ _ _ c.loop-t.invariant _ c.tag_at.ensures.0 c.behind-t-else-gives.ensures c.in-49.is
-
-pub has_one-returns-then-heavy-eq0 : goal.has_one-returns-then-heavy-eq0
-has_one-returns-then-heavy-eq0 t c = λ h. absurd (never h)
-
-pub has_one-gives-requires-in-256 : goal.has_one-gives-requires-in-256
-has_one-gives-requires-in-256 t c = (omega (arith, c.decreases, c.loop-t.invariant.shorter, c.if-heavy-eq0.false), tt)
-
-pub has_one-returns-in-256 : goal.has_one-returns-in-256
-has_one-returns-in-256 t c = λ h. one_aside _ _ _ _ c.loop-t.invariant (c.gives-in-256.ensures h)
-
-pub has_one-loop-t-smaller : goal.has_one-loop-t-smaller
-has_one-loop-t-smaller t c = behind_less _ _ c.tag_at.ensures.0 c.in_default.in_default-own.rest.1 c.behind-t-in_default.ensures
-
-pub has_one-loop-t-preserved : goal.has_one-loop-t-preserved
-has_one-loop-t-preserved t c = ahead_other _ _ _ _ c.loop-t.invariant _ c.tag_at.ensures.0 c.behind-t-in_default.ensures c.in_default.in_default-own.rest.1 c.in_default.in_default-own.rest.0.0.0.0.1 c.in_default.in_default-own.rest.0.0.0.1 c.in_default.in_default-own.rest.0.0.1 c.in_default.in_default-own.rest.0.1
+pub has-returns-then-sure-n-2 : goal.has-returns-then-sure-n-2
+has-returns-then-sure-n-2 t c = λ h. heavy_last _ _ _ _ _ _ c.loop-field.invariant c.in-Some-heavy.is c.in-None.ensures.steps.ended c.if-sure-n-2.true (c.gives-then-sure-n-2.ensures h)

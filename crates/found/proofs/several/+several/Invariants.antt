@@ -1,16 +1,13 @@
 use lib.ListN.{length}
-use Rattle.found.proofs.OneLaws.{Ahead}
 use Prim.Native.Nat.{◌+◌, ◌*◌}
+use Rattle.found.proofs.SeveralLaws.{Going}
 use Rattle.found.proofs.several.+several.Given as goal
 
 abbrev pub decreases-gives : goal.decreases-gives
 decreases-gives l = 2 * length l.s.now + 1
 
-abbrev pub decreases-has_one : goal.decreases-has_one
-decreases-has_one l = 2 * length l.s.now
+abbrev pub decreases-has : goal.decreases-has
+decreases-has l = 2 * length l.s.now
 
-abbrev pub invariant-has_one-loop-t : goal.invariant-has_one-loop-t
-invariant-has_one-loop-t l = Ahead l.skip l.s l.t l.heavy
-
-abbrev pub decreases-has_one-loop-t : goal.decreases-has_one-loop-t
-decreases-has_one-loop-t l = length l.t
+abbrev pub invariant-has-loop-field : goal.invariant-has-loop-field
+invariant-has-loop-field l = Going l.n l.skip l.s l.field-iterator.0.now l.heavy l.run l.sure

@@ -14,7 +14,7 @@ returns-in_err-end g c = handed_on c.from_residual.ensures ∙ stops (rowwise_go
 pub loop-end-preserved : goal.loop-end-preserved
 loop-end-preserved g c =
     goes_on (rowwise_goes c.requires _ c.loop-end.invariant) c.pass.ensures.gives (c.in_ok-end.was ∙ ap Ok c.in-Some.is)
-    ∙ ap (λ b. g.F.Fields.rows (read b)) (rest_is c.loop-end.t.now c.in-Some.end)
+    ∙ ap (λ b. g.F.Sort.rows (read b)) (rest_is c.loop-end.t.now c.in-Some.end)
 
 pub returns : goal.returns
 returns g c = ends (rowwise_goes c.requires _ c.loop-end.invariant) c.pass.ensures.gives (c.in_ok-end.was ∙ ap Ok c.in_default.is)

@@ -1,12 +1,10 @@
 -- `page::name::check_end` meets its contract. Assumes nothing.
-use Rattle.page.proofs.RowEnds.{end_empty, end_torn, end_extra}
+use mathlib.Core.Path.{◌∙◌}
+use Rattle.page.proofs.RowEnds.{end_extra, end_ended}
 use Rattle.page.proofs.name.check_end.Goals as goal
 
-pub returns-then-s-eq0 : goal.returns-then-s-eq0
-returns-then-s-eq0 c = end_empty _ c.if-s-eq0.true
+pub returns-in-Some : goal.returns-in-Some
+returns-in-Some c = end_extra c.in-Some.ensures
 
-pub returns-then-tag_at-eq256 : goal.returns-then-tag_at-eq256
-returns-then-tag_at-eq256 c = end_torn _ c.if-s-eq0.false (c.tag_at.ensures.1 c.if-tag_at-eq256.true)
-
-pub returns : goal.returns
-returns c = end_extra _ _ c.tag_at.ensures.0 c.if-tag_at-eq256.false
+pub returns-in-None : goal.returns-in-None
+returns-in-None c = c.check_nothing_after.ensures ∙ end_ended c.in-None.ensures

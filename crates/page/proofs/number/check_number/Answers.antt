@@ -1,34 +1,23 @@
 -- `page::number::check_number` meets its contract. Assumes nothing.
-use mathlib.Core.Path.{sym, ◌∙◌}
-use borrow.Author.Tests.{lt-leb, le-leb, eq-eqb, ne_eqb}
-use Rattle.page.specs.Refusal.{after}
-use Rattle.page.proofs.NumberLaws.{whole_checked, scaled_checked}
+use mathlib.Core.Path.{◌∙◌}
+use borrow.Author.Tests.{lt-leb, le-leb}
+use Rattle.page.proofs.Steps.{exit_at, last_at}
+use Rattle.page.proofs.NumberLaws.{whole_then, scaled_then}
 use Rattle.page.proofs.number.check_number.Goals as goal
+use Rattle.page.proofs.number.check_number.Goals.{then-number_in-le-MAX_DIGITS, else-number_in-le-MAX_DIGITS}
 
-pub returns-then-s-ne9 : goal.returns-then-s-ne9
-unfolding after
-returns-then-s-ne9 c = let has = c.has_places.ensures in let yes = c.if-has_places.true in rw (scaled_checked _ _ (sym yes ∙ has), ne_eqb _ _ c.if-s-ne9.true)
-
-pub returns-then-number_in-gt-MAX_DIGITS : goal.returns-then-number_in-gt-MAX_DIGITS
-unfolding after
-returns-then-number_in-gt-MAX_DIGITS c = let has = c.has_places.ensures in let yes = c.if-has_places.true in rw (scaled_checked _ _ (sym yes ∙ has), eq-eqb _ _ c.if-s-ne9.false, ← c.number_in.ensures, lt-leb _ _ c.if-number_in-gt-MAX_DIGITS.true)
-
-pub returns-then-places_in-gt-MAX_PLACES : goal.returns-then-places_in-gt-MAX_PLACES
-unfolding after
-returns-then-places_in-gt-MAX_PLACES c = let has = c.has_places.ensures in let yes = c.if-has_places.true in rw (scaled_checked _ _ (sym yes ∙ has), eq-eqb _ _ c.if-s-ne9.false, ← c.number_in.ensures, le-leb _ _ c.if-number_in-gt-MAX_DIGITS.false, ← c.places_in.ensures.0, lt-leb _ _ c.if-places_in-gt-MAX_PLACES.true)
+pub returns-in_err-refuse_unless : goal.returns-in_err-refuse_unless
+returns-in_err-refuse_unless c = exit_at (scaled_then _ _ c.if-has_places.ensures) c.refuse_unless.ensures c.in_err-refuse_unless.was c.from_residual.ensures
 
 pub returns-then-has_places : goal.returns-then-has_places
-unfolding after
-returns-then-has_places c = let has = c.has_places.ensures in let yes = c.if-has_places.true in rw (scaled_checked _ _ (sym yes ∙ has), eq-eqb _ _ c.if-s-ne9.false, ← c.number_in.ensures, le-leb _ _ c.if-number_in-gt-MAX_DIGITS.false, ← c.places_in.ensures.0, le-leb _ _ c.if-places_in-gt-MAX_PLACES.false)
+returns-then-has_places c = last_at (scaled_then _ _ c.if-has_places.ensures) c.refuse_unless.ensures c.in_ok-refuse_unless.was
+    (elim c.if-number_in-le-MAX_DIGITS.branch [
+      | then-number_in-le-MAX_DIGITS w ↦ c.refuse_unless-then-has_places.ensures ∙ rw (w.fits-is, ← c.number_in.ensures, le-leb _ _ w.if-number_in-le-MAX_DIGITS.true, ← w.places_in.ensures, w.from.ensures)
+      | else-number_in-le-MAX_DIGITS w ↦ c.refuse_unless-then-has_places.ensures ∙ rw (w.fits-is, ← c.number_in.ensures, lt-leb _ _ w.if-number_in-le-MAX_DIGITS.false)
+    ])
 
-pub returns-then-s-ne8 : goal.returns-then-s-ne8
-unfolding after
-returns-then-s-ne8 c = let has = c.has_places.ensures in let no = c.if-has_places.false in rw (whole_checked _ _ (sym no ∙ has), ne_eqb _ _ c.if-s-ne8.true)
-
-pub returns-then-number_in-gt-MAX_WHOLE : goal.returns-then-number_in-gt-MAX_WHOLE
-unfolding after
-returns-then-number_in-gt-MAX_WHOLE c = let has = c.has_places.ensures in let no = c.if-has_places.false in rw (whole_checked _ _ (sym no ∙ has), eq-eqb _ _ c.if-s-ne8.false, ← c.number_in-2.ensures, lt-leb _ _ c.if-number_in-gt-MAX_WHOLE.true)
+pub returns-in_err-refuse_unless-2 : goal.returns-in_err-refuse_unless-2
+returns-in_err-refuse_unless-2 c = exit_at (whole_then _ _ c.if-has_places.ensures) c.refuse_unless-2.ensures c.in_err-refuse_unless-2.was c.from_residual-in_err-refuse_unless-2.ensures
 
 pub returns : goal.returns
-unfolding after
-returns c = let has = c.has_places.ensures in let no = c.if-has_places.false in rw (whole_checked _ _ (sym no ∙ has), eq-eqb _ _ c.if-s-ne8.false, ← c.number_in-2.ensures, le-leb _ _ c.if-number_in-gt-MAX_WHOLE.false)
+returns c = last_at (whole_then _ _ c.if-has_places.ensures) c.refuse_unless-2.ensures c.in_ok-refuse_unless-2.was (rw (← c.number_in-2.ensures) c.refuse_unless-3.ensures)

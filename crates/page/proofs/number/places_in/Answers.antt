@@ -1,16 +1,10 @@
 -- `page::number::places_in` meets its contract. Assumes nothing.
-use Prim.Native.Nat.{◌<◌}
-use native.Mathlib.Omega.{arith}
-use lib.ListN.{get_or}
+use mathlib.Core.Path.{◌∙◌}
 use Rattle.page.proofs.LeafLaws.{one_at, none_at}
 use Rattle.page.proofs.number.places_in.Goals as goal
 
-pub overflow_cast-result : goal.overflow_cast-result
-overflow_cast-result c = omega (arith, c.type_inv.s 8)
+pub returns-in-Some : goal.returns-in-Some
+returns-in-Some c = c.in-Some.ensures.lookup.3.1 0 ∙ one_at c.args.s.now 8 c.in-Some.ensures.lookup.3.0
 
-pub returns-then-s-gt8 : goal.returns-then-s-gt8
-returns-then-s-gt8 c = let s = c.args.s.now in let l : get_or s 8 0 < 256 = omega (arith, c.type_inv.s 8) in
-    (one_at s 8 c.if-s-gt8.true, l)
-
-pub returns : goal.returns
-returns c = (none_at c.args.s.now 8 c.if-s-gt8.false, omega arith)
+pub returns-in-None : goal.returns-in-None
+returns-in-None c = none_at c.args.s.now 8 c.in-None.ensures.lookup.3

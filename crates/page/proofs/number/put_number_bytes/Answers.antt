@@ -1,7 +1,6 @@
 -- `page::number::put_number_bytes` meets its contract. Assumes nothing.
 use native.Mathlib.Omega.{arith}
 use mathlib.Core.List.{[]}
-use mathlib.Core.Path.{sym, ◌∙◌}
 use Rattle.field.proofs.NumberLaws.{length_big_endian}
 use Rattle.field.proofs.PutLaws.{wrote_is, wrote_then}
 use Rattle.page.proofs.NumberLaws.{whole_body, scaled_body}
@@ -11,7 +10,7 @@ pub put_byte-requires : goal.put_byte-requires
 put_byte-requires c = omega (arith, c.requires, c.put_eight-e.ensures.end_is, length_big_endian 8 c.number_in.result [])
 
 pub returns-then-has_places : goal.returns-then-has_places
-returns-then-has_places c = let has = c.has_places.ensures in wrote_is (scaled_body _ _ (sym c.if-has_places.true ∙ has) c.number_in.ensures c.places_in.ensures.0 c.places_in.ensures.1) (wrote_then c.put_eight-e.ensures c.put_byte.ensures)
+returns-then-has_places c = wrote_is (scaled_body _ _ c.if-has_places.ensures c.number_in.ensures c.places_in.ensures (omega arith)) (wrote_then c.put_eight-e.ensures c.put_byte.ensures)
 
 pub returns : goal.returns
-returns c = let has = c.has_places.ensures in wrote_is (whole_body _ _ (sym c.if-has_places.false ∙ has) c.number_in.ensures) c.put_eight-e.ensures
+returns c = wrote_is (whole_body _ _ c.if-has_places.ensures c.number_in.ensures) c.put_eight-e.ensures

@@ -6,54 +6,12 @@ use native.Mathlib.Nat.{le_refl}
 use native.Mathlib.Omega.{arith}
 use Rattle.field.specs.Row.{read}
 use Rattle.field.proofs.PutLaws.{wrote_length, wrote_then, wrote_is, wrote_none}
-use Rattle.field.proofs.FrontLaws.{behind_less}
-use Rattle.printing.specs.Card.{all_text, first_text, behind_text, quoted, text_by, prop_name, template_name}
+use Rattle.printing.specs.Card.{first_text, quoted, text_by, prop_name}
 use Rattle.printing.proofs.RoomLaws.{left_begin, left_room, left_on, left_done, room_is}
-use Rattle.printing.proofs.ByTag.{all_on, all_ended, behind_on, behind_ended, front_second, first_at, first_bytes, first_quoted, first_number, first_minus, first_spread, first_other, inner_at, inner_spread, parted_on, parted_ended, front_first, text_second, behind_within}
+use Rattle.printing.proofs.ByTag.{all_on, all_ended, behind_on, behind_ended, front_second, first_here, first_ended, first_at, first_bytes, first_quoted, first_number, first_minus, first_spread, first_other, inner_less, parted_on, parted_ended, front_first, text_second, behind_within}
 use Rattle.field.specs.Bytes.{ascii, Bytes}
 use Rattle.page.specs.Tree.{choose}
 use Rattle.printing.proofs.expression.+print.Goals as goal
-
-pub print_all-loop-t-init : goal.print_all-loop-t-init
-print_all-loop-t-init t c = (le_refl _, left_begin _ _ _ c.requires)
-
-pub print_all-print_first-a-requires : goal.print_all-print_first-a-requires
-print_all-print_first-a-requires t c = let i = c.loop-t.invariant in (omega (arith, i.0, c.decreases), left_room i.1 (first_text (read _)) (all_text (read _)) (all_on _ _ c.tag_at.ensures.0 c.loop-t-test.true refl))
-
-pub print_all-loop-t-smaller : goal.print_all-loop-t-smaller
-print_all-loop-t-smaller t c = behind_less _ _ c.tag_at.ensures.0 c.loop-t-test.true c.behind-t.ensures
-
-pub print_all-loop-t-preserved : goal.print_all-loop-t-preserved
-print_all-loop-t-preserved t c = let i = c.loop-t.invariant in let e = c.tag_at.ensures.0 in let h = c.loop-t-test.true in let b = c.behind-t.ensures in (omega (arith, i.0, behind_less _ _ e h b), left_on i.1 (all_on _ _ e h b) c.print_first-a.ensures)
-
-pub print_all-shape_of-out : goal.print_all-shape_of-out
-print_all-shape_of-out t c = wrote_length (left_done c.loop-t.invariant.1 (all_ended _ (c.tag_at.ensures.1 c.loop-t-test.false)))
-
-pub print_all-returns : goal.print_all-returns
-print_all-returns t c = left_done c.loop-t.invariant.1 (all_ended _ (c.tag_at.ensures.1 c.loop-t-test.false))
-
-pub print_behind-loop-t-init : goal.print_behind-loop-t-init
-print_behind-loop-t-init t c = (le_refl _, left_begin _ _ _ c.requires)
-
-pub print_behind-put_bytes-b-requires : goal.print_behind-put_bytes-b-requires
-print_behind-put_bytes-b-requires t c = let i = c.loop-t.invariant in omega (arith, left_room i.1 (ascii ", ") _ (behind_on _ _ c.tag_at.ensures.0 c.loop-t-test.true refl))
-
-pub print_behind-print_first-a-requires : goal.print_behind-print_first-a-requires
-print_behind-print_first-a-requires t c = let i = c.loop-t.invariant in let l = left_on i.1 (behind_on _ _ c.tag_at.ensures.0 c.loop-t-test.true refl) c.put_bytes-b.ensures in
-    (omega (arith, i.0, c.decreases), left_room l (first_text (read _)) (behind_text (read _)) refl)
-
-pub print_behind-loop-t-smaller : goal.print_behind-loop-t-smaller
-print_behind-loop-t-smaller t c = behind_less _ _ c.tag_at.ensures.0 c.loop-t-test.true c.behind-t.ensures
-
-pub print_behind-loop-t-preserved : goal.print_behind-loop-t-preserved
-print_behind-loop-t-preserved t c = let i = c.loop-t.invariant in let e = c.tag_at.ensures.0 in let h = c.loop-t-test.true in let b = c.behind-t.ensures in let l = left_on i.1 (behind_on _ _ e h b) c.put_bytes-b.ensures in
-    (omega (arith, i.0, behind_less _ _ e h b), left_on l refl c.print_first-a.ensures)
-
-pub print_behind-shape_of-out : goal.print_behind-shape_of-out
-print_behind-shape_of-out t c = wrote_length (left_done c.loop-t.invariant.1 (behind_ended _ (c.tag_at.ensures.1 c.loop-t-test.false)))
-
-pub print_behind-returns : goal.print_behind-returns
-print_behind-returns t c = left_done c.loop-t.invariant.1 (behind_ended _ (c.tag_at.ensures.1 c.loop-t-test.false))
 
 pub print_between-put_bytes-a-requires : goal.print_between-put_bytes-a-requires
 print_between-put_bytes-a-requires t c = omega (arith, simp length-append at c.requires)
@@ -74,217 +32,203 @@ pub print_choice-put_bytes-b-requires : goal.print_choice-put_bytes-b-requires
 print_choice-put_bytes-b-requires t c = omega (arith, simp length-append at c.requires, c.print_first-a.ensures.end_is)
 
 pub print_choice-put_quoted-c-requires : goal.print_choice-put_quoted-c-requires
-print_choice-put_quoted-c-requires t c = let q = c.front.ensures ∙ ap front_of c.behind.ensures ∙ sym (front_second _) in
+print_choice-put_quoted-c-requires t c = let q = c.first_front.ensures ∙ ap front_of c.behind.ensures ∙ sym (front_second _) in
     simp length-append
     (omega (arith, simp length-append at c.requires, simp length-append at (ap (λ (f : Bytes). length (quoted f)) q), c.print_first-a.ensures.end_is, c.put_bytes-b.ensures.end_is))
 
 pub print_choice-put_bytes-requires : goal.print_choice-put_bytes-requires
-print_choice-put_bytes-requires t c = let q = c.front.ensures ∙ ap front_of c.behind.ensures ∙ sym (front_second _) in
+print_choice-put_bytes-requires t c = let q = c.first_front.ensures ∙ ap front_of c.behind.ensures ∙ sym (front_second _) in
     let w = wrote_is (ap quoted q) c.put_quoted-c.ensures in
     omega (arith, simp length-append at c.requires, c.print_first-a.ensures.end_is, c.put_bytes-b.ensures.end_is, simp length-append at w.end_is)
 
 pub print_choice-returns : goal.print_choice-returns
-print_choice-returns t c = let q = c.front.ensures ∙ ap front_of c.behind.ensures ∙ sym (front_second _) in
+print_choice-returns t c = let q = c.first_front.ensures ∙ ap front_of c.behind.ensures ∙ sym (front_second _) in
     let w = wrote_is (ap quoted q) c.put_quoted-c.ensures in
     wrote_then c.print_first-a.ensures (wrote_then c.put_bytes-b.ensures (wrote_then w c.put_bytes.ensures))
 
-pub print_first-put_bytes-requires : goal.print_first-put_bytes-requires
-print_first-put_bytes-requires t c = let e = c.tag_at-t.ensures.0 in let i = c.inner-i.ensures in let f = c.front-f.ensures in let q = first_bytes _ _ e f i c.in-32.is in
+pub print_field-put_bytes-requires : goal.print_field-put_bytes-requires
+print_field-put_bytes-requires t c = let i = c.inner-i.ensures in let f = c.front-f.ensures in let q = first_bytes _ _ f i c.in-32.is in
     omega (arith, room_is _ q c.requires)
 
-pub print_first-put_pointed-requires : goal.print_first-put_pointed-requires
+pub print_field-put_pointed-requires : goal.print_field-put_pointed-requires
 unfolding text_by choose
-print_first-put_pointed-requires t c = let e = c.tag_at-t.ensures.0 in let i = c.inner-i.ensures in let f = c.front-f.ensures in let q = first_at _ _ e f i 0x41 c.in-65.is in
+print_field-put_pointed-requires t c = let i = c.inner-i.ensures in let f = c.front-f.ensures in let q = first_at _ _ f i 0x41 c.in-65.is in
     room_is _ q c.requires
 
-pub print_first-put_quoted-requires : goal.print_first-put_quoted-requires
-print_first-put_quoted-requires t c = let e = c.tag_at-t.ensures.0 in let i = c.inner-i.ensures in let f = c.front-f.ensures in let q = first_quoted _ _ e f i c.in-112.is in
+pub print_field-put_quoted-requires : goal.print_field-put_quoted-requires
+print_field-put_quoted-requires t c = let i = c.inner-i.ensures in let f = c.front-f.ensures in let q = first_quoted _ _ f i c.in-112.is in
     room_is _ q c.requires
 
-pub print_first-put_number-requires : goal.print_first-put_number-requires
+pub print_field-put_number-requires : goal.print_field-put_number-requires
 unfolding text_by choose
-print_first-put_number-requires t c = let e = c.tag_at-t.ensures.0 in let i = c.inner-i.ensures in let f = c.front-f.ensures in let q = first_number _ _ e f i c.in-113.is in
+print_field-put_number-requires t c = let i = c.inner-i.ensures in let f = c.front-f.ensures in let q = first_number _ _ f i c.from.ensures c.in-113.is in
     room_is _ q c.requires
 
-pub print_first-put_boolean-requires : goal.print_first-put_boolean-requires
+pub print_field-put_boolean-requires : goal.print_field-put_boolean-requires
 unfolding text_by choose
-print_first-put_boolean-requires t c = let e = c.tag_at-t.ensures.0 in let i = c.inner-i.ensures in let f = c.front-f.ensures in let q = first_at _ _ e f i 0x72 c.in-114.is in
+print_field-put_boolean-requires t c = let i = c.inner-i.ensures in let f = c.front-f.ensures in let q = first_at _ _ f i 0x72 c.in-114.is in
     omega (arith, room_is _ q c.requires)
 
-pub print_first-put_bytes-requires-in-115 : goal.print_first-put_bytes-requires-in-115
+pub print_field-put_bytes-requires-in-115 : goal.print_field-put_bytes-requires-in-115
 unfolding text_by choose
-print_first-put_bytes-requires-in-115 t c = let e = c.tag_at-t.ensures.0 in let i = c.inner-i.ensures in let f = c.front-f.ensures in let q = first_at _ _ e f i 0x73 c.in-115.is in
+print_field-put_bytes-requires-in-115 t c = let i = c.inner-i.ensures in let f = c.front-f.ensures in let q = first_at _ _ f i 0x73 c.in-115.is in
     omega (arith, room_is _ q c.requires)
 
-pub print_first-put_minus-requires : goal.print_first-put_minus-requires
+pub print_field-put_minus-requires : goal.print_field-put_minus-requires
 unfolding text_by choose
-print_first-put_minus-requires t c = let e = c.tag_at-t.ensures.0 in let i = c.inner-i.ensures in let f = c.front-f.ensures in let q = first_minus _ _ e f i c.in-117.is in
+print_field-put_minus-requires t c = let i = c.inner-i.ensures in let f = c.front-f.ensures in let q = first_minus _ _ f i c.from-in-117.ensures c.in-117.is in
     room_is _ q c.requires
 
-pub print_first-print_between-requires : goal.print_first-print_between-requires
+pub print_field-print_between-requires : goal.print_field-print_between-requires
 unfolding text_by choose
-print_first-print_between-requires t c = let e = c.tag_at-t.ensures.0 in let i = c.inner-i.ensures in let f = c.front-f.ensures in let q = first_at _ _ e f i 0x76 c.in-118.is in
-    (omega (arith, inner_at _ _ e f i 0x76 tt c.in-118.is, c.decreases), room_is _ q c.requires)
+print_field-print_between-requires t c = let i = c.inner-i.ensures in let f = c.front-f.ensures in let q = first_at _ _ f i 0x76 c.in-118.is in
+    (omega (arith, inner_less _ _ f i, c.decreases), room_is _ q c.requires)
 
-pub print_first-print_spread-requires : goal.print_first-print_spread-requires
-print_first-print_spread-requires t c = let e = c.tag_at-t.ensures.0 in let i = c.inner-i.ensures in let f = c.front-f.ensures in let q = first_spread _ _ e f i c.in-83.is in
-    (omega (arith, inner_spread _ _ e f i c.in-83.is, c.decreases), room_is _ q c.requires)
+pub print_field-print_spread-requires : goal.print_field-print_spread-requires
+print_field-print_spread-requires t c = let i = c.inner-i.ensures in let f = c.front-f.ensures in let q = first_spread _ _ f i c.in-83.is in
+    (omega (arith, inner_less _ _ f i, c.decreases), room_is _ q c.requires)
 
-pub print_first-print_all-requires : goal.print_first-print_all-requires
+pub print_field-print_all-requires : goal.print_field-print_all-requires
 unfolding text_by choose
-print_first-print_all-requires t c = let e = c.tag_at-t.ensures.0 in let i = c.inner-i.ensures in let f = c.front-f.ensures in let q = first_at _ _ e f i 0x79 c.in-121.is in
-    (omega (arith, inner_at _ _ e f i 0x79 tt c.in-121.is, c.decreases), room_is _ q c.requires)
+print_field-print_all-requires t c = let i = c.inner-i.ensures in let f = c.front-f.ensures in let q = first_at _ _ f i 0x79 c.in-121.is in
+    (omega (arith, inner_less _ _ f i, c.decreases), room_is _ q c.requires)
 
-pub print_first-print_template-requires : goal.print_first-print_template-requires
+pub print_field-print_template-requires : goal.print_field-print_template-requires
 unfolding text_by choose
-print_first-print_template-requires t c = let e = c.tag_at-t.ensures.0 in let q = first_at _ _ e refl refl 0x90 c.in-144.is in
-    (omega (arith, inner_at _ _ e refl refl 0x90 tt c.in-144.is, c.decreases), room_is _ q c.requires)
+print_field-print_template-requires t c = let i = c.inner-i.ensures in let f = c.front-f.ensures in let q = first_at _ _ f i 0x90 c.in-144.is in
+    (omega (arith, inner_less _ _ f i, c.decreases), room_is _ q c.requires)
 
-pub print_first-print_between-requires-in-145 : goal.print_first-print_between-requires-in-145
+pub print_field-print_between-requires-in-145 : goal.print_field-print_between-requires-in-145
 unfolding text_by choose
-print_first-print_between-requires-in-145 t c = let e = c.tag_at-t.ensures.0 in let i = c.inner-i.ensures in let f = c.front-f.ensures in let q = first_at _ _ e f i 0x91 c.in-145.is in
-    (omega (arith, inner_at _ _ e f i 0x91 tt c.in-145.is, c.decreases), room_is _ q c.requires)
+print_field-print_between-requires-in-145 t c = let i = c.inner-i.ensures in let f = c.front-f.ensures in let q = first_at _ _ f i 0x91 c.in-145.is in
+    (omega (arith, inner_less _ _ f i, c.decreases), room_is _ q c.requires)
 
-pub print_first-print_between-requires-in-146 : goal.print_first-print_between-requires-in-146
+pub print_field-print_between-requires-in-146 : goal.print_field-print_between-requires-in-146
 unfolding text_by choose
-print_first-print_between-requires-in-146 t c = let e = c.tag_at-t.ensures.0 in let i = c.inner-i.ensures in let f = c.front-f.ensures in let q = first_at _ _ e f i 0x92 c.in-146.is in
-    (omega (arith, inner_at _ _ e f i 0x92 tt c.in-146.is, c.decreases), room_is _ q c.requires)
+print_field-print_between-requires-in-146 t c = let i = c.inner-i.ensures in let f = c.front-f.ensures in let q = first_at _ _ f i 0x92 c.in-146.is in
+    (omega (arith, inner_less _ _ f i, c.decreases), room_is _ q c.requires)
 
-pub print_first-print_choice-requires : goal.print_first-print_choice-requires
+pub print_field-print_choice-requires : goal.print_field-print_choice-requires
 unfolding text_by choose
-print_first-print_choice-requires t c = let e = c.tag_at-t.ensures.0 in let i = c.inner-i.ensures in let f = c.front-f.ensures in let q = first_at _ _ e f i 0x93 c.in-147.is in
-    (omega (arith, inner_at _ _ e f i 0x93 tt c.in-147.is, c.decreases), room_is _ q c.requires)
+print_field-print_choice-requires t c = let i = c.inner-i.ensures in let f = c.front-f.ensures in let q = first_at _ _ f i 0x93 c.in-147.is in
+    (omega (arith, inner_less _ _ f i, c.decreases), room_is _ q c.requires)
 
-pub print_first-print_between-requires-in-148 : goal.print_first-print_between-requires-in-148
+pub print_field-print_between-requires-in-148 : goal.print_field-print_between-requires-in-148
 unfolding text_by choose
-print_first-print_between-requires-in-148 t c = let e = c.tag_at-t.ensures.0 in let i = c.inner-i.ensures in let f = c.front-f.ensures in let q = first_at _ _ e f i 0x94 c.in-148.is in
-    (omega (arith, inner_at _ _ e f i 0x94 tt c.in-148.is, c.decreases), room_is _ q c.requires)
+print_field-print_between-requires-in-148 t c = let i = c.inner-i.ensures in let f = c.front-f.ensures in let q = first_at _ _ f i 0x94 c.in-148.is in
+    (omega (arith, inner_less _ _ f i, c.decreases), room_is _ q c.requires)
 
-pub print_first-print_between-requires-in-149 : goal.print_first-print_between-requires-in-149
+pub print_field-print_between-requires-in-149 : goal.print_field-print_between-requires-in-149
 unfolding text_by choose
-print_first-print_between-requires-in-149 t c = let e = c.tag_at-t.ensures.0 in let i = c.inner-i.ensures in let f = c.front-f.ensures in let q = first_at _ _ e f i 0x95 c.in-149.is in
-    (omega (arith, inner_at _ _ e f i 0x95 tt c.in-149.is, c.decreases), room_is _ q c.requires)
+print_field-print_between-requires-in-149 t c = let i = c.inner-i.ensures in let f = c.front-f.ensures in let q = first_at _ _ f i 0x95 c.in-149.is in
+    (omega (arith, inner_less _ _ f i, c.decreases), room_is _ q c.requires)
 
-pub print_first-print_prop-requires : goal.print_first-print_prop-requires
+pub print_field-print_prop-requires : goal.print_field-print_prop-requires
 unfolding text_by choose
-print_first-print_prop-requires t c = let e = c.tag_at-t.ensures.0 in let i = c.inner-i.ensures in let f = c.front-f.ensures in let q = first_at _ _ e f i 0x96 c.in-150.is in
-    (omega (arith, inner_at _ _ e f i 0x96 tt c.in-150.is, c.decreases), room_is _ q c.requires)
+print_field-print_prop-requires t c = let i = c.inner-i.ensures in let f = c.front-f.ensures in let q = first_at _ _ f i 0x96 c.in-150.is in
+    (omega (arith, inner_less _ _ f i, c.decreases), room_is _ q c.requires)
 
-pub print_first-returns-in-32 : goal.print_first-returns-in-32
-print_first-returns-in-32 t c = let e = c.tag_at-t.ensures.0 in let i = c.inner-i.ensures in let f = c.front-f.ensures in let q = first_bytes _ _ e f i c.in-32.is in
+pub print_field-returns-in-32 : goal.print_field-returns-in-32
+print_field-returns-in-32 t c = let i = c.inner-i.ensures in let f = c.front-f.ensures in let q = first_bytes _ _ f i c.in-32.is in
     wrote_is (sym q) c.put_bytes.ensures
 
-pub print_first-returns-in-65 : goal.print_first-returns-in-65
+pub print_field-returns-in-65 : goal.print_field-returns-in-65
 unfolding text_by choose
-print_first-returns-in-65 t c = let e = c.tag_at-t.ensures.0 in let i = c.inner-i.ensures in let f = c.front-f.ensures in let q = first_at _ _ e f i 0x41 c.in-65.is in
+print_field-returns-in-65 t c = let i = c.inner-i.ensures in let f = c.front-f.ensures in let q = first_at _ _ f i 0x41 c.in-65.is in
     wrote_is (sym q) c.put_pointed.ensures
 
-pub print_first-returns-in-112 : goal.print_first-returns-in-112
-print_first-returns-in-112 t c = let e = c.tag_at-t.ensures.0 in let i = c.inner-i.ensures in let f = c.front-f.ensures in let q = first_quoted _ _ e f i c.in-112.is in
+pub print_field-returns-in-112 : goal.print_field-returns-in-112
+print_field-returns-in-112 t c = let i = c.inner-i.ensures in let f = c.front-f.ensures in let q = first_quoted _ _ f i c.in-112.is in
     wrote_is (sym q) c.put_quoted.ensures
 
-pub print_first-returns-in-113 : goal.print_first-returns-in-113
+pub print_field-returns-in-113 : goal.print_field-returns-in-113
 unfolding text_by choose
-print_first-returns-in-113 t c = let e = c.tag_at-t.ensures.0 in let i = c.inner-i.ensures in let f = c.front-f.ensures in let q = first_number _ _ e f i c.in-113.is in
+print_field-returns-in-113 t c = let i = c.inner-i.ensures in let f = c.front-f.ensures in let q = first_number _ _ f i c.from.ensures c.in-113.is in
     wrote_is (sym q) c.put_number.ensures
 
-pub print_first-returns-in-114 : goal.print_first-returns-in-114
+pub print_field-returns-in-114 : goal.print_field-returns-in-114
 unfolding text_by choose
-print_first-returns-in-114 t c = let e = c.tag_at-t.ensures.0 in let i = c.inner-i.ensures in let f = c.front-f.ensures in let q = first_at _ _ e f i 0x72 c.in-114.is in
+print_field-returns-in-114 t c = let i = c.inner-i.ensures in let f = c.front-f.ensures in let q = first_at _ _ f i 0x72 c.in-114.is in
     wrote_is (sym q) c.put_boolean.ensures
 
-pub print_first-returns-in-115 : goal.print_first-returns-in-115
+pub print_field-returns-in-115 : goal.print_field-returns-in-115
 unfolding text_by choose
-print_first-returns-in-115 t c = let e = c.tag_at-t.ensures.0 in let i = c.inner-i.ensures in let f = c.front-f.ensures in let q = first_at _ _ e f i 0x73 c.in-115.is in
+print_field-returns-in-115 t c = let i = c.inner-i.ensures in let f = c.front-f.ensures in let q = first_at _ _ f i 0x73 c.in-115.is in
     wrote_is (sym q) c.put_bytes-in-115.ensures
 
-pub print_first-returns-in-117 : goal.print_first-returns-in-117
+pub print_field-returns-in-117 : goal.print_field-returns-in-117
 unfolding text_by choose
-print_first-returns-in-117 t c = let e = c.tag_at-t.ensures.0 in let i = c.inner-i.ensures in let f = c.front-f.ensures in let q = first_minus _ _ e f i c.in-117.is in
+print_field-returns-in-117 t c = let i = c.inner-i.ensures in let f = c.front-f.ensures in let q = first_minus _ _ f i c.from-in-117.ensures c.in-117.is in
     wrote_is (sym q) c.put_minus.ensures
 
-pub print_first-returns-in-118 : goal.print_first-returns-in-118
+pub print_field-returns-in-118 : goal.print_field-returns-in-118
 unfolding text_by choose
-print_first-returns-in-118 t c = let e = c.tag_at-t.ensures.0 in let i = c.inner-i.ensures in let f = c.front-f.ensures in let q = first_at _ _ e f i 0x76 c.in-118.is in
+print_field-returns-in-118 t c = let i = c.inner-i.ensures in let f = c.front-f.ensures in let q = first_at _ _ f i 0x76 c.in-118.is in
     wrote_is (sym q) c.print_between.ensures
 
-pub print_first-returns-in-83 : goal.print_first-returns-in-83
-print_first-returns-in-83 t c = let e = c.tag_at-t.ensures.0 in let i = c.inner-i.ensures in let f = c.front-f.ensures in let q = first_spread _ _ e f i c.in-83.is in
+pub print_field-returns-in-83 : goal.print_field-returns-in-83
+print_field-returns-in-83 t c = let i = c.inner-i.ensures in let f = c.front-f.ensures in let q = first_spread _ _ f i c.in-83.is in
     wrote_is (sym q) c.print_spread.ensures
 
-pub print_first-returns-in-121 : goal.print_first-returns-in-121
+pub print_field-returns-in-121 : goal.print_field-returns-in-121
 unfolding text_by choose
-print_first-returns-in-121 t c = let e = c.tag_at-t.ensures.0 in let i = c.inner-i.ensures in let f = c.front-f.ensures in let q = first_at _ _ e f i 0x79 c.in-121.is in
+print_field-returns-in-121 t c = let i = c.inner-i.ensures in let f = c.front-f.ensures in let q = first_at _ _ f i 0x79 c.in-121.is in
     wrote_is (sym q) c.print_all.ensures
 
-pub print_first-returns-in-144 : goal.print_first-returns-in-144
+pub print_field-returns-in-144 : goal.print_field-returns-in-144
 unfolding text_by choose
-print_first-returns-in-144 t c = let e = c.tag_at-t.ensures.0 in let q = first_at _ _ e refl refl 0x90 c.in-144.is in
+print_field-returns-in-144 t c = let i = c.inner-i.ensures in let f = c.front-f.ensures in let q = first_at _ _ f i 0x90 c.in-144.is in
     wrote_is (sym q) c.print_template.ensures
 
-pub print_first-returns-in-145 : goal.print_first-returns-in-145
+pub print_field-returns-in-145 : goal.print_field-returns-in-145
 unfolding text_by choose
-print_first-returns-in-145 t c = let e = c.tag_at-t.ensures.0 in let i = c.inner-i.ensures in let f = c.front-f.ensures in let q = first_at _ _ e f i 0x91 c.in-145.is in
+print_field-returns-in-145 t c = let i = c.inner-i.ensures in let f = c.front-f.ensures in let q = first_at _ _ f i 0x91 c.in-145.is in
     wrote_is (sym q) c.print_between-in-145.ensures
 
-pub print_first-returns-in-146 : goal.print_first-returns-in-146
+pub print_field-returns-in-146 : goal.print_field-returns-in-146
 unfolding text_by choose
-print_first-returns-in-146 t c = let e = c.tag_at-t.ensures.0 in let i = c.inner-i.ensures in let f = c.front-f.ensures in let q = first_at _ _ e f i 0x92 c.in-146.is in
+print_field-returns-in-146 t c = let i = c.inner-i.ensures in let f = c.front-f.ensures in let q = first_at _ _ f i 0x92 c.in-146.is in
     wrote_is (sym q) c.print_between-in-146.ensures
 
-pub print_first-returns-in-147 : goal.print_first-returns-in-147
+pub print_field-returns-in-147 : goal.print_field-returns-in-147
 unfolding text_by choose
-print_first-returns-in-147 t c = let e = c.tag_at-t.ensures.0 in let i = c.inner-i.ensures in let f = c.front-f.ensures in let q = first_at _ _ e f i 0x93 c.in-147.is in
+print_field-returns-in-147 t c = let i = c.inner-i.ensures in let f = c.front-f.ensures in let q = first_at _ _ f i 0x93 c.in-147.is in
     wrote_is (sym q) c.print_choice.ensures
 
-pub print_first-returns-in-148 : goal.print_first-returns-in-148
+pub print_field-returns-in-148 : goal.print_field-returns-in-148
 unfolding text_by choose
-print_first-returns-in-148 t c = let e = c.tag_at-t.ensures.0 in let i = c.inner-i.ensures in let f = c.front-f.ensures in let q = first_at _ _ e f i 0x94 c.in-148.is in
+print_field-returns-in-148 t c = let i = c.inner-i.ensures in let f = c.front-f.ensures in let q = first_at _ _ f i 0x94 c.in-148.is in
     wrote_is (sym q) c.print_between-in-148.ensures
 
-pub print_first-returns-in-149 : goal.print_first-returns-in-149
+pub print_field-returns-in-149 : goal.print_field-returns-in-149
 unfolding text_by choose
-print_first-returns-in-149 t c = let e = c.tag_at-t.ensures.0 in let i = c.inner-i.ensures in let f = c.front-f.ensures in let q = first_at _ _ e f i 0x95 c.in-149.is in
+print_field-returns-in-149 t c = let i = c.inner-i.ensures in let f = c.front-f.ensures in let q = first_at _ _ f i 0x95 c.in-149.is in
     wrote_is (sym q) c.print_between-in-149.ensures
 
-pub print_first-returns-in-150 : goal.print_first-returns-in-150
+pub print_field-returns-in-150 : goal.print_field-returns-in-150
 unfolding text_by choose
-print_first-returns-in-150 t c = let e = c.tag_at-t.ensures.0 in let i = c.inner-i.ensures in let f = c.front-f.ensures in let q = first_at _ _ e f i 0x96 c.in-150.is in
+print_field-returns-in-150 t c = let i = c.inner-i.ensures in let f = c.front-f.ensures in let q = first_at _ _ f i 0x96 c.in-150.is in
     wrote_is (sym q) c.print_prop.ensures
 
-pub print_first-returns-in_default : goal.print_first-returns-in_default
-print_first-returns-in_default t c = let n = c.in_default.in_default-own.rest in let q = first_other _ _ c.tag_at-t.ensures.0 n.0.0.0.0.0.0.0.0.0.0.0.0.0.0.0.0.1 n.0.0.0.0.0.0.0.0.0.0.0.0.0.0.0.1 n.0.0.0.0.0.0.0.0.0.0.0.0.0.0.1 n.0.0.0.0.0.0.0.0.0.0.0.0.0.1 n.0.0.0.0.0.0.0.0.0.0.0.0.1 n.0.0.0.0.0.0.0.0.0.0.0.1 n.0.0.0.0.0.0.0.0.0.0.1 n.0.0.0.0.0.0.0.0.0.1 n.0.0.0.0.0.0.0.0.1 n.0.0.0.0.0.0.0.1 n.0.0.0.0.0.0.1 n.0.0.0.0.0.1 n.0.0.0.0.1 n.0.0.0.1 n.0.0.1 n.0.1 n.1 in
+pub print_field-returns-in_default : goal.print_field-returns-in_default
+print_field-returns-in_default t c = let n = c.in_default.in_default-own.rest in let q = first_other _ _ n.0.0.0.0.0.0.0.0.0.0.0.0.0.0.0.0.1 n.0.0.0.0.0.0.0.0.0.0.0.0.0.0.0.1 n.0.0.0.0.0.0.0.0.0.0.0.0.0.0.1 n.0.0.0.0.0.0.0.0.0.0.0.0.0.1 n.0.0.0.0.0.0.0.0.0.0.0.0.1 n.0.0.0.0.0.0.0.0.0.0.0.1 n.0.0.0.0.0.0.0.0.0.0.1 n.0.0.0.0.0.0.0.0.0.1 n.0.0.0.0.0.0.0.0.1 n.0.0.0.0.0.0.0.1 n.0.0.0.0.0.0.1 n.0.0.0.0.0.1 n.0.0.0.0.1 n.0.0.0.1 n.0.0.1 n.0.1 n.1 in
     wrote_is (sym q) (wrote_none _ _)
 
-pub print_parted-returns-then-tag_at-eq256 : goal.print_parted-returns-then-tag_at-eq256
-print_parted-returns-then-tag_at-eq256 t c = wrote_is (sym (parted_ended _ (c.tag_at.ensures.1 c.if-tag_at-eq256.true))) (wrote_none _ _)
-
-pub print_parted-print_first-a-requires : goal.print_parted-print_first-a-requires
-print_parted-print_first-a-requires t c = let q = parted_on _ _ c.tag_at.ensures.0 c.if-tag_at-eq256.false refl in
-    (omega (arith, c.decreases), omega (arith, simp length-append at (room_is _ q c.requires)))
-
-pub print_parted-print_behind-requires : goal.print_parted-print_behind-requires
-print_parted-print_behind-requires t c = let e = c.tag_at.ensures.0 in let h = c.if-tag_at-eq256.false in let b = c.behind.ensures in (omega (arith, behind_less _ _ e h b, c.decreases), omega (arith, simp length-append at (room_is _ (parted_on _ _ e h b) c.requires), c.print_first-a.ensures.end_is))
-
-pub print_parted-returns : goal.print_parted-returns
-print_parted-returns t c = let q = parted_on _ _ c.tag_at.ensures.0 c.if-tag_at-eq256.false c.behind.ensures in
-    wrote_is (sym q) (wrote_then c.print_first-a.ensures c.print_behind.ensures)
-
 pub print_prop-put_prop_name-a-requires : goal.print_prop-put_prop_name-a-requires
-print_prop-put_prop_name-a-requires t c = let q = ap (λ (f : Bytes). length (prop_name f)) (c.front.ensures ∙ sym (front_first _)) in
+print_prop-put_prop_name-a-requires t c = let q = ap (λ (f : Bytes). length (prop_name f)) (c.first_front.ensures ∙ sym (front_first _)) in
     omega (arith, simp length-append at c.requires, q)
 
 pub print_prop-put_bytes-b-requires : goal.print_prop-put_bytes-b-requires
-print_prop-put_bytes-b-requires t c = let w = wrote_is (ap prop_name (c.front.ensures ∙ sym (front_first _))) c.put_prop_name-a.ensures in
+print_prop-put_bytes-b-requires t c = let w = wrote_is (ap prop_name (c.first_front.ensures ∙ sym (front_first _))) c.put_prop_name-a.ensures in
     omega (arith, simp length-append at c.requires, w.end_is)
 
 pub print_prop-print_first-requires : goal.print_prop-print_first-requires
-print_prop-print_first-requires t c = let w = wrote_is (ap prop_name (c.front.ensures ∙ sym (front_first _))) c.put_prop_name-a.ensures in
+print_prop-print_first-requires t c = let w = wrote_is (ap prop_name (c.first_front.ensures ∙ sym (front_first _))) c.put_prop_name-a.ensures in
     let q = c.behind.ensures in let l = ap length (ap (λ (b : Bytes). first_text (read b)) q ∙ sym (text_second _)) in
     (omega (arith, behind_within _ q, c.decreases), omega (arith, simp length-append at c.requires, l, w.end_is, c.put_bytes-b.ensures.end_is))
 
 pub print_prop-returns : goal.print_prop-returns
-print_prop-returns t c = let w = wrote_is (ap prop_name (c.front.ensures ∙ sym (front_first _))) c.put_prop_name-a.ensures in
+print_prop-returns t c = let w = wrote_is (ap prop_name (c.first_front.ensures ∙ sym (front_first _))) c.put_prop_name-a.ensures in
     let v = wrote_is (ap (λ (b : Bytes). first_text (read b)) c.behind.ensures ∙ sym (text_second _)) c.print_first.ensures in
     wrote_then w (wrote_then c.put_bytes-b.ensures v)
 
@@ -301,20 +245,73 @@ pub print_template-put_bytes-a-requires : goal.print_template-put_bytes-a-requir
 print_template-put_bytes-a-requires t c = omega (arith, simp length-append at c.requires)
 
 pub print_template-put_template_name-b-requires : goal.print_template-put_template_name-b-requires
-print_template-put_template_name-b-requires t c = let q = ap (λ (f : Bytes). length (template_name f)) c.front.ensures in
-    omega (arith, simp length-append at c.requires, q, c.put_bytes-a.ensures.end_is)
+print_template-put_template_name-b-requires t c = omega (arith, simp length-append at c.requires, c.put_bytes-a.ensures.end_is)
 
 pub print_template-print_behind-c-requires : goal.print_template-print_behind-c-requires
-print_template-print_behind-c-requires t c = let w = wrote_is (ap template_name c.front.ensures) c.put_template_name-b.ensures in
-    let q = c.inner.ensures in let l = ap (λ (i : Bytes). length (behind_text (read i))) q in
-    (omega (arith, ap length q, c.decreases), omega (arith, simp length-append at c.requires, l, c.put_bytes-a.ensures.end_is, w.end_is))
+print_template-print_behind-c-requires t c = (omega (arith, c.decreases), omega (arith, simp length-append at c.requires, c.put_bytes-a.ensures.end_is, c.put_template_name-b.ensures.end_is))
 
 pub print_template-put_byte-requires : goal.print_template-put_byte-requires
-print_template-put_byte-requires t c = let w = wrote_is (ap template_name c.front.ensures) c.put_template_name-b.ensures in
-    let v = wrote_is (ap (λ (i : Bytes). behind_text (read i)) c.inner.ensures) c.print_behind-c.ensures in
-    omega (arith, simp length-append at c.requires, c.put_bytes-a.ensures.end_is, w.end_is, v.end_is)
+print_template-put_byte-requires t c = omega (arith, simp length-append at c.requires, c.put_bytes-a.ensures.end_is, c.put_template_name-b.ensures.end_is, c.print_behind-c.ensures.end_is)
 
 pub print_template-returns : goal.print_template-returns
-print_template-returns t c = let w = wrote_is (ap template_name c.front.ensures) c.put_template_name-b.ensures in
-    let v = wrote_is (ap (λ (i : Bytes). behind_text (read i)) c.inner.ensures) c.print_behind-c.ensures in
-    wrote_then c.put_bytes-a.ensures (wrote_then w (wrote_then v c.put_byte.ensures))
+print_template-returns t c = wrote_then c.put_bytes-a.ensures (wrote_then c.put_template_name-b.ensures (wrote_then c.print_behind-c.ensures c.put_byte.ensures))
+
+pub print_first-print_field-requires : goal.print_first-print_field-requires
+print_first-print_field-requires t c = let f = c.in-Some.ensures in (omega (arith, c.decreases, f.sizes), room_is _ (first_here _ f.tag_is f.body_is) c.requires)
+
+pub print_first-returns-in-Some : goal.print_first-returns-in-Some
+print_first-returns-in-Some t c = let f = c.in-Some.ensures in wrote_is (sym (first_here _ f.tag_is f.body_is)) c.print_field.ensures
+
+pub print_first-returns-in-None : goal.print_first-returns-in-None
+print_first-returns-in-None t c = wrote_is (sym (first_ended _ c.in-None.ensures.ended)) (wrote_none _ _)
+
+pub print_all-loop-field-init : goal.print_all-loop-field-init
+print_all-loop-field-init t c = rw c.into_iter-field-iterator.ensures.into_iter_gives (le_refl _, left_begin _ _ _ c.requires)
+
+pub print_all-print_field-a-requires : goal.print_all-print_field-a-requires
+print_all-print_field-a-requires t c = let i = c.loop-field.invariant in let f = c.in-Some.ensures.steps in (omega (arith, i.0, f.sizes, c.decreases), left_room i.1 _ _ (all_on f))
+
+pub print_all-loop-field-preserved : goal.print_all-loop-field-preserved
+print_all-loop-field-preserved t c = let i = c.loop-field.invariant in let f = c.in-Some.ensures.steps in (omega (arith, i.0, f.sizes), left_on i.1 (all_on f) c.print_field-a.ensures)
+
+pub print_all-shape_of-out : goal.print_all-shape_of-out
+print_all-shape_of-out t c = wrote_length (left_done c.loop-field.invariant.1 (all_ended _ c.in-None.ensures.steps.ended))
+
+pub print_all-returns : goal.print_all-returns
+print_all-returns t c = left_done c.loop-field.invariant.1 (all_ended _ c.in-None.ensures.steps.ended)
+
+pub print_behind-loop-field-init : goal.print_behind-loop-field-init
+print_behind-loop-field-init t c = rw c.into_iter-field-iterator.ensures.into_iter_gives (le_refl _, left_begin _ _ _ c.requires)
+
+pub print_behind-put_bytes-b-requires : goal.print_behind-put_bytes-b-requires
+print_behind-put_bytes-b-requires t c = omega (arith, left_room c.loop-field.invariant.1 (ascii ", ") _ (behind_on c.in-Some.ensures.steps))
+
+pub print_behind-print_field-a-requires : goal.print_behind-print_field-a-requires
+print_behind-print_field-a-requires t c =
+    let i = c.loop-field.invariant in
+    let f = c.in-Some.ensures.steps in
+    (omega (arith, i.0, f.sizes, c.decreases), left_room (left_on i.1 (behind_on f) c.put_bytes-b.ensures) _ _ refl)
+
+pub print_behind-loop-field-preserved : goal.print_behind-loop-field-preserved
+print_behind-loop-field-preserved t c =
+    let i = c.loop-field.invariant in
+    let f = c.in-Some.ensures.steps in
+    (omega (arith, i.0, f.sizes), left_on (left_on i.1 (behind_on f) c.put_bytes-b.ensures) refl c.print_field-a.ensures)
+
+pub print_behind-shape_of-out : goal.print_behind-shape_of-out
+print_behind-shape_of-out t c = wrote_length (left_done c.loop-field.invariant.1 (behind_ended _ c.in-None.ensures.steps.ended))
+
+pub print_behind-returns : goal.print_behind-returns
+print_behind-returns t c = left_done c.loop-field.invariant.1 (behind_ended _ c.in-None.ensures.steps.ended)
+
+pub print_parted-returns-in_default : goal.print_parted-returns-in_default
+print_parted-returns-in_default t c = wrote_is (sym (parted_ended _ c.in_default.ensures.steps.ended)) (wrote_none _ _)
+
+pub print_parted-print_field-a-requires : goal.print_parted-print_field-a-requires
+print_parted-print_field-a-requires t c = let f = c.in-Some.ensures.steps in (omega (arith, f.sizes, c.decreases), omega (arith, simp length-append at (room_is _ (parted_on f) c.requires)))
+
+pub print_parted-print_behind-requires : goal.print_parted-print_behind-requires
+print_parted-print_behind-requires t c = let f = c.in-Some.ensures.steps in (omega (arith, f.sizes, c.decreases), omega (arith, simp length-append at (room_is _ (parted_on f) c.requires), c.print_field-a.ensures.end_is))
+
+pub print_parted-returns : goal.print_parted-returns
+print_parted-returns t c = wrote_is (sym (parted_on c.in-Some.ensures.steps)) (wrote_then c.print_field-a.ensures c.print_behind.ensures)

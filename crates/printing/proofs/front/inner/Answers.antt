@@ -4,10 +4,10 @@ use Rattle.printing.proofs.FrontLaws.{front_fits, inner_is}
 use Rattle.printing.proofs.front.inner.Goals as goal
 
 pub slice_bounds-result-count : goal.slice_bounds-result-count
-slice_bounds-result-count c = let s = c.args.s.now in front_fits s c.body-b.result.now c.tag_at.result c.front_len-n.result c.body-b.ensures c.tag_at.ensures.0 c.front_len-n.ensures
+slice_bounds-result-count c = let f = c.args.field in front_fits f.tag f.body.now c.front_len.ensures
 
 pub slice_bounds-result-start : goal.slice_bounds-result-start
-slice_bounds-result-start c = omega (arith, (let s = c.args.s.now in front_fits s c.body-b.result.now c.tag_at.result c.front_len-n.result c.body-b.ensures c.tag_at.ensures.0 c.front_len-n.ensures))
+slice_bounds-result-start c = let f = c.args.field in omega (arith, front_fits f.tag f.body.now c.front_len.ensures)
 
 pub returns : goal.returns
-returns c = let s = c.args.s.now in inner_is s c.body-b.result.now c.tag_at.result c.front_len-n.result c.body-b.ensures c.tag_at.ensures.0 c.front_len-n.ensures
+returns c = let f = c.args.field in inner_is f.tag f.body.now c.front_len.ensures

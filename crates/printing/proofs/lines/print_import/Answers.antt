@@ -12,10 +12,10 @@ pub put_bytes-c-requires : goal.put_bytes-c-requires
 put_bytes-c-requires c = omega (arith, c.put_bytes-a.ensures.end_is, c.put_helpers-b.ensures.end_is, import_room _ c.sum_in.ensures refl _ c.requires)
 
 pub put_quoted-d-requires : goal.put_quoted-d-requires
-put_quoted-d-requires c = omega (arith, c.put_bytes-a.ensures.end_is, c.put_helpers-b.ensures.end_is, c.put_bytes-c.ensures.end_is, import_room _ c.sum_in.ensures c.front.ensures _ c.requires)
+put_quoted-d-requires c = omega (arith, c.put_bytes-a.ensures.end_is, c.put_helpers-b.ensures.end_is, c.put_bytes-c.ensures.end_is, import_room _ c.sum_in.ensures c.first_front.ensures _ c.requires)
 
 pub put_bytes-requires : goal.put_bytes-requires
-put_bytes-requires c = omega (arith, c.put_bytes-a.ensures.end_is, c.put_helpers-b.ensures.end_is, c.put_bytes-c.ensures.end_is, c.put_quoted-d.ensures.end_is, import_room _ c.sum_in.ensures c.front.ensures _ c.requires)
+put_bytes-requires c = omega (arith, c.put_bytes-a.ensures.end_is, c.put_helpers-b.ensures.end_is, c.put_bytes-c.ensures.end_is, c.put_quoted-d.ensures.end_is, import_room _ c.sum_in.ensures c.first_front.ensures _ c.requires)
 
 pub returns : goal.returns
-returns c = wrote_is (import_is _ c.sum_in.ensures c.front.ensures) (wrote_then c.put_bytes-a.ensures (wrote_then c.put_helpers-b.ensures (wrote_then c.put_bytes-c.ensures (wrote_then c.put_quoted-d.ensures c.put_bytes.ensures))))
+returns c = wrote_is (import_is _ c.sum_in.ensures c.first_front.ensures) (wrote_then c.put_bytes-a.ensures (wrote_then c.put_helpers-b.ensures (wrote_then c.put_bytes-c.ensures (wrote_then c.put_quoted-d.ensures c.put_bytes.ensures))))

@@ -8,4 +8,4 @@ pub put_byte-e-requires : goal.put_byte-e-requires
 put_byte-e-requires c = omega (arith, c.put_head-a.ensures.end_is, length_head 0x72 1, c.requires)
 
 pub returns : goal.returns
-returns c = held_boolean _ c.put_head-a.ensures c.put_byte-e.ensures
+returns c = held_boolean _ c.put_head-a.ensures (rw c.from.ensures at c.put_byte-e.ensures)

@@ -1,8 +1,7 @@
 -- `read_tag::known::put_trimmed` meets its contract. Assumes nothing.
-use native.Mathlib.Omega.{arith}
 use mathlib.Core.Path.{sym, ◌∙◌}
 use Rattle.read_tag.specs.Knowns.{Holds}
-use Rattle.read_tag.proofs.ChoiceLaws.{trimmed_true, trimmed_false, trimmed_null, trimmed_string, trimmed_unquoted, string_long}
+use Rattle.read_tag.proofs.ChoiceLaws.{trimmed_true, trimmed_false, trimmed_null, trimmed_string, trimmed_unquoted}
 use Rattle.read_tag.proofs.known.put_trimmed.Goals as goal
 
 pub returns-then-same_bytes : goal.returns-then-same_bytes
@@ -17,18 +16,9 @@ pub returns-then-same_bytes-3 : goal.returns-then-same_bytes-3
 unfolding Holds
 returns-then-same_bytes-3 c = trimmed_null _ _ _ _ _ (sym c.same_bytes.ensures ∙ c.if-same_bytes.false) (sym c.same_bytes-2.ensures ∙ c.if-same_bytes-2.false) (sym c.same_bytes-3.ensures ∙ c.if-same_bytes-3.true) c.put_null.ensures
 
-pub overflow_sub-s : goal.overflow_sub-s
-overflow_sub-s c = omega (arith, string_long _ _ c.is_string.ensures c.if-is_string.true)
-
-pub slice_bounds-put_quoted-count : goal.slice_bounds-put_quoted-count
-slice_bounds-put_quoted-count c = omega (arith, string_long _ _ c.is_string.ensures c.if-is_string.true)
-
-pub slice_bounds-put_quoted-start : goal.slice_bounds-put_quoted-start
-slice_bounds-put_quoted-start c = omega (arith, string_long _ _ c.is_string.ensures c.if-is_string.true)
-
-pub returns-then-is_string : goal.returns-then-is_string
+pub returns-in-Some : goal.returns-in-Some
 unfolding Holds
-returns-then-is_string c = trimmed_string _ _ _ _ _ (sym c.same_bytes.ensures ∙ c.if-same_bytes.false) (sym c.same_bytes-2.ensures ∙ c.if-same_bytes-2.false) (sym c.same_bytes-3.ensures ∙ c.if-same_bytes-3.false) _ c.is_string.ensures c.if-is_string.true c.put_quoted.ensures
+returns-in-Some c = trimmed_string _ _ _ _ _ (sym c.same_bytes.ensures ∙ c.if-same_bytes.false) (sym c.same_bytes-2.ensures ∙ c.if-same_bytes-2.false) (sym c.same_bytes-3.ensures ∙ c.if-same_bytes-3.false) c.in-Some.ensures.found c.put_quoted.ensures
 
 pub returns : goal.returns
-returns c = trimmed_unquoted _ _ _ _ _ (sym c.same_bytes.ensures ∙ c.if-same_bytes.false) (sym c.same_bytes-2.ensures ∙ c.if-same_bytes-2.false) (sym c.same_bytes-3.ensures ∙ c.if-same_bytes-3.false) _ c.is_string.ensures c.if-is_string.false c.put_unquoted.ensures
+returns c = trimmed_unquoted _ _ _ _ _ (sym c.same_bytes.ensures ∙ c.if-same_bytes.false) (sym c.same_bytes-2.ensures ∙ c.if-same_bytes-2.false) (sym c.same_bytes-3.ensures ∙ c.if-same_bytes-3.false) c.in_default.ensures.found c.put_unquoted.ensures

@@ -1,5 +1,5 @@
 use Rattle.read_tag.proofs.DigitLaws.{Counting}
 use Rattle.read_tag.proofs.known.read_digits.Given as goal
 
-abbrev pub invariant-loop-i : goal.invariant-loop-i
-invariant-loop-i l = Counting l.s l.k l.n l.i l.v
+abbrev pub invariant-loop-count : goal.invariant-loop-count
+invariant-loop-count l = Counting l.s l.n l.count l.value

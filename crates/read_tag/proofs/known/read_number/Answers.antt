@@ -1,24 +1,23 @@
 -- `read_tag::known::read_number` meets its contract. Assumes nothing.
-use Rattle.read_tag.proofs.DigitLaws.{number_none, number_zero, number_whole, number_other, number_no_places, number_broken, number_decimal}
+use native.Mathlib.Omega.{arith}
+use Rattle.std.proofs.lemmas.List.{take_rest}
+use Rattle.read_tag.proofs.DigitLaws.{number_none, number_zero, number_whole, number_other, number_broken, number_decimal}
 use Rattle.read_tag.proofs.known.read_number.Goals as goal
 
-pub returns-then-p-eq0 : goal.returns-then-p-eq0
-returns-then-p-eq0 c = number_none _ _ c.read_digits-a.ensures c.if-p-eq0.true
+pub returns-then-whole-eq0 : goal.returns-then-whole-eq0
+returns-then-whole-eq0 c = number_none _ _ c.read_digits-whole.ensures c.if-whole-eq0.true
 
-pub returns-then-s-p : goal.returns-then-s-p
-returns-then-s-p c = number_zero _ _ c.read_digits-a.ensures c.if-s-p.true
+pub returns-then-s-whole : goal.returns-then-s-whole
+returns-then-s-whole c = number_zero _ _ c.read_digits-whole.ensures c.if-s-whole.true
 
-pub returns-then-s-p-2 : goal.returns-then-s-p-2
-returns-then-s-p-2 c = number_whole _ _ c.read_digits-a.ensures c.if-p-eq0.false c.if-s-p.false c.if-s-p-2.true
+pub returns-in-empty : goal.returns-in-empty
+returns-in-empty c = number_whole _ _ c.read_digits-whole.ensures c.if-whole-eq0.false c.if-s-whole.false _ (take_rest c.args.s.now _) c.in-empty.len_below
 
-pub returns-then-s-p-ne46 : goal.returns-then-s-p-ne46
-returns-then-s-p-ne46 c = number_other _ _ c.read_digits-a.ensures c.if-p-eq0.false c.if-s-p.false c.if-s-p-2.false c.if-s-p-ne46.true
+pub returns-in_default : goal.returns-in_default
+returns-in_default c = number_other _ _ c.read_digits-whole.ensures c.if-whole-eq0.false c.if-s-whole.false _ (take_rest c.args.s.now _) c.in_default.len_at_least (λ e. omega arith)
 
-pub returns-then-e-p : goal.returns-then-e-p
-returns-then-e-p c = number_no_places _ _ c.read_digits-a.ensures c.if-p-eq0.false c.if-s-p.false c.if-s-p-2.false c.if-s-p-ne46.false _ c.read_digits-b.ensures c.if-e-p.true
+pub returns-then-all-places : goal.returns-then-all-places
+returns-then-all-places c = number_broken _ _ c.read_digits-whole.ensures c.if-whole-eq0.false c.if-s-whole.false _ (take_rest c.args.s.now _) c.in-46.len_at_least (omega arith) _ (take_rest _ 1) _ c.read_digits-all.ensures c.if-all-places.true
 
-pub returns-then-e-s : goal.returns-then-e-s
-returns-then-e-s c = number_broken _ _ c.read_digits-a.ensures c.if-p-eq0.false c.if-s-p.false c.if-s-p-2.false c.if-s-p-ne46.false _ c.read_digits-b.ensures c.if-e-s.true
-
-pub returns : goal.returns
-returns c = number_decimal _ _ c.read_digits-a.ensures c.if-p-eq0.false c.if-s-p.false c.if-s-p-2.false c.if-s-p-ne46.false _ c.read_digits-b.ensures c.if-e-p.false c.if-e-s.false
+pub returns-else-all-places : goal.returns-else-all-places
+returns-else-all-places c = number_decimal _ _ c.read_digits-whole.ensures c.if-whole-eq0.false c.if-s-whole.false _ (take_rest c.args.s.now _) c.in-46.len_at_least (omega arith) _ (take_rest _ 1) _ c.read_digits-all.ensures c.if-all-places.false

@@ -9,11 +9,11 @@ use Rattle.read_tag.proofs.NameFieldLaws.{name_many}
 use Rattle.read_tag.proofs.name.put_name.Goals as goal
 
 pub put_field-requires : goal.put_field-requires
-put_field-requires c = let pre = c.requires in omega (arith, ident_room _ _ _ _ _ pre.0 pre.2 pre.3 c.trim_end-e.ensures)
+put_field-requires c = let pre = c.requires in omega (arith, ident_room _ _ _ _ _ pre.0 pre.2 pre.3 c.trim_end.ensures.within)
 
 pub returns-then-tag-eq64 : goal.returns-then-tag-eq64
 unfolding NamePut
-returns-then-tag-eq64 c n u f g = let pre = c.requires in wrote_is (ident_name _ _ _ _ _ n pre.1 pre.2 u f g c.if-tag-eq64.true c.trim_end-e.ensures) c.put_field.ensures
+returns-then-tag-eq64 c n u f g = let pre = c.requires in wrote_is (ident_name _ _ _ _ _ n pre.1 pre.2 u f g c.if-tag-eq64.true c.trim_end.ensures.value) c.put_field.ensures
 
 pub put_parts-o-requires : goal.put_parts-o-requires
 put_parts-o-requires c = let pre = c.requires in (pre.0, omega (arith, pre.3, name_inside _ _ pre.0))

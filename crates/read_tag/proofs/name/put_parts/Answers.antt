@@ -1,25 +1,25 @@
 -- `read_tag::name::put_parts` meets its contract. Assumes nothing.
 use native.Mathlib.Omega.{arith}
 use mathlib.Core.Path.{◌∙◌}
-use Rattle.field.proofs.PutLaws.{wrote_length}
-use Rattle.read_tag.proofs.NameLaws.{part_after, next_after}
-use Rattle.read_tag.proofs.NameWalkLaws.{putting_first, part_room, putting_more, parts_put}
+use Rattle.read_tag.proofs.NameLaws.{parts_start, step_in}
+use Rattle.read_tag.proofs.NameWalkLaws.{PuttingOn, putting_first, parts_out, part_room, putting_step}
 use Rattle.read_tag.proofs.name.put_parts.Goals as goal
 
-pub loop-i-init : goal.loop-i-init
-loop-i-init c = putting_first _ _ _ _ c.requires.0
+pub loop-part-init : goal.loop-part-init
+loop-part-init c = parts_start _ (λ k. PuttingOn c.args.text.now c.args.i c.args.out.now c.args.at k c.args.out.now c.args.at) c.into_iter-part-iterator.ensures.into_iter_gives c.parts_at-part-items.ensures (putting_first _ _ _ _ c.requires.0)
 
 pub put_field-o-requires : goal.put_field-o-requires
-put_field-o-requires c = let pre = c.requires in omega (arith, pre.1, c.part_at-p.ensures.ran.inside, part_room _ _ _ _ pre.0 _ _ _ _ c.loop-i.invariant c.part_at-p.ensures)
+put_field-o-requires c =
+    let u = c.loop-part.invariant in
+    let h = part_room _ _ _ _ c.requires.0 _ _ _ _ _ u.1 (step_in _ _ _ _ u.0 c.in-Some.ensures.steps.1) in
+    omega (arith, h, c.requires.1)
 
-pub shape_of-out-then-d-eq0 : goal.shape_of-out-then-d-eq0
-shape_of-out-then-d-eq0 c = wrote_length c.put_field-o.ensures ∙ c.loop-i.invariant.kept
+pub loop-part-preserved : goal.loop-part-preserved
+loop-part-preserved c =
+    let u = c.loop-part.invariant in
+    (c.in-Some.ensures.steps.0 ∙ u.0, putting_step _ _ _ _ c.requires.0 _ c.put_field-o.ensures _ _ u.1 (step_in _ _ _ _ u.0 c.in-Some.ensures.steps.1))
 
-pub returns-then-d-eq0 : goal.returns-then-d-eq0
-returns-then-d-eq0 c = parts_put _ _ _ _ c.requires.0 _ _ _ _ _ _ c.loop-i.invariant c.part_at-p.ensures c.put_field-o.ensures c.if-d-eq0.true
-
-pub loop-i-smaller : goal.loop-i-smaller
-loop-i-smaller c = omega (arith, c.loop-i.invariant.inside, part_after _ _ _ c.loop-i.invariant.inside c.part_at-p.ensures, next_after _ _ _ c.loop-i.invariant.inside c.part_at-p.ensures c.if-d-eq0.false)
-
-pub loop-i-preserved : goal.loop-i-preserved
-loop-i-preserved c = putting_more _ _ _ _ c.requires.0 _ _ _ _ _ _ c.loop-i.invariant c.part_at-p.ensures c.put_field-o.ensures c.if-d-eq0.false
+pub returns : goal.returns
+returns c =
+    let u = c.loop-part.invariant in
+    parts_out _ _ _ _ c.requires.0 _ _ _ _ u.1 (step_in _ _ _ _ u.0 c.in-None.ensures.steps.1)

@@ -1,25 +1,40 @@
 -- `read_tag::name::same_names` meets its contract. Assumes nothing.
-use native.Mathlib.Omega.{arith}
-use Rattle.read_tag.proofs.NameLaws.{part_after, next_after}
-use Rattle.read_tag.proofs.NameWalkLaws.{comparing_first, comparing_more, words_differ, signs_differ, names_same}
-use mathlib.Core.Bool.{not}
-use mathlib.Core.Path.{ap}
+use mathlib.Core.Path.{◌∙◌, sym, subst}
+use Rattle.std.specs.Prelude.{Some}
+use Rattle.read_tag.proofs.NameLaws.{parts_start, step_in}
+use Rattle.read_tag.proofs.NameWalkLaws.{ComparingOn, comparing_first, names_out, names_both, words_differ, signs_differ, comparing_step}
 use Rattle.read_tag.proofs.name.same_names.Goals as goal
 
-pub loop-p-init : goal.loop-p-init
-loop-p-init c = comparing_first _ _ _ c.requires.0 c.requires.1
+pub loop-part-init : goal.loop-part-init
+loop-part-init c =
+    let o = c.parts_at-others.ensures in
+    let u = parts_start _ (λ k. ComparingOn c.args.text.now c.args.i c.args.j k (Some c.args.j)) c.into_iter-part-iterator.ensures.into_iter_gives c.parts_at-part-items.ensures (comparing_first _ _ _ c.requires.0 c.requires.1) in
+    (u.0, o.0, subst (ComparingOn c.args.text.now c.args.i c.args.j c.into_iter-part-iterator.result.at) (sym o.1) u.1)
+
+pub returns-in_default : goal.returns-in_default
+returns-in_default c =
+    let u = c.loop-part.invariant in
+    absurd (names_both _ _ _ c.requires.0 c.requires.1 _ _ _ _ _ u.2 (step_in _ _ _ _ u.0 c.in-Some.ensures.steps.1) (step_in _ _ _ _ u.1 c.in_default.ensures.steps.1))
 
 pub returns-then-not-same_bytes : goal.returns-then-not-same_bytes
-returns-then-not-same_bytes c = let pre = c.requires in words_differ _ _ _ pre.0 pre.1 _ _ _ _ c.loop-p.invariant c.part_at-p.ensures c.part_at-q.ensures _ c.same_bytes.ensures (ap not c.if-not-same_bytes.true)
+returns-then-not-same_bytes c =
+    let u = c.loop-part.invariant in
+    words_differ _ _ _ c.requires.0 c.requires.1 _ _ _ _ _ c.same_bytes.ensures _ _ u.2 (step_in _ _ _ _ u.0 c.in-Some.ensures.steps.1) (step_in _ _ _ _ u.1 c.in-Some-next.ensures.steps.1) c.if-not-same_bytes.true
 
-pub returns-then-q-d : goal.returns-then-q-d
-returns-then-q-d c = let pre = c.requires in signs_differ _ _ _ pre.0 pre.1 _ _ _ _ c.loop-p.invariant c.part_at-p.ensures c.part_at-q.ensures _ c.same_bytes.ensures (ap not c.if-not-same_bytes.false) c.if-q-d.true
+pub returns-then-ne : goal.returns-then-ne
+returns-then-ne c =
+    let u = c.loop-part.invariant in
+    signs_differ _ _ _ c.requires.0 c.requires.1 _ _ _ _ _ c.same_bytes.ensures c.if-not-same_bytes.false _ c.ne.ensures _ _ u.2 (step_in _ _ _ _ u.0 c.in-Some.ensures.steps.1) (step_in _ _ _ _ u.1 c.in-Some-next.ensures.steps.1) c.if-ne.true
 
-pub returns-then-d-eq0 : goal.returns-then-d-eq0
-returns-then-d-eq0 c = let pre = c.requires in names_same _ _ _ pre.0 pre.1 _ _ _ _ c.loop-p.invariant c.part_at-p.ensures c.part_at-q.ensures _ c.same_bytes.ensures (ap not c.if-not-same_bytes.false) c.if-q-d.false c.if-d-eq0.true
+pub loop-part-preserved : goal.loop-part-preserved
+loop-part-preserved c =
+    let u = c.loop-part.invariant in (
+      c.in-Some.ensures.steps.0 ∙ u.0,
+      c.in-Some-next.ensures.steps.0 ∙ u.1,
+      comparing_step _ _ _ c.requires.0 c.requires.1 _ _ _ _ _ c.same_bytes.ensures c.if-not-same_bytes.false _ c.ne.ensures _ _ u.2 (step_in _ _ _ _ u.0 c.in-Some.ensures.steps.1) (step_in _ _ _ _ u.1 c.in-Some-next.ensures.steps.1) c.if-ne.false,
+    )
 
-pub loop-p-smaller : goal.loop-p-smaller
-loop-p-smaller c = omega (arith, c.loop-p.invariant.inside_a, part_after _ _ _ c.loop-p.invariant.inside_a c.part_at-p.ensures, next_after _ _ _ c.loop-p.invariant.inside_a c.part_at-p.ensures c.if-d-eq0.false)
-
-pub loop-p-preserved : goal.loop-p-preserved
-loop-p-preserved c = let pre = c.requires in comparing_more _ _ _ pre.0 pre.1 _ _ _ _ c.loop-p.invariant c.part_at-p.ensures c.part_at-q.ensures _ c.same_bytes.ensures (ap not c.if-not-same_bytes.false) c.if-q-d.false c.if-d-eq0.false
+pub returns : goal.returns
+returns c =
+    let u = c.loop-part.invariant in
+    names_out _ _ _ c.requires.0 c.requires.1 _ _ _ u.2 (step_in _ _ _ _ u.0 c.in-None.ensures.steps.1)

@@ -1,10 +1,6 @@
-use Prim.Native.Nat.{◌-◌}
-use lib.ListN.{length}
-use Rattle.read_tag.proofs.NameWalkLaws.{Comparing}
+use mathlib.Core.Path.{◌≡◌}
+use Rattle.read_tag.proofs.NameWalkLaws.{ComparingOn}
 use Rattle.read_tag.proofs.name.same_names.Given as goal
 
-abbrev pub invariant-loop-p : goal.invariant-loop-p
-invariant-loop-p l = Comparing l.text l.i l.j l.a l.b
-
-abbrev pub decreases-loop-p : goal.decreases-loop-p
-decreases-loop-p l = length l.text - l.a
+abbrev pub invariant-loop-part : goal.invariant-loop-part
+invariant-loop-part l = (l.part-iterator.text.now ≡ l.text) × (l.others.text.now ≡ l.text) × ComparingOn l.text l.i l.j l.part-iterator.at l.others.at

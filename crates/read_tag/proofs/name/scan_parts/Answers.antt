@@ -1,30 +1,45 @@
 -- `read_tag::name::scan_parts` meets its contract. Assumes nothing.
 use native.Mathlib.Omega.{arith}
-use Rattle.read_tag.proofs.NameLaws.{naming_first, naming_next, name_found, name_misfit, name_cut, name_broken, part_after, next_after}
-use mathlib.Core.Bool.{not}
-use mathlib.Core.Path.{ap}
+use mathlib.Core.Bool.{true, not}
+use mathlib.Core.Path.{◌∙◌, ap}
+use Rattle.grammar.specs.Syntax.{no_hyphen}
+use Rattle.read_tag.proofs.RunLaws.{any_some}
+use Rattle.read_tag.proofs.NameLaws.{NamingOn, parts_start, step_in, naming_first, naming_room, naming_step, naming_misfit, naming_found, naming_broken, naming_out}
 use Rattle.read_tag.proofs.name.scan_parts.Goals as goal
 
-pub loop-i-init : goal.loop-i-init
-loop-i-init c = naming_first _ _ c.requires.0 c.requires.1
-
-pub returns-in_err-tag : goal.returns-in_err-tag
-returns-in_err-tag c = rw c.from_residual.ensures (name_misfit _ _ _ _ _ _ _ _ _ c.loop-i.invariant c.part_at-p.ensures c.is_hyphen_free-plain.ensures c.if-d-eq0.true _ c.shape_of.ensures c.in_err-tag.was)
-
-pub returns-then-d-eq0 : goal.returns-then-d-eq0
-returns-then-d-eq0 c = name_found _ _ _ _ _ _ _ _ _ c.loop-i.invariant c.part_at-p.ensures c.is_hyphen_free-plain.ensures c.if-d-eq0.true _ c.shape_of.ensures c.in_ok-tag.was
-
-pub returns-then-text-n : goal.returns-then-text-n
-returns-then-text-n c = name_cut _ _ _ _ _ _ _ _ _ c.loop-i.invariant c.part_at-p.ensures c.is_hyphen_free-plain.ensures c.if-d-eq0.false c.if-text-n.true
-
-pub returns-then-not-is_letter : goal.returns-then-not-is_letter
-returns-then-not-is_letter c = name_broken _ _ _ _ _ _ _ _ _ c.loop-i.invariant c.part_at-p.ensures c.is_hyphen_free-plain.ensures c.if-d-eq0.false _ c.if-text-n.false c.is_letter.ensures (ap not c.if-not-is_letter.true)
+pub loop-part-init : goal.loop-part-init
+loop-part-init c = parts_start _ (λ k. NamingOn c.args.text.now c.args.i k 0 true true true) c.into_iter-part-iterator.ensures.into_iter_gives c.parts_at-part-items.ensures (naming_first _ _ c.requires.0 c.requires.1)
 
 pub overflow_add-parts : goal.overflow_add-parts
-overflow_add-parts c = omega (arith, c.loop-i.invariant.few, c.loop-i.invariant.inside)
+overflow_add-parts c =
+    let u = c.loop-part.invariant in
+    let h = naming_room _ _ _ _ _ _ _ _ _ u.1 (step_in _ _ _ _ u.0 c.in-Some.ensures.steps.1) in
+    omega (arith, h.0)
 
-pub loop-i-smaller : goal.loop-i-smaller
-loop-i-smaller c = omega (arith, c.loop-i.invariant.inside, c.if-text-n.false, part_after _ _ _ c.loop-i.invariant.inside c.part_at-p.ensures, next_after _ _ _ c.loop-i.invariant.inside c.part_at-p.ensures c.if-d-eq0.false)
+pub returns-then-not-is_letter : goal.returns-then-not-is_letter
+returns-then-not-is_letter c =
+    let u = c.loop-part.invariant in
+    naming_broken _ _ _ _ _ _ _ _ _ c.is_letter.ensures _ u.1 (step_in _ _ _ _ u.0 c.in-Some.ensures.steps.1) (ap not c.if-not-is_letter.true)
 
-pub loop-i-preserved : goal.loop-i-preserved
-loop-i-preserved c = naming_next _ _ _ _ _ _ _ _ _ c.loop-i.invariant c.part_at-p.ensures c.is_hyphen_free-plain.ensures c.if-d-eq0.false _ c.if-text-n.false c.is_letter.ensures (ap not c.if-not-is_letter.false)
+pub returns-in_err-tag : goal.returns-in_err-tag
+unfolding no_hyphen
+returns-in_err-tag c =
+    let u = c.loop-part.invariant in
+    rw c.from_residual.ensures (naming_misfit _ _ _ _ _ _ _ _ _ c.is_letter.ensures (ap not c.if-not-is_letter.false) _ (ap not (c.contains.ensures.value ∙ any_some _ _)) _ u.1 (step_in _ _ _ _ u.0 c.in-Some.ensures.steps.1) c.in_default.is _ c.shape_of.ensures c.in_err-tag.was)
+
+pub returns-in_default : goal.returns-in_default
+unfolding no_hyphen
+returns-in_default c =
+    let u = c.loop-part.invariant in
+    naming_found _ _ _ _ _ _ _ _ _ c.is_letter.ensures (ap not c.if-not-is_letter.false) _ (ap not (c.contains.ensures.value ∙ any_some _ _)) _ u.1 (step_in _ _ _ _ u.0 c.in-Some.ensures.steps.1) c.in_default.is _ c.shape_of.ensures c.in_ok-tag.was
+
+pub loop-part-preserved : goal.loop-part-preserved
+unfolding no_hyphen
+loop-part-preserved c =
+    let u = c.loop-part.invariant in
+    (c.in-Some.ensures.steps.0 ∙ u.0, naming_step _ _ _ _ _ _ _ _ _ c.is_letter.ensures (ap not c.if-not-is_letter.false) _ (ap not (c.contains.ensures.value ∙ any_some _ _)) _ u.1 (step_in _ _ _ _ u.0 c.in-Some.ensures.steps.1) _ c.in-Some-sign.is)
+
+pub returns : goal.returns
+returns c =
+    let u = c.loop-part.invariant in
+    naming_out _ _ _ _ _ _ _ _ u.1 (step_in _ _ _ _ u.0 c.in-None.ensures.steps.1)

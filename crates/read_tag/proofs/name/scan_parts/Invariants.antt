@@ -1,10 +1,6 @@
-use Prim.Native.Nat.{◌-◌}
-use lib.ListN.{length}
-use Rattle.read_tag.proofs.NameLaws.{Naming}
+use mathlib.Core.Path.{◌≡◌}
+use Rattle.read_tag.proofs.NameLaws.{NamingOn}
 use Rattle.read_tag.proofs.name.scan_parts.Given as goal
 
-abbrev pub invariant-loop-i : goal.invariant-loop-i
-invariant-loop-i l = Naming l.text l.i l.k l.parts l.short l.plain l.points
-
-abbrev pub decreases-loop-i : goal.decreases-loop-i
-decreases-loop-i l = length l.text - l.k
+abbrev pub invariant-loop-part : goal.invariant-loop-part
+invariant-loop-part l = (l.part-iterator.text.now ≡ l.text) × NamingOn l.text l.i l.part-iterator.at l.parts l.short l.plain l.points

@@ -4,6 +4,7 @@ use borrow.Author.Rules.{rules}
 use Rattle.field.proofs.PutLaws.{wrote_length}
 use Rattle.read_tag.proofs.TextLaws.{decoding_none, decoding_plain, entity_further, decoding_entity, decoding_barred, decoding_ends, decoding_out}
 use Rattle.read_tag.proofs.texts.decode.Goals as goal
+use Rattle.read_tag.proofs.texts.decode.Goals.{then-text-e-via-then-text-e, then-text-e-via-else-text-e+then-text-e-ne38}
 
 pub loop-x-init : goal.loop-x-init
 loop-x-init c = decoding_none _ _ _ _ _ (search rules)
@@ -27,13 +28,12 @@ pub shape_of-out-then-text-e : goal.shape_of-out-then-text-e
 shape_of-out-then-text-e c = wrote_length (decoding_plain _ _ _ _ _ c.loop-x.invariant c.plain_end-e.ensures c.put_bytes-b.ensures).wrote
 
 pub returns-then-text-e : goal.returns-then-text-e
-returns-then-text-e c = decoding_out _ _ _ _ _ (decoding_plain _ _ _ _ _ c.loop-x.invariant c.plain_end-e.ensures c.put_bytes-b.ensures) c.if-text-e.true
-
-pub shape_of-out-then-text-e-ne38 : goal.shape_of-out-then-text-e-ne38
-shape_of-out-then-text-e-ne38 c = wrote_length (decoding_plain _ _ _ _ _ c.loop-x.invariant c.plain_end-e.ensures c.put_bytes-b.ensures).wrote
-
-pub returns-then-text-e-ne38 : goal.returns-then-text-e-ne38
-returns-then-text-e-ne38 c = decoding_ends _ _ _ _ _ (decoding_plain _ _ _ _ _ c.loop-x.invariant c.plain_end-e.ensures c.put_bytes-b.ensures) c.plain_end-e.ensures c.if-text-e.false c.if-text-e-ne38.true
+returns-then-text-e c =
+    let u = decoding_plain _ _ _ _ _ c.loop-x.invariant c.plain_end-e.ensures c.put_bytes-b.ensures in
+    elim c.then-text-e.branch [
+      | then-text-e-via-then-text-e w ↦ decoding_out _ _ _ _ _ u w.if-text-e.true
+      | then-text-e-via-else-text-e+then-text-e-ne38 w ↦ decoding_ends _ _ _ _ _ u c.plain_end-e.ensures w.if-text-e.false w.if-text-e-ne38.true
+    ]
 
 pub read_entity-requires : goal.read_entity-requires
 read_entity-requires c = omega (arith, c.if-text-e.false)

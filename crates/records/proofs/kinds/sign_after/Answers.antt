@@ -1,13 +1,11 @@
 -- `sign_after` meets its contract: no sign stands from i on. Assumes nothing.
-use mathlib.Core.Path.{◌≡◌, sym, ap, ◌∙◌, subst}
+use mathlib.Core.Path.{◌≡◌, sym, ap, ◌∙◌}
 use Prim.Native.Nat.{ℕ, ◌+◌, ◌-◌}
 use native.Mathlib.Omega.{arith}
 use native.Mathlib.Nat.{le_refl}
-use lib.Dec.{T}
 use lib.ListN.{length, take, drop, length-drop}
 use lib.Seq.{take_all}
 use Rattle.field.specs.Bytes.{Bytes}
-use Rattle.spec.specs.Words.{free}
 use Rattle.records.specs.Kinds.{sign_of, sign_after}
 use Rattle.records.proofs.KindLaws.{at_close, at_open, more_free, free_end}
 use Rattle.records.proofs.kinds.sign_after.Goals as goal
@@ -26,16 +24,9 @@ loop-i-preserved-then-s-i-gt62 c = let a = c.args in (omega arith, more_free (si
 pub returns-then-s-i-eq62 : goal.returns-then-s-i-eq62
 returns-then-s-i-eq62 c = let a = c.args in at_close (sign_of a.q) a.s.now c.loop-i.i (c.loop-i.i - 1) (omega arith) c.loop-i.invariant.0 c.loop-i.invariant.1 c.if-s-i-eq62.true
 
-pub behind_sign-requires : goal.behind_sign-requires
-behind_sign-requires c = let s = c.args.s.now in let e : c.loop-i.i ≡ c.loop-i.i - 1 + 1 = omega arith in
-    subst (λ (x : Bytes). T (free x)) (ap (λ (x : ℕ). drop x s) e ∙ sym (behind_it s (c.loop-i.i - 1 + 1))) c.loop-i.invariant.1
-
 pub returns-then-s-i-eq60 : goal.returns-then-s-i-eq60
 returns-then-s-i-eq60 c = let a = c.args in let s = a.s.now in let e : c.loop-i.i ≡ c.loop-i.i - 1 + 1 = omega arith in
     at_open (sign_of a.q) s c.loop-i.i (c.loop-i.i - 1) (omega arith) c.loop-i.invariant.0 c.loop-i.invariant.1 c.if-s-i-eq60.true (c.behind_sign.ensures ∙ ap (sign_after 2) (behind_it s (c.loop-i.i - 1 + 1) ∙ ap (λ (x : ℕ). drop x s) (sym e)))
 
 pub loop-i-preserved : goal.loop-i-preserved
 loop-i-preserved c = let a = c.args in (omega arith, more_free (sign_of a.q) a.s.now c.loop-i.i (c.loop-i.i - 1) (omega arith) c.loop-i.invariant.0 c.loop-i.invariant.1 c.if-s-i-eq62.false c.if-s-i-eq60.false)
-
-pub behind_sign-requires-2 : goal.behind_sign-requires-2
-behind_sign-requires-2 c = let e : c.loop-i.i ≡ 0 = omega arith in subst (λ (x : ℕ). T (free (drop x c.args.s.now))) e c.loop-i.invariant.1

@@ -21,14 +21,5 @@ one_more {o₁} o at s i h k e =
 pub loop-i-init : goal.loop-i-init
 loop-i-init c = (search rules, sym (put_nil _ _))
 
-pub bounds-out-at : goal.bounds-out-at
-bounds-out-at c = let e = ap length c.loop-i.invariant.1 ∙ length_put _ _ _ in omega (arith, e)
-
 pub loop-i-preserved : goal.loop-i-preserved
 loop-i-preserved c = let a = c.args in (search rules, one_more a.out.now a.at a.s.now c.loop-i.i (search rules) ((let e = ap length c.loop-i.invariant.1 ∙ length_put _ _ _ in omega (arith, e))) c.loop-i.invariant.1)
-
-pub shape_of-out : goal.shape_of-out
-shape_of-out c = ap length c.loop-i.invariant.1 ∙ length_put _ _ _
-
-pub returns : goal.returns
-returns c = let e : c.loop-i.i ≡ 16 = search rules in rw e at c.loop-i.invariant.1

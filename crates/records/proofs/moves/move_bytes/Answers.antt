@@ -1,10 +1,7 @@
 -- `move_bytes` meets its contract: the bytes from i on are moved already, and those in front of them stand as they did. Assumes nothing.
 use Prim.Native.Nat.{◌-◌}
-use mathlib.Core.Path.{◌≡◌, ap, ◌∙◌}
 use native.Mathlib.Omega.{arith}
 use native.Mathlib.Nat.{le_refl}
-use lib.ListN.{length}
-use Rattle.field.proofs.PutLaws.{length_put}
 use borrow.Author.Rules.{rules}
 use Rattle.records.proofs.MoveLaws.{move_none, move_one}
 use Rattle.records.proofs.moves.move_bytes.Goals as goal
@@ -12,18 +9,5 @@ use Rattle.records.proofs.moves.move_bytes.Goals as goal
 pub loop-i-init : goal.loop-i-init
 loop-i-init c = (search rules, (le_refl _, move_none _ _ _))
 
-pub bounds-out-i : goal.bounds-out-i
-bounds-out-i c = let l = ap length c.loop-i.invariant.1.1 ∙ length_put _ _ _ in omega (arith, l)
-
-pub bounds-out-i-in-loop-i : goal.bounds-out-i-in-loop-i
-bounds-out-i-in-loop-i c = let l = ap length c.loop-i.invariant.1.1 ∙ length_put _ _ _ in omega (arith, l)
-
 pub loop-i-preserved : goal.loop-i-preserved
 loop-i-preserved c = let a = c.args in (omega arith, (omega arith, move_one a.out.now c.loop-i.i (c.loop-i.i - 1) a.end a.n (omega arith) c.loop-i.invariant.1.0 c.requires.1 c.loop-i.invariant.1.1))
-
-pub shape_of-out : goal.shape_of-out
-shape_of-out c = ap length c.loop-i.invariant.1.1 ∙ length_put _ _ _
-
-pub returns : goal.returns
-returns c = let e : c.loop-i.i ≡ c.args.p = search rules in
-    rw e at c.loop-i.invariant.1.1

@@ -6,6 +6,3 @@ use Rattle.records.proofs.moves.move_bytes.Given as goal
 
 abbrev pub invariant-loop-i : goal.invariant-loop-i
 invariant-loop-i l = (l.p ≤ l.i) × ((l.i ≤ l.end) × (l.out ≡ put l.initial.out (l.i + l.n) (take (l.end - l.i) (drop l.i l.initial.out))))
-
-abbrev pub decreases-loop-i : goal.decreases-loop-i
-decreases-loop-i l = l.i

@@ -13,8 +13,5 @@ decreases-element_strings l = 8 * length l.b.now + 2
 abbrev pub decreases-tag_strings : goal.decreases-tag_strings
 decreases-tag_strings l = 8 * length l.b.now + 1
 
-abbrev pub invariant-children_strings-loop-r : goal.invariant-children_strings-loop-r
-invariant-children_strings-loop-r l = Left l.skip l.props l.parent l.s (at l.initial.out l.initial.cur) l.t (at l.out l.cur)
-
-abbrev pub decreases-children_strings-loop-r : goal.decreases-children_strings-loop-r
-decreases-children_strings-loop-r l = length l.t
+abbrev pub invariant-children_strings-loop-field : goal.invariant-children_strings-loop-field
+invariant-children_strings-loop-field l = Left l.options.skip.now l.options.props.now l.parent l.s (at l.initial.out l.initial.cur) l.fields.0.now (at l.out l.cur)

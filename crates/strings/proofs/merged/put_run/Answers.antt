@@ -1,17 +1,12 @@
 -- A run that is too long is flagged; any other is text. Assumes nothing.
 use mathlib.Core.Path.{sym, ◌∙◌, subst}
-use native.Mathlib.Omega.{arith}
 use lib.ListN.{take}
-use lib.Seq.{length-take-le}
 use Rattle.strings.specs.Carve.{Low}
 use Rattle.strings.proofs.MergedLaws.{run_long, run_short}
 use Rattle.strings.proofs.merged.put_run.Goals as goal
 
 pub returns-then-n-gt65535 : goal.returns-then-n-gt65535
 returns-then-n-gt65535 c = let a = c.args in run_long a.out.now a.st a.n (take a.n a.scratch.now) c.if-n-gt65535.true c.graver.ensures
-
-pub slice_bounds-put_text-end : goal.slice_bounds-put_text-end
-slice_bounds-put_text-end c = sym (length-take-le c.args.n c.args.scratch.now (omega (arith, c.requires.in_bounds, c.if-n-gt65535.false)))
 
 pub put_text-requires : goal.put_text-requires
 put_text-requires c = let a = c.args in subst Low (run_short a.out.now a.st a.n (take a.n a.scratch.now) c.if-n-gt65535.false) c.requires.low

@@ -1,5 +1,5 @@
 -- Of a refusal the number is printed, of a tag that is read the card of its page.
-use Rattle.std.proofs.Common.{ℕ, ◌≡◌, ◌+◌, ◌∙◌, [], ap, arith, length, subst, take}
+use Rattle.std.proofs.Common.{ℕ, ◌≡◌, ◌∙◌, [], ap, arith, length, subst, take}
 use Rattle.field.specs.Bytes.{Bytes}
 use Rattle.field.proofs.PutLaws.{wrote_is}
 use Rattle.text.specs.Decimal.{decimal}

@@ -1,5 +1,5 @@
 -- A line feed at the very end is dropped.
-use Rattle.std.proofs.Common.{◌∙◌, ap}
+use Rattle.std.proofs.Common.{◌∙◌}
 use Rattle.tag.proofs.TagCardLaws.{end_dropped, other_kept}
 use Rattle.tag.proofs.tag_card.without_end.Goals as goal
 

@@ -1,12 +1,14 @@
 -- `tag_pass::attributes::behind_name` meets its contract. Assumes nothing.
+use native.Mathlib.Omega.{arith}
+use mathlib.Core.Path.{sym, ◌∙◌}
 use Rattle.tag_pass.proofs.AttributeLaws.{named_out, named_equals, named_alone}
 use Rattle.tag_pass.proofs.attributes.behind_name.Goals as goal
 
-pub returns-then-text-e : goal.returns-then-text-e
-returns-then-text-e c = named_out c.if-text-e.true c.refuse.ensures
+pub returns-in_err-get : goal.returns-in_err-get
+returns-in_err-get c = rw c.from_residual.ensures (named_out c.in_err-get.ensures.lookup.3)
 
-pub returns-then-text-e-eq61 : goal.returns-then-text-e-eq61
-returns-then-text-e-eq61 c = named_equals c.if-text-e.false c.if-text-e-eq61.true c.value.ensures
+pub returns-in-61 : goal.returns-in-61
+returns-in-61 c = named_equals c.in_ok-get.ensures.lookup.3.0 (sym (c.in_ok-get.ensures.lookup.3.1 0) ∙ c.in-61.is) c.value.ensures
 
-pub returns : goal.returns
-returns c = named_alone c.if-text-e.false c.if-text-e-eq61.false c.end_attribute.ensures
+pub returns-in_default : goal.returns-in_default
+returns-in_default c = named_alone c.in_ok-get.ensures.lookup.3.0 (λ z. omega (arith, z, c.in_ok-get.ensures.lookup.3.1 0)) c.end_attribute.ensures

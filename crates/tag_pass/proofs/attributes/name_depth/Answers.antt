@@ -8,6 +8,6 @@ pub returns-then-tag-eq64 : goal.returns-then-tag-eq64
 unfolding name_depth choose
 returns-then-tag-eq64 c = rw c.if-tag-eq64.true
 
-pub returns : goal.returns
+pub returns-else-tag-eq64 : goal.returns-else-tag-eq64
 unfolding name_depth choose
-returns c = simp (ne_eqb _ 0x40 c.if-tag-eq64.false)
+returns-else-tag-eq64 c = simp (ne_eqb _ 0x40 c.if-tag-eq64.false)

@@ -5,11 +5,11 @@ use Rattle.tag_pass.specs.declared.state.Reading.{Reading}
 use Rattle.tag_pass.proofs.AttributeLaws.{string_none, string_some, string_small}
 use Rattle.tag_pass.proofs.attributes.string_value.Goals as goal
 
-pub end_attribute-requires : goal.end_attribute-requires
-end_attribute-requires c = omega (arith, c.requires.0.small, c.requires.0.inside, c.requires.0.grown, string_small _ _ _ _ _ _ _ c.read_string.ensures c.in-Some.is, ap (λ (z : Reading). z.at) c.wrote-w.ensures)
+pub returns-in_err-run : goal.returns-in_err-run
+returns-in_err-run c = rw c.from_residual.ensures (string_none c.in_err-run.ensures)
 
-pub returns-in_default : goal.returns-in_default
-returns-in_default c = string_none _ c.read_string.ensures c.in_default.is c.refuse.ensures
+pub end_attribute-requires : goal.end_attribute-requires
+end_attribute-requires c = omega (arith, c.requires.0.small, c.requires.0.inside, c.requires.0.grown, string_small _ _ _ _ _ _ _ c.in_ok-run.ensures, ap (λ (z : Reading). z.at) c.wrote-w.ensures)
 
 pub returns : goal.returns
-returns c = string_some _ c.requires.0.grown c.read_string.ensures c.in-Some.is refl c.wrote-w.ensures c.end_attribute.ensures
+returns c = string_some c.requires.0.grown c.in_ok-run.ensures refl c.wrote-w.ensures c.end_attribute.ensures

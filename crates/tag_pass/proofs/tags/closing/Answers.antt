@@ -1,33 +1,29 @@
 -- `tag_pass::tags::closing` meets its contract. Assumes nothing.
-use mathlib.Core.Path.{sym, ◌∙◌, ap}
-use mathlib.Core.Bool.{not}
 use Rattle.tag_pass.proofs.AttributeLaws.{name_found}
-use Rattle.tag_pass.proofs.TagLaws.{is_letter, closing_out, closing_fragment, closing_barred, closing_none, closing_named_out, closing_named_barred, closing_named}
+use Rattle.tag_pass.proofs.TagLaws.{closing_out, closing_fragment, closing_barred, closing_none, closing_named_out, closing_named_barred, closing_named}
+use mathlib.Core.Path.{sym, ◌∙◌}
 use Rattle.tag_pass.proofs.tags.closing.Goals as goal
 
-pub returns-then-text-j : goal.returns-then-text-j
-returns-then-text-j c = closing_out c.skip_spaces-j.ensures c.if-text-j.true c.refuse.ensures
+pub returns-in_err-sign : goal.returns-in_err-sign
+returns-in_err-sign c = rw c.from_residual.ensures (closing_out c.in_err-sign.ensures)
 
-pub returns-then-c-eq62 : goal.returns-then-c-eq62
-returns-then-c-eq62 c = closing_fragment c.skip_spaces-j.ensures c.if-text-j.false c.if-c-eq62.true c.end_tag.ensures
+pub returns-then-sign-eq62 : goal.returns-then-sign-eq62
+returns-then-sign-eq62 c = closing_fragment c.in_ok-sign.ensures c.if-sign-eq62.true c.is_none.ensures c.end_tag.ensures
 
 pub returns-then-not-is_letter : goal.returns-then-not-is_letter
-returns-then-not-is_letter c = closing_barred c.skip_spaces-j.ensures c.if-text-j.false c.if-c-eq62.false c.is_letter.ensures (ap not c.if-not-is_letter.true) c.refuse-then-not-is_letter.ensures
+returns-then-not-is_letter c = closing_barred c.in_ok-sign.ensures c.if-sign-eq62.false c.if-not-is_letter.ensures
 
-pub scan_name-requires : goal.scan_name-requires
-scan_name-requires c = (c.if-text-j.false, is_letter _ (ap not (sym c.is_letter.ensures) ∙ (ap not c.if-not-is_letter.false)))
+pub returns-in_err-name : goal.returns-in_err-name
+returns-in_err-name c = rw c.from_residual-in_err-name.ensures (closing_none c.in_ok-sign.ensures c.if-not-is_letter.ensures c.in_err-name.ensures)
 
-pub returns-then-text-end : goal.returns-then-text-end
-returns-then-text-end c = closing_named_out _ c.skip_spaces-j.ensures c.if-text-j.false c.is_letter.ensures (ap not c.if-not-is_letter.false) c.scan_name.ensures c.in-Some.is c.if-text-end.true c.refuse-then-text-end.ensures
+pub returns-in_err-get : goal.returns-in_err-get
+returns-in_err-get c = rw c.from_residual-in_err-get.ensures (closing_named_out _ c.in_ok-sign.ensures c.if-not-is_letter.ensures c.in_ok-name.ensures c.in_err-get.ensures.lookup.3)
 
-pub returns-then-text-end-ne62 : goal.returns-then-text-end-ne62
-returns-then-text-end-ne62 c = closing_named_barred _ c.skip_spaces-j.ensures c.if-text-j.false c.is_letter.ensures (ap not c.if-not-is_letter.false) c.scan_name.ensures c.in-Some.is c.if-text-end.false c.if-text-end-ne62.true c.refuse-then-text-end-ne62.ensures
+pub returns-then-branch-ne62 : goal.returns-then-branch-ne62
+returns-then-branch-ne62 c = closing_named_barred _ c.in_ok-sign.ensures c.if-not-is_letter.ensures c.in_ok-name.ensures c.in_ok-get.ensures.lookup.3.0 (λ z. c.if-branch-ne62.true (c.in_ok-get.ensures.lookup.3.1 0 ∙ z))
 
 pub same_closing-same-requires : goal.same_closing-same-requires
-same_closing-same-requires c = (c.requires.1, name_found _ _ _ c.scan_name.ensures c.in-Some.is)
-
-pub returns-in_default : goal.returns-in_default
-returns-in_default c = closing_none _ c.skip_spaces-j.ensures c.if-text-j.false c.is_letter.ensures (ap not c.if-not-is_letter.false) c.scan_name.ensures c.in_default.is c.refuse-in_default.ensures
+same_closing-same-requires c = (c.requires.1, name_found _ _ _ c.in_ok-name.ensures)
 
 pub returns : goal.returns
-returns c = closing_named _ c.skip_spaces-j.ensures c.if-text-j.false c.is_letter.ensures (ap not c.if-not-is_letter.false) c.scan_name.ensures c.in-Some.is c.if-text-end.false c.if-text-end-ne62.false c.same_closing-same.ensures c.end_tag-2.ensures
+returns c = closing_named _ c.in_ok-sign.ensures c.if-not-is_letter.ensures c.in_ok-name.ensures c.in_ok-get.ensures.lookup.3.0 (sym (c.in_ok-get.ensures.lookup.3.1 0) ∙ c.if-branch-ne62.false) c.same_closing-same.ensures c.end_tag-2.ensures

@@ -1,10 +1,9 @@
 -- `tag_pass::tags::open_fragment` meets its contract. Assumes nothing.
-use mathlib.Core.Path.{ap}
+use mathlib.Core.Path.{refl}
 use Rattle.tag_pass.specs.declared.state.Mode.TheVariants as M
-use Rattle.tag_pass.specs.declared.state.Reading.{Reading}
 use Rattle.tag_pass.proofs.TagLaws.{fragment_opens}
 use Rattle.tag_pass.proofs.Standing.{settled}
 use Rattle.tag_pass.proofs.tags.open_fragment.Goals as goal
 
 pub returns : goal.returns
-returns c = (fragment_opens c.put_head-a.ensures c.wrote-w.ensures c.at_begin.ensures c.in_mode.ensures, settled M.InChildren (ap (λ (x : Reading). x.mode) c.in_mode.ensures) (λ z. cc) (λ z. cc))
+returns c = (fragment_opens c.put_head-a.ensures c.wrote-w.ensures refl refl, settled M.InChildren refl (λ k z. cc) (λ z. cc))

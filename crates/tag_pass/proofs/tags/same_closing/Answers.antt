@@ -2,11 +2,8 @@
 use Rattle.tag_pass.proofs.TagLaws.{same_none, same_some}
 use Rattle.tag_pass.proofs.tags.same_closing.Goals as goal
 
-pub returns-then-name-eq0 : goal.returns-then-name-eq0
-returns-then-name-eq0 c = same_none c.args.j c.if-name-eq0.true
+pub returns-in-Some : goal.returns-in-Some
+returns-in-Some c = same_some _ _ _ _ _ c.same_names.ensures c.in-Some.is
 
-pub same_names-requires : goal.same_names-requires
-same_names-requires c = (c.requires.0 c.if-name-eq0.false, c.requires.1)
-
-pub returns : goal.returns
-returns c = same_some _ _ _ _ c.same_names.ensures c.if-name-eq0.false
+pub returns-in-None : goal.returns-in-None
+returns-in-None c = same_none c.args.j c.in-None.is

@@ -1,12 +1,13 @@
 -- `tag_pass::tags::slashed` meets its contract. Assumes nothing.
 use Rattle.tag_pass.proofs.TagLaws.{slashed_out, slashed_barred, slashed_ends}
+use native.Mathlib.Omega.{arith}
 use Rattle.tag_pass.proofs.tags.slashed.Goals as goal
 
-pub returns-then-text-j : goal.returns-then-text-j
-returns-then-text-j c = slashed_out c.skip_spaces-j.ensures c.if-text-j.true c.refuse.ensures
+pub returns-in_err-sign : goal.returns-in_err-sign
+returns-in_err-sign c = rw c.from_residual.ensures (slashed_out c.in_err-sign.ensures)
 
-pub returns-then-text-j-ne62 : goal.returns-then-text-j-ne62
-returns-then-text-j-ne62 c = slashed_barred c.skip_spaces-j.ensures c.if-text-j.false c.if-text-j-ne62.true c.refuse-then-text-j-ne62.ensures
+pub returns-in-62 : goal.returns-in-62
+returns-in-62 c = slashed_ends c.in_ok-sign.ensures c.in-62.is c.end_tag.ensures
 
-pub returns : goal.returns
-returns c = slashed_ends c.skip_spaces-j.ensures c.if-text-j.false c.if-text-j-ne62.false c.end_tag.ensures
+pub returns-in_default : goal.returns-in_default
+returns-in_default c = slashed_barred c.in_ok-sign.ensures (λ z. omega (arith, z))

@@ -23,32 +23,32 @@ bounds-s-i c = omega arith
 pub overflow_add-i : goal.overflow_add-i
 overflow_add-i c = omega arith
 
-pub run_end-e-requires : goal.run_end-e-requires
-run_end-e-requires c = omega arith
+pub long_run_end-e-requires : goal.long_run_end-e-requires
+long_run_end-e-requires c = omega arith
 
 pub slice_bounds-put_bytes-count : goal.slice_bounds-put_bytes-count
-slice_bounds-put_bytes-count c = let args = c.args in omega (arith, scan_le plain args.s.now (c.loop-i.i + 1) (omega arith) c.run_end-e.ensures)
+slice_bounds-put_bytes-count c = let args = c.args in omega (arith, scan_le plain args.s.now (c.loop-i.i + 1) (omega arith) c.long_run_end-e.ensures.place)
 
 pub slice_bounds-put_bytes-start : goal.slice_bounds-put_bytes-start
-slice_bounds-put_bytes-start c = let args = c.args in omega (arith, scan_le plain args.s.now (c.loop-i.i + 1) (omega arith) c.run_end-e.ensures)
+slice_bounds-put_bytes-start c = let args = c.args in omega (arith, scan_le plain args.s.now (c.loop-i.i + 1) (omega arith) c.long_run_end-e.ensures.place)
 
 pub slice_bounds-put_bytes-end : goal.slice_bounds-put_bytes-end
-slice_bounds-put_bytes-end c = let args = c.args in omega (arith, scan_le plain args.s.now (c.loop-i.i + 1) (omega arith) c.run_end-e.ensures)
+slice_bounds-put_bytes-end c = let args = c.args in omega (arith, scan_le plain args.s.now (c.loop-i.i + 1) (omega arith) c.long_run_end-e.ensures.place)
 
 pub put_bytes-a-requires : goal.put_bytes-a-requires
 put_bytes-a-requires c = let args = c.args in let pre = c.requires in let s = args.s.now in
-    let i = c.loop-i.i in let e = c.run_end-e.result in let run' = scan_back plain s i (omega arith) (sym c.is_plain.ensures ∙ c.if-is_plain.true) c.run_end-e.ensures in
+    let i = c.loop-i.i in let e = c.long_run_end-e.result in let run' = scan_back plain s i (omega arith) (sym c.is_plain.ensures ∙ c.if-is_plain.true) c.long_run_end-e.ensures.place in
     let h = room_for {k = 2 ^ 63} (take (e - i) (drop i s)) c.loop-i.invariant.1 (escaped_run s i e run') (escaped_le s e) pre in
     omega arith
 
 pub loop-i-smaller-then-is_plain : goal.loop-i-smaller-then-is_plain
-loop-i-smaller-then-is_plain c = let args = c.args in omega (arith, scan_le plain args.s.now (c.loop-i.i + 1) (omega arith) c.run_end-e.ensures)
+loop-i-smaller-then-is_plain c = let args = c.args in omega (arith, scan_le plain args.s.now (c.loop-i.i + 1) (omega arith) c.long_run_end-e.ensures.place)
 
 pub loop-i-preserved-then-is_plain : goal.loop-i-preserved-then-is_plain
 loop-i-preserved-then-is_plain c = let args = c.args in let s = args.s.now in
-    let b = scan_le plain s (c.loop-i.i + 1) (omega arith) c.run_end-e.ensures in
-    let run' = scan_back plain s c.loop-i.i (omega arith) (sym c.is_plain.ensures ∙ c.if-is_plain.true) c.run_end-e.ensures in
-    (b.1, wrote_more c.loop-i.invariant.1 (escaped_run s c.loop-i.i c.run_end-e.result run') c.put_bytes-a.ensures)
+    let b = scan_le plain s (c.loop-i.i + 1) (omega arith) c.long_run_end-e.ensures.place in
+    let run' = scan_back plain s c.loop-i.i (omega arith) (sym c.is_plain.ensures ∙ c.if-is_plain.true) c.long_run_end-e.ensures.place in
+    (b.1, wrote_more c.loop-i.invariant.1 (escaped_run s c.loop-i.i c.long_run_end-e.result run') c.put_bytes-a.ensures)
 
 pub put_escape-a-requires : goal.put_escape-a-requires
 put_escape-a-requires c = let args = c.args in let pre = c.requires in let s = args.s.now in

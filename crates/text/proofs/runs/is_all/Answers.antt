@@ -12,7 +12,7 @@ unfolding all
 loop-b-init g c = refl
 
 pub loop-b-preserved : goal.loop-b-preserved
-loop-b-preserved g c = all_more g.C.Class.holds c.args.block.now 0 c.loop-b.b-index (omega arith) c.loop-b.invariant (rw zero-add c.has-is.ensures)
+loop-b-preserved g c = all_more (g.C.Class.holds c.args.class.now) c.args.block.now 0 c.loop-b.b-index (omega arith) c.loop-b.invariant (rw zero-add c.has-is.ensures)
 
 pub returns : goal.returns
-returns g c = c.loop-b.invariant ∙ ap (all g.C.Class.holds) (take_all c.loop-b.b-index c.args.block.now (omega arith))
+returns g c = c.loop-b.invariant ∙ ap (all (g.C.Class.holds c.args.class.now)) (take_all c.loop-b.b-index c.args.block.now (omega arith))

@@ -1,8 +1,10 @@
 use mathlib.Core.Path.{◌≡◌}
-use Prim.Native.Nat.{◌+◌}
-use lib.ListN.{drop}
+use lib.ListN.{length, drop}
 use Rattle.text.specs.Runs.{is_space, run}
 use Rattle.text.proofs.trim.skip_spaces.Given as goal
 
-abbrev pub invariant-loop-i : goal.invariant-loop-i
-invariant-loop-i l = l.i + run is_space (drop l.i l.s) ≡ l.at + run is_space (drop l.at l.s)
+abbrev pub invariant-loop-left : goal.invariant-loop-left
+invariant-loop-left l = drop (run is_space l.left) l.left ≡ drop (run is_space l.s) l.s
+
+abbrev pub decreases-loop-left : goal.decreases-loop-left
+decreases-loop-left l = length l.left

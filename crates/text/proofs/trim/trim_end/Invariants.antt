@@ -1,12 +1,10 @@
 use mathlib.Core.Path.{◌≡◌}
-use Prim.Native.Nat.{◌≤◌}
-use mathlib.Core.List.{reverse}
-use lib.ListN.{length, take}
-use Rattle.text.specs.Trim.{back_space, trim_by}
+use lib.ListN.{length}
+use Rattle.text.specs.Trim.{trim_end}
 use Rattle.text.proofs.trim.trim_end.Given as goal
 
-abbrev pub invariant-loop-e : goal.invariant-loop-e
-invariant-loop-e l = (l.e ≤ length l.s) × (trim_by back_space 0 (reverse (take l.e l.s)) ≡ trim_by back_space 0 (reverse l.s))
+abbrev pub invariant-loop-rest : goal.invariant-loop-rest
+invariant-loop-rest l = trim_end l.left ≡ trim_end l.s
 
-abbrev pub decreases-loop-e : goal.decreases-loop-e
-decreases-loop-e l = l.e
+abbrev pub decreases-loop-rest : goal.decreases-loop-rest
+decreases-loop-rest l = length l.left

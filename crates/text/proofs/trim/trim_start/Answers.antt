@@ -1,41 +1,21 @@
--- `text::trim::trim_start` meets its contract. The loop's invariant: trimming what is left gives what trimming the whole gives.
--- Assumes nothing.
+-- `text::trim::trim_start` meets its contract. The invariant: trimming what is left gives what trimming the whole gives. Assumes nothing.
 use native.Mathlib.Omega.{arith}
-use mathlib.Core.Path.{refl}
-use Rattle.text.specs.Runs.{is_space}
-use Rattle.text.proofs.RunLaws.{scan_le}
-use Rattle.text.proofs.TrimLaws.{trim_here, trim_on, behind_le}
+use mathlib.Core.Path.{sym, ap, ◌∙◌}
+use lib.ListN.{length, length-drop}
+use Rattle.field.specs.Bytes.{Bytes}
+use Rattle.text.specs.Runs.{is_space, run}
+use Rattle.text.specs.Trim.{trim_start}
+use Rattle.text.proofs.TrimLaws.{trim_run, trim_on, trim_here, front_shorter}
 use Rattle.text.proofs.trim.trim_start.Goals as goal
 
-pub loop-i-init : goal.loop-i-init
-loop-i-init c = (omega arith, refl)
+pub loop-rest-init : goal.loop-rest-init
+loop-rest-init c = ap {B = Bytes} trim_start c.skip_spaces-left.ensures ∙ trim_run c.args.s.now
 
-pub skip_spaces-k-requires : goal.skip_spaces-k-requires
-skip_spaces-k-requires c = omega arith
+pub loop-rest-smaller : goal.loop-rest-smaller
+loop-rest-smaller c = let t = c.in-Some.ensures in omega (arith, ap length c.skip_spaces-left-in-Some.ensures, length-drop (run is_space c.in-Some.rest.now) c.in-Some.rest.now, front_shorter _ _ t.0 t.1)
 
-pub slice_bounds-result-count : goal.slice_bounds-result-count
-slice_bounds-result-count c = let args = c.args in omega (arith, scan_le is_space args.s.now c.loop-i.i (omega arith) c.skip_spaces-k.ensures)
+pub loop-rest-preserved : goal.loop-rest-preserved
+loop-rest-preserved c = let t = c.in-Some.ensures in ap {B = Bytes} trim_start c.skip_spaces-left-in-Some.ensures ∙ trim_run c.in-Some.rest.now ∙ trim_on _ _ t.0 t.1 ∙ c.loop-rest.invariant
 
-pub slice_bounds-result-start : goal.slice_bounds-result-start
-slice_bounds-result-start c = let args = c.args in omega (arith, scan_le is_space args.s.now c.loop-i.i (omega arith) c.skip_spaces-k.ensures)
-
-pub slice_bounds-result-end : goal.slice_bounds-result-end
-slice_bounds-result-end c = omega arith
-
-pub returns-then-n-eq0 : goal.returns-then-n-eq0
-returns-then-n-eq0 c = let args = c.args in trim_here args.s.now c.loop-i.i c.skip_spaces-k.result (omega arith) c.skip_spaces-k.ensures c.space_at-n.ensures c.if-n-eq0.true c.loop-i.invariant.1
-
-pub overflow_add-i : goal.overflow_add-i
-overflow_add-i c = let args = c.args in let s = args.s.now in
-    let b = scan_le is_space s c.loop-i.i (omega arith) c.skip_spaces-k.ensures in
-    omega (arith, behind_le s c.loop-i.i c.skip_spaces-k.result (omega arith) c.skip_spaces-k.ensures b.1 c.space_at-n.ensures)
-
-pub loop-i-smaller : goal.loop-i-smaller
-loop-i-smaller c = let args = c.args in let s = args.s.now in
-    let b = scan_le is_space s c.loop-i.i (omega arith) c.skip_spaces-k.ensures in
-    omega (arith, behind_le s c.loop-i.i c.skip_spaces-k.result (omega arith) c.skip_spaces-k.ensures b.1 c.space_at-n.ensures)
-
-pub loop-i-preserved : goal.loop-i-preserved
-loop-i-preserved c = let args = c.args in let s = args.s.now in
-    let b = scan_le is_space s c.loop-i.i (omega arith) c.skip_spaces-k.ensures in
-    (behind_le s c.loop-i.i c.skip_spaces-k.result (omega arith) c.skip_spaces-k.ensures b.1 c.space_at-n.ensures, trim_on s c.loop-i.i c.skip_spaces-k.result (omega arith) c.skip_spaces-k.ensures c.space_at-n.ensures c.loop-i.invariant.1)
+pub returns : goal.returns
+returns c = sym (trim_here c.loop-rest.left.now c.in_default.ensures) ∙ c.loop-rest.invariant

@@ -4,9 +4,6 @@ use mathlib.Core.Path.{refl}
 use Rattle.transform.proofs.GivenLaws.{ready_page, written_plain, written_given}
 use Rattle.transform.proofs.given.write_given.Goals as goal
 
-pub write_worked-requires : goal.write_worked-requires
-write_worked-requires c = let r = ready_page _ _ _ c.requires in record { ready = r.0; input_len_bound = λ z. r.1 }
-
 pub returns-then-works_sums : goal.returns-then-works_sums
 returns-then-works_sums c = written_given _ _ c.works_sums.ensures true c.if-works_sums.true _ _ c.write_worked.ensures
 

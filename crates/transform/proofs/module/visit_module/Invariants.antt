@@ -5,8 +5,5 @@ use Rattle.walk.specs.See.{at, see}
 use Rattle.transform.proofs.ItemLaws.{module_at}
 use Rattle.transform.proofs.module.visit_module.Given as goal
 
-abbrev pub invariant-loop-page : goal.invariant-loop-page
-invariant-loop-page l = (length l.scratch ≡ length l.initial.scratch) × ((length l.t ≤ length l.s) × (see (module_at l.skip l.props l.due l.t) (at l.templates l.page l.cur) ≡ see (module_at l.skip l.props l.first l.s) (at l.initial.templates l.initial.page l.initial.cur)))
-
-abbrev pub decreases-loop-page : goal.decreases-loop-page
-decreases-loop-page l = length l.t
+abbrev pub invariant-loop-item : goal.invariant-loop-item
+invariant-loop-item l = (length l.item-iterator.0.now ≤ length l.s) × (see (module_at l.options.skip.now l.options.props.now l.item-iterator.0.now) (at l.templates l.page l.cur) ≡ see (module_at l.options.skip.now l.options.props.now l.s) (at l.initial.templates l.initial.page l.initial.cur))

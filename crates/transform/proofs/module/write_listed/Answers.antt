@@ -1,8 +1,8 @@
 -- `write_listed` meets its contract: an element shows both heads, and the items are written behind room for the import; or the items are
--- written in two parts, and what is due is put in. Assumes nothing.
+-- written without them, and what is due is put in. Assumes nothing.
 use mathlib.Core.Path.{◌∙◌}
 use native.Mathlib.Omega.{arith}
-use Rattle.transform.proofs.PageLaws.{page_body, source_short, items_room, before_room, from_room, heads_room, import_short, html_takes, page_shown, page_moved}
+use Rattle.transform.proofs.PageLaws.{page_body, source_short, items_room, all_low, moved_low, before_room, from_room, heads_room, import_short, html_takes, page_shown, page_headed, page_moved}
 use Rattle.transform.proofs.module.write_listed.Goals as goal
 
 pub import_len-requires : goal.import_len-requires
@@ -24,34 +24,35 @@ returns-then-has_html c = let i = c.requires.ready in
     let b = page_body _ i.page_fronted c.body-s.ensures in
     page_shown _ _ _ c.requires.props_value.0 c.requires.props_value.1 _ b.body_items _ _ (html_takes _ _ _ c.has_html.ensures c.if-has_html.true) c.import_len.ensures c.start-first.ensures c.visit_items-w.ensures c.helper_sum.ensures c.put_import.ensures
 
-pub visit_before-a-requires : goal.visit_before-a-requires
-visit_before-a-requires c = let i = c.requires.ready in let b = page_body _ i.page_fronted c.body-s.ensures in
-    record {
-      desk = i.scratch_enough;
-      short = omega (arith, b.body_short, i.page_short);
-      low = before_room _ _ _ (omega (arith, b.body_short, i.page_short)) _ _ c.start.ensures;
-    }
-
 pub visit_module-w-requires : goal.visit_module-w-requires
 visit_module-w-requires c = let i = c.requires.ready in let b = page_body _ i.page_fronted c.body-s.ensures in
-    let s = c.statements_in-t.ensures in record {
-      desk = omega (arith, i.scratch_enough, c.visit_before-a.auto.scratch);
-      short = omega (arith, s.1, b.body_short, i.page_short);
-      low = from_room _ _ _ (omega (arith, b.body_short, i.page_short)) _ _ c.start.ensures c.visit_before-a.ensures _ s.0;
-    }
+    record { desk = i.scratch_enough; short = omega (arith, b.body_short, i.page_short); low = all_low _ _ _ (omega (arith, b.body_short, i.page_short)) _ _ c.start.ensures }
 
 pub put_heads-requires : goal.put_heads-requires
-put_heads-requires c = let a = c.args in let i = c.requires.ready in let b = page_body _ i.page_fronted c.body-s.ensures in
-    let h = heads_room _ _ _ (omega (arith, b.body_short, i.page_short)) _ _ c.start.ensures c.visit_before-a.ensures _ c.statements_in-t.ensures.0 c.visit_module-w.ensures c.place_at.ensures in
-    (h.0, (h.1, omega (arith, source_short a.options.now i.options_short)))
+put_heads-requires c = let i = c.requires.ready in let b = page_body _ i.page_fronted c.body-s.ensures in
+    (omega arith, (moved_low _ _ _ (omega (arith, b.body_short, i.page_short)) _ _ c.start.ensures c.visit_module-w.ensures, omega (arith, source_short c.args.options.now i.options_short)))
 
-pub shape_of-scratch : goal.shape_of-scratch
-shape_of-scratch c = c.visit_module-w.auto.scratch ∙ c.visit_before-a.auto.scratch
+pub returns-in_default : goal.returns-in_default
+returns-in_default c = let b = page_body _ c.requires.ready.page_fronted c.body-s.ensures in
+    page_headed _ _ _ c.requires.props_value.0 c.requires.props_value.1 _ b.body_items _ _ c.in_default.ensures c.start.ensures c.visit_module-w.ensures c.put_heads.ensures
 
-pub shape_of-templates : goal.shape_of-templates
-shape_of-templates c = c.visit_module-w.auto.templates ∙ c.visit_before-a.auto.templates
+pub visit_module-a-requires : goal.visit_module-a-requires
+visit_module-a-requires c = let i = c.requires.ready in let b = page_body _ i.page_fronted c.body-s.ensures in let p = c.in-Some.ensures in
+    record { desk = i.scratch_enough; short = omega (arith, p.sizes, b.body_short, i.page_short); low = before_room _ _ _ (omega (arith, b.body_short, i.page_short)) _ _ c.start-2.ensures p }
+
+pub visit_module-w-requires-2 : goal.visit_module-w-requires-2
+visit_module-w-requires-2 c = let i = c.requires.ready in let b = page_body _ i.page_fronted c.body-s.ensures in let p = c.in-Some.ensures in
+    record {
+      desk = omega (arith, i.scratch_enough, c.visit_module-a.auto.scratch);
+      short = omega (arith, p.sizes, b.body_short, i.page_short);
+      low = from_room _ _ _ (omega (arith, b.body_short, i.page_short)) _ _ c.start-2.ensures p c.visit_module-a.ensures;
+    }
+
+pub put_heads-requires-2 : goal.put_heads-requires-2
+put_heads-requires-2 c = let i = c.requires.ready in let b = page_body _ i.page_fronted c.body-s.ensures in
+    let h = heads_room _ _ _ (omega (arith, b.body_short, i.page_short)) _ _ c.start-2.ensures c.in-Some.ensures c.visit_module-a.ensures c.visit_module-w-2.ensures in
+    (h.0, (h.1, omega (arith, source_short c.args.options.now i.options_short)))
 
 pub returns : goal.returns
-returns c = let i = c.requires.ready in
-    let b = page_body _ i.page_fronted c.body-s.ensures in
-    page_moved _ _ _ c.requires.props_value.0 c.requires.props_value.1 _ b.body_items _ _ (omega (arith, b.body_short, i.page_short)) c.start.ensures c.visit_before-a.ensures _ c.statements_in-t.ensures.0 c.visit_module-w.ensures c.place_at.ensures c.put_heads.ensures
+returns c = let i = c.requires.ready in let b = page_body _ i.page_fronted c.body-s.ensures in
+    page_moved _ _ _ c.requires.props_value.0 c.requires.props_value.1 _ b.body_items _ _ (omega (arith, b.body_short, i.page_short)) c.in-Some.ensures c.start-2.ensures c.visit_module-a.ensures c.visit_module-w-2.ensures c.put_heads-2.ensures

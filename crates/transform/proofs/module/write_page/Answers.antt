@@ -7,8 +7,8 @@ use Rattle.transform.proofs.module.write_page.Goals as goal
 
 pub write_listed-requires : goal.write_listed-requires
 unfolding inside
-write_listed-requires c = record { ready = c.requires; props_value = (by_series _ c.if-skip-le32.true (c.names_in-skip.ensures.0 refl), by_series _ c.if-props-le32.true (c.names_in-props.ensures.0 refl)) }
+write_listed-requires c = record { ready = c.requires; props_value = (by_series _ c.if-names-le32.true (c.names_in.ensures.0 refl), by_series _ c.if-names-le32-2.true (c.names_in-2.ensures.0 refl)) }
 
 pub write_indexed-requires : goal.write_indexed-requires
 unfolding inside
-write_indexed-requires c = record { ready = c.requires; skip_len_bound = (omega (arith, c.names_in-skip.ensures.1, c.requires.options_short), omega (arith, c.names_in-props.ensures.1, c.requires.options_short)); skip_value = (c.names_in-skip.ensures.0 refl, c.names_in-props.ensures.0 refl) }
+write_indexed-requires c = record { ready = c.requires; skip_len_bound = (omega (arith, c.names_in.ensures.1, c.requires.options_short), omega (arith, c.names_in-2.ensures.1, c.requires.options_short)); skip_value = (c.names_in.ensures.0 refl, c.names_in-2.ensures.0 refl) }

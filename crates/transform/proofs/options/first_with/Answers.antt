@@ -1,19 +1,16 @@
 -- `first_with` meets its contract: what is passed over has other tags. Assumes nothing.
-use Rattle.field.proofs.FrontLaws.{behind_less}
+use native.Mathlib.Omega.{arith}
 use Rattle.transform.proofs.OptionLaws.{past_none, past_next, lacks, has}
 use Rattle.transform.proofs.options.first_with.Goals as goal
 
-pub loop-t-init : goal.loop-t-init
-loop-t-init c = past_none _ _
+pub loop-field-init : goal.loop-field-init
+loop-field-init c = rw c.into_iter-field-iterator.ensures.into_iter_gives (past_none _ _)
 
-pub returns-then-k-eq256 : goal.returns-then-k-eq256
-returns-then-k-eq256 c = lacks _ _ _ c.loop-t.invariant (c.tag_at-k.ensures.1 c.if-k-eq256.true)
+pub returns-then-field-tag : goal.returns-then-field-tag
+returns-then-field-tag c = let f = c.in-Some.ensures.steps in has _ _ _ c.loop-field.invariant _ f.tag_is (λ z. omega (arith, f.tag_below, z)) c.if-field-tag.true f.body_is
 
-pub returns-then-k-tag : goal.returns-then-k-tag
-returns-then-k-tag c = has _ _ _ c.loop-t.invariant _ c.tag_at-k.ensures.0 c.if-k-eq256.false c.if-k-tag.true c.body.ensures
+pub loop-field-preserved : goal.loop-field-preserved
+loop-field-preserved c = let f = c.in-Some.ensures.steps in past_next _ _ _ c.loop-field.invariant _ f.tag_is (λ z. omega (arith, f.tag_below, z)) c.if-field-tag.false f.behind_is
 
-pub loop-t-smaller : goal.loop-t-smaller
-loop-t-smaller c = behind_less _ _ c.tag_at-k.ensures.0 c.if-k-eq256.false c.behind-t.ensures
-
-pub loop-t-preserved : goal.loop-t-preserved
-loop-t-preserved c = past_next _ _ _ c.loop-t.invariant _ c.tag_at-k.ensures.0 c.if-k-eq256.false c.if-k-tag.false c.behind-t.ensures
+pub returns : goal.returns
+returns c = lacks _ _ _ c.loop-field.invariant c.in-None.ensures.steps.ended

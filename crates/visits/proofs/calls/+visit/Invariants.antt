@@ -21,6 +21,9 @@ decreases-to_attrs l = 8 * length l.s.now
 abbrev pub decreases-to_call : goal.decreases-to_call
 decreases-to_call l = 8 * length l.b.now + 3
 
+abbrev pub decreases-to_inner : goal.decreases-to_inner
+decreases-to_inner l = 8 * length l.b.now + 1
+
 abbrev pub decreases-to_gaps : goal.decreases-to_gaps
 decreases-to_gaps l = 8 * length l.b.now + 4
 
@@ -51,9 +54,6 @@ decreases-on_found l = 8 * length l.s.now + 4
 abbrev pub decreases-on_fragment : goal.decreases-on_fragment
 decreases-on_fragment l = 8 * length l.s.now + 5
 
-abbrev pub decreases-on_given : goal.decreases-on_given
-decreases-on_given l = 8 * length l.s.now + 3
-
 abbrev pub decreases-on_held : goal.decreases-on_held
 decreases-on_held l = 8 * length l.c.now + 1
 
@@ -66,42 +66,21 @@ decreases-on_pieces l = 8 * length l.s.now
 abbrev pub decreases-on_template : goal.decreases-on_template
 decreases-on_template l = 8 * length l.s.now + 1
 
-abbrev pub invariant-on_items-loop-p : goal.invariant-on_items-loop-p
-invariant-on_items-loop-p l = (length l.scratch ≡ length l.initial.scratch) × ((length l.t ≤ length l.s) × (see (items_at l.skip l.props l.t) (at l.templates l.page l.cur) ≡ see (items_at l.skip l.props l.s) (at l.initial.templates l.initial.page l.initial.cur)))
+abbrev pub invariant-on_items-loop-field : goal.invariant-on_items-loop-field
+invariant-on_items-loop-field l = (l.left ≡ l.fields.0.now) × ((length l.fields.0.now ≤ length l.s) × (see (items_at l.options.skip.now l.options.props.now l.fields.0.now) (at l.templates l.page l.cur) ≡ see (items_at l.options.skip.now l.options.props.now l.s) (at l.initial.templates l.initial.page l.initial.cur)))
 
-abbrev pub decreases-on_items-loop-p : goal.decreases-on_items-loop-p
-decreases-on_items-loop-p l = length l.t
+abbrev pub invariant-on_pieces-loop-field : goal.invariant-on_pieces-loop-field
+invariant-on_pieces-loop-field l = (length l.field-iterator.0.now ≤ length l.s) × (see (pieces_at l.options.skip.now l.options.props.now l.field-iterator.0.now) (at l.templates l.page l.cur) ≡ see (pieces_at l.options.skip.now l.options.props.now l.s) (at l.initial.templates l.initial.page l.initial.cur))
 
-abbrev pub invariant-on_pieces-loop-page : goal.invariant-on_pieces-loop-page
-invariant-on_pieces-loop-page l = (length l.scratch ≡ length l.initial.scratch) × ((length l.t ≤ length l.s) × (see (pieces_at l.skip l.props l.t) (at l.templates l.page l.cur) ≡ see (pieces_at l.skip l.props l.s) (at l.initial.templates l.initial.page l.initial.cur)))
+abbrev pub invariant-to_attrs-loop-field : goal.invariant-to_attrs-loop-field
+invariant-to_attrs-loop-field l = (length l.field-iterator.0.now ≤ length l.s) × (act (dynamic_exprs (attrs_at l.options.skip.now l.options.props.now l.field-iterator.0.now)) (at l.templates l.page l.cur) ≡ act (dynamic_exprs (attrs_at l.options.skip.now l.options.props.now l.s)) (at l.initial.templates l.initial.page l.initial.cur))
 
-abbrev pub decreases-on_pieces-loop-page : goal.decreases-on_pieces-loop-page
-decreases-on_pieces-loop-page l = length l.t
+abbrev pub invariant-to_entries-loop-field : goal.invariant-to_entries-loop-field
+invariant-to_entries-loop-field l = (length l.field-iterator.0.now ≤ length l.s) × Entering l.options.skip.now l.options.props.now (act (entries_pass (entries (merge false false [] (children_at l.options.skip.now l.options.props.now (read l.s))))) (at l.initial.templates l.initial.page l.initial.cur)) l.templates l.page l.cur l.field-iterator.0.now l.run
 
-abbrev pub invariant-to_attrs-loop-a : goal.invariant-to_attrs-loop-a
-invariant-to_attrs-loop-a l = (length l.scratch ≡ length l.initial.scratch) × ((length l.t ≤ length l.s) × (act (dynamic_exprs (attrs_at l.skip l.props l.t)) (at l.templates l.page l.cur) ≡ act (dynamic_exprs (attrs_at l.skip l.props l.s)) (at l.initial.templates l.initial.page l.initial.cur)))
+abbrev pub invariant-to_parts-loop-field : goal.invariant-to_parts-loop-field
+invariant-to_parts-loop-field l = (length l.field-iterator.0.now ≤ length l.s) × (act (dynamic_exprs (parts_at l.options.skip.now l.options.props.now false l.field-iterator.0.now)) (at l.templates l.page l.cur) ≡ act (dynamic_exprs (children_to_string false (children_at l.options.skip.now l.options.props.now (read l.s)))) (at l.initial.templates l.initial.page l.initial.cur))
 
-abbrev pub decreases-to_attrs-loop-a : goal.decreases-to_attrs-loop-a
-decreases-to_attrs-loop-a l = length l.t
-
-abbrev pub invariant-to_entries-loop-page : goal.invariant-to_entries-loop-page
-invariant-to_entries-loop-page l = (length l.scratch ≡ length l.initial.scratch)
-    × ((length l.t ≤ length l.s)
-    × Entering l.skip l.props (act (entries_pass (entries (merge false false [] (children_at l.skip l.props (read l.s))))) (at l.initial.templates l.initial.page l.initial.cur)) l.templates l.page l.cur l.t l.run)
-
-abbrev pub decreases-to_entries-loop-page : goal.decreases-to_entries-loop-page
-decreases-to_entries-loop-page l = length l.t
-
-abbrev pub invariant-to_parts-loop-c : goal.invariant-to_parts-loop-c
-invariant-to_parts-loop-c l = (length l.scratch ≡ length l.initial.scratch) × ((length l.t ≤ length l.s) × (act (dynamic_exprs (parts_at l.skip l.props false l.t)) (at l.templates l.page l.cur) ≡ act (dynamic_exprs (children_to_string false (children_at l.skip l.props (read l.s)))) (at l.initial.templates l.initial.page l.initial.cur)))
-
-abbrev pub decreases-to_parts-loop-c : goal.decreases-to_parts-loop-c
-decreases-to_parts-loop-c l = length l.t
-
-abbrev pub invariant-to_props-loop-a : goal.invariant-to_props-loop-a
-invariant-to_props-loop-a l = (length l.scratch ≡ length l.initial.scratch)
-    × (length l.t ≤ length l.s)
-    × (see (props_in l.skip l.props l.norm l.t) (at l.templates l.page l.cur) ≡ see (props_in l.skip l.props l.norm l.s) (at l.initial.templates l.initial.page l.initial.cur))
-
-abbrev pub decreases-to_props-loop-a : goal.decreases-to_props-loop-a
-decreases-to_props-loop-a l = length l.t
+abbrev pub invariant-to_props-loop-field : goal.invariant-to_props-loop-field
+invariant-to_props-loop-field l = (length l.field-iterator.0.now ≤ length l.s)
+    × (see (props_in l.options.skip.now l.options.props.now l.norm l.field-iterator.0.now) (at l.templates l.page l.cur) ≡ see (props_in l.options.skip.now l.options.props.now l.norm l.s) (at l.initial.templates l.initial.page l.initial.cur))

@@ -16,5 +16,5 @@ pub returns-then-stands : goal.returns-then-stands
 returns-then-stands c = let a = c.args in let m = O.leaf 0x81 (ascii "children") in
     stands_is a.stands m a.page.now a.st c.if-stands.true (begun_is m a.page.now a.st c.begin.ensures c.leaf.ensures)
 
-pub returns : goal.returns
-returns c = let a = c.args in stands_not a.stands (O.leaf 0x81 (ascii "children")) a.page.now a.st c.if-stands.false
+pub returns-else-stands : goal.returns-else-stands
+returns-else-stands c = let a = c.args in stands_not a.stands (O.leaf 0x81 (ascii "children")) a.page.now a.st c.if-stands.false

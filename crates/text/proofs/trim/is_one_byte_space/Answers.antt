@@ -1,8 +1,0 @@
--- `text::trim::is_one_byte_space` meets its contract: the code tests what the definition tests. Assumes nothing.
-use mathlib.Core.Path.{refl}
-use Rattle.text.specs.Trim.{one_byte_space}
-use Rattle.text.proofs.trim.is_one_byte_space.Goals as goal
-
-pub returns : goal.returns
-unfolding one_byte_space
-returns c = refl
