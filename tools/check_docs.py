@@ -276,7 +276,7 @@ PLANTED = [
     ("docs/PROMISES.md", "| `read_header` | `header_of` |", "| `read_header` | `body_of` |", "no contract of `read_header` names body_of"),
     ("docs/PROMISES.md", "| `read_header` | `header_of` |", "| `read_header` | `outcome` |", "`outcome` is not of field, nor of a crate below it"),
     ("crates/field/src/reader.rt", "pub fn field_at(", "pub fn first_field(", "`first_field` has no row"),
-    ("crates/text/src/lines.rt", "pub fn next_line(", "pub fn line_behind(", "`Lines::line_behind` has no row"),
+    ("crates/text/src/lines.rt", "pub fn new(", "pub fn over(", "`Lines::over` has no row"),
     ("docs/PROMISES.md", "| `body_with_length` |", "| - |", "not named in docs/PROMISES.md, section field"),
     ("docs/PROMISES.md", "| `body_with_length` |", "| `body_behind` |", "not as tools/promises.py makes it"),
     ("crates/field/src/reader.rt", "Fields(s).next()", "Fields(s).nth(0)", "its old: stands 0 times"),

@@ -10,7 +10,7 @@ import re
 from collections import defaultdict
 from dataclasses import dataclass, field
 
-ITEM = re.compile(r'^(pub )?(?:extern "C" )?(fn|const|enum|struct|mod|type) (\w+)')
+ITEM = re.compile(r'^(pub )?(?:pub\(crate\) )?(?:extern "C" )?(fn|const|enum|struct|mod|type) (\w+)')
 BLOCK = re.compile(r"^(?:pub )?(?:trait|impl(?:<[^>]*>)?) (?:([\w:]+)(?:<[^>]*>)? for )?(\w+)")
 METHOD = re.compile(r"^    (pub )?(?:pub\(crate\) )?fn (\w+)")
 # where the code of a function begins, behind its signature
@@ -37,6 +37,8 @@ class Item:
     first: int
     last: int = 0
     text: str = ""
+    # of a method the trait that says what it does
+    trait: str = ""
 
     def bare(self):
         """As calls have it."""
@@ -164,6 +166,7 @@ class Tree:
                 kind = "method" if of_trait else "fn"
                 item = Item(crate, path, kind, "%s::%s" % (name, found[2]), bool(found[1]), first + 1, at + 1)
                 item.text = "\n".join(lines[first : at + 1])
+                item.trait = of_trait or ""
                 self.declared[found[2]].add(path)
                 self.items[crate].append(item)
             at += 1
@@ -263,14 +266,26 @@ class Tree:
 
     def uses(self, item):
         """The other items that an item's code names: functions and methods of its crate by a call, its public items, and all of its own
-        file."""
+        file. An iterator's `next` is named by its type, since a loop has no call of it; a method of a type of the language, as u32::from, by
+        no call with another of these in front."""
         code = re.split(r"\{$" if item.kind == "method" else r"^ *\{$", item.text, maxsplit=1, flags=re.M)[-1]
-        calls, words = set(re.findall(r"(\w+)(?:::<[^()]*>)?\(", code)), set(re.findall(r"\w+", code))
+        calls, words = set(re.findall(r"((?:\b[a-z]\w*::)?\w+)(?:::<[^()]*>)?\(", code)), set(re.findall(r"\w+", code))
         seen = [i for i in self.items[item.crate] if i.path == item.path or i.public or i.kind in ("fn", "method")]
-        named = [i for i in seen if i is not item and i.bare() in (calls if i.kind in ("fn", "method") else words)]
+        named = [i for i in seen if i is not item and is_named(i, calls, words)]
         # of methods that are called alike those of the item's own file are meant
         own = {i.bare() for i in named if i.path == item.path and i.name != i.bare()}
         return [i for i in named if i.path == item.path or i.name == i.bare() or i.bare() not in own]
+
+
+def is_named(item, calls, words):
+    """Whether code names an item, by its calls, each with a word in small letters in front where one stands there, and by its words."""
+    if item.kind not in ("fn", "method"):
+        return item.name in words
+    if item.trait == "Iterator" and item.bare() == "next":
+        return item.name.split("::")[0] in words
+    if item.kind == "method" and item.name[0].islower():
+        return bool({item.name, item.bare()} & calls)
+    return any(call.split("::")[-1] == item.bare() for call in calls)
 
 
 def declared_in(line):

@@ -4,24 +4,19 @@
 
 use input::read_full;
 use input::room::room;
-use print_card::print_card;
+use page::MAX_PAGE;
+use print_card::{OUT_ROOM, TEXT_ROOM, print_card};
 use std::io;
 
 // Room for a page, and one byte more: so a longer one is seen.
-const PAGE: usize = 32769;
-
-// Scratch, and what is lent for each out.
-const OUT: usize = 65536;
-
-// A field of three bytes prints less than 48, a byte at most four, and the import 109 more: room for any two outs.
-const TEXT: usize = 2097280;
+const PAGE: usize = MAX_PAGE + 1;
 
 fn main(rt: HostRuntime) -> io::Result<()> {
     let mut input = room::<PAGE>();
-    let mut scratch = room::<OUT>();
-    let mut templates = room::<OUT>();
-    let mut page = room::<OUT>();
-    let mut text = room::<TEXT>();
+    let mut scratch = room::<OUT_ROOM>();
+    let mut templates = room::<OUT_ROOM>();
+    let mut page = room::<OUT_ROOM>();
+    let mut text = room::<TEXT_ROOM>();
     let n = read_full(&mut rt.reader(), &mut input)?;
     let end = print_card(
         &input[..n],

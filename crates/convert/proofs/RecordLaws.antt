@@ -31,7 +31,7 @@ use Rattle.spec.specs.Demand.{strings_in, kinds_behind}
 use Rattle.spec.proofs.Ledger.{neither}
 use Rattle.convert.specs.Kinds.{all_passed, kind_there, kinds_from}
 use Rattle.convert.specs.Convert.{before, raised, agrees, lowered}
-use Rattle.convert.specs.Flat.{kind_number, kind_marks, all_clear, fields_in, gaps_in, raised_front, strings_at, kinds_at, rewritten_body, body_clear, rewritten_tag, BodyFits, rewritten_bytes, all_bodies_clear, some_body_long}
+use Rattle.convert.specs.Flat.{kind_number, kind_marks, all_clear, same_kinds, fields_in, gaps_in, raised_front, strings_at, kinds_at, rewritten_body, body_clear, rewritten_tag, BodyFits, rewritten_bytes, all_bodies_clear, some_body_long}
 use Rattle.convert.proofs.KindLaws.{length_marks}
 use Rattle.convert.specs.declared.kinds.Markup.{Markup}
 use Rattle.convert.specs.declared.kinds.Markup.TheVariants as M
@@ -139,14 +139,13 @@ old_front f h = eqb-true (length f) 2 h
 pub record NewFront (f : Bytes) : Type 0 where
   pub long_enough : 6 ≤ length f
   pub length_is : length f ≡ 6 + count_of f
-  pub kinds_are : all_kinds (drop 6 f) ≡ true
 
 pub new_front : (f : Bytes) → front_of_record New f ≡ true → NewFront f
 unfolding front_of_record
 new_front f h =
     let a = both_true (leb 6 (length f)) (eqb (length f) (6 + count_of f) && all_kinds (drop 6 f)) h in
     let b = both_true (eqb (length f) (6 + count_of f)) (all_kinds (drop 6 f)) a.1 in
-    record { long_enough = leb-true 6 (length f) a.0; length_is = eqb-true (length f) (6 + count_of f) b.0; kinds_are = b.1 }
+    record { long_enough = leb-true 6 (length f) a.0; length_is = eqb-true (length f) (6 + count_of f) b.0 }
 
 drop_front : (n : ℕ) (a b : Bytes) → n ≤ length a → drop n (a ++ b) ≡ drop n a ++ b
 drop_front zero a b h = refl
@@ -353,36 +352,18 @@ kind_back m (s ∷ t ∷ ss) h =
     let p = both_true (leb 1 (kind_number (all_passed m s))) (all_clear (by_marks (all_passed m s) (t ∷ ss))) h in
     ap₂ (λ (x : ℕ) (y : Bytes). x ∷ y) (kind_one (all_passed m s) p.0) (kind_back (all_passed m s) (t ∷ ss) p.1)
 
--- kinds that are 1 or 2 are not those of a gap that is neither
-unlike_by : (x : ℕ) (b : Bytes) → leb 1 x ≡ true → (leb 1 x && all_clear b) ≡ false → all_clear b ≡ false
-unlike_by x b p h = sym (rw p) ∙ h
-
-unlike : (ks b : Bytes) → all_kinds ks ≡ true → all_clear b ≡ false → same ks b ≡ false
-unfolding all_kinds all_clear same
-unlike ks [] a h = absurd (false_not (sym h))
-unlike [] (x ∷ b) a h = refl
-unlike (k ∷ ks) (x ∷ b) a h = on (eqb k x) refl (λ z. unlike ks b (both_true (leb 1 k && leb k 2) (all_kinds ks) a).1 z)
-  where
-    on : (c : Bool) → eqb k x ≡ c → (all_clear b ≡ false → same ks b ≡ false) → (eqb k x && same ks b) ≡ false
-    on false q ih = rw q
-    on true q ih =
-        let e : k ≡ x = eqb-true k x q in
-        let p = both_true (leb 1 k && leb k 2) (all_kinds ks) a in
-        let l : leb 1 x ≡ true = subst (λ (y : ℕ). leb 1 y ≡ true) e (both_true (leb 1 k) (leb k 2) p.0).0 in
-        rw q (ih (unlike_by x b l h))
-
 abbrev agreed : Bytes → Option (List Bool) → Bool
 agreed f o = elim o [ none ↦ false | some ks ↦ same (kinds_behind f) (kind_bytes ks) ]
 
-agreed_is : (f b : Bytes) (ks : List Bool) (c : Bool) → (c ≡ true → kind_bytes ks ≡ b) → (c ≡ false → same (kinds_behind f) b ≡ false) → agreed f (pick c (some ks) none) ≡ same (kinds_behind f) b
-agreed_is f b ks true h g = ap (same (kinds_behind f)) (h refl)
-agreed_is f b ks false h g = sym (g refl)
+agreed_is : (f b : Bytes) (ks : List Bool) (c : Bool) → (c ≡ true → kind_bytes ks ≡ b) → agreed f (pick c (some ks) none) ≡ (c && same (kinds_behind f) b)
+agreed_is f b ks true h = ap (same (kinds_behind f)) (h refl)
+agreed_is f b ks false h = refl
 
-pub agrees_is : (f : Bytes) (ss : List Bytes) → all_kinds (kinds_behind f) ≡ true → agrees f ss ≡ same (kinds_behind f) (by_marks M.Outside ss)
-unfolding agrees
-agrees_is f ss a =
+pub agrees_is : (f : Bytes) (ss : List Bytes) → agrees f ss ≡ same_kinds (kinds_behind f) (by_marks M.Outside ss)
+unfolding agrees same_kinds
+agrees_is f ss =
     let b : Bytes = by_marks M.Outside ss in
-    ap (agreed f) (kinds_are M.Outside ss) ∙ agreed_is f b (kinds_of b) (all_clear b) (kind_back M.Outside ss) (unlike (kinds_behind f) b a)
+    ap (agreed f) (kinds_are M.Outside ss) ∙ agreed_is f b (kinds_of b) (all_clear b) (kind_back M.Outside ss)
 
 -- ---- the rows that are written
 
@@ -435,7 +416,7 @@ module _ (i : Row) (s : Strings i) where
   new_clear f n e =
       let c : length (drop 6 f) ≡ fields_in i - 1 = omega (arith, length-drop 6 f, n.length_is) in
       let m : kind_marks (length (drop 6 f)) M.Outside (bytes i) ≡ by_marks M.Outside (strings_in i) = ap (λ (x : ℕ). kind_marks x M.Outside (bytes i)) c ∙ marks_are i M.Outside s in
-      rw (new_strings f (bytes i) n, new_number f (bytes i) n, new_kinds f (bytes i) n, m, agrees_is f (strings_in i) n.kinds_are)
+      rw (new_strings f (bytes i) n, new_number f (bytes i) n, new_kinds f (bytes i) n, m, agrees_is f (strings_in i))
 
 body_is : (k : Kind) (t : ℕ) (f : Bytes) (i r : Row) → Sound k (field t f i r) → rewritten_body k (f ++ bytes i) ≡ rewritten_front k f i ++ bytes i
 body_is Old t f i r s = old_body i (rest_sound Old t f i r s).1 f (old_front f (record_of Old t f i r s.fine).front_is)

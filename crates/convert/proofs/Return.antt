@@ -28,7 +28,7 @@ use Rattle.outs.specs.declared.Kind.TheVariants.{Old, New}
 use Rattle.spec.specs.Demand.{strings_in}
 use Rattle.convert.specs.Convert.{Written, Outcome, refused, converted, past, verdict_number, number_unless, raised, lowered, upgraded, downgraded}
 use Rattle.convert.specs.Convert as C
-use Rattle.convert.specs.Flat.{all_bodies_clear, body_clear}
+use Rattle.convert.specs.Flat.{same_kinds, all_clear, all_bodies_clear, body_clear}
 use Rattle.convert.specs.declared.kinds.Markup.TheVariants as M
 use Rattle.convert.proofs.RecordLaws.{Sound, NewFront, by_marks, rewritten_front, rewritten, rest_sound, record_of, old_front, new_front, new_clear, new_counts, agrees_is, both_true, raised_is, lowered_is, records_not}
 use Rattle.convert.proofs.TemplateLaws.{sound_read}
@@ -223,7 +223,7 @@ same_is (x ∷ a) (y ∷ b) h =
 
 -- what is clear of an 84: its number and its kinds
 new_front_returns : (t : ℕ) (f : Bytes) (i r : Row) → Sound New (field t f i r) → AllBytes f → body_clear New (f ++ bytes i) ≡ true → rewritten_front Old (rewritten_front New f i) i ≡ f
-unfolding rewritten_front
+unfolding rewritten_front same_kinds
 new_front_returns t f i r s a c =
     let d = record_of New t f i r s.fine in
     let n = new_front f d.front_is in
@@ -232,7 +232,7 @@ new_front_returns t f i r s a c =
     let m : ℕ = number_of (take 4 f) in
     let p = both_true (leb m 65535) (C.agrees f (strings_in i)) (sym (new_clear i str f n (new_counts t f i r s)) ∙ c) in
     let low : number_of (big_endian 2 m []) ≡ m = two_read m (leb-true m 65535 p.0) in
-    let k : drop 6 f ≡ b = same_is (drop 6 f) b (sym (agrees_is f (strings_in i) n.kinds_are) ∙ p.1) in
+    let k : drop 6 f ≡ b = same_is (drop 6 f) b (both_true (all_clear b) (same (drop 6 f) b) (sym (agrees_is f (strings_in i)) ∙ p.1)).1 in
     let l : length b ≡ count_of f = ap length (sym k) ∙ omega (arith, length-drop 6 f, n.length_is) in
     ap₂ (λ (x y : ℕ). big_endian 4 x (big_endian 2 y b)) low l ∙ ap (λ (x : Bytes). big_endian 4 m (big_endian 2 (count_of f) x)) (sym k) ∙ front_parts f n a
 

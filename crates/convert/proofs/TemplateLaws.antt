@@ -4,13 +4,13 @@ use mathlib.Core.Path.{◌≡◌, refl, sym, ap, ap₂, ◌∙◌, subst}
 use mathlib.Core.Bool.{Bool, true, false, ◌&&◌, ◌||◌, not}
 use Prim.Native.Nat.{ℕ, ◌+◌, ◌-◌, ◌≤◌, ◌<◌, ◌^◌}
 use native.Mathlib.Omega.{arith}
-use mathlib.Core.List.{[], ◌++◌, append-nil, append_assoc}
+use mathlib.Core.List.{[], ◌∷◌, ◌++◌, append-nil, append_assoc}
 use lib.Dec.{T, leb, ltb}
-use lib.ListN.{length, take, drop, length-append, length-take, length-drop, take-append-drop}
+use lib.ListN.{length, get_or, take, drop, length-append, length-drop, take-append-drop}
 use lib.Seq.{take_all}
 use borrow.Author.Tests.{le-leb, lt-leb}
-use Rattle.field.specs.Bytes.{Bytes, AllBytes, same}
-use Rattle.field.specs.Number.{big_endian, number_of}
+use Rattle.field.specs.Bytes.{Bytes, AllBytes}
+use Rattle.field.specs.Number.{big_endian, number_of, number_from}
 use Rattle.field.specs.Row.{Row, end, loose, field, field_bytes, bytes, long_body, Inside, only_bytes, fields_after, counted, counted_front, inside, opened, read, Ended}
 use Rattle.field.specs.Front.{tag_of_front, body_of, behind_of}
 use Rattle.field.specs.Put.{put, head, Wrote}
@@ -22,8 +22,9 @@ use Rattle.page.specs.Refusal.{Fine}
 use Rattle.outs.specs.Templates.{check_records, check_templates}
 use Rattle.outs.specs.declared.Kind.{Kind}
 use Rattle.outs.specs.declared.Kind.TheVariants.{Old, New}
-use Rattle.convert.specs.Flat.{kind_marks, all_clear, gaps_in, strings_at, kinds_at, rewritten_body, body_clear, rewritten_tag, BodyFits, rewritten_bytes, all_bodies_clear, some_body_long, WroteBody, RewritesBody, WroteAll}
+use Rattle.convert.specs.Flat.{kind_marks, all_clear, same_kinds, gaps_in, strings_at, kinds_at, rewritten_body, body_clear, rewritten_tag, BodyFits, rewritten_bytes, all_bodies_clear, some_body_long, WroteBody, RewritesBody, WroteAll}
 use Rattle.std.specs.Prelude.{Option}
+use Rattle.std.specs.Int.{w16, w32, from_be_bytes}
 use Rattle.convert.specs.declared.templates.Rewritten.{Rewritten}
 use Rattle.convert.specs.declared.kinds.Markup.{Markup}
 use Rattle.convert.specs.declared.kinds.Markup.TheVariants as M
@@ -206,7 +207,7 @@ module _ (w : Bytes) where
       ∙ append_assoc (big_endian 4 m []) (big_endian 2 v [] ++ ks) d
       ∙ ap (λ (x : Bytes). big_endian 4 m [] ++ x) (append_assoc (big_endian 2 v []) ks d))
 
-  pub raise_wrote : {o o₁ o₂ o₃ o₄ o₅ : Bytes} {at a b c m e n g : ℕ} → n ≡ number_of (take 8 (take 2 w)) → g ≡ gaps_in (take (length w - 2) (drop 2 w)) → Wrote o at (head 0x84 (6 + g + length (take (length w - 2) (drop 2 w)))) o₁ a → Wrote o₁ a (big_endian 4 n []) o₂ b → Wrote o₂ b (big_endian 2 g []) o₃ c
+  pub raise_wrote : {o o₁ o₂ o₃ o₄ o₅ : Bytes} {at a b c m e n g : ℕ} → n ≡ number_of (take 2 w) → g ≡ gaps_in (take (length w - 2) (drop 2 w)) → Wrote o at (head 0x84 (6 + g + length (take (length w - 2) (drop 2 w)))) o₁ a → Wrote o₁ a (big_endian 4 n []) o₂ b → Wrote o₂ b (big_endian 2 g []) o₃ c
       → Wrote o₃ c (kind_marks g M.Outside (take (length w - 2) (drop 2 w))) o₄ m × (all_clear (kind_marks g M.Outside (take (length w - 2) (drop 2 w))) ≡ true) → Wrote o₄ m (take (length w - 2) (drop 2 w)) o₅ e
       → WroteBody Old w o at o₅ (record { place = e; long = ltb 65535 (6 + g + length (take (length w - 2) (drop 2 w))) })
   unfolding body_clear
@@ -214,9 +215,8 @@ module _ (w : Bytes) where
       let s : Bytes = take (length w - 2) (drop 2 w) in
       let es : s ≡ drop 2 w = part_rest 2 w in
       let eg' : g ≡ gaps_in (drop 2 w) = eg ∙ ap gaps_in es in
-      let en' : n ≡ number_of (take 2 w) = en ∙ ap number_of (take_all 8 (take 2 w) (omega (arith, length-take 2 w))) in
       let l : 6 + g + length s ≡ length (rewritten_body Old w) = omega (arith, old_length w, ap length es) in
-      let body : Wrote o₁ a (rewritten_body Old w) o₅ e = wrote_is (old_parts s g n es eg' en') (wrote_then w₂ (wrote_then w₃ (wrote_then w₄.0 w₅))) in
+      let body : Wrote o₁ a (rewritten_body Old w) o₅ e = wrote_is (old_parts s g n es eg' en) (wrote_then w₂ (wrote_then w₃ (wrote_then w₄.0 w₅))) in
       record {
         wrote = wrote_field 0x84 (subst (λ (x : ℕ). Wrote o at (head 0x84 x) o₁ a) l w₁) body;
         long_is = ap (ltb 65535) l;
@@ -229,12 +229,25 @@ module _ (w : Bytes) where
       let es : take (length w - 2) (drop 2 w) ≡ drop 2 w = part_rest 2 w in
       sym (ap₂ (λ (x : ℕ) (y : Bytes). all_clear (kind_marks x M.Outside y)) (eg ∙ ap gaps_in es) es) ∙ h
 
+-- numbers read
+pub two_first : (s : Bytes) → 2 ≤ length s → {n : ℕ} → n ≡ from_be_bytes w16 (get_or s 0 0 ∷ get_or s 1 0 ∷ []) → n ≡ number_of (take 2 s)
+unfolding number_from
+two_first (a ∷ b ∷ s) l e = omega arith
+two_first _ l e = absurd (omega arith)
+
+two_at : (s : Bytes) → 6 ≤ length s → {n : ℕ} → n ≡ from_be_bytes w16 (get_or s 4 0 ∷ get_or s 5 0 ∷ []) → n ≡ number_of (take 2 (drop 4 s))
+two_at (a ∷ b ∷ c ∷ d ∷ s) l e = two_first s (omega arith) e
+two_at _ l e = absurd (omega arith)
+
+pub four_first : (s : Bytes) → 4 ≤ length s → {n : ℕ} → n ≡ from_be_bytes w32 (get_or s 0 0 ∷ get_or s 1 0 ∷ get_or s 2 0 ∷ get_or s 3 0 ∷ []) → n ≡ number_of (take 4 s)
+unfolding number_from
+four_first (a ∷ b ∷ c ∷ d ∷ s) l e = omega arith
+four_first _ l e = absurd (omega arith)
+
 -- 84 to 80
 module _ (w : Bytes) where
-  pub front_at : {n : ℕ} → n ≡ number_of (take 8 (take 2 (drop 4 w))) → 6 + n ≡ counted_front 4 w
-  front_at {n} q =
-      let k : take 8 (take 2 (drop 4 w)) ≡ take 2 (drop 4 w) = take_all 8 (take 2 (drop 4 w)) (omega (arith, length-take 2 (drop 4 w))) in
-      omega (arith, q, ap number_of k)
+  pub front_at : 6 ≤ length w → {n : ℕ} → n ≡ from_be_bytes w16 (get_or w 4 0 ∷ get_or w 5 0 ∷ []) → 6 + n ≡ counted_front 4 w
+  front_at l e = ap (λ (x : ℕ). 6 + x) (two_at w l e)
 
   pub lower_room : (at : ℕ) → at + length (field_bytes 0x80 (rewritten_body New w)) < 2 ^ 64 → (f : ℕ) → f ≡ counted_front 4 w → at + (5 + length (take (length w - f) (drop f w))) < 2 ^ 64
   lower_room at h f q =
@@ -242,19 +255,16 @@ module _ (w : Bytes) where
       omega (arith, length_field_bytes 0x80 (rewritten_body New w), new_length w, ap length k)
 
   -- what the tests of an 84 say
-  module _ (f n : ℕ) (sk : Bool) (q : f ≡ counted_front 4 w) (en : n ≡ number_of (take 8 (take 4 w)))
-      (es : sk ≡ same (take (f - 6) (drop 6 w)) (kind_marks (length (take (f - 6) (drop 6 w))) M.Outside (take (length w - f) (drop f w)))) where
+  module _ (f n : ℕ) (sk : Bool) (q : f ≡ counted_front 4 w) (en : n ≡ number_of (take 4 w))
+      (es : sk ≡ same_kinds (take (f - 6) (drop 6 w)) (kind_marks (length (take (f - 6) (drop 6 w))) M.Outside (take (length w - f) (drop f w)))) where
     strings_are : take (length w - f) (drop f w) ≡ strings_at w
     strings_are = part_rest f w ∙ ap (λ (x : ℕ). drop x w) q
-
-    number_is : n ≡ number_of (take 4 w)
-    number_is = en ∙ ap number_of (take_all 8 (take 4 w) (omega (arith, length-take 4 w)))
 
     pub lower_clear : body_clear New w ≡ (leb n 65535 && sk)
     unfolding body_clear
     lower_clear =
         let kk : take (f - 6) (drop 6 w) ≡ kinds_at w = ap (λ (x : ℕ). take (x - 6) (drop 6 w)) q in
-        sym (ap₂ (λ (x : ℕ) (y : Bool). leb x 65535 && y) number_is (es ∙ ap₂ (λ (x y : Bytes). same x (kind_marks (length x) M.Outside y)) kk strings_are))
+        sym (ap₂ (λ (x : ℕ) (y : Bool). leb x 65535 && y) en (es ∙ ap₂ (λ (x y : Bytes). same_kinds x (kind_marks (length x) M.Outside y)) kk strings_are))
 
     pub lower_number_stops : 65535 < n → body_clear New w ≡ false
     lower_number_stops h = lower_clear ∙ ap (λ (x : Bool). x && sk) (lt-leb n 65535 h)
@@ -272,7 +282,7 @@ module _ (w : Bytes) where
     lower_wrote h k {o} {o₁} {o₂} {o₃} {at} {a} {b} {e} w₁ w₂ w₃ =
         let s : Bytes = take (length w - f) (drop f w) in
         let l : 2 + length s ≡ length (rewritten_body New w) = omega (arith, new_length w, ap length strings_are) in
-        let p : big_endian 2 n [] ++ s ≡ rewritten_body New w = ap₂ (λ (x : ℕ) (y : Bytes). big_endian 2 x [] ++ y) number_is strings_are in
+        let p : big_endian 2 n [] ++ s ≡ rewritten_body New w = ap₂ (λ (x : ℕ) (y : Bytes). big_endian 2 x [] ++ y) en strings_are in
         record {
           wrote = wrote_field 0x80 (subst (λ (x : ℕ). Wrote o at (head 0x80 x) o₁ a) l w₁) (wrote_is p (wrote_then w₂ w₃));
           long_is = ap (ltb 65535) l;

@@ -215,10 +215,22 @@ pub room_by : {m n : ℕ} (k : Kind) (p : Bytes) → m ≡ width (other k) → n
 room_by {m} {n} Old p em en b f l = (omega (arith, en), inr em, subst (λ (x : ℕ). length (bytes (renumbered m (read_out x p))) < 2 ^ 64) (sym en) (subst (λ (x : ℕ). length (bytes (renumbered x (read_out 2 p))) < 2 ^ 64) (sym em) (page_room 2 4 (omega arith) (omega arith) p b f l)))
 room_by {m} {n} New p em en b f l = (omega (arith, en), inl em, subst (λ (x : ℕ). length (bytes (renumbered m (read_out x p))) < 2 ^ 64) (sym en) (subst (λ (x : ℕ). length (bytes (renumbered x (read_out 4 p))) < 2 ^ 64) (sym em) (page_room 4 2 (omega arith) (omega arith) p b f l)))
 
--- a refusal that is passed on
-pub passed_on : (o : Outcome) (t p : Bytes) (r : Result Converted Unconverted) (e : Refusal) → IsErr r × IsErrAnd r (λ v. v ≡ U.Refused e) → o ≡ refused (refusal_number e) → Attempts o t p r t p
-passed_on o t p (Ok a) e h q = absurd h.1
-passed_on o t p (Err v) e h q = record { reason_is = q ∙ ap (λ (u : Unconverted). refused (unconverted_number u)) (sym h.1); templates_size = refl; page_size = refl }
+-- a reason that is passed on
+pub passed_on : (o : Outcome) (t p t' p' : Bytes) (r : Result Converted Unconverted) (e : Unconverted) → IsErr r × IsErrAnd r (λ v. v ≡ e) → o ≡ refused (unconverted_number e) → length t' ≡ length t → length p' ≡ length p → Attempts o t p r t' p'
+passed_on o t p t' p' (Ok a) e h q l m = absurd h.1
+passed_on o t p t' p' (Err v) e h q l m = record { reason_is = q ∙ ap (λ (u : Unconverted). refused (unconverted_number u)) (sym h.1); templates_size = l; page_size = m }
+
+-- what a test refuses
+pub refused_on : (n m : Refusal) {o : Outcome} → n ≡ m → o ≡ refused (refusal_number n) → o ≡ refused (unconverted_number (U.Refused m))
+refused_on n m e q = q ∙ ap (λ (x : Refusal). refused (refusal_number x)) e
+
+pub short_by : (b : Bool) → not b ≡ true → b ≡ false
+short_by false e = refl
+short_by true e = sym e
+
+pub long_by : (b : Bool) → not b ≡ false → b ≡ true
+long_by true e = refl
+long_by false e = sym e
 
 -- a refusal as it is answered
 pub refusal_answered : {o : Outcome} {t p t' p' t₂ p₂ : Bytes} {e : Unconverted} {n : ℕ} → Fails o t p e t' p' → n ≡ unconverted_number e → t₂ ≡ replicate (length t') 0 → p₂ ≡ replicate (length p') 0 → Converts o t p (record { number = n; templates_bytes = 0; page_bytes = 0 }) t₂ p₂

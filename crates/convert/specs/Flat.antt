@@ -1,6 +1,6 @@
 -- Templates as the code goes over them, record by record: what is written of each, whether it may be, and the strings by their bytes.
 -- Nothing here needs belief. Assumes nothing: these are definitions.
-use Rattle.std.specs.Prelude.{ℕ, zero, suc, ◌-◌, ◌≤◌, ◌<◌, ◌≡◌, Bool, true, false, ◌&&◌, ◌||◌, [], ◌∷◌, ◌++◌, eqb, leb, ltb, length, take, drop, get_or, Option, Some, None, Result, Ok, Err}
+use Rattle.std.specs.Prelude.{ℕ, zero, suc, ◌-◌, ◌≤◌, ◌≡◌, Bool, true, false, ◌&&◌, ◌||◌, [], ◌∷◌, ◌++◌, leb, ltb, length, take, drop, Option, Some, None, Result, Ok, Err}
 use Rattle.field.specs.Bytes.{Bytes, same}
 use Rattle.field.specs.Number.{number_of, big_endian}
 use Rattle.field.specs.Row.{Row, end, loose, field, field_bytes, bytes, counted_front, read}
@@ -15,27 +15,9 @@ use Rattle.convert.specs.declared.Unconverted.{Unconverted}
 use Rattle.convert.specs.declared.Unconverted.TheVariants.{Refused, Unsayable}
 use Rattle.convert.specs.declared.Converted.{Converted}
 use Rattle.convert.specs.declared.templates.Rewritten.{Rewritten}
+use Rattle.convert.specs.declared.kinds.Gaps.{Gaps}
 use Rattle.convert.specs.declared.kinds.Markup.{Markup}
 use Rattle.convert.specs.declared.kinds.Markup.TheVariants as M
-
--- ---- runs without signs
-
-unfoldable pub is_entered : Markup → Bool
-is_entered M.Outside = false
-is_entered M.Entered = true
-is_entered M.Opening = false
-is_entered M.Spaced = false
-is_entered M.Closing = false
-is_entered M.Crossed = false
-
-abbrev pub sign : ℕ → Bool
-sign c = eqb c 60 || eqb c 62
-
--- none from a place on up to another
-pub record NoSign (s : Bytes) (at e : ℕ) : Type 0 where
-  pub after : at ≤ e
-  pub within : e ≤ length s
-  pub none : (j : ℕ) → at ≤ j → j < e → sign (get_or s j 0) ≡ false
 
 -- ---- kinds
 
@@ -48,14 +30,29 @@ kind_number M.Spaced = 1
 kind_number M.Closing = 0
 kind_number M.Crossed = 0
 
+-- the same of an Option
+abbrev pub KindIs : Option ℕ → Markup → Type 0
+KindIs None m = kind_number m ≡ 0
+KindIs (Some k) m = (kind_number m ≡ k) × (1 ≤ k)
+
 -- behind each of so many strings
 unfoldable pub kind_marks : ℕ → Markup → Bytes → Bytes
 kind_marks zero m s = []
 kind_marks (suc k) m s = kind_number (all_passed m (body_of s)) ∷ kind_marks k (all_passed m (body_of s)) (behind_of s)
 
+-- a step over a gap: the strings that are left mark as those behind the first do
+pub record NextKind (x : Gaps) (o : Option ℕ) (y : Gaps) : Type 0 where
+  pub markup_is : y.markup ≡ all_passed x.markup (body_of x.strings.0.now)
+  pub left_is : (k : ℕ) → kind_marks k y.markup y.strings.0.now ≡ kind_marks k y.markup (behind_of x.strings.0.now)
+  pub kind_is : KindIs o y.markup
+
 unfoldable pub all_clear : Bytes → Bool
 all_clear [] = true
 all_clear (k ∷ ks) = leb 1 k && all_clear ks
+
+-- the same kinds, of which none is 0
+unfoldable pub same_kinds : Bytes → Bytes → Bool
+same_kinds ks ms = all_clear ms && same ks ms
 
 -- how many fields a row has
 unfoldable pub fields_in : Row → ℕ
@@ -85,7 +82,7 @@ rewritten_body New w = big_endian 2 (number_of (take 4 w)) [] ++ strings_at w
 
 unfoldable pub body_clear : Kind → Bytes → Bool
 body_clear Old w = all_clear (kind_marks (gaps_in (drop 2 w)) M.Outside (drop 2 w))
-body_clear New w = leb (number_of (take 4 w)) 65535 && same (kinds_at w) (kind_marks (length (kinds_at w)) M.Outside (strings_at w))
+body_clear New w = leb (number_of (take 4 w)) 65535 && same_kinds (kinds_at w) (kind_marks (length (kinds_at w)) M.Outside (strings_at w))
 
 abbrev pub rewritten_tag : Kind → ℕ
 rewritten_tag Old = 0x84

@@ -14,10 +14,11 @@ pub use kinds::Markup;
 use outs::Kind;
 use outs::page_out::check_page_out;
 use outs::templates::check_templates;
-use page::Refusal;
+use page::{Refusal, refuse_unless};
 use renumber::renumber;
 use templates::rewrite_templates;
 
+// It goes to C by value: a number, 0 for none refused, and no Result.
 #[repr(C)]
 #[derive(Clone, Copy)]
 pub struct Converted {
@@ -71,11 +72,12 @@ fn width(form: Kind) -> usize
     }
 }
 
-// From one form into the other. Where nothing is converted, what the outs hold is left to the caller.
-fn convert<'a>(
+// From one form into the other. Where nothing is converted, what the outs hold is left to the caller. The four buffers come one by one, as a C
+// program lends them.
+fn convert(
     from: Kind,
-    templates: &'a [u8],
-    page: &'a [u8],
+    templates: &[u8],
+    page: &[u8],
     templates_out: &mut [u8],
     page_out: &mut [u8],
 ) -> Result<Converted, Unconverted>
@@ -83,22 +85,14 @@ fn convert<'a>(
 {
     check_templates(templates, from)?;
     check_page_out(page, width(from))?;
-    let Some(x) = rewrite_templates(templates, from, templates_out) else {
-        return Err(Unconverted::Unsayable);
-    };
+    let x = rewrite_templates(templates, from, templates_out).ok_or(Unconverted::Unsayable)?;
     let y = renumber(page, width(from), width(other(from)), page_out);
     if y.wide {
         return Err(Unconverted::Unsayable);
     }
-    if x.long | y.long {
-        return Err(Unconverted::Refused(Refusal::OutputTooLong));
-    }
-    if templates_out.len() < x.place {
-        return Err(Unconverted::Refused(Refusal::TemplatesTooSmall));
-    }
-    if page_out.len() < y.bytes {
-        return Err(Unconverted::Refused(Refusal::PageTooSmall));
-    }
+    refuse_unless(!(x.long | y.long), Refusal::OutputTooLong)?;
+    refuse_unless(x.place <= templates_out.len(), Refusal::TemplatesTooSmall)?;
+    refuse_unless(y.bytes <= page_out.len(), Refusal::PageTooSmall)?;
     Ok(Converted {
         number: 0,
         templates_bytes: x.place,
@@ -107,10 +101,10 @@ fn convert<'a>(
 }
 
 // The same as it is answered: a refusal is its number, and zeros.
-fn answer<'a>(
+fn answer(
     from: Kind,
-    templates: &'a [u8],
-    page: &'a [u8],
+    templates: &[u8],
+    page: &[u8],
     templates_out: &mut [u8],
     page_out: &mut [u8],
 ) -> Converted
@@ -131,9 +125,9 @@ fn answer<'a>(
 }
 
 // Up: 84s from 80s, numbers of four bytes from two.
-pub fn upgrade<'a>(
-    templates: &'a [u8],
-    page: &'a [u8],
+pub fn upgrade(
+    templates: &[u8],
+    page: &[u8],
     templates_out: &mut [u8],
     page_out: &mut [u8],
 ) -> Converted
@@ -143,9 +137,9 @@ pub fn upgrade<'a>(
 }
 
 // Down: 80s from 84s, numbers of two bytes from four.
-pub fn downgrade<'a>(
-    templates: &'a [u8],
-    page: &'a [u8],
+pub fn downgrade(
+    templates: &[u8],
+    page: &[u8],
     templates_out: &mut [u8],
     page_out: &mut [u8],
 ) -> Converted

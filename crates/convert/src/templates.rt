@@ -6,17 +6,16 @@ ghost use Rattle.outs.specs.Templates.{check_templates};
 ghost use Rattle.outs.specs.declared.Kind.TheVariants as K;
 ghost use Rattle.convert.specs.Flat.{gaps_in, BodyFits, rewritten_tag, rewritten_body, RewritesBody, Rewrites};
 
-use crate::kinds::{are_kinds, count_fields, put_kinds};
+use crate::kinds::{are_kinds, put_kinds};
+use field::MAX_BODY;
 use field::reader::Fields;
 use field::writer::{put_bytes, put_four, put_head, put_two};
 use outs::Kind;
-use page::number::number_in;
-
-// The largest number that two bytes say.
-const LARGEST: usize = 65535;
+use renumber::LARGEST;
 
 // The place behind what is written, and whether some body is over 65,535 bytes. There is none where the other form cannot say it: a gap is of no
 // kind, the kinds are not those of the strings, or a number has no room.
+// A flag, and no refusal yet: the records behind are read all the same, since what cannot be said (17) comes before what is too long (11).
 #[derive(Clone, Copy)]
 pub struct Rewritten {
     pub place: usize,
@@ -27,15 +26,15 @@ pub struct Rewritten {
 fn count_gaps(s: &[u8]) -> usize
     ensures { result ≡ gaps_in s.now }
 {
-    count_fields(s).saturating_sub(1)
+    Fields(s).count().saturating_sub(1)
 }
 
-// An 84 from the body of an 80.
+// An 84 from the body of an 80. Up and down are two functions: the fronts have other parts, and only one works kinds out.
 fn raise_record(out: &mut [u8], at: usize, w: &[u8]) -> Option<Rewritten>
     requires { BodyFits K.Old w.now × (at + length (field_bytes (rewritten_tag K.Old) (rewritten_body K.Old w.now)) < 2 ^ 64) }
     ensures { RewritesBody K.Old w.now out.old at out.new result }
 {
-    let number = number_in(&w[..2]) as usize;
+    let number = usize::from(u16::from_be_bytes([w[0], w[1]]));
     let strings = &w[2..];
     let gaps = count_gaps(strings);
     let len = 6 + gaps + strings.len();
@@ -46,23 +45,22 @@ fn raise_record(out: &mut [u8], at: usize, w: &[u8]) -> Option<Rewritten>
     let e = put_bytes(out, d, strings);
     Some(Rewritten {
         place: e,
-        long: 65535 < len,
+        long: MAX_BODY < len,
     })
 }
 
-// An 80 from the body of an 84.
+// An 80 from the body of an 84. Of templates that are checked: the parts by their places. outs' check reads them by a pattern that may fail, and as
+// an Option this one would never be None.
 fn lower_record(out: &mut [u8], at: usize, w: &[u8]) -> Option<Rewritten>
     requires { BodyFits K.New w.now × (at + length (field_bytes (rewritten_tag K.New) (rewritten_body K.New w.now)) < 2 ^ 64) }
     ensures { RewritesBody K.New w.now out.old at out.new result }
 {
-    let number = number_in(&w[..4]) as usize;
-    let front = 6 + number_in(&w[4..6]) as usize;
+    // From makes no usize of a u32.
+    let number = u32::from_be_bytes([w[0], w[1], w[2], w[3]]) as usize;
+    let front = 6 + usize::from(u16::from_be_bytes([w[4], w[5]]));
     let kinds = &w[6..front];
     let strings = &w[front..];
-    if LARGEST < number {
-        return None;
-    }
-    if !are_kinds(kinds, strings) {
+    if LARGEST < number || !are_kinds(kinds, strings) {
         return None;
     }
     let len = 2 + strings.len();
@@ -71,7 +69,7 @@ fn lower_record(out: &mut [u8], at: usize, w: &[u8]) -> Option<Rewritten>
     let e = put_bytes(out, b, strings);
     Some(Rewritten {
         place: e,
-        long: 65535 < len,
+        long: MAX_BODY < len,
     })
 }
 

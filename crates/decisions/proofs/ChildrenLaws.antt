@@ -1,19 +1,21 @@
--- What the code of src/children.rt learns. Main statements: `first_child`, `no_child`, `few_none`, `few_one`, `few_more`, `text_kept`,
--- `text_blank`, `text_other`, `no_text`, `tag_counted`, `tag_passed`, `tag_other`, `no_tag`, `becomes_none`, `becomes_one`, `becomes_two`.
+-- What the code of src/children.rt learns. Main statements: `first_child`, `no_child`, `few_ended`, `few_one`, `few_more`, `text_front`,
+-- `no_text`, `tag_counted`, `tag_passed`, `tag_other`, `no_tag`, `becomes_none`, `becomes_one`, `becomes_two`.
 -- Assumes nothing.
 use mathlib.Core.Path.{◌≡◌, refl, sym, ap, ◌∙◌, subst}
-use mathlib.Core.Bool.{Bool, true, false, ◌||◌, not, true≢false}
+use mathlib.Core.Bool.{Bool, true, false, ◌||◌, ◌&&◌, not, true≢false}
 use Prim.Native.Nat.{ℕ, ◌+◌, ◌-◌, ◌≤◌}
 use native.Mathlib.Omega.{arith}
 use native.Mathlib.Nat.{zero-add}
 use mathlib.Core.List.{[], ◌∷◌}
-use lib.Dec.{T, leb}
+use lib.Dec.{T, leb, eqb}
 use lib.ListN.{length, drop}
 use lib.Seq.{drop-drop, drop-append_seam}
-use borrow.Author.Tests.{le-leb, ne_eqb}
+use borrow.Author.Tests.{le-leb, eq-eqb, ne_eqb}
 use Rattle.field.specs.Bytes.{Bytes, pick, null?}
 use Rattle.field.specs.Row.{read, Ended}
 use Rattle.field.specs.Front.{tag_of_front, body_of, behind_of}
+use Rattle.field.specs.Fields.{IsFront}
+use Rattle.field.specs.declared.reader.Field.{Field}
 use Rattle.field.proofs.RowLaws.{read_nil, next_parts}
 use Rattle.field.proofs.FrontLaws.{sizes, next_at}
 use Rattle.text.specs.Text.{jsx_text_to_str}
@@ -113,9 +115,9 @@ some_here s i = at_child s (λ (cs : P.Children). is_none cs ≡ false) (λ b. r
 
 -- a is the series from its first child on, and b what lies behind that child, from its first child on
 module _ (s a : Bytes) (f : FirstChild s a) where
-  pub few_none : length a ≡ 0 → Zero ≡ few (children_in (read s))
+  pub few_ended : Ended (read a) → Zero ≡ few (children_in (read s))
   unfolding few
-  few_none h = sym (ap few (f.none_left h))
+  few_ended e = sym (ap few (sym f.same_children ∙ children_none (read a) e))
 
   module _ (n : length a ≡ 0 → ⊥) {r : Bytes} (q : r ≡ behind_of a) (b : Bytes) (g : FirstChild r b) where
     few_by : few (children_in (read s)) ≡ pick (is_none (children_in (read r))) One More
@@ -140,27 +142,19 @@ pub no_text : (s : Bytes) → Ended (read s) → false ≡ some_text (children_i
 unfolding some_text
 no_text s i = sym (ap some_text (children_none (read s) i))
 
-module _ (s : Bytes) (t : ℕ) (e : t ≡ tag_of_front s) where
-  module _ (h : t ≡ 0x60) {b : Bytes} (q : b ≡ body_of s) {v : Bool} (g : v ≡ null? (jsx_text_to_str b false false)) where
-    text_here : some_text (children_in (read s)) ≡ (not v || some_text (children_in (read (behind_of s))))
-    unfolding some_text
-    text_here = ap some_text (children_60 s t e h) ∙ rw (g, q)
-
-    pub text_kept : v ≡ false → true ≡ some_text (children_in (read s))
-    text_kept z = sym (text_here ∙ rw z)
-
-    pub text_blank : v ≡ true → {r : Bytes} → r ≡ behind_of s → some_text (children_in (read r)) ≡ some_text (children_in (read s))
-    text_blank z {r} u = sym (text_here ∙ rw (z, u))
-
-  pub text_other : (t ≡ 256 → ⊥) → (t ≡ 0x60 → ⊥) → {r : Bytes} → r ≡ behind_of s → some_text (children_in (read r)) ≡ some_text (children_in (read s))
-  unfolding some_text
-  text_other h a {r} u =
-      ap (λ (x : Bytes). some_text (children_in (read x))) u ∙
-      (tested t 0x52 (λ z. sym (ap some_text (children_52 s t e z) ∙ contained_silent _ _)) λ c.
-      tested t 0x30 (λ z. ap some_text (sym (children_30 s t e z))) λ b.
-      tested t 0x31 (λ z. ap some_text (sym (children_31 s t e z))) λ d.
-      tested t 0x61 (λ z. ap some_text (sym (children_61 s t e z))) λ f.
-      ap some_text (sym (children_other s t e h a c b d f)))
+-- a text of which something is left, or what lies behind
+pub text_front : (s : Bytes) (f : Field) (r : Bytes) → IsFront s f.tag f.body.now r →
+    some_text (children_in (read s)) ≡ ((eqb f.tag 0x60 && not (null? (jsx_text_to_str f.body.now false false))) || some_text (children_in (read r)))
+unfolding some_text
+text_front s f r k =
+    let t = f.tag in
+    let e = k.tag_is in
+    tested t 0x60 (λ z. ap some_text (children_60 s t e z) ∙ rw (sym k.body_is, sym k.behind_is, eq-eqb t 0x60 z)) λ a.
+    (tested t 0x52 (λ z. ap some_text (children_52 s t e z) ∙ contained_silent _ _) λ c.
+    tested t 0x30 (λ z. ap some_text (children_30 s t e z)) λ b.
+    tested t 0x31 (λ z. ap some_text (children_31 s t e z)) λ d.
+    tested t 0x61 (λ z. ap some_text (children_61 s t e z)) λ g.
+    ap some_text (children_other s t e (λ y. omega (arith, k.tag_below, y)) a c b d g)) ∙ rw (sym k.behind_is, ne_eqb t 0x60 a)
 
 -- ---- how many serializable tags are left; the second list plays no part
 

@@ -1,14 +1,15 @@
 -- What the code of src/expr.rt learns: the shape of an expression by its tag.
--- Main statements: `boolean_first`, `number_front`, `shape_70` and the like. Assumes nothing.
+-- Main statements: `boolean_true`, `boolean_false`, `number_front`, `shape_70` and the like. Assumes nothing.
 use Rattle.std.specs.Prelude.{Option, Some, None}
 use Rattle.std.specs.Option.{unwrap_or}
 use mathlib.Core.Path.{◌≡◌, refl, sym, ap, ◌∙◌, subst}
-use mathlib.Core.Bool.{Bool, false}
+use mathlib.Core.Bool.{Bool, true, false}
 use mathlib.Core.Logic.{◌⊎◌, ⊎_elim}
 use Prim.Native.Nat.{ℕ, ◌≤◌, ◌<◌}
 use native.Mathlib.Omega.{arith}
 use mathlib.Core.List.{[], ◌∷◌}
 use lib.Dec.{eqb}
+use borrow.Author.Tests.{eq-eqb, ne_eqb}
 use lib.ListN.{length, get_or}
 use Rattle.field.specs.Bytes.{Bytes}
 use Rattle.field.specs.Row.{read, Ended, Inside, only_bytes, fields_after, counted, inside, opened, Next, nothing, no_field, next, next_of, built}
@@ -25,10 +26,16 @@ use Rattle.decisions.proofs.Series.{contained_none, contained_field, expr_70, ex
 
 -- ---- booleans
 
-pub boolean_first : (s : Bytes) → 0 < length s → eqb (get_or s 0 0) 1 ≡ boolean_in s
+boolean_first : (s : Bytes) → 0 < length s → boolean_in s ≡ eqb (get_or s 0 0) 1
 unfolding boolean_in
 boolean_first [] h = absurd (omega arith)
 boolean_first (c ∷ s) h = refl
+
+pub boolean_true : (s : Bytes) → 0 < length s → get_or s 0 0 ≡ 1 → true ≡ boolean_in s
+boolean_true s h e = sym (boolean_first s h ∙ eq-eqb (get_or s 0 0) 1 e)
+
+pub boolean_false : (s : Bytes) → 0 < length s → (get_or s 0 0 ≡ 1 → ⊥) → false ≡ boolean_in s
+boolean_false s h e = sym (boolean_first s h ∙ ne_eqb (get_or s 0 0) 1 e)
 
 pub boolean_none : (s : Bytes) → length s ≤ 0 → false ≡ boolean_in s
 unfolding boolean_in

@@ -1,7 +1,6 @@
 -- What the walks need of elements, values, shapes and children as they stand in bytes.
 -- Main statements: `child_element`, `raw_element`, `child_fragment`, `raw_fragment`, `element_serializable`, `becomes_is`; for what
--- `value_at` answers `string_held`, `container_held`, `element_held`, `fragment_held`, `absent_held`; for what `shape_at` answers
--- `string_contained` and the like. The readings by the tag in front are in `Series`. Assumes nothing.
+-- `shape_at` answers `string_contained` and the like. The readings by the tag in front are in `Series`. Assumes nothing.
 use Rattle.std.specs.Prelude.{Option, Some, None}
 use mathlib.Core.Path.{◌≡◌, refl, sym, ap, ap₂, ◌∙◌, subst}
 use mathlib.Core.Bool.{Bool, false, ◌&&◌, ◌||◌, not, and_assoc}
@@ -24,13 +23,10 @@ use Rattle.spec.specs.Merge as M
 use Rattle.spec.specs.Merge.{text_count, serializable_count, becomes_template}
 use Rattle.spec.specs.Visit.{visit_fragment}
 use Rattle.spec.specs.Transform.{element_of, fragment_of, element_raw, shape_of, child, raw_tag, attributes, children}
-use Rattle.decisions.specs.At.{opts, element_name, behind_name, element_at, forbids, serializable_by, serializable, becomes, value_of, shape_by, shape_of_contained}
-use Rattle.decisions.specs.declared.attribute.Value.{Value}
-use Rattle.decisions.specs.declared.attribute.Value.TheVariants as Held
+use Rattle.decisions.specs.At.{opts, element_name, behind_name, element_at, forbids, serializable_by, serializable, becomes, shape_by, shape_of_contained}
 use Rattle.decisions.specs.declared.expr.Shape.{Shape}
 use Rattle.decisions.specs.declared.expr.Shape.TheVariants as Form
-use Rattle.decisions.proofs.Series.{tested, any_front, value_in_at, fragment_is, value_51, value_52, value_30, value_31, value_other, contained_field, expr_70, expr_71, expr_72, expr_74, expr_75, expr_76, expr_79, expr_7a, expr_7b, expr_30, expr_31}
-use Rattle.decisions.proofs.AttributeLaws.{held_contained, held_element, held_fragment}
+use Rattle.decisions.proofs.Series.{tested, any_front, fragment_is, contained_field, expr_70, expr_71, expr_72, expr_74, expr_75, expr_76, expr_79, expr_7a, expr_7b, expr_30, expr_31}
 
 -- ---- an element and a fragment, by their bytes
 
@@ -113,65 +109,6 @@ module _ (k p : Bytes) where
   pub becomes_is : (cs : P.Children) → becomes_template (children (opts k p) cs) ≡ becomes k cs
   unfolding becomes becomes_template
   becomes_is cs = ap₂ (λ (n m : ℕ). leb 2 n || (eqb n 1 && leb 1 m)) (tags_same cs) (texts_same cs)
-
--- ---- an attribute's value, by what the code's enum says of it
-
--- the value that lies behind a name, with its bytes
-pub data ValueAt (s : Bytes) : P.Value → Option Value → Type 0 where
-  is_absent : ValueAt s P.absent None
-  is_string : ValueAt s (P.string_value (body_of s)) (Some Held.String)
-  is_container : ValueAt s (contained_value (contained_in (read (body_of s)))) (Some Held.Container)
-  is_element : ValueAt s (P.tag_value (element_in (read (body_of s)))) (Some Held.Element)
-  is_fragment : ValueAt s (P.tag_value (fragment_in (read (body_of s)))) (Some Held.Fragment)
-
-module _ (s : Bytes) where
-  valued : (v : P.Value) {w : Option Value} → value_of v ≡ w → ValueAt s v w → value_behind (read s) ≡ v → ValueAt s (value_behind (read s)) (value_of (value_behind (read s)))
-  valued v {w} e x q = subst (λ (y : P.Value). ValueAt s y (value_of y)) (sym q) (subst (ValueAt s v) (sym e) x)
-
-  pub value_view : ValueAt s (value_behind (read s)) (value_of (value_behind (read s)))
-  unfolding value_of
-  value_view =
-      let t = tag_of_front s in
-      tested t 0x51 (λ k. valued _ refl is_string (value_51 s t refl k)) λ a.
-      tested t 0x52 (λ k. valued _ (held_contained _) is_container (value_52 s t refl k)) λ b.
-      tested t 0x30 (λ k. valued _ (held_element _) is_element (value_30 s t refl k)) λ c.
-      tested t 0x31 (λ k. valued _ (held_fragment _) is_fragment (value_31 s t refl k)) λ d.
-      valued P.absent refl is_absent (value_other s t refl a b c d)
-
-string_view : {s : Bytes} {v : P.Value} → ValueAt s v (Some Held.String) → v ≡ P.string_value (body_of s)
-string_view is_string = refl
-
-container_view : {s : Bytes} {v : P.Value} → ValueAt s v (Some Held.Container) → v ≡ contained_value (contained_in (read (body_of s)))
-container_view is_container = refl
-
-element_view : {s : Bytes} {v : P.Value} → ValueAt s v (Some Held.Element) → v ≡ P.tag_value (element_in (read (body_of s)))
-element_view is_element = refl
-
-fragment_view : {s : Bytes} {v : P.Value} → ValueAt s v (Some Held.Fragment) → v ≡ P.tag_value (fragment_in (read (body_of s)))
-fragment_view is_fragment = refl
-
-absent_view : {s : Bytes} {v : P.Value} → ValueAt s v None → v ≡ P.absent
-absent_view is_absent = refl
-
--- a is the body of a 50
-module _ (a : Bytes) where
-  viewed : {w : Option Value} → value_of (value_in (read a)) ≡ w → ValueAt (behind_of a) (value_in (read a)) w
-  viewed {w} h = subst (ValueAt (behind_of a) (value_in (read a))) h (subst (λ (v : P.Value). ValueAt (behind_of a) v (value_of v)) (sym (value_in_at a)) (value_view (behind_of a)))
-
-  pub string_held : value_of (value_in (read a)) ≡ Some Held.String → value_in (read a) ≡ P.string_value (body_of (behind_of a))
-  string_held h = string_view (viewed h)
-
-  pub container_held : value_of (value_in (read a)) ≡ Some Held.Container → value_in (read a) ≡ contained_value (contained_in (read (body_of (behind_of a))))
-  container_held h = container_view (viewed h)
-
-  pub element_held : value_of (value_in (read a)) ≡ Some Held.Element → value_in (read a) ≡ P.tag_value (element_in (read (body_of (behind_of a))))
-  element_held h = element_view (viewed h)
-
-  pub fragment_held : value_of (value_in (read a)) ≡ Some Held.Fragment → value_in (read a) ≡ P.tag_value (fragment_in (read (body_of (behind_of a))))
-  fragment_held h = fragment_view (viewed h)
-
-  pub absent_held : value_of (value_in (read a)) ≡ None → value_in (read a) ≡ P.absent
-  absent_held h = absent_view (viewed h)
 
 -- ---- what a container holds, by its shape
 

@@ -1,6 +1,7 @@
 -- Laws of the decisions: `Series` for what stands at the front of bytes, by its tag; `Laws` for what the walks need of elements, values and
 -- shapes; and, for each file of the code, what it learns at its returns.
 pub mod Series
+pub mod AnyLaws
 pub mod AttributeLaws
 pub mod ExprLaws
 pub mod ElementLaws

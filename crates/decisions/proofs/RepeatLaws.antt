@@ -1,12 +1,12 @@
 -- Names as they are read for HTML, letter by letter. Main statements: `left_starts`, `reads_sign`, `reads_letter`, `ident_whole`, `pair_other`,
--- `attr_40`; what the loops over attributes keep. Assumes nothing.
+-- `names_50`, `repeats_more`, `keyed`; what the loops over attributes keep, `Passed`, `noted_more`. Assumes nothing.
 use Rattle.std.specs.Prelude.{Option, Some, None, option_map, MatchOption, IfSome}
-use Rattle.std.specs.Iterator.{YieldsFirst, YieldsFirstBy, YieldsThen}
+use Rattle.std.specs.Iterator.{YieldsFirst, YieldsThen}
 use Rattle.std.specs.List.{slice_get, list_any, AllZip}
 use Rattle.std.specs.Option.{is_some, unwrap_or, option_copied}
 use Rattle.std.proofs.lemmas.Grind.{get_or_default_zero}
 use Rattle.std.proofs.lemmas.Iterator.{YieldsList}
-use Rattle.std.proofs.lemmas.Iterator.Consumers.{YieldsList-from_first}
+use Rattle.std.proofs.lemmas.Iterator.Consumers.{YieldsList-from_shown}
 use Rattle.std.proofs.lemmas.Option.{unwrap_or-slice_get}
 use denote.Ref.{Bor}
 use Rattle.std.specs.Char.{is_ascii_uppercase}
@@ -28,7 +28,9 @@ use Rattle.field.specs.declared.reader.Field.{Field}
 use Rattle.field.specs.declared.reader.Fields.{Fields}
 use Rattle.field.specs.Front.{tag_of_front, body_of, behind_of}
 use Rattle.field.proofs.FrontLaws.{behind_less}
-use Rattle.decisions.specs.declared.repeats.Attributes.{Attributes}
+use Rattle.page.specs.Page as P
+use Rattle.decisions.specs.declared.attribute.Attributes.{Attributes}
+use Rattle.decisions.specs.At.{written, IsAttribute, NoAttribute, GivesAttribute}
 use Rattle.names.specs.Names.{ident, namespaced, get_attr_name, normalize_dom_attr_name, renamed, hyphenated_names, kept_names, parted, capital, small_letter, small_letters}
 use Rattle.names.specs.Table.{signed, spelled_letter, spelled}
 use Rattle.names.proofs.MarkLaws.{spelled_none}
@@ -456,10 +458,24 @@ one_only s (x ∷ []) o u e l h = one_front s.0.now x.tag e.1.1 (no_second e.1.0
 one_only s (x ∷ y ∷ xs) None u e l h = absurd (omega (arith, l))
 one_only s (x ∷ y ∷ xs) (Some f) u e l h = absurd (omega (arith, l))
 
--- ---- earlier_has
+-- ---- the names of the attributes that are written, one after the other
 
-pub attributes_yield : (s : Attributes) → YieldsList (YieldsFirstBy (λ (a : Bor Bytes). name_in a.now) (λ (row : Attributes). names_in row.0.now)) (λ (a : Bor Bytes). name_in a.now) s (names_in s.0.now)
-attributes_yield s = YieldsList-from_first (λ (a : Bor Bytes). name_in a.now) (λ (row : Attributes). names_in row.0.now) (names_in s.0.now) refl
+names_written : (as' : P.Attributes) → html_names (written as') ≡ html_names as'
+unfolding html_names written
+names_written P.no_attributes = refl
+names_written (P.attribute n v as') = ap (λ ns. html_name n ∷ ns) (names_written as')
+names_written (P.spread_attribute e as') = names_written as'
+
+pub names_gone : {s t : Bytes} → NoAttribute s t → names_in s ≡ []
+unfolding html_names
+names_gone {s} g = sym (names_written (attributes_in (read s))) ∙ ap html_names g.none_written
+
+pub names_step : {s a t : Bytes} → IsAttribute s a t → names_in s ≡ name_in a ∷ names_in t
+unfolding html_names
+names_step {s} {a} {t} g = sym (names_written (attributes_in (read s))) ∙ ap html_names g.written_is ∙ ap (λ ns. name_in a ∷ ns) (names_written (attributes_in (read t)))
+
+pub attributes_yield : (s : Attributes) → YieldsList GivesAttribute (λ (a : Bor Bytes). name_in a.now) s (names_in s.0.now)
+attributes_yield s = YieldsList-from_shown GivesAttribute (λ (a : Bor Bytes). name_in a.now) (λ (row : Attributes). names_in row.0.now) (λ t u g. ap length (names_gone g)) (λ t a u g. names_step g) s
 
 pub any_among : (x : Bytes) (ns : List Bytes) → list_any (same x) ns ≡ among x ns
 unfolding among

@@ -1,9 +1,11 @@
 -- Elements, attributes, expressions and children as they stand in bytes. Assumes nothing: these are definitions.
-use Rattle.std.specs.Prelude.{Bool, true, false, ◌&&◌, ◌||◌, not, ◌≡◌, List, [], T, length, Option, Some, None}
+use Rattle.std.specs.Prelude.{Bool, true, false, ◌&&◌, ◌||◌, not, ◌≡◌, ◌+◌, ◌≤◌, List, [], T, length, Option, Some, None}
 use denote.Ref.{Bor}
 use Rattle.field.specs.Bytes.{Bytes, ascii, same, among, pick, null?}
 use Rattle.field.specs.Row.{Row, end, loose, field, read}
-use Rattle.field.specs.Front.{tag_of_front, body_of}
+use Rattle.field.specs.Front.{tag_of_front, body_of, behind_of}
+use Rattle.field.specs.Fields.{IsFront}
+use Rattle.field.specs.declared.reader.Field.{Field}
 use Rattle.text.specs.Text.{jsx_text_to_str}
 use Rattle.names.specs.Names as N
 use Rattle.names.specs.Names.{get_attr_name}
@@ -11,21 +13,25 @@ use Rattle.page.specs.Number.{Number, render, number_in}
 use Rattle.page.specs.Check.{is_child}
 use Rattle.page.specs.Page as P
 use Rattle.page.specs.Page.{Options, Name, identifier, member, namespaced}
-use Rattle.page.specs.Tree.{texts_in, name_by, attributes_in, children_in, Contained, nothing_contained, contained}
+use Rattle.page.specs.Tree.{texts_in, name_by, attributes_in, attr_name_in, value_in, children_in, Contained, nothing_contained, contained, contained_in, contained_value}
 use Rattle.spec.specs.Attributes as A
 use Rattle.spec.specs.Attributes.{first_upper}
 use Rattle.spec.specs.Merge as M
 use Rattle.spec.specs.Merge.{becomes_template}
 use Rattle.spec.specs.Transform.{element_of, attributes, children}
 use Rattle.decisions.specs.Index.{names_of}
+use Rattle.decisions.specs.declared.attribute.Attributes.{Attributes}
 use Rattle.decisions.specs.declared.attribute.AttrName.{AttrName}
 use Rattle.decisions.specs.declared.attribute.AttrName.TheVariants as AttrNamed
 use Rattle.decisions.specs.declared.attribute.Value.{Value}
 use Rattle.decisions.specs.declared.attribute.Value.TheVariants as Held
 use Rattle.decisions.specs.declared.children.Count.{Count}
 use Rattle.decisions.specs.declared.children.Count.TheVariants.{Zero, One, More}
+use Rattle.decisions.specs.declared.children.Children.{Children}
+use Rattle.decisions.specs.declared.children.Children.TheVariants as Counted
 use Rattle.decisions.specs.declared.element.ElementName.{ElementName}
 use Rattle.decisions.specs.declared.element.ElementName.TheVariants as Named
+use Rattle.decisions.specs.declared.options.Options as Lent
 use Rattle.decisions.specs.declared.expr.Shape.{Shape}
 use Rattle.decisions.specs.declared.expr.Shape.TheVariants as Form
 
@@ -61,6 +67,10 @@ children_at skip props r = children (opts skip props) (children_in r)
 unfoldable pub element_at : Bytes → Bytes → Bytes → M.Element
 element_at skip props b = element_of (opts skip props) (element_name (read b)) (attributes_at skip props (behind_name (read b))) (children_at skip props (behind_name (read b)))
 
+-- what is defined over the two lists of names, of the options as they are lent to the walks
+abbrev pub under : {A : Type 0} → Lent.Options → (Bytes → Bytes → A) → A
+under o f = f o.skip.now o.props.now
+
 -- a spread, or dangerouslySetInnerHTML
 unfoldable pub forbids : P.Attributes → Bool
 forbids P.no_attributes = false
@@ -92,13 +102,38 @@ abbrev pub IdentAt : N.AttrName → Option (Bor Bytes) → Type 0
 IdentAt n None = (b : Bytes) → n ≡ N.ident b → b ≡ []
 IdentAt n (Some b) = n ≡ N.ident b.now
 
-unfoldable pub value_of : P.Value → Option Value
-value_of P.absent = None
-value_of (P.string_value b) = Some Held.String
-value_of P.empty_value = Some Held.Container
-value_of (P.container_value e) = Some Held.Container
-value_of (P.tag_value (P.element n as' cs)) = Some Held.Element
-value_of (P.tag_value (P.fragment cs)) = Some Held.Fragment
+-- a tag as a value, which is an expression too
+pub record TagHeld (v : P.Value) (t : Bytes) : Type 0 where
+  pub tag : P.Tag
+  pub value_is : v ≡ P.tag_value tag
+  pub expression_is : contained_in (read t) ≡ contained (P.tag_expr tag)
+
+-- the value of the attribute with the fields a and its bytes, which lie in them
+abbrev pub Holds : Bytes → Option Value → Type 0
+Holds a None = value_in (read a) ≡ P.absent
+Holds a (Some (Held.String b)) = value_in (read a) ≡ P.string_value b.now
+Holds a (Some (Held.Container c)) = (value_in (read a) ≡ contained_value (contained_in (read c.now))) × (length c.now ≤ length a)
+Holds a (Some (Held.Tag t)) = TagHeld (value_in (read a)) t.now × (length t.now ≤ length a)
+
+-- the attributes that are written, not spread
+unfoldable pub written : P.Attributes → P.Attributes
+written P.no_attributes = P.no_attributes
+written (P.attribute n v as') = P.attribute n v (written as')
+written (P.spread_attribute e as') = written as'
+
+-- the first of them in front of s has the fields a, and r lies behind it
+pub record IsAttribute (s a r : Bytes) : Type 0 where
+  pub written_is : written (attributes_in (read s)) ≡ P.attribute (attr_name_in (read a)) (value_in (read a)) (written (attributes_in (read r)))
+  pub sizes : 3 + length a + length r ≤ length s
+
+-- none is in front of s, and all of it stays
+pub record NoAttribute (s r : Bytes) : Type 0 where
+  pub none_written : written (attributes_in (read s)) ≡ P.no_attributes
+  pub stays : r ≡ s
+
+abbrev pub GivesAttribute : Attributes → Option (Bor Bytes) → Attributes → Type 0
+GivesAttribute x None y = NoAttribute x.0.now y.0.now
+GivesAttribute x (Some a) y = IsAttribute x.0.now a.now y.0.now
 
 unfoldable pub shape_by : P.Expr → Shape
 shape_by (P.string_literal b) = Form.String
@@ -161,3 +196,20 @@ pub record FirstChild (s r : Bytes) : Type 0 where
   pub same_children : children_in (read r) ≡ children_in (read s)
   pub none_left : length r ≡ 0 → children_in (read s) ≡ P.no_children
   pub child_first : (length r ≡ 0 → ⊥) → T (is_child (tag_of_front r))
+
+-- the count that the code's enum says, and the only child, which stands in front of what is left from the first child on
+abbrev pub count_of : Children → Count
+count_of Counted.Zero = Zero
+count_of (Counted.One f) = One
+count_of Counted.More = More
+
+pub record OnlyChild (s : Bytes) (f : Field) : Type 0 where
+  pub from : Bytes
+  pub first : FirstChild s from
+  pub within : length from ≤ length s
+  pub front : IsFront from f.tag f.body.now (behind_of from)
+
+abbrev pub OnlyIn : Bytes → Children → Type 0
+OnlyIn s Counted.Zero = Unit {0}
+OnlyIn s (Counted.One f) = OnlyChild s f
+OnlyIn s Counted.More = Unit {0}

@@ -1,23 +1,58 @@
 // An attribute by the fields of its 50: the name in front, the value behind it.
-ghost use Rattle.std.specs.Prelude.{◌≡◌, true, false};
+ghost use Rattle.std.specs.Prelude.{◌≡◌, ◌+◌, ◌<◌, ◌^◌, true, false, length};
 ghost use Rattle.field.specs.Bytes.{ascii, same, among};
+ghost use Rattle.field.specs.Put.{Wrote};
 ghost use Rattle.field.specs.Row.{read};
 ghost use Rattle.names.specs.Names.{get_attr_name, is_boolean_attr};
-ghost use Rattle.page.specs.Tree.{texts_in, first_in, second_in, attr_name_in, value_in};
-ghost use Rattle.decisions.specs.At.{attr_name, IdentAt, value_of};
+ghost use Rattle.page.specs.Tree.{texts_in, first_in, second_in, attr_name_in};
+ghost use Rattle.decisions.specs.At.{attr_name, IdentAt, Holds, GivesAttribute};
+ghost use Rattle.std.specs.Iterator.{at_most};
 ghost use Rattle.decisions.specs.Index.{names_of};
 
 use crate::index::{lists, lists_namespaced};
 use field::reader::{Field, Fields, behind, field_at};
-use names::{normalizes_to_boolean, normalizes_to_key, normalizes_to_ref, same_bytes};
+use names::{
+    get_attr_name, normalize_namespaced, normalizes_to_boolean, normalizes_to_key,
+    normalizes_to_ref, same_bytes,
+};
 
-// What a value is, by the field that stands behind the name: 51, 52, 30 or 31.
+// A value with its bytes, by the field that stands behind the name.
 #[derive(Clone, Copy)]
-pub enum Value {
-    String,
-    Container,
-    Element,
-    Fragment,
+pub enum Value<'a> {
+    // a string's text
+    String(&'a [u8]),
+    // what stands in braces
+    Container(&'a [u8]),
+    // an element or a fragment, in front
+    Tag(&'a [u8]),
+}
+
+// The attributes in front of a row, each by the fields of its 50. A spread is passed over.
+#[derive(Clone, Copy)]
+pub struct Attributes<'a>(pub &'a [u8]);
+
+impl<'a> Iterator for Attributes<'a> {
+    type Item = &'a [u8];
+
+    ghost next_gives = { GivesAttribute };
+
+    ghost remaining = { λ row. at_most (length row.0.now) };
+
+    #[inline(always)]
+    fn next(&mut self) -> Option<&'a [u8]> {
+        let mut fields = Fields(self.0);
+        while let Some(field) = fields.next() {
+            match field.tag {
+                0x50 => {
+                    self.0 = fields.0;
+                    return Some(field.body);
+                }
+                0x53 => {}
+                _ => return None,
+            }
+        }
+        None
+    }
 }
 
 // The body of the next 40, empty where there is none.
@@ -25,12 +60,10 @@ fn next_name<'a>(fields: &mut Fields<'a>) -> &'a [u8]
     ensures first { result.now ≡ first_in (texts_in 0x40 (read fields.old.0.now)) }
     ensures rest { first_in (texts_in 0x40 (read fields.new.0.now)) ≡ second_in (texts_in 0x40 (read fields.old.0.now)) }
 {
-    while let Some(field) = fields.next() {
-        if field.tag == 0x40 {
-            return field.body;
-        }
+    match fields.find(|field| field.tag == 0x40) {
+        Some(name) => name.body,
+        None => &[],
     }
-    &[]
 }
 
 // The bodies of the first two 40s of a series.
@@ -83,16 +116,14 @@ pub fn ident_at(a: &[u8]) -> Option<&[u8]>
 pub fn is_listed<'a>(props: &'a [u8], a: &'a [u8]) -> bool
     ensures { result ≡ among (get_attr_name (attr_name_in (read a.now)) false) (names_of props.now) }
 {
-    if props.is_empty() {
-        return false;
-    }
-    match attr_name_at(a) {
-        AttrName::Ident(n) => lists(props, n),
-        AttrName::Namespaced(ns, n) => lists_namespaced(props, ns, n),
-    }
+    !props.is_empty()
+        && match attr_name_at(a) {
+            AttrName::Ident(n) => lists(props, n),
+            AttrName::Namespaced(ns, n) => lists_namespaced(props, ns, n),
+        }
 }
 
-// Whether its normalised name is boolean. A namespaced name never is.
+// Whether its normalised name is boolean. A namespaced name never is. What this and the next ones share is `ident_at`; each asks another question.
 pub fn is_boolean(a: &[u8]) -> bool
     ensures { result ≡ is_boolean_attr (get_attr_name (attr_name_in (read a.now)) true) }
 {
@@ -105,9 +136,10 @@ pub fn is_key(a: &[u8], norm: bool) -> bool
 {
     let name = ident_at(a);
     if norm {
-        return name.is_some_and(|n| normalizes_to_key(n));
+        name.is_some_and(|n| normalizes_to_key(n))
+    } else {
+        name.is_some_and(|n| same_bytes(n, b"key"))
     }
-    name.is_some_and(|n| same_bytes(n, b"key"))
 }
 
 pub fn is_ref(a: &[u8]) -> bool
@@ -116,24 +148,42 @@ pub fn is_ref(a: &[u8]) -> bool
     ident_at(a).is_some_and(|n| normalizes_to_ref(n))
 }
 
+// The closure has a clause, since the search for what it does gives up at so long a name.
 pub fn is_inner_html(a: &[u8]) -> bool
     ensures { result ≡ same (get_attr_name (attr_name_in (read a.now)) false) (ascii "dangerouslySetInnerHTML") }
 {
-    match ident_at(a) {
-        Some(n) => same_bytes(n, b"dangerouslySetInnerHTML"),
-        None => false,
+    ident_at(a).is_some_and(
+        |n|
+            ensures { result ≡ same n.now (ascii "dangerouslySetInnerHTML") }
+        { same_bytes(n, b"dangerouslySetInnerHTML") },
+    )
+}
+
+// The name, normalised or as it is written.
+#[tactic(auto, unfolding(names::specs::Names::get_attr_name))]
+pub fn put_name(out: &mut [u8], at: usize, a: &[u8], norm: bool) -> usize
+    requires { at + length (get_attr_name (attr_name_in (read a.now)) norm) < 2 ^ 63 }
+    ensures { Wrote out.old at (get_attr_name (attr_name_in (read a.now)) norm) out.new result }
+{
+    match attr_name_at(a) {
+        AttrName::Ident(n) => get_attr_name(out, at, n, norm),
+        AttrName::Namespaced(ns, n) => normalize_namespaced(out, at, ns, n),
     }
 }
 
 // None where nothing follows the name.
-pub fn value_at(a: &[u8]) -> Option<Value>
-    ensures { result ≡ value_of (value_in (read a.now)) }
+#[inline(always)]
+pub fn value_at(a: &[u8]) -> Option<Value<'_>>
+    ensures { Holds a.now result }
 {
-    match field_at(behind(a))?.tag {
-        0x51 => Some(Value::String),
-        0x52 => Some(Value::Container),
-        0x30 => Some(Value::Element),
-        0x31 => Some(Value::Fragment),
+    let value = behind(a);
+    match field_at(value)? {
+        Field { tag: 0x51, body } => Some(Value::String(body)),
+        Field { tag: 0x52, body } => Some(Value::Container(body)),
+        Field {
+            tag: 0x30 | 0x31,
+            ..
+        } => Some(Value::Tag(value)),
         _ => None,
     }
 }

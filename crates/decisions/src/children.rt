@@ -3,10 +3,10 @@ ghost use Rattle.std.specs.Prelude.{◌≡◌, ◌≤◌, ◌-◌, length, drop}
 ghost use Rattle.field.specs.Row.{read};
 ghost use Rattle.page.specs.Check.{is_child};
 ghost use Rattle.page.specs.Tree.{children_in};
-ghost use Rattle.decisions.specs.At.{FirstChild, few, some_text, becomes};
+ghost use Rattle.decisions.specs.At.{FirstChild, few, count_of, OnlyIn, some_text, becomes};
 
 use crate::element::is_serializable;
-use field::reader::{Fields, behind};
+use field::reader::{Field, Fields};
 use text::jsx_text::is_blank;
 
 fn is_child(tag: u8) -> bool
@@ -32,6 +32,7 @@ pub fn children_at(s: &[u8]) -> &[u8]
     &[]
 }
 
+// How many, of children or of an array's elements, as the definitions count them; `Children` has the only one with it.
 #[derive(Clone, Copy)]
 pub enum Count {
     Zero,
@@ -39,30 +40,35 @@ pub enum Count {
     More,
 }
 
-// How many children: none, one, or more.
-pub fn child_count(s: &[u8]) -> Count
-    ensures { result ≡ few (children_in (read s.now)) }
+// None, the only one, or more.
+#[derive(Clone, Copy)]
+pub enum Children<'a> {
+    Zero,
+    One(Field<'a>),
+    More,
+}
+
+pub fn children_of(s: &[u8]) -> Children<'_>
+    ensures count { few (children_in (read s.now)) ≡ count_of result }
+    ensures only { OnlyIn s.now result }
 {
     let first = children_at(s);
-    if first.is_empty() {
-        return Count::Zero;
+    let mut fields = Fields(first);
+    let Some(only) = fields.next() else {
+        return Children::Zero;
+    };
+    if children_at(fields.0).is_empty() {
+        Children::One(only)
+    } else {
+        Children::More
     }
-    if children_at(behind(first)).is_empty() {
-        return Count::One;
-    }
-    Count::More
 }
 
 // Whether the text rule leaves something of a text among the children.
 fn has_text(s: &[u8]) -> bool
     ensures { result ≡ some_text (children_in (read s.now)) }
 {
-    for field in Fields(s) {
-        if field.tag == 0x60 && !is_blank(field.body, false) {
-            return true;
-        }
-    }
-    false
+    Fields(s).any(|field| field.tag == 0x60 && !is_blank(field.body, false))
 }
 
 // Whether several children of a call become one template. Texts are looked into only where one tag alone is serializable: a series of
@@ -70,6 +76,8 @@ fn has_text(s: &[u8]) -> bool
 pub fn becomes_template(skip: &[u8], s: &[u8]) -> bool
     ensures { result ≡ becomes skip.now (children_in (read s.now)) }
 {
+    // By a flag: the tags that were seen and those that are left are one sum, which is the whole proof; a `filter` that is asked twice would take laws
+    // of what it passes over.
     let mut tagged = false;
     for field in Fields(s) {
         if field.tag == 0x30 && is_serializable(skip, field.body) {

@@ -1,6 +1,9 @@
 // An element by the fields of its 30: the name in front, attributes and children behind it.
-ghost use Rattle.std.specs.Prelude.{◌≡◌};
+ghost use Rattle.std.specs.Prelude.{◌≡◌, []};
+ghost use Rattle.field.specs.Bytes.{pick};
 ghost use Rattle.field.specs.Row.{read};
+ghost use Rattle.field.specs.Front.{behind_of};
+ghost use Rattle.names.specs.Names.{is_void_element};
 ghost use Rattle.page.specs.Tree.{attributes_in};
 ghost use Rattle.spec.specs.Attributes.{first_upper, is_component};
 ghost use Rattle.decisions.specs.At.{element_name, element_named, identifier_bytes, forbids, serializable};
@@ -8,6 +11,7 @@ ghost use Rattle.decisions.specs.At.{element_name, element_named, identifier_byt
 use crate::attribute::{is_inner_html, two_names};
 use crate::index::lists;
 use field::reader::{Field, Fields, behind, field_at};
+use names::is_void_element;
 
 pub fn is_upper(name: &[u8]) -> bool
     ensures { result ≡ first_upper name.now }
@@ -39,7 +43,8 @@ pub fn element_name_at(b: &[u8]) -> ElementName<'_>
     }
 }
 
-// The bytes of an identifier. Any other name has none, as in identifier_bytes: with an Option each caller would put them again.
+// The bytes of an identifier. Any other name has none, as in identifier_bytes: with an Option each caller would put them again. `ident_at` reads the
+// same field, but what it tells is of an attribute's name.
 pub fn identifier(b: &[u8]) -> &[u8]
     ensures { result.now ≡ identifier_bytes (element_name (read b.now)) }
 {
@@ -85,5 +90,16 @@ pub fn is_component(b: &[u8]) -> bool
         ElementName::Identifier(n) => is_upper(n),
         ElementName::Member(_) => true,
         ElementName::Namespaced(..) => false,
+    }
+}
+
+// The fields in which a template looks for the element's children: a void element's are not looked at.
+pub fn inner_children(b: &[u8]) -> &[u8]
+    ensures { result.now ≡ pick (is_void_element (identifier_bytes (element_name (read b.now)))) [] (behind_of b.now) }
+{
+    if is_void_element(identifier(b)) {
+        &[]
+    } else {
+        behind(b)
     }
 }

@@ -25,10 +25,7 @@ pub enum Shape {
 pub fn boolean_in(s: &[u8]) -> bool
     ensures { result ≡ boolean_in s.now }
 {
-    match s {
-        [b, ..] => *b == 1,
-        [] => false,
-    }
+    matches!(s, [1, ..])
 }
 
 pub fn shape_at(c: &[u8]) -> Shape
@@ -58,7 +55,7 @@ fn number_field(c: &[u8]) -> Field<'_>
     })
 }
 
-// The text of the number in front.
+// The text of the number in front. This and the next share `number_field`, and else each calls the writer that its clause names.
 pub fn put_number_at(out: &mut [u8], at: usize, c: &[u8]) -> usize
     requires { at + length (number_text c.now) < 2 ^ 63 }
     ensures { Wrote out.old at (number_text c.now) out.new result }

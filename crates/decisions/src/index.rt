@@ -10,6 +10,22 @@ ghost use Rattle.decisions.specs.Index.{hash_from, hash, two_at, name_at, before
 use field::reader::{Fields, body};
 use field::writer::{put_bytes, put_two};
 use names::{letter, namespaced_is, same_bytes};
+use page::MAX_OPTIONS;
+
+// How many hashes there are, and how many entries: options have no more names.
+const HASHES: usize = 1024;
+
+const ENTRIES: usize = 1366;
+
+// Where in an index the numbers of an entry before it and of its name's place begin, behind a number for each hash; and where the series does.
+const BEFORE_AT: usize = 2 * HASHES;
+
+const PLACE_AT: usize = BEFORE_AT + 2;
+
+const SERIES_AT: usize = BEFORE_AT + 4 * ENTRIES;
+
+// How long an index is.
+pub const INDEX_ROOM: usize = SERIES_AT + MAX_OPTIONS;
 
 // A name that is looked for, by the bytes that it stands for.
 trait Asked {
@@ -63,12 +79,7 @@ impl<'a> Asked for Namespaced<'a> {
 fn in_series<N: Asked>(list: &[u8], asked: &N) -> bool
     ensures { result ≡ among (N.bytes asked.now) (texts_in 0x20 (read list.now)) }
 {
-    for field in Fields(list) {
-        if field.tag == 0x20 && asked.is(field.body) {
-            return true;
-        }
-    }
-    false
+    Fields(list).any(|field| field.tag == 0x20 && asked.is(field.body))
 }
 
 // The hash of s, or of its small letters, behind what gave h.
@@ -78,7 +89,7 @@ fn hash_on(h: usize, s: &[u8], small: bool) -> usize
 {
     let mut x = h;
     for c in s {
-        x = (x * 31 + usize::from(letter(*c, small))) % 1024;
+        x = (x * 31 + usize::from(letter(*c, small))) % HASHES;
     }
     x
 }
@@ -95,17 +106,18 @@ fn hash_namespaced<'a>(ns: &'a [u8], name: &'a [u8]) -> usize
     hash_on(b, name, true)
 }
 
+// The number in two bytes, or 0 past the end.
 fn two_at(b: &[u8], i: usize) -> usize
-    requires { i < 300000 }
     ensures { (result ≡ two_at b.now i) × (result < 65536) }
 {
-    if i + 1 < b.len() {
-        return usize::from(u16::from_be_bytes([b[i], b[i + 1]]));
+    match b.get(i..) {
+        Some([high, low, ..]) => usize::from(u16::from_be_bytes([*high, *low])),
+        _ => 0,
     }
-    0
 }
 
-// An index. It stays bytes with its two tables in them: a series and an index are lent to the walks as one type.
+// An index. Its two tables stand in bytes, as the series does: all that is promised of names is promised of bytes that list them, and `finds` alone
+// tells the two apart. An enum of a series and of tables would stand in each of those clauses, up to the transform, and be matched here only.
 #[derive(Clone, Copy)]
 struct Index<'a>(&'a [u8]);
 
@@ -119,7 +131,6 @@ struct Entry<'a> {
 impl<'a> Index<'a> {
     // The entry in the two bytes at i, which hold its number and one.
     fn link_at(self, i: usize) -> Option<usize>
-        requires { i < 300000 }
         ensures value { link_of result ≡ two_at self.entry.0.now i }
         ensures within { link_of result < 65536 }
     {
@@ -132,10 +143,10 @@ impl<'a> Index<'a> {
         ensures before { link_of result.before ≡ before_at self.entry.0.now k }
         ensures within { link_of result.before < 65536 }
     {
-        let place = 7512 + two_at(self.0, 2050 + 4 * k);
+        let place = SERIES_AT + two_at(self.0, PLACE_AT + 4 * k);
         Entry {
             name: body(&self.0[place.min(self.0.len())..]),
-            before: self.link_at(2048 + 4 * k),
+            before: self.link_at(BEFORE_AT + 4 * k),
         }
     }
 
@@ -144,7 +155,8 @@ impl<'a> Index<'a> {
         ensures { result ≡ among (N.bytes asked.now) (chain 1366 self.entry.0.now (two_at self.entry.0.now (2 * hash (N.bytes asked.now)))) }
     {
         let mut next = self.link_at(2 * asked.hash());
-        for passed in 0..1366usize {
+        // no chain has more entries; in bytes that are no index one may run in a circle
+        for passed in 0..ENTRIES {
             let Some(k) = next else {
                 return false;
             };
@@ -162,7 +174,7 @@ impl<'a> Index<'a> {
 fn finds<N: Asked>(list: &[u8], asked: &N) -> bool
     ensures { result ≡ among (N.bytes asked.now) (names_of list.now) }
 {
-    if list.len() <= 4096 {
+    if list.len() <= MAX_OPTIONS {
         in_series(list, asked)
     } else {
         Index(list).has(asked)
@@ -189,8 +201,8 @@ fn link(out: &mut [u8], h: usize, k: usize, place: usize)
     ensures { out.new ≡ linked out.old h k place }
 {
     let last = two_at(out, 2 * h);
-    put_two(out, 2048 + 4 * k, last);
-    put_two(out, 2050 + 4 * k, place);
+    put_two(out, BEFORE_AT + 4 * k, last);
+    put_two(out, PLACE_AT + 4 * k, place);
     put_two(out, 2 * h, k + 1);
 }
 
@@ -199,7 +211,7 @@ pub fn index_names(list: &[u8], out: &mut [u8])
     requires { (length list.now ≤ 4096) × ((length out.old ≡ 11608) × ((i : ℕ) → get_or out.old i 0 ≡ 0)) }
     ensures { (n : Bytes) → among n (names_of out.new) ≡ among n (texts_in 0x20 (read list.now)) }
 {
-    put_bytes(out, 7512, list);
+    put_bytes(out, SERIES_AT, list);
     let mut k = 0;
     let mut place = 0;
     for field in Fields(list) {

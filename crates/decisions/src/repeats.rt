@@ -1,14 +1,14 @@
 // Document 02, A4: whether two attributes of an element have one name in HTML, compared in small letters. Nowhere is such a name written
 // out: it is read letter by letter, with the signs that normalising puts in, and two names are compared as they are read.
 ghost use Rattle.std.specs.Prelude.{◌≡◌, true, false, ◌+◌, ◌<◌, ◌^◌, length, take};
-ghost use Rattle.std.specs.Iterator.{YieldsFirst, YieldsFirstBy, item_count, at_most};
+ghost use Rattle.std.specs.Iterator.{YieldsFirst, item_count};
 ghost use Rattle.field.specs.Bytes.{same, among};
 ghost use Rattle.field.specs.Row.{read};
 ghost use Rattle.names.specs.Names.{ident, namespaced};
 ghost use Rattle.page.specs.Tree.{attributes_in, attr_name_in};
 ghost use Rattle.decisions.specs.Repeats.{IsPlain, letters, sign_read, html_name, html_names, name_in, names_in, repeats, name_hash, Keyed, key_by};
 
-use crate::attribute::{AttrName, attr_name_at, ident_at};
+use crate::attribute::{AttrName, Attributes, attr_name_at, ident_at};
 use field::reader::{Field, Fields};
 use names::{Spelling, is_xlink_href, small_letter, spelling_of};
 
@@ -40,9 +40,10 @@ impl<'a> Spelled<'a> {
         ensures { result ≡ sign_read self.entry.sign c self.entry.behind_sign }
     {
         if !self.behind_sign && c.is_ascii_uppercase() {
-            return self.sign;
+            self.sign
+        } else {
+            None
         }
-        None
     }
 
     fn is(self, other: Spelled<'a>) -> bool
@@ -106,11 +107,12 @@ fn of_pair<'a>(ns: &'a [u8], name: &'a [u8]) -> Spelled<'a>
     ensures { letters result ≡ html_name (namespaced ns.now name.now) }
 {
     if is_xlink_href(ns, name) {
-        return Spelled::plain(b"href");
-    }
-    Spelled {
-        second: Some(name),
-        ..Spelled::plain(ns)
+        Spelled::plain(b"href")
+    } else {
+        Spelled {
+            second: Some(name),
+            ..Spelled::plain(ns)
+        }
     }
 }
 
@@ -121,34 +123,6 @@ fn of_attr(a: &[u8]) -> Spelled<'_>
     match attr_name_at(a) {
         AttrName::Ident(n) => of_ident(n),
         AttrName::Namespaced(ns, n) => of_pair(ns, n),
-    }
-}
-
-// The attributes in front of a row, each by the fields of its 50. A spread is passed over.
-#[derive(Clone, Copy)]
-struct Attributes<'a>(&'a [u8]);
-
-impl<'a> Iterator for Attributes<'a> {
-    type Item = &'a [u8];
-
-    ghost next_gives = { YieldsFirstBy (λ a. name_in a.now) (λ row. names_in row.0.now) };
-
-    ghost remaining = { λ row. at_most (length row.0.now) };
-
-    #[inline(always)]
-    fn next(&mut self) -> Option<&'a [u8]> {
-        let mut fields = Fields(self.0);
-        while let Some(field) = fields.next() {
-            match field.tag {
-                0x50 => {
-                    self.0 = fields.0;
-                    return Some(field.body);
-                }
-                0x53 => {}
-                _ => return None,
-            }
-        }
-        None
     }
 }
 

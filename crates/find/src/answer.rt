@@ -10,7 +10,8 @@ use outs::Kind;
 use outs::templates::check_templates;
 use page::Refusal;
 
-// Why nothing is looked up: what is refused of the templates, or that the numbers are too many or do not rise.
+// Why nothing is looked up: what is refused of the templates, or that the numbers are too many or do not rise. Of its own, as convert's is: were
+// both cases of one enum, each would be an answer of the other.
 #[derive(Clone, Copy)]
 pub enum Unfound {
     Templates(Refusal),
@@ -41,10 +42,11 @@ fn check(templates: &[u8], numbers: &[u32]) -> Result<(), Unfound>
     ensures { Checked templates.now numbers.now result }
 {
     check_templates(templates, Kind::New)?;
-    if MOST < numbers.len() || !is_rising(numbers) {
-        return Err(Unfound::Numbers);
+    if numbers.len() <= MOST && is_rising(numbers) {
+        Ok(())
+    } else {
+        Err(Unfound::Numbers)
     }
-    Ok(())
 }
 
 // Nothing found, and nothing read.
@@ -54,7 +56,7 @@ fn refused(e: Unfound) -> Places
     Places {
         number: u32::from(e),
         records: 0,
-        places: [ABSENT; 256],
+        places: [ABSENT; MOST],
     }
 }
 

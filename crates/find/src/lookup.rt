@@ -6,47 +6,46 @@ ghost use Rattle.outs.specs.declared.Kind.TheVariants.{New};
 ghost use Rattle.find.specs.Find.{rising};
 ghost use Rattle.find.specs.Answer.{Walked};
 
-use crate::search::table_of;
-use field::reader::read_header;
+use crate::search::MOST;
+use field::reader::Fields;
 
-// No place in any buffer: all bits set.
-pub const ABSENT: usize = 0xffff_ffff_ffff_ffff;
+// No place in any buffer: all bits set. The C interface has no Option.
+pub const ABSENT: usize = usize::MAX;
 
-// The answer: 0 or the number of the refusal, how many records were read, and where those asked for begin.
+// The answer: 0 or the number of the refusal, how many records were read, and where those asked for begin (01: "an array [absent; 256] of places,
+// set before the walk and filled as records are met"). It goes to C by value, so it is numbers side by side, and no Result.
 #[repr(C)]
 #[derive(Clone, Copy)]
 pub struct Places {
     pub number: u32,
     pub records: usize,
-    pub places: [usize; 256],
+    pub places: [usize; MOST],
 }
 
-// Record by record, until none waits for its place. A number is searched among those asked for, not each of them among the records. By the
-// header, and not by the iterator over fields, since it is the place in the buffer that is answered.
+// Record by record, until none waits for its place. A number is searched among those asked for, not each of them among the records.
 pub fn walk(templates: &[u8], numbers: &[u32]) -> Places
     requires { (check_templates New templates.now ≡ Fine) × ((rising numbers.now ≡ true) × (length numbers.now ≤ 256)) }
     ensures { Walked templates.now numbers.now result.number result.records result.places }
 {
-    let table = table_of(numbers);
-    let mut places = [ABSENT; 256];
+    let mut places = [ABSENT; MOST];
     let mut waiting = numbers.len();
     let mut records: usize = 0;
-    let mut at: usize = 0;
-    let mut t = templates;
+    let mut fields = Fields(templates);
     while waiting != 0 {
-        let Some(h) = read_header(t) else {
+        let at = templates.len() - fields.0.len();
+        let Some(record) = fields.next() else {
             break;
         };
-        let number = u32::from_be_bytes([t[3], t[4], t[5], t[6]]);
-        if let Ok(i) = table.binary_search(&u64::from(number)) {
+        let b = record.body;
+        let number = u32::from_be_bytes([b[0], b[1], b[2], b[3]]);
+        // An `if` in another: where one of both in a row fails, the proof does not learn which.
+        if let Ok(i) = numbers.binary_search(&number) {
             if places[i] == ABSENT {
                 places[i] = at;
                 waiting -= 1;
             }
         }
         records += 1;
-        at += h.end;
-        t = &t[h.end..];
     }
     Places {
         number: 0,

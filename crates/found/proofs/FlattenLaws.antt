@@ -85,10 +85,11 @@ module _ (s : Bytes) (f : Found) (w : Within f s) where
     stands_here : Stands s f.from t
     stands_here = subst (Stands s f.from) (sym q) (stands_of s f.from f.len w)
 
-    pub flat_77 : {u : ℕ} {b r : Bytes} → IsFront t u b r → u ≡ 0x77 → Within (placed K.Expr (f.from + 3) (length b)) s × Flattened s f (placed K.Expr (f.from + 3) (length b))
+    pub flat_77 : {u : ℕ} {b r : Bytes} → IsFront t u b r → u ≡ 0x77 → {v : Found} → v ≡ placed K.Expr (f.from + 3) (length b) → Within v s × Flattened s f v
     unfolding sole_mid
-    flat_77 {u} {b} g k =
-        let st : Stands s (f.from + 3) b = body_in s f.from t stands_here g in (
+    flat_77 {u} {b} g k d =
+        let st : Stands s (f.from + 3) b = body_in s f.from t stands_here g in
+        subst (λ (v : Found). Within v s × Flattened s f v) (sym d) (
           stands_room s (f.from + 3) b st,
           λ skip props x.
               item_alone skip props x

@@ -115,18 +115,18 @@ module _ (skip s : Bytes) where
     alone : (props : Bytes) (cs : P.Children) → children_in (read s) ≡ cs → found_at skip props s ≡ children_to_expr (children (opts skip props) cs)
     alone props cs p = ap (λ (x : P.Children). children_to_expr (children (opts skip props) x)) p
 
-    pub found_60 : u ≡ 0x60 → Given skip s (placed K.Text at (length a))
+    pub found_60 : u ≡ 0x60 → {r : Found} → r ≡ placed K.Text at (length a) → Given skip s r
     unfolding few children children_to_expr one_child
-    found_60 k = (
+    found_60 k d = subst (Given skip s) (sym d) (
       stands_room s at a stands_at,
       λ props.
           alone props (P.text_child (body_of a) P.no_children) (only (P.text_child (body_of a)) (children_60 a u o.front.tag_is k) refl)
           ∙ ap (λ (x : Bytes). M.one_found (text_entry skip props x)) (sym (stands_part s at a stands_at)),
     )
 
-    pub found_30 : u ≡ 0x30 → Given skip s (placed K.Element at (length a))
+    pub found_30 : u ≡ 0x30 → {r : Found} → r ≡ placed K.Element at (length a) → Given skip s r
     unfolding few children children_to_expr one_child
-    found_30 k = (
+    found_30 k d = subst (Given skip s) (sym d) (
       stands_room s at a stands_at,
       λ props. (
         alone props (P.tag_child (element_in (read (body_of a))) P.no_children) (only (P.tag_child (element_in (read (body_of a)))) (children_30 a u o.front.tag_is k) refl)
@@ -161,10 +161,11 @@ module _ (skip s : Bytes) where
       unfolding contained_child children children_to_expr one_child
       found_empty i w = nowhere_given skip s (λ props. holds props nothing_contained (contained_none (read b) i)) w
 
-      pub found_52 : (tag_of_front b ≡ 256 → ⊥) → Given skip s (placed K.Expr (at + 3) (length b))
+      pub found_52 : (tag_of_front b ≡ 256 → ⊥) → {r : Found} → r ≡ placed K.Expr (at + 3) (length b) → Given skip s r
       unfolding contained_child children children_to_expr one_child
-      found_52 g =
-          let st : Stands s (at + 3) b = stands_inside in (
+      found_52 g d =
+          let st : Stands s (at + 3) b = stands_inside in
+          subst (Given skip s) (sym d) (
             stands_room s (at + 3) b st,
             λ props.
                 holds props (contained (expr_in (read b))) (contained_field b (tag_of_front b) refl g) ∙ ap (λ (x : Bytes). found_of (expr_at skip props x)) (sym (stands_part s (at + 3) b st)),

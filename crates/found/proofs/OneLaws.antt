@@ -1,23 +1,26 @@
--- Children that surely give something: what `gives` answers, by how many they are. Main statements: `gives_plain`, `gives_52`, `gives_31`,
--- `gives_template`, `gives_many`. Assumes nothing.
+-- Children that surely give something: what `gives` answers, by how many they are. Main statements: `only_here`, `gives_from`, `gives_plain`,
+-- `gives_52`, `gives_31`, `gives_template`, `gives_many`. Assumes nothing.
 use mathlib.Core.Logic.{◌⊎◌, ⊎_elim}
 use mathlib.Core.Path.{◌≡◌, refl, sym, ap, ◌∙◌, subst}
 use mathlib.Core.Bool.{Bool, true, false}
 use Prim.Native.Nat.{ℕ, ◌+◌, ◌-◌, ◌≤◌}
 use native.Mathlib.Omega.{arith}
-use lib.ListN.{length}
+use lib.ListN.{length, drop}
 use Rattle.field.specs.Bytes.{Bytes}
 use Rattle.field.specs.Row.{read}
-use Rattle.field.specs.Front.{tag_of_front}
+use Rattle.field.specs.Front.{tag_of_front, behind_of}
+use Rattle.field.specs.declared.reader.Field.{Field}
+use Rattle.page.specs.Page as P
 use Rattle.page.specs.Tree.{children_in}
 use Rattle.spec.specs.Pass.{Pass, Mid}
 use Rattle.spec.specs.Output.{string_node}
 use Rattle.spec.specs.Merge as M
 use Rattle.spec.specs.Merge.{still, passed}
 use Rattle.spec.specs.Children as C
-use Rattle.spec.specs.Children.{found_of}
-use Rattle.decisions.specs.declared.children.Count.TheVariants.{More}
-use Rattle.decisions.specs.At.{few, becomes}
+use Rattle.spec.specs.Children.{found_of, children_to_expr}
+use Rattle.spec.specs.Transform.{children}
+use Rattle.decisions.specs.declared.children.Count.TheVariants.{One, More}
+use Rattle.decisions.specs.At.{opts, OnlyChild, few, becomes}
 use Rattle.found.specs.Finds.{entries_at, found_at, expr_at}
 use Rattle.found.specs.Steady.{one_stays, stays, steady}
 use Rattle.found.proofs.Places.{stands_part}
@@ -40,13 +43,29 @@ gives_passed : (p : Pass Mid) → 1 ≤ steady (C.spliced (M.one_found (passed p
 unfolding C.spliced steady stays
 gives_passed p = omega arith
 
+-- the only child, as decisions tells it: what stands from it on has the same children
+module _ {s : Bytes} {f : Field} (o : OnlyChild s f) where
+  pub only_here : One ≡ few (children_in (read s)) → Only o.from o.from f.tag f.body.now
+  only_here e =
+      let z : length o.from - length o.from ≡ 0 = omega arith in
+      record {
+        rest = behind_of o.from;
+        one = e ∙ ap few (sym o.first.same_children);
+        first = record { same_children = refl; none_left = λ n. o.first.same_children ∙ o.first.none_left n; child_first = o.first.child_first };
+        place = sym (ap (λ (n : ℕ). drop n o.from) z);
+        front = o.front;
+      }
+
+  pub gives_from : (skip : Bytes) → Gives skip o.from → Gives skip s
+  gives_from skip g props = subst (λ (cs : P.Children). 1 ≤ steady (C.spliced (children_to_expr (children (opts skip props) cs)))) o.first.same_children (g props)
+
 module _ (skip s : Bytes) where
   module _ {a : Bytes} {u : ℕ} {b : Bytes} (o : Only s a u b) where
     gives_60 : u ≡ 0x60 → Gives skip s
-    gives_60 k props = gives_by ((found_60 skip s o k).1 props) (gives_text _)
+    gives_60 k props = gives_by ((found_60 skip s o k refl).1 props) (gives_text _)
 
     gives_30 : u ≡ 0x30 → Gives skip s
-    gives_30 k props = gives_by ((found_30 skip s o k).1 props).0 (gives_passed _)
+    gives_30 k props = gives_by ((found_30 skip s o k refl).1 props).0 (gives_passed _)
 
     -- a text or an element
     pub gives_plain : (u ≡ 0x30) ⊎ (u ≡ 0x60) → Gives skip s
@@ -54,7 +73,7 @@ module _ (skip s : Bytes) where
 
     pub gives_52 : u ≡ 0x52 → (tag_of_front b ≡ 256 → ⊥) → ((skip props : Bytes) → one_stays (expr_at skip props b) ≡ true) → Gives skip s
     gives_52 k g h props =
-        gives_by ((found_52 skip s o k g).1 props ∙ ap (λ (x : Bytes). found_of (expr_at skip props x)) (stands_part s (length s - length a + 3) b (stands_inside skip s o)))
+        gives_by ((found_52 skip s o k g refl).1 props ∙ ap (λ (x : Bytes). found_of (expr_at skip props x)) (stands_part s (length s - length a + 3) b (stands_inside skip s o)))
         (steady_found (expr_at skip props b) (h skip props))
 
     pub gives_31 : u ≡ 0x31 → Gives skip b → Gives skip s

@@ -71,10 +71,11 @@ module _ (s : Bytes) (f : Found) (w : Within f s) where
           subst (λ (r : Found). Within r s × Spliced s f r) (sym d)
           (omega arith, λ skip props x z. spliced_array skip props x z ∙ stills_none skip props (read b) (sym o))
 
-      pub splice_one : One ≡ item_count (read b) → Within (placed K.Item (f.from + 3) (length b)) s × Spliced s f (placed K.Item (f.from + 3) (length b))
-      splice_one o =
+      pub splice_one : One ≡ item_count (read b) → {r : Found} → r ≡ placed K.Item (f.from + 3) (length b) → Within r s × Spliced s f r
+      splice_one o d =
           let a : Stands s f.from t = subst (Stands s f.from) (sym q) (stands_of s f.from f.len w) in
-          let st : Stands s (f.from + 3) b = body_in s f.from t a g in (
+          let st : Stands s (f.from + 3) b = body_in s f.from t a g in
+          subst (λ (r : Found). Within r s × Spliced s f r) (sym d) (
             stands_room s (f.from + 3) b st,
             λ skip props x z.
                 spliced_array skip props x z

@@ -5,7 +5,7 @@ use mathlib.Core.Bool.{Bool, true, false, not, ◌||◌}
 use Prim.Native.Nat.{ℕ, ◌+◌, ◌-◌}
 use native.Mathlib.Omega.{arith}
 use mathlib.Core.List.{[], ◌∷◌}
-use lib.ListN.{length}
+use lib.ListN.{length, take, drop}
 use Rattle.field.specs.Bytes.{Bytes, null?}
 use Rattle.field.specs.Row.{read}
 use Rattle.field.specs.Front.{tag_of_front}
@@ -19,7 +19,7 @@ use Rattle.found.specs.declared.Kind.{Kind}
 use Rattle.found.specs.declared.Kind.TheVariants as K
 use Rattle.found.specs.declared.Joined.TheVariants as J
 use Rattle.found.specs.declared.Found.{Found}
-use Rattle.found.proofs.Places.{Stands, Tail, tail_room, stands_room, stands_part, stands_body, stands_behind}
+use Rattle.found.proofs.Places.{Stands, Tail, length_part, tail_room, stands_room, stands_part, stands_body, stands_behind}
 use Rattle.found.proofs.MergeLaws.{left_blank, left_text, left_joined, left_more, left_apart, left_30, left_31, left_other}
 use Rattle.found.proofs.EnterLaws.{Here, theirs, enters_by, moved}
 use Rattle.found.proofs.WalkLaws.{Looked, Adds, looked_past, looked_more, looked_apart}
@@ -53,9 +53,9 @@ module _ (skip s t : Bytes) (a : Tail s t) {u : ℕ} {b r : Bytes} (f : IsFront 
         says = λ props. ap (λ (x : Bytes). still (expr_at skip props x) ∷ []) (sym (stands_part s (here + 3) b body_stands));
       }
 
-  pub adds_element : u ≡ 0x30 → {x : Found} → x ≡ placed K.Element here (length s - here) → Adds skip s t r x
+  pub adds_element : u ≡ 0x30 → {x : Found} → x ≡ placed K.Element here (length (take (length s - here) (drop here s))) → Adds skip s t r x
   adds_element h e =
-      subst (Adds skip s t r) (sym e)
+      subst (Adds skip s t r) (sym (e ∙ ap (placed K.Element here) (length_part s here (length s - here) (omega (arith, here_is, tail_room s t a)))))
       record {
         inside = omega (arith, here_is);
         es = λ props. element_entry skip props t ∷ [];

@@ -15,6 +15,8 @@ use text::jsx_text::is_blank;
 
 mod several;
 
+// 01, What must change shape: "`Option<Expr>` becomes an enum with a place". So no expression is a kind like the others, and not an Option of
+// the rest.
 #[derive(Clone, Copy)]
 pub enum Kind {
     // no expression
@@ -40,7 +42,7 @@ pub enum Kind {
     Hole,
 }
 
-// A place is a part of the slice that was looked at, by numbers: who takes one has the slice too, since what it stands for is said of the
+// The place is a part of the slice that was looked at, by numbers: who takes one has the slice too, since what it stands for is said of the
 // slice's children. It stands beside the kind and not in each case of it, since it is moved and cut alike whatever the kind is.
 #[derive(Clone, Copy)]
 pub struct Found {
@@ -85,14 +87,8 @@ fn joined_at(c: &[u8]) -> Joined
 {
     match shape_at(c) {
         Shape::Empty | Shape::Boolean(_) => Joined::Nothing,
-        Shape::String => {
-            if body(c).is_empty() {
-                Joined::Nothing
-            } else {
-                Joined::Something
-            }
-        }
-        Shape::Number => Joined::Something,
+        Shape::String if body(c).is_empty() => Joined::Nothing,
+        Shape::String | Shape::Number => Joined::Something,
         Shape::Null | Shape::Literal | Shape::Minus | Shape::Other => Joined::Apart,
     }
 }
@@ -110,14 +106,14 @@ fn item_count(s: &[u8]) -> Count
     }
 }
 
-// The children in s as a place of that kind.
-fn whole(kind: Kind, s: &[u8]) -> Found
-    ensures { result ≡ placed kind 0 (length s.now) }
+// A part that begins at `from`, as a place of that kind.
+fn place(kind: Kind, from: usize, part: &[u8]) -> Found
+    ensures { result ≡ placed kind from (length part.now) }
 {
     Found {
         kind,
-        from: 0,
-        len: s.len(),
+        from,
+        len: part.len(),
     }
 }
 
@@ -125,11 +121,7 @@ fn whole(kind: Kind, s: &[u8]) -> Found
 fn nowhere(kind: Kind) -> Found
     ensures { result ≡ placed kind 0 0 }
 {
-    Found {
-        kind,
-        from: 0,
-        len: 0,
-    }
+    place(kind, 0, &[])
 }
 
 // The only entry, taken out of its array: a spread is dropped, a hole stays. Several that one fragment alone gives keep its place, so that no
@@ -140,11 +132,7 @@ fn flattened(s: &[u8], f: Found) -> Found
 {
     match f.kind {
         Kind::Item => match field_at(f.part(s)) {
-            Some(Field { tag: 0x77, body }) => Found {
-                kind: Kind::Expr,
-                from: f.from + 3,
-                len: body.len(),
-            },
+            Some(Field { tag: 0x77, body }) => place(Kind::Expr, f.from + 3, body),
             Some(Field { tag: 0x78, .. }) => Found {
                 kind: Kind::Hole,
                 ..f
@@ -154,7 +142,14 @@ fn flattened(s: &[u8], f: Found) -> Found
                 ..f
             },
         },
-        Kind::Many => { if f.len == 0 { whole(Kind::Many, s) } else { f } }
+        // No guard: the arm below it would not learn what the kind is not.
+        Kind::Many => {
+            if f.len == 0 {
+                place(Kind::Many, 0, s)
+            } else {
+                f
+            }
+        }
         _ => f,
     }
 }
@@ -169,11 +164,7 @@ fn spliced(s: &[u8], f: Found) -> Found
         Kind::Expr => match field_at(f.part(s)) {
             Some(Field { tag: 0x76, body }) => match item_count(body) {
                 Count::Zero => nowhere(Kind::Empty),
-                Count::One => Found {
-                    kind: Kind::Item,
-                    from: f.from + 3,
-                    len: body.len(),
-                },
+                Count::One => place(Kind::Item, f.from + 3, body),
                 Count::More => nowhere(Kind::Many),
             },
             _ => f,
@@ -198,7 +189,11 @@ fn then(a: Found, b: Found) -> Found
 fn with_run(a: Found, run: bool, s: &[u8]) -> Found
     ensures { result ≡ run_found a run (length s.now) }
 {
-    if run { then(a, whole(Kind::Run, s)) } else { a }
+    if run {
+        then(a, place(Kind::Run, 0, s))
+    } else {
+        a
+    }
 }
 
 // Several, and no place: what stands behind does not matter.
@@ -206,10 +201,7 @@ fn with_run(a: Found, run: bool, s: &[u8]) -> Found
 fn is_settled(f: Found) -> bool
     ensures { result ≡ is_settled f.kind f.len }
 {
-    match f.kind {
-        Kind::Many => f.len == 0,
-        _ => false,
-    }
+    matches!(f.kind, Kind::Many) && f.len == 0
 }
 
 // The entries of merged children: none, one and where it stands, or several, with a place where one fragment alone gives them.
@@ -223,6 +215,7 @@ fn entries_of(skip: &[u8], s: &[u8]) -> Found
     let mut fields = Fields(s);
     while let Some(field) = fields.next() {
         let b = field.body;
+        // The field's place, by what is left behind it: what was left before it would be one more variable, set in each turn.
         let at = s.len() - fields.0.len() - b.len() - 3;
         let x = match field.tag {
             // a run that has something needs no test
@@ -236,17 +229,9 @@ fn entries_of(skip: &[u8], s: &[u8]) -> Found
                     run = true;
                     continue;
                 }
-                Joined::Apart => Found {
-                    kind: Kind::Expr,
-                    from: at + 3,
-                    len: b.len(),
-                },
+                Joined::Apart => place(Kind::Expr, at + 3, b),
             },
-            0x30 => Found {
-                kind: Kind::Element,
-                from: at,
-                len: s.len() - at,
-            },
+            0x30 => place(Kind::Element, at, &s[at..]),
             0x31 => spliced(b, found_of(skip, b)).inside(at + 3),
             _ => continue,
         };
@@ -265,6 +250,7 @@ pub fn found_of(skip: &[u8], s: &[u8]) -> Found
     requires { length s.now < 2 ^ 62 }
     ensures { Within result s.now × ((props : Bytes) → Finds skip.now props (found_at skip.now props s.now) result.kind (part s.now result)) }
 {
+    // Not `children_of`: it does not tell where the child stands, and that is answered.
     let a = children_at(s);
     let mut rest = Fields(a);
     let Some(child) = rest.next() else {
@@ -274,33 +260,21 @@ pub fn found_of(skip: &[u8], s: &[u8]) -> Found
         let at = s.len() - a.len();
         let b = child.body;
         return match child.tag {
-            0x60 => Found {
-                kind: Kind::Text,
-                from: at,
-                len: a.len(),
-            },
+            0x60 => place(Kind::Text, at, a),
             0x52 => match field_at(b) {
-                Some(_) => Found {
-                    kind: Kind::Expr,
-                    from: at + 3,
-                    len: b.len(),
-                },
+                Some(_) => place(Kind::Expr, at + 3, b),
                 None => nowhere(Kind::Nothing),
             },
-            0x30 => Found {
-                kind: Kind::Element,
-                from: at,
-                len: a.len(),
-            },
+            0x30 => place(Kind::Element, at, a),
             0x31 => found_of(skip, b).inside(at + 3),
             _ => nowhere(Kind::Nothing),
         };
     }
     if becomes_template(skip, s) {
-        return whole(Kind::Template, s);
+        return place(Kind::Template, 0, s);
     }
     if has(skip, s, 2) {
-        return whole(Kind::Many, s);
+        return place(Kind::Many, 0, s);
     }
     flattened(s, entries_of(skip, s))
 }

@@ -8,7 +8,7 @@ ghost use Rattle.found.specs.Finds.{expr_at, entries_at, found_at};
 ghost use Rattle.found.specs.Steady.{one_stays, steady, counted};
 
 use crate::{Joined, joined_at};
-use decisions::children::{Count, becomes_template, child_count, children_at};
+use decisions::children::{Children, becomes_template, children_of};
 use field::reader::{Field, Fields, field_at};
 use text::jsx_text::is_blank;
 
@@ -32,18 +32,15 @@ fn stays(c: &[u8]) -> bool
 fn gives(skip: &[u8], s: &[u8]) -> bool
     ensures { result ≡ true → (props : Bytes) → 1 ≤ steady (spliced (found_at skip.now props s.now)) }
 {
-    match child_count(s) {
-        Count::Zero => false,
-        Count::One => match field_at(children_at(s)) {
-            Some(child) => match child.tag {
-                0x60 | 0x30 => true,
-                0x52 => stays(child.body),
-                0x31 => gives(skip, child.body),
-                _ => false,
-            },
-            None => false,
+    match children_of(s) {
+        Children::Zero => false,
+        Children::One(child) => match child.tag {
+            0x60 | 0x30 => true,
+            0x52 => stays(child.body),
+            0x31 => gives(skip, child.body),
+            _ => false,
         },
-        Count::More => becomes_template(skip, s) || has(skip, s, 1),
+        Children::More => becomes_template(skip, s) || has(skip, s, 1),
     }
 }
 
@@ -99,6 +96,7 @@ pub fn has(skip: &[u8], s: &[u8], n: usize) -> bool
             return true;
         }
     }
+    // no `is_some_and`: a closure that calls into the cycle is one more function of it, with a measure of its own
     match heavy {
         Some(b) => sure + 1 == n && gives(skip, b),
         None => false,

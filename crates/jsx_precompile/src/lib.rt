@@ -1,5 +1,7 @@
 // The library: every function that hosts call, and nothing else. Each is a thin call of a crate below, which states its full answer and
 // every byte lent; no caller is trusted to have looked first. The crate `jsx_precompile_c` exports them over the C convention.
+// Functions of their own, not those below under other names: what each promises stands here for who reads the library alone, and an edit holds
+// it to its arguments. An answer has a number, 0 or a refusal's, where a caller in Rattle would have a Result: C reads it.
 #![tactic(auto)]
 
 ghost use Rattle.std.specs.Prelude.{◌≡◌, length};

@@ -1,5 +1,6 @@
 // The library for hosts: each function of `jsx_precompile`, exported over the C convention with the same contract. A crate of its own, since
-// a crate is a library or a static library, and not both.
+// a crate is a library or a static library, and not both. Its functions are alike because each is a name that hosts link, and takes each
+// buffer as C lends it.
 #![tactic(auto)]
 
 ghost use Rattle.std.specs.Prelude.{◌≡◌, length};

@@ -1,9 +1,8 @@
 -- Laws of bytes compared, and of a name read letter by letter, as it stands or in small letters.
--- Main statements: `same_eq`, `same_step`, `same_other`, `letter_at`.
+-- Main statements: `same_eq`, `same_step`, `same_other`, `letter_at`, `letters_all`.
 -- Assumes nothing.
-use mathlib.Core.Path.{◌≡◌, refl, sym, ap, ap₂, ◌∙◌}
+use mathlib.Core.Path.{◌≡◌, refl, sym, ap, ap₂}
 use mathlib.Core.Bool.{Bool, true, false, ◌&&◌, false≢true, and-eq-true_iff, and-false}
-use mathlib.Core.Logic.{◌⊎◌, ⊎_elim}
 use mathlib.Core.List.{[], ◌∷◌}
 use Prim.Native.Nat.{ℕ, zero, suc, ◌+◌, ◌≤◌, ◌<◌}
 use native.Mathlib.Nat.{not-suc-le-zero, le_of_suc-le-suc}
@@ -15,6 +14,7 @@ use lib.ListN.{length, get_or, drop}
 use lib.Seq.{drop-cons, drop-length}
 use borrow.Author.Tests.{eqb-true, eq-eqb, ne_eqb, lt-leb, le-leb, ltb-true, ltb-false}
 use Rattle.std.specs.Char.{to_ascii_lowercase}
+use Rattle.std.specs.List.{zip, list_all}
 use Rattle.std.specs.Prelude.{cond, nat_lt}
 use Rattle.field.specs.Bytes.{Bytes, pick, same}
 use Rattle.names.specs.Names.{capital, small_letter, small_letters}
@@ -111,27 +111,12 @@ pub letter_at : (s : Bool) (n : Bytes) (i : ℕ) → i < length n → get_or (re
 letter_at true n i h = small_at n i h
 letter_at false n i h = refl
 
--- ---- two names walked side by side
+-- ---- two names side by side
 
-letters_step : (s : Bool) (c d : ℕ) (v w : Bytes) → same (read_as s (c ∷ v)) (d ∷ w) ≡ (eqb (pick s (small_letter c) c) d && same (read_as s v) w)
+-- as `all` asks of each pair
+pub letters_all : (x y : Bytes) → length x ≡ length y → list_all (λ p. eqb (small_letter p.0) p.1) (zip x y) ≡ same (small_letters x) y
 unfolding same small_letters
-letters_step true c d v w = refl
-letters_step false c d v w = refl
-
-module _ (s : Bool) {x y v w : Bytes} {c d r : ℕ} {b : Bool} (p : x ≡ c ∷ v) (q : y ≡ d ∷ w) (e : r ≡ pick s (small_letter c) c) (h : same (read_as s x) y ≡ b) where
-  step : b ≡ (eqb r d && same (read_as s v) w)
-  step = sym h ∙ ap₂ (λ (k l : Bytes). same (read_as s k) l) p q ∙ letters_step s c d v w ∙ ap (λ (k : ℕ). eqb k d && same (read_as s v) w) (sym e)
-
-  pub letters_off : (r ≡ d → ⊥) → b ≡ false
-  letters_off n = step ∙ ap (λ (k : Bool). k && same (read_as s v) w) (ne_eqb r d n)
-
-  pub letters_on : r ≡ d → same (read_as s v) w ≡ b
-  letters_on n = sym (step ∙ ap (λ (k : Bool). k && same (read_as s v) w) (eq-eqb r d n))
-
-pub letters_ended : (s : Bool) (x y : Bytes) {b : Bool} → length x ≡ length y → (length x ≡ 0) ⊎ (length y ≡ 0) → same (read_as s x) y ≡ b → true ≡ b
-unfolding same small_letters
-letters_ended true [] [] p q h = h
-letters_ended false [] [] p q h = h
-letters_ended s [] (d ∷ w) p q h = absurd (omega arith)
-letters_ended s (c ∷ v) [] p q h = absurd (omega arith)
-letters_ended s (c ∷ v) (d ∷ w) p q h = ⊎_elim (λ e. absurd (omega arith)) (λ e. absurd (omega arith)) q
+letters_all [] [] h = refl
+letters_all [] (d ∷ y) h = absurd (omega arith)
+letters_all (c ∷ x) [] h = absurd (omega arith)
+letters_all (c ∷ x) (d ∷ y) h = ap (λ (b : Bool). eqb (small_letter c) d && b) (letters_all x y (omega arith))

@@ -1,6 +1,6 @@
 -- How the code reads a name and the rows of its tables. Nothing here has to be believed: the laws tie each to the definitions of Names.
 -- Assumes nothing: these are definitions.
-use Rattle.std.specs.Prelude.{ℕ, zero, suc, ◌+◌, ◌-◌, ◌≤◌, ◌<◌, ◌/◌, ◌%◌, ◌^◌, Bool, true, false, ◌&&◌, ◌||◌, List, [], ◌∷◌, ◌++◌, leb, eqb, length, take, drop, get_or, slice_get, Option, Some, None}
+use Rattle.std.specs.Prelude.{ℕ, zero, suc, ◌+◌, ◌-◌, ◌≤◌, ◌<◌, ◌/◌, ◌%◌, ◌^◌, Bool, true, false, ◌&&◌, ◌||◌, List, [], ◌∷◌, ◌++◌, leb, eqb, length, take, drop, get_or, slice_get, is_some, Option, Some, None}
 use Rattle.field.specs.Bytes.{Bytes, ascii, pick, same}
 use Rattle.names.specs.Names.{capital, small_letters, is_void_element}
 use Rattle.names.specs.declared.elements.Void.{Void}
@@ -49,6 +49,10 @@ mark_from n zero (c ∷ row) = pick (same (take (length n) (c ∷ row)) n) (slic
 
 abbrev pub mark_in : Bytes → Bytes → Option ℕ
 mark_in row n = mark_from n 0 row
+
+-- the table has the name, as it stands or in small letters
+unfoldable pub has_name : Bytes → List ℕ → Bool → Bytes → Bool
+has_name names starts small n = is_some (mark_in (row_of names starts (length n)) (read_as small n))
 
 -- a sign, where there is one, and a letter behind it
 abbrev pub signed : Option ℕ → ℕ → Bytes

@@ -11,6 +11,7 @@ use field::writer::{put_byte, put_bytes};
 
 // No capital, no digit and no sign but `-`, as in most names. Each name of the table has a capital, a digit or a colon, so such a name
 // is copied as it stands.
+#[tactic(auto, using(crate::proofs::SpellLaws::plain_on, crate::proofs::SpellLaws::plain_off, crate::proofs::SpellLaws::plain_end))]
 pub fn is_plain(name: &[u8]) -> bool
     ensures { result ≡ plain_name name.now }
 {
@@ -33,20 +34,23 @@ pub fn is_plain(name: &[u8]) -> bool
 }
 
 // A capital as its small letter, with the sign in front of it; any other byte as it is.
+#[tactic(auto, using(crate::proofs::SpellLaws::letter_none, crate::proofs::SpellLaws::letter_other, crate::proofs::SpellLaws::letter_signed, field::proofs::PutLaws::wrote_is))]
 fn put_letter(out: &mut [u8], at: usize, c: u8, sign: Option<u8>) -> usize
     requires { at + 2 < 2 ^ 64 }
     ensures { Wrote out.old at (spelled_letter sign c) out.new result }
 {
-    if c.is_ascii_uppercase() {
-        if let Some(s) = sign {
+    match sign {
+        Some(s) if c.is_ascii_uppercase() => {
             let a = put_byte(out, at, s);
-            return put_byte(out, a, small_letter(c));
+            put_byte(out, a, small_letter(c))
         }
+        _ => put_byte(out, at, small_letter(c)),
     }
-    put_byte(out, at, small_letter(c))
 }
 
-// With room for a sign before each letter. Most letters are small, and are copied as they stand.
+// With room for a sign before each letter. Most letters are small, and are copied as they stand. Beside the loop of put_spelled, which asks for room
+// at each letter: that loop alone takes 127 instructions a name for 100 (a probe of four names), and pages of capitals have none to spare.
+#[tactic(auto, using(crate::proofs::SpellLaws::spelled_bound, field::proofs::PutLaws::wrote_none, field::proofs::PutLaws::wrote_length), unfolding(crate::specs::Table::spelled))]
 fn put_within(out: &mut [u8], at: usize, name: &[u8], sign: Option<u8>) -> usize
     requires { (at + (length name.now + length name.now) ≤ length out.old) × (at + length (spelled sign name.now) < 2 ^ 63) }
     ensures { Wrote out.old at (spelled sign name.now) out.new result }
@@ -64,6 +68,7 @@ fn put_within(out: &mut [u8], at: usize, name: &[u8], sign: Option<u8>) -> usize
 }
 
 // Room is tested once, where there is plenty.
+#[tactic(auto, using(crate::proofs::SpellLaws::spelled_bound, crate::proofs::SpellLaws::spelled_least, field::proofs::PutLaws::wrote_none), unfolding(crate::specs::Table::spelled))]
 pub fn put_spelled(out: &mut [u8], at: usize, name: &[u8], sign: Option<u8>) -> usize
     requires { at + length (spelled sign name.now) < 2 ^ 63 }
     ensures { Wrote out.old at (spelled sign name.now) out.new result }
@@ -79,6 +84,7 @@ pub fn put_spelled(out: &mut [u8], at: usize, name: &[u8], sign: Option<u8>) -> 
 }
 
 // className is asked for by itself: it is the one name of the table that pages are full of. Hyphenated names are most of the others.
+#[tactic(auto, using(field::proofs::PutLaws::wrote_is, crate::proofs::NormalizeLaws::normalize_class_name, crate::proofs::NormalizeLaws::normalize_plain), unfolding(crate::specs::Table::spelt))]
 pub fn normalize_dom_attr_name(out: &mut [u8], at: usize, name: &[u8]) -> usize
     requires { at + length (normalize_dom_attr_name name.now) < 2 ^ 63 }
     ensures { Wrote out.old at (normalize_dom_attr_name name.now) out.new result }
@@ -97,14 +103,16 @@ pub fn normalize_dom_attr_name(out: &mut [u8], at: usize, name: &[u8]) -> usize
 }
 
 // Of an identifier. A namespaced name is normalised always, by normalize_namespaced.
+#[tactic(auto, unfolding(crate::specs::Names::get_attr_name))]
 pub fn get_attr_name(out: &mut [u8], at: usize, name: &[u8], normalize: bool) -> usize
     requires { at + length (get_attr_name (ident name.now) normalize) < 2 ^ 63 }
     ensures { Wrote out.old at (get_attr_name (ident name.now) normalize) out.new result }
 {
     if normalize {
-        return normalize_dom_attr_name(out, at, name);
+        normalize_dom_attr_name(out, at, name)
+    } else {
+        put_bytes(out, at, name)
     }
-    put_bytes(out, at, name)
 }
 
 // The table makes `key` of no other name, nor `ref`: that is what each of the two states, and one function over the name could not.
@@ -120,16 +128,15 @@ pub fn normalizes_to_ref(name: &[u8]) -> bool
     letters_are(name, b"ref")
 }
 
-// The one namespaced name that the table has.
+// The one namespaced name that the table has. A namespace and a name go as two, here and above: the definition's constructor has two (AttrName in
+// specs/Names.antt), and each function takes one and then the other, so that a struct of both would be opened wherever it comes.
 pub fn is_xlink_href(ns: &[u8], name: &[u8]) -> bool
     ensures { result ≡ (same ns.now (ascii "xlink") && same name.now (ascii "href")) }
 {
-    if !same_bytes(ns, b"xlink") {
-        return false;
-    }
-    same_bytes(name, b"href")
+    same_bytes(ns, b"xlink") && same_bytes(name, b"href")
 }
 
+#[tactic(auto, using(crate::proofs::NamespacedLaws::namespaced_xlink, crate::proofs::NamespacedLaws::namespaced_length, crate::proofs::CompareLaws::length_small, field::proofs::PutLaws::wrote_is))]
 pub fn normalize_namespaced(out: &mut [u8], at: usize, ns: &[u8], name: &[u8]) -> usize
     requires { at + length (normalize_dom_attr_name (ns.now ++ (58 ∷ name.now))) < 2 ^ 63 }
     ensures { Wrote out.old at (normalize_dom_attr_name (ns.now ++ (58 ∷ name.now))) out.new result }
@@ -143,6 +150,7 @@ pub fn normalize_namespaced(out: &mut [u8], at: usize, ns: &[u8], name: &[u8]) -
 }
 
 // Whether ns:name, normalised, is b.
+#[tactic(auto, using(crate::proofs::NamespacedLaws::namespaced_xlink, crate::proofs::NamespacedLaws::namespaced_same, crate::proofs::NamespacedLaws::namespaced_short))]
 pub fn namespaced_is(ns: &[u8], name: &[u8], b: &[u8]) -> bool
     ensures { result ≡ same (normalize_dom_attr_name (ns.now ++ (58 ∷ name.now))) b.now }
 {
@@ -150,14 +158,5 @@ pub fn namespaced_is(ns: &[u8], name: &[u8], b: &[u8]) -> bool
         return same_bytes(b"href", b);
     }
     let n = ns.len();
-    if b.len() <= n {
-        return false;
-    }
-    if b[n] != b':' {
-        return false;
-    }
-    if !letters_are(ns, &b[..n]) {
-        return false;
-    }
-    letters_are(name, &b[n + 1..])
+    n < b.len() && b[n] == b':' && letters_are(ns, &b[..n]) && letters_are(name, &b[n + 1..])
 }

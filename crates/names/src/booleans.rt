@@ -3,8 +3,9 @@ ghost use Rattle.std.specs.Prelude.{◌≡◌};
 ghost use Rattle.names.specs.Names.{is_boolean_attr, normalize_dom_attr_name};
 ghost use Rattle.names.specs.Table.{read_as};
 
-use crate::table::{find_in, fits, row_of};
+use crate::table::{fits, has_name};
 
+// A form of 01: a small constant table, compared entry by entry.
 const NAMES: [u8; 211] = *b"\
     loop open \
     async defer inert ismap muted \
@@ -29,13 +30,7 @@ const FIRSTS: [u32; 16] = [
 fn is_boolean(name: &[u8], small: bool) -> bool
     ensures { result ≡ is_boolean_attr (read_as small name.now) }
 {
-    if !fits(&FIRSTS, name) {
-        return false;
-    }
-    let starts = STARTS;
-    let names = NAMES;
-    let row = row_of(&names, &starts, name.len());
-    find_in(row, name, small).is_some()
+    fits(&FIRSTS, name) && has_name(&NAMES, &STARTS, name, small)
 }
 
 pub fn is_boolean_attr(name: &[u8]) -> bool

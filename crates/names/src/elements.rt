@@ -3,8 +3,9 @@ ghost use Rattle.std.specs.Prelude.{◌≡◌, true, get_or};
 ghost use Rattle.names.specs.Names.{is_void_element};
 ghost use Rattle.names.specs.Table.{read_as, fits_ends, void_ends, void_kind};
 
-use crate::table::{find_in, row_of};
+use crate::table::has_name;
 
+// A form of 01: a small constant table, compared entry by entry.
 const NAMES: [u8; 69] = *b"\
     br hr \
     col img wbr \
@@ -17,6 +18,7 @@ const STARTS: [u16; 8] = [0, 0, 0, 6, 18, 38, 62, 69];
 
 // Of the names of n letters: a bit for each first letter, and 32 above it one for each last letter. No array: that would be laid on the
 // stack, and most names are told by this alone.
+#[tactic(auto, using(crate::proofs::VoidLaws::ends_other), unfolding(crate::specs::Table::void_ends))]
 fn ends(n: usize) -> u64
     ensures { result ≡ get_or void_ends n 0 }
 {
@@ -31,20 +33,15 @@ fn ends(n: usize) -> u64
 }
 
 // Whether one of the names has this length, first letter and last letter, be they capitals or small.
+#[tactic(auto, using(crate::proofs::VoidLaws::ends_short, crate::proofs::VoidLaws::ends_long), unfolding(crate::specs::Table::fits_ends))]
 fn may_be_void(name: &[u8]) -> bool
     ensures { result ≡ fits_ends void_ends name.now }
 {
-    let n = name.len();
-    if n < 2 {
+    let [first, .., last] = name else {
         return false;
-    }
-    if n > 6 {
-        return false;
-    }
-    let e = ends(n);
-    let first = (name[0] % 32) as u64;
-    let last = (name[n - 1] % 32) as u64;
-    ((e >> first) % 2 == 1) & ((e >> (last + 32)) % 2 == 1)
+    };
+    let e = ends(name.len());
+    ((e >> u64::from(first % 32)) % 2 == 1) & ((e >> (u64::from(last % 32) + 32)) % 2 == 1)
 }
 
 // By the table, as the name stands or in small letters.
@@ -52,19 +49,14 @@ fn finds_void(name: &[u8], small: bool) -> bool
     requires { fits_ends void_ends name.now ≡ true }
     ensures { result ≡ is_void_element (read_as small name.now) }
 {
-    let starts = STARTS;
-    let names = NAMES;
-    let row = row_of(&names, &starts, name.len());
-    find_in(row, name, small).is_some()
+    has_name(&NAMES, &STARTS, name, small)
 }
 
+#[tactic(auto, using(crate::proofs::VoidLaws::never_void))]
 pub fn is_void_element(name: &[u8]) -> bool
     ensures { result ≡ is_void_element name.now }
 {
-    if !may_be_void(name) {
-        return false;
-    }
-    finds_void(name, false)
+    may_be_void(name) && finds_void(name, false)
 }
 
 // As what a name is void.
@@ -76,17 +68,17 @@ pub enum Void {
 }
 
 // Both questions at once (document 02, A10).
+#[tactic(auto, using(crate::proofs::VoidLaws::never_void, crate::proofs::VoidLaws::kind_is))]
 pub fn void_kind(name: &[u8]) -> Option<Void>
     ensures { result ≡ void_kind name.now }
 {
     if !may_be_void(name) {
-        return None;
+        None
+    } else if finds_void(name, false) {
+        Some(Void::AsWritten)
+    } else if finds_void(name, true) {
+        Some(Void::InSmallLetters)
+    } else {
+        None
     }
-    if finds_void(name, false) {
-        return Some(Void::AsWritten);
-    }
-    if finds_void(name, true) {
-        return Some(Void::InSmallLetters);
-    }
-    None
 }

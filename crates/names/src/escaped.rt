@@ -10,6 +10,7 @@ use crate::listed::{Spelling, spelling_of};
 use field::writer::{put_byte, put_bytes};
 use text::escape::{is_escaped, put_escaped};
 
+#[tactic(auto, using(field::proofs::PutLaws::wrote_none), unfolding(crate::specs::Names::small_letters, text::specs::Escape::escape_html))]
 fn put_small_escaped(out: &mut [u8], at: usize, name: &[u8]) -> usize
     requires { at + length (escape_html (small_letters name.now)) < 2 ^ 63 }
     ensures { Wrote out.old at (escape_html (small_letters name.now)) out.new result }
@@ -22,8 +23,9 @@ fn put_small_escaped(out: &mut [u8], at: usize, name: &[u8]) -> usize
 }
 
 // A name of the table has no sign that is escaped, and neither has what it becomes: other bytes than those of a name go letter by letter. Beside
-// normalize_dom_attr_name, though only one arm differs: one function with a flag would state both names by a test of it, which each caller would
-// take apart again.
+// normalize_dom_attr_name, though one arm alone differs: one function with a flag would state both names by a test of it, which each caller would
+// take apart again; and the arms in common by themselves would answer an Option, with a clause of three cases for the one arm that is spared.
+#[tactic(auto, using(field::proofs::PutLaws::wrote_is, crate::proofs::EscapedLaws::escaped_normalize, crate::proofs::EscapedLaws::signs_unlisted), unfolding(crate::specs::Table::spelt))]
 pub fn put_attr_name(out: &mut [u8], at: usize, name: &[u8]) -> usize
     requires { at + length (escape_html (normalize_dom_attr_name name.now)) < 2 ^ 63 }
     ensures { Wrote out.old at (escape_html (normalize_dom_attr_name name.now)) out.new result }
@@ -47,6 +49,8 @@ pub fn put_attr_name(out: &mut [u8], at: usize, name: &[u8]) -> usize
     }
 }
 
+// Beside normalize_namespaced, of which it differs in the writer of a part: by a parameter for that, each contract would be a clause over both.
+#[tactic(auto, using(field::proofs::PutLaws::wrote_is, crate::proofs::NamespacedLaws::namespaced_xlink, crate::proofs::EscapedLaws::namespaced_escaped_length, crate::proofs::EscapedLaws::namespaced_escaped))]
 pub fn put_namespaced(out: &mut [u8], at: usize, ns: &[u8], name: &[u8]) -> usize
     requires { at + length (escape_html (normalize_dom_attr_name (ns.now ++ (58 ∷ name.now)))) < 2 ^ 63 }
     ensures { Wrote out.old at (escape_html (normalize_dom_attr_name (ns.now ++ (58 ∷ name.now)))) out.new result }

@@ -8,7 +8,7 @@ ghost use Rattle.names.specs.declared.listed.Spelling.TheVariants.{Small};
 
 use crate::table::{find_in, fits};
 
-// A row for each length; in a row, the names that pages have most stand first.
+// A form of 01: one constant table of all names. A row for each length; in a row, the names that pages have most stand first.
 #[derive(Clone, Copy)]
 struct Names {
     of_4: [u8; 10],
@@ -128,6 +128,7 @@ pub enum Spelling<'a> {
     Small,
 }
 
+#[tactic(auto, using(crate::proofs::MarkLaws::mark_other), unfolding(crate::specs::Table::by_mark, crate::specs::Table::spelt))]
 pub fn spelling_of<'a>(name: &'a [u8]) -> Spelling<'a>
     ensures { (spelt result name.now ≡ normalize_dom_attr_name name.now) × ((result ≡ Small) ⊎ (same name.now (escape_html name.now) ≡ true)) }
 {

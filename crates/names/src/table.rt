@@ -1,33 +1,39 @@
 // Names in a constant table, sorted by length, each with a mark behind it. A constant is laid on the stack where it is used, so a
 // name is first held to the lengths and first letters that the table has.
 ghost use Rattle.std.specs.Prelude.{◌≡◌, ◌<◌, length};
-ghost use Rattle.names.specs.Table.{read_as, fits_in, row_of, HasRow, mark_in};
+ghost use Rattle.names.specs.Table.{read_as, fits_in, row_of, HasRow, has_name, mark_in};
 
 use crate::compare::letter;
 
 // Whether the table has a name of this length and first letter.
+#[tactic(auto, using(crate::proofs::FitsLaws::fits_none, crate::proofs::FitsLaws::fits_long, crate::proofs::FitsLaws::fits_bit))]
 pub fn fits(firsts: &[u32], name: &[u8]) -> bool
     ensures { result ≡ fits_in firsts.now name.now }
 {
-    let n = name.len();
-    if n == 0 {
-        return false;
+    match (name, firsts.get(name.len())) {
+        ([first, ..], Some(bits)) => (bits >> u32::from(first % 32)) % 2 == 1,
+        _ => false,
     }
-    if firsts.len() <= n {
-        return false;
-    }
-    let k = (name[0] % 32) as u32;
-    (firsts[n] >> k) % 2 == 1
 }
 
 // The names of n letters.
+#[tactic(auto, unfolding(crate::specs::Table::row_of))]
 pub fn row_of<'a>(names: &'a [u8], starts: &[u16], n: usize) -> &'a [u8]
     requires { HasRow (length names.now) starts.now n }
     ensures { result.now ≡ row_of names.now starts.now n }
 {
-    let a = starts[n] as usize;
-    let e = starts[n + 1] as usize;
+    let a = usize::from(starts[n]);
+    let e = usize::from(starts[n + 1]);
     &names[a..e]
+}
+
+// Whether the table has the name, as it stands or in small letters.
+#[tactic(auto, unfolding(crate::specs::Table::has_name))]
+pub fn has_name(names: &[u8], starts: &[u16], name: &[u8], small: bool) -> bool
+    requires { HasRow (length names.now) starts.now (length name.now) × (0 < length name.now) }
+    ensures { result ≡ has_name names.now starts.now small name.now }
+{
+    find_in(row_of(names, starts, name.len()), name, small).is_some()
 }
 
 // The mark behind the name in the row of its length, if it is there. The loops go over names and letters, and a label ends both: a form

@@ -9,6 +9,7 @@ use Rattle.std.specs.Prelude.{Result, Ok, Err}
 use Rattle.field.specs.Bytes.{Bytes}
 use Rattle.page.specs.Refusal.{Verdict, Fine, Refused, after}
 use Rattle.page.specs.declared.Refusal.{Refusal}
+use Rattle.loops.specs.Until.{until}
 use Rattle.loops.proofs.Parts.{part}
 use Rattle.loops.proofs.Turns.{Walk, Going, Stops, ends_at, start, left_is, deep, on_stop, on_leaf, on_open, on_end, on_done}
 use Rattle.outs.specs.Held.{read_out}
@@ -22,7 +23,7 @@ use Rattle.outs.specs.declared.page_out.Frame.{Frame}
 
 -- what the stack reads as past its end
 abbrev pub none : Frame
-none = record { rest = 0; after = E.Whole; spare = 0 }
+none = record { rest = 0; after = E.Whole }
 
 -- a row is checked where nothing was refused yet; to leave a field does nothing
 abbrev pub checks : ℕ → Walk
@@ -67,14 +68,19 @@ module _ (width : ℕ) {s : Bytes} {fs : List Frame} {h at e : ℕ} {c : Expect}
       (q.header, on_leaf p n q.ends q.is)
 
   pub opens_up : {k n : ℕ} {o a : Expect} → r ≡ Ok (F.Open k n o a) → (3 ≤ k) × (k ≤ n) × (h < 21846) × (at + n ≤ e)
-      × ((gs : List Frame) → get_or gs h none ≡ record { rest = (e - at - n) % 65536; after = a; spare = 0 } → ((i : ℕ) → i < h → get_or gs i none ≡ get_or fs i none) → Going (checks width) s gs (h + 1) (at + k) (at + n) o Fine t)
+      × ((gs : List Frame) → get_or gs h none ≡ record { rest = (e - at - n) % 65536; after = a } → ((i : ℕ) → i < h → get_or gs i none ≡ get_or fs i none) → Going (checks width) s gs (h + 1) (at + k) (at + n) o Fine t)
   unfolding after
   opens_up {k} {n} {o} {a} g =
       let q : OpenIs width c (part s at e) k n o a = told g in
       let l = left_is p in
-      let f : Frame = record { rest = (e - at - n) % 65536; after = a; spare = 0 } in
+      let f : Frame = record { rest = (e - at - n) % 65536; after = a } in
       (q.header, q.starts, deep p (omega (arith, p.ordered, q.header, q.starts, q.ends)), omega (arith, p.ordered, q.ends), λ gs same below. on_open p gs f same below k n q.header q.starts q.ends q.short refl q.is)
 
-  pub closes : r ≡ Ok F.End → (h ≡ 0 → ⊥) → Going (checks width) s fs (h - 1) at (ends_at (checks width) s fs (h - 1) at) (get_or fs (h - 1) none).after Fine t
+  -- f is the frame on top of h' more
+  pub closes : r ≡ Ok F.End → {h' : ℕ} {f : Frame} → h ≡ h' + 1 → get_or fs h' none ≡ f → Going (checks width) s fs h' at (until h' at f.rest (length s)) f.after Fine t
   unfolding after
-  closes g z = on_end h p (told g).0 (told g).1 z
+  closes g {h'} {f} z q =
+      let m : h - 1 ≡ h' = omega arith in
+      subst (λ (j : Frame). Going (checks width) s fs h' at (until h' at j.rest (length s)) j.after Fine t) q
+      (subst (λ (i : ℕ). Going (checks width) s fs i at (ends_at (checks width) s fs i at) (get_or fs i none).after Fine t) m
+      (on_end h p (told g).0 (told g).1 (λ o. omega arith)))

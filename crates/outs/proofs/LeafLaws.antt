@@ -1,65 +1,47 @@
--- What the tests of the code say of an import. Main statements: `sum_in`, `sum_out`, `import_other`, `import_bad`,
--- `import_sum`. Assumes nothing.
-use mathlib.Core.Path.{◌≡◌, refl, sym, ap, ◌∙◌}
+-- What the tests of the code say of an import. Main statements: `import_other`, `import_text`, `import_missing`. Assumes nothing.
+use mathlib.Core.Path.{◌≡◌, refl, sym, ap, ◌∙◌, subst}
 use mathlib.Core.Bool.{Bool, true, false, ◌&&◌}
-use Prim.Native.Nat.{◌-◌, ◌≤◌}
+use Prim.Native.Nat.{ℕ, ◌≤◌}
 use native.Mathlib.Omega.{arith}
 use mathlib.Core.List.{[], ◌∷◌}
 use lib.Dec.{eqb, leb}
-use lib.ListN.{length, take, drop, get_or}
+use lib.ListN.{length, get_or}
 use borrow.Author.Tests.{eq-eqb, ne_eqb, le-leb, leb-true}
 use Rattle.field.specs.Bytes.{Bytes}
-use Rattle.field.specs.Row.{next_of}
-use Rattle.field.specs.Header.{header_of}
-use Rattle.field.specs.declared.reader.Header.{Header}
-use Rattle.std.specs.Prelude.{Option, Some}
-use Rattle.field.proofs.HeaderLaws.{next_field}
+use Rattle.field.specs.Row.{Inside, only_bytes, fields_after, counted, inside, Next, nothing, no_field, next, next_of, opened, built, read, Ended}
+use Rattle.field.specs.Fields.{IsFront, IsEnd}
+use Rattle.field.proofs.FrontLaws.{next_at}
+use Rattle.field.proofs.RowLaws.{read_step}
 use Rattle.page.specs.Check.{check_text}
+use Rattle.page.specs.CheckField.{check_missing}
 use Rattle.page.specs.Refusal.{Verdict, Fine, Refused, after, unless}
-use Rattle.page.specs.declared.Refusal.{Refusal}
 use Rattle.page.specs.declared.Refusal.TheVariants as R
+use Rattle.page.proofs.Steps.{Then}
 use Rattle.outs.specs.PageOut.{check_sum, check_import}
 
--- ---- a sum
+module _ {s : Bytes} {t : ℕ} {w r : Bytes} (f : IsFront s t w r) where
+  import_is : check_import (next_of s) ≡ after (unless (eqb t 0x81) R.Misplaced) λ _. after (check_text w) λ _. check_sum r
+  unfolding check_import
+  import_is = ap check_import (next_at s t f.tag_is (λ z. omega (arith, f.tag_below))) ∙ rw (f.body_is, f.behind_is) refl
 
-pub sum_in : (s : Bytes) → length s ≡ 1 → 1 ≤ get_or s 0 0 → get_or s 0 0 ≤ 15 → Fine ≡ check_sum s
-unfolding check_sum
-sum_in [] h l m = absurd (omega arith)
-sum_in (c ∷ []) h l m = rw (le-leb 1 c l, le-leb c 15 m)
-sum_in (c ∷ d ∷ s) h l m = absurd (omega arith)
+  pub import_other : (t ≡ 0x81 → ⊥) → Refused R.Misplaced ≡ check_import (next_of s)
+  unfolding after
+  import_other n = sym (import_is ∙ rw (ne_eqb t 0x81 n))
 
-pub sum_out : (s : Bytes) → (length s ≡ 1 → 1 ≤ get_or s 0 0 → get_or s 0 0 ≤ 15 → ⊥) → Refused R.Misplaced ≡ check_sum s
-unfolding check_sum
-sum_out [] h = refl
-sum_out (c ∷ []) h = on (leb 1 c) (leb c 15) refl refl
+  pub import_text : t ≡ 0x81 → Then (check_import (next_of s)) (check_text w) (check_sum r)
+  unfolding after
+  import_text k = record { then_is = import_is ∙ rw (eq-eqb t 0x81 k) refl }
+
+pub import_missing : {s r : Bytes} → IsEnd s r → check_missing (read s) ≡ check_import (next_of s)
+unfolding check_missing check_import built opened
+import_missing {s} e = ap check_missing (read_step s) ∙ on (next_of s) (subst Ended (read_step s) e.ended)
   where
-    on : (x y : Bool) → leb 1 c ≡ x → leb c 15 ≡ y → Refused R.Misplaced ≡ unless (x && y) R.Misplaced
-    on true true e f = absurd (h refl (leb-true 1 c e) (leb-true c 15 f))
-    on true false e f = refl
-    on false y e f = refl
-sum_out (c ∷ d ∷ s) h = refl
+    absent : (t : ℕ) (w r : Bytes) (c : Inside) → Ended (opened c read t w r) → ⊥
+    absent t w r only_bytes x = x
+    absent t w r (fields_after n) x = x
+    absent t w r (counted n) x = x
 
--- ---- an import
-
-module _ (s : Bytes) {v : Option Header} (q : v ≡ header_of s) where
-  module _ {h : Header} (x : v ≡ Some h) where
-    import_is : check_import (next_of s) ≡ after (unless (eqb h.tag 0x81) R.Misplaced) λ _. after (check_text (take (h.end - 3) (drop 3 s))) λ _. check_sum (take (length s - h.end) (drop h.end s))
-    unfolding check_import
-    import_is = ap check_import (next_field s h (sym q ∙ x))
-
-    pub import_other : (h.tag ≡ 0x81 → ⊥) → Refused R.Misplaced ≡ check_import (next_of s)
-    unfolding after
-    import_other k = sym (import_is ∙ rw (ne_eqb h.tag 0x81 k))
-
-    module _ (k : h.tag ≡ 0x81) {r : Verdict} (g : r ≡ check_text (take (h.end - 3) (drop 3 s))) where
-      text_is : check_import (next_of s) ≡ after r λ _. check_sum (take (length s - h.end) (drop h.end s))
-      unfolding after
-      text_is = import_is ∙ rw (eq-eqb h.tag 0x81 k, g)
-
-      pub import_bad : {n : Refusal} → r ≡ Refused n → Refused n ≡ check_import (next_of s)
-      unfolding after
-      import_bad z = sym (text_is ∙ rw z)
-
-      pub import_sum : r ≡ Fine → {y : Verdict} → y ≡ check_sum (take (length s - h.end) (drop h.end s)) → y ≡ check_import (next_of s)
-      unfolding after
-      import_sum z {y} w = w ∙ sym (text_is ∙ rw z)
+    on : (n : Next) → Ended (built read s n) → check_missing (built read s n) ≡ check_import n
+    on nothing x = refl
+    on no_field x = refl
+    on (next t w r) x = absurd (absent t w r (inside t) x)

@@ -1,4 +1,4 @@
--- Where no field stands in front: the row has ended, or is torn. Main statements: `ended_there`, `torn_there`, `missing_import`. Assumes nothing.
+-- Where no field stands in front: the row has ended, or is torn. Main statements: `ended_there`, `torn_there`. Assumes nothing.
 use mathlib.Core.Path.{◌≡◌, sym, ap, ◌∙◌}
 use mathlib.Core.Logic.{◌⊎◌, inl, inr}
 use Prim.Native.Nat.{ℕ, ◌≤◌}
@@ -7,16 +7,14 @@ use native.Mathlib.Decide.{dec_le}
 use lib.ListN.{length}
 use Rattle.std.specs.Prelude.{Option, None}
 use Rattle.field.specs.Bytes.{Bytes}
-use Rattle.field.specs.Row.{end, loose, inside, next_of, read}
+use Rattle.field.specs.Row.{end, loose, inside, read}
 use Rattle.field.specs.Header.{header_of}
 use Rattle.field.specs.declared.reader.Header.{Header}
 use Rattle.page.specs.Check.{check_nothing_after}
-use Rattle.page.specs.CheckField.{check_missing}
 use Rattle.page.specs.Refusal.{Verdict, Fine, Refused}
 use Rattle.page.specs.declared.Refusal.{Refusal}
 use Rattle.page.specs.declared.Refusal.TheVariants as R
-use Rattle.loops.proofs.Headers.{read_empty, read_torn, next_empty, next_torn}
-use Rattle.outs.specs.PageOut.{check_import}
+use Rattle.loops.proofs.Headers.{read_empty, read_torn}
 
 module _ (b : Bytes) {v : Option Header} (q : v ≡ header_of b) (x : v ≡ None) where
   -- what the row reads as
@@ -44,11 +42,3 @@ module _ (b : Bytes) {v : Option Header} (q : v ≡ header_of b) (x : v ≡ None
         on : ((length b ≡ 0) × (read b ≡ end)) ⊎ ((length b ≡ 0 → ⊥) × (read b ≡ loose b)) → (length b ≡ 0 → ⊥) × (n ≡ R.Truncated)
         on (inl z) = absurd (let e : Fine ≡ Refused n = sym (sym f ∙ g ∙ ap check_nothing_after z.1) in let k : ◌≡◌ {A = ℕ} 0 1 = cc in omega arith)
         on (inr z) = let e : Refused n ≡ Refused R.Truncated = sym f ∙ g ∙ ap check_nothing_after z.1 in (z.0, cc)
-
-  pub missing_import : {r : Verdict} → r ≡ check_missing (read b) → r ≡ check_import (next_of b)
-  unfolding check_missing check_import
-  missing_import {r} g = g ∙ on unread
-    where
-      on : ((length b ≡ 0) × (read b ≡ end)) ⊎ ((length b ≡ 0 → ⊥) × (read b ≡ loose b)) → check_missing (read b) ≡ check_import (next_of b)
-      on (inl z) = ap check_missing z.1 ∙ sym (ap check_import (next_empty b z.0))
-      on (inr z) = ap check_missing z.1 ∙ sym (ap check_import (next_torn b (sym q ∙ x) z.0))

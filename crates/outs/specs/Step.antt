@@ -1,6 +1,7 @@
 -- What the steps of the check of a page out promise each other. Nothing here needs belief. Assumes nothing: these are definitions.
-use Rattle.std.specs.Prelude.{ℕ, ◌-◌, ◌≤◌, ◌≡◌, eqb, length, take, drop, Result, Ok, Err}
+use Rattle.std.specs.Prelude.{ℕ, ◌-◌, ◌≤◌, ◌≡◌, eqb, length, take, drop, Option, Some, None, Result, Ok, Err}
 use Rattle.field.specs.Bytes.{Bytes, pick}
+use Rattle.field.specs.Row.{Inside, only_bytes, fields_after}
 use Rattle.page.specs.Refusal.{after}
 use Rattle.page.specs.Refusal as W
 use Rattle.page.specs.declared.Refusal.{Refusal}
@@ -14,6 +15,11 @@ use Rattle.outs.specs.declared.page_out.Front.TheVariants.{End, Leaf, Open}
 -- what an item leaves where the place of the templates has not come: that place, or what the item makes of what is expected
 abbrev pub left_unplaced : Expect → ℕ → Expect
 left_unplaced place t = pick (eqb t 0x83) place (among_items E.Declarations t)
+
+-- what a body holds, as the code's option has it
+abbrev pub Holding : Inside → Option ℕ → Type 0
+Holding k None = k ≡ only_bytes
+Holding k (Some n) = k ≡ fields_after n
 
 -- a field behind which, where n is expected, the rest is as good as the whole
 pub record LeafIs (width : ℕ) (c : Expect) (b : Bytes) (e : ℕ) (n : Expect) : Type 0 where

@@ -3,34 +3,33 @@ ghost use Rattle.std.specs.Prelude.{◌≡◌};
 ghost use Rattle.field.specs.Row.{next_of};
 ghost use Rattle.outs.specs.PageOut.{check_sum, check_import, check_leaf};
 
-use field::reader::read_header;
-use page::Refusal;
+use field::reader::{Field, Fields};
 use page::leaf::{check_boolean, check_empty, check_text};
 use page::name::{check_missing, check_name_by};
 use page::number::check_number;
+use page::{Refusal, refuse_unless};
 
 // The byte behind the 81 of an 82: a sum of helpers.
+#[tactic(auto, unfolding(crate::specs::PageOut::check_sum))]
 fn check_sum(s: &[u8]) -> Result<(), Refusal>
     ensures { result ≡ check_sum s.now }
 {
-    match s {
-        [1..=15] => Ok(()),
-        _ => Err(Refusal::Misplaced),
-    }
+    refuse_unless(matches!(s, [1..=15]), Refusal::Misplaced)
 }
 
 // The body of an 82.
 fn check_import(s: &[u8]) -> Result<(), Refusal>
     ensures { result ≡ check_import (next_of s.now) }
 {
-    let Some(h) = read_header(s) else {
-        return check_missing(s);
-    };
-    if h.tag != 0x81 {
-        return Err(Refusal::Misplaced);
+    let mut fields = Fields(s);
+    match fields.next() {
+        Some(Field { tag: 0x81, body }) => {
+            check_text(body)?;
+            check_sum(fields.0)
+        }
+        Some(_) => Err(Refusal::Misplaced),
+        None => check_missing(s),
     }
-    check_text(&s[3..h.end])?;
-    check_sum(&s[h.end..])
 }
 
 // A body by its tag.

@@ -1,8 +1,8 @@
 // Which fields may come in a body of a page out, what may come behind them, and what must not be missing at its end.
 ghost use Rattle.std.specs.Prelude.{◌≡◌};
-ghost use Rattle.outs.specs.Held.{nests};
+ghost use Rattle.outs.specs.Held.{held};
 ghost use Rattle.outs.specs.PageOut.{expression, allowed, among_items, left, closed, within};
-ghost use Rattle.outs.specs.Step.{left_unplaced};
+ghost use Rattle.outs.specs.Step.{Holding, left_unplaced};
 ghost use Rattle.outs.specs.declared.Expect.TheVariants as E;
 
 use crate::Expect;
@@ -39,9 +39,10 @@ fn among_items(expect: Expect, tag: u8) -> Expect
     ensures { result ≡ among_items expect tag }
 {
     if matches!(tag, 0x10 | 0x12) {
-        return Expect::Rest;
+        Expect::Rest
+    } else {
+        expect
     }
-    expect
 }
 
 // Before the place of the templates: what it becomes, and what an item makes of what is expected.
@@ -49,18 +50,20 @@ fn left_unplaced(place: Expect, tag: u8) -> Expect
     ensures { result ≡ left_unplaced place tag }
 {
     if tag == 0x83 {
-        return place;
+        place
+    } else {
+        among_items(Expect::Declarations, tag)
     }
-    among_items(Expect::Declarations, tag)
 }
 
 fn left_whole(tag: u8) -> Expect
     ensures { result ≡ left E.Whole tag }
 {
     if tag == 0x82 {
-        return Expect::Items;
+        Expect::Items
+    } else {
+        left_unplaced(Expect::Placed, tag)
     }
-    left_unplaced(Expect::Placed, tag)
 }
 
 pub fn left_of(expect: Expect, tag: u8) -> Expect
@@ -102,13 +105,19 @@ pub fn close(expect: Expect) -> Result<(), Refusal>
     }
 }
 
-// Whether a body holds fields of the page out, and which, by its tag.
-pub fn is_nest(tag: u8) -> bool
-    ensures { result ≡ nests tag }
+// How many bytes stand in a body before its fields, by its tag and the width of a call's number; none where it holds bytes alone.
+#[tactic(auto, unfolding(crate::specs::Held::held))]
+pub fn front_of(tag: u8, width: usize) -> Option<usize>
+    ensures { Holding (held width tag) result }
 {
-    matches!(tag, 0x10..=0x12 | 0x53 | 0x76 | 0x77 | 0x79 | 0x90..=0x96)
+    match tag {
+        0x90 => Some(width),
+        0x10..=0x12 | 0x53 | 0x76 | 0x77 | 0x79 | 0x91..=0x96 => Some(0),
+        _ => None,
+    }
 }
 
+// What the fields of such a body are.
 #[tactic(auto, unfolding(crate::specs::PageOut::within))]
 pub fn inner_of(tag: u8) -> Expect
     ensures { result ≡ within tag }

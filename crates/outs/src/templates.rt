@@ -1,52 +1,44 @@
 // The check of templates out: a row of records, each of which holds a row of strings. Nothing nests deeper, so no stack is needed.
-ghost use Rattle.std.specs.Prelude.{◌≡◌, ℕ, ◌≤◌, IfOk, IfSome, length};
+ghost use Rattle.std.specs.Prelude.{◌≡◌, ℕ};
 ghost use Rattle.field.specs.Bytes.{Bytes};
-ghost use Rattle.field.specs.Header.{header_of};
 ghost use Rattle.field.specs.Row.{Row, read};
+ghost use Rattle.page.specs.Check.{check_text};
 ghost use Rattle.page.specs.Refusal.{Verdict};
-ghost use Rattle.outs.specs.Templates.{all_kinds, check_strings, check_any_strings, check_records, check_templates};
-ghost use Rattle.outs.specs.Passed.{Rowwise, passed, string_field, record_body, record_field};
+ghost use Rattle.outs.specs.Templates.{record_tag, all_kinds, check_strings, check_any_strings, check_records, check_templates};
+ghost use Rattle.outs.specs.Passed.{Rowwise, record_body};
 ghost use Rattle.outs.specs.declared.Kind.TheVariants as K;
 
 use crate::Kind;
-use field::reader::read_header;
-use page::Refusal;
+use field::reader::{Field, Fields};
 use page::leaf::check_text;
-use page::name::{check_end, check_nothing_after};
+use page::name::{check_end, check_missing, check_nothing_after};
+use page::{Refusal, refuse_unless};
 
-// The fields of a row that are all of one sort: whether one is right, by its tag and its body, and whether a row of them is.
+// The fields of a row that are all of one sort: their tag, whether a body is right, and whether a row of them is.
 trait Sort {
-    ghost right: { ℕ → Bytes → Verdict };
+    ghost TAG: { ℕ };
+
+    ghost right: { Bytes → Verdict };
 
     ghost rows: { Row → Verdict };
 
-    fn check(tag: u8, body: &[u8]) -> Result<(), Refusal>
-        ensures { result ≡ right tag body.now };
-}
+    const TAG: u8;
 
-// The place behind the field in front, or none where the row ends.
-fn pass<F: Sort>(b: &[u8]) -> Result<Option<usize>, Refusal>
-    ensures gives { result ≡ passed F.right b.now (header_of b.now) }
-    ensures fits { IfOk result (λ o. IfSome o (λ e. (3 ≤ e) × (e ≤ length b.now))) }
-{
-    let Some(h) = read_header(b) else {
-        check_nothing_after(b)?;
-        return Ok(None);
-    };
-    F::check(h.tag, &b[3..h.end])?;
-    Ok(Some(h.end))
+    fn check(body: &[u8]) -> Result<(), Refusal>
+        ensures { result ≡ right body.now };
 }
 
 // A row of any number of fields.
 fn check_row<F: Sort>(s: &[u8]) -> Result<(), Refusal>
-    requires { Rowwise F.right F.rows }
+    requires { Rowwise F.TAG F.right F.rows }
     ensures { result ≡ F.rows (read s.now) }
 {
-    let mut t = s;
-    while let Some(end) = pass::<F>(t)? {
-        t = &t[end..];
+    let mut fields = Fields(s);
+    while let Some(field) = fields.next() {
+        refuse_unless(field.tag == F::TAG, Refusal::Misplaced)?;
+        F::check(field.body)?;
     }
-    Ok(())
+    check_nothing_after(fields.0)
 }
 
 // ---- strings
@@ -54,31 +46,32 @@ fn check_row<F: Sort>(s: &[u8]) -> Result<(), Refusal>
 struct Strings;
 
 impl Sort for Strings {
-    ghost right = { string_field };
+    ghost TAG = { 0x81 };
+
+    ghost right = { check_text };
 
     ghost rows = { check_any_strings };
 
-    #[tactic(auto, unfolding(page::specs::Refusal::after))]
-    fn check(tag: u8, body: &[u8]) -> Result<(), Refusal> {
-        if tag != 0x81 {
-            return Err(Refusal::Misplaced);
-        }
+    const TAG: u8 = 0x81;
+
+    fn check(body: &[u8]) -> Result<(), Refusal> {
         check_text(body)
     }
 }
 
 // So many strings, no more and no fewer.
-fn check_strings(b: &[u8], count: usize) -> Result<(), Refusal>
-    ensures { result ≡ check_strings count (read b.now) }
+fn check_strings(s: &[u8], count: usize) -> Result<(), Refusal>
+    ensures { result ≡ check_strings count (read s.now) }
 {
-    let mut t = b;
+    let mut fields = Fields(s);
     for _ in 0..count {
-        let Some(end) = pass::<Strings>(t)? else {
-            return Err(Refusal::Misplaced);
-        };
-        t = &t[end..];
+        match fields.next() {
+            Some(Field { tag: 0x81, body }) => check_text(body)?,
+            Some(_) => return Err(Refusal::Misplaced),
+            None => return check_missing(fields.0),
+        }
     }
-    check_end(t)
+    check_end(fields.0)
 }
 
 // ---- the bodies of records
@@ -87,35 +80,31 @@ fn check_strings(b: &[u8], count: usize) -> Result<(), Refusal>
 fn check_old_body(w: &[u8]) -> Result<(), Refusal>
     ensures { result ≡ record_body K.Old w.now }
 {
-    if w.len() < 3 {
-        return Err(Refusal::Misplaced);
+    match w {
+        [_, _, strings @ ..] if !strings.is_empty() => check_row::<Strings>(strings),
+        _ => Err(Refusal::Misplaced),
     }
-    check_row::<Strings>(&w[2..])
 }
 
 // Each kind is 1 or 2.
 fn are_kinds(s: &[u8]) -> bool
     ensures { result ≡ all_kinds s.now }
 {
-    s.iter().all(|k| (1 <= *k) & (*k <= 2))
+    s.iter().all(|k| matches!(*k, 1..=2))
 }
 
 // 84: a number of four bytes, a count, as many kinds, and a string more than kinds.
 fn check_new_body(w: &[u8]) -> Result<(), Refusal>
     ensures { result ≡ record_body K.New w.now }
 {
-    if w.len() < 6 {
+    let [_, _, _, _, high, low, rest @ ..] = w else {
         return Err(Refusal::Misplaced);
+    };
+    let count = usize::from(u16::from_be_bytes([*high, *low]));
+    match rest.split_at_checked(count) {
+        Some((kinds, strings)) if are_kinds(kinds) => check_strings(strings, count + 1),
+        _ => Err(Refusal::Misplaced),
     }
-    let count = usize::from(u16::from_be_bytes([w[4], w[5]]));
-    let front = 6 + count;
-    if w.len() < front {
-        return Err(Refusal::Misplaced);
-    }
-    if !are_kinds(&w[6..front]) {
-        return Err(Refusal::Misplaced);
-    }
-    check_strings(&w[front..], count + 1)
 }
 
 // ---- records
@@ -123,15 +112,15 @@ fn check_new_body(w: &[u8]) -> Result<(), Refusal>
 struct OldRecords;
 
 impl Sort for OldRecords {
-    ghost right = { record_field K.Old };
+    ghost TAG = { record_tag K.Old };
+
+    ghost right = { record_body K.Old };
 
     ghost rows = { check_records K.Old };
 
-    #[tactic(auto, unfolding(page::specs::Refusal::after))]
-    fn check(tag: u8, body: &[u8]) -> Result<(), Refusal> {
-        if tag != 0x80 {
-            return Err(Refusal::Misplaced);
-        }
+    const TAG: u8 = 0x80;
+
+    fn check(body: &[u8]) -> Result<(), Refusal> {
         check_old_body(body)
     }
 }
@@ -139,15 +128,15 @@ impl Sort for OldRecords {
 struct NewRecords;
 
 impl Sort for NewRecords {
-    ghost right = { record_field K.New };
+    ghost TAG = { record_tag K.New };
+
+    ghost right = { record_body K.New };
 
     ghost rows = { check_records K.New };
 
-    #[tactic(auto, unfolding(page::specs::Refusal::after))]
-    fn check(tag: u8, body: &[u8]) -> Result<(), Refusal> {
-        if tag != 0x84 {
-            return Err(Refusal::Misplaced);
-        }
+    const TAG: u8 = 0x84;
+
+    fn check(body: &[u8]) -> Result<(), Refusal> {
         check_new_body(body)
     }
 }

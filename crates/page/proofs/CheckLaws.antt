@@ -15,13 +15,12 @@ use Rattle.field.specs.Front.{behind_of, behind_by}
 use Rattle.field.specs.Fields.{IsFront, IsEnd}
 use Rattle.field.proofs.RowLaws.{read_step, next_sizes}
 use Rattle.field.proofs.FrontLaws.{read_empty}
-use Rattle.page.specs.Refusal.{Verdict, Fine, Refused, after, unless}
+use Rattle.page.specs.Refusal.{Verdict, Fine, Refused, after}
 use Rattle.page.specs.Tree.{choose}
-use Rattle.page.specs.Number.{is_number, is_minus}
 use Rattle.page.specs.Check.{check_header, check_end, check_text, check_empty, check_number, check_boolean, check_name_by, is_name_tag, is_tag, is_expr, is_child, check_child_by, check_expr_by, check_element, check_attributes, check_attribute, check_value, check_children, check_container, check_expr, check_items, check_pieces, check_nothing_after}
 use Rattle.page.specs.CheckField.{check_missing, check_element_name, check_nodes, check_tag_field, check_expr_field}
 use Rattle.page.specs.declared.Refusal.TheVariants as R
-use Rattle.page.proofs.RowEnds.{NotEnd, not_end}
+use Rattle.page.proofs.RowEnds.{NotEnd, not_end, header_other}
 use Rattle.page.proofs.Steps.{Checked, Then, front, inner, row_at, same_body, one_field, ended, tested, name_tag_cases, child_cases, value_cases, piece_cases, expr_cases, item_cases}
 
 -- ---- one field of a series by its tag and the bytes of its body
@@ -315,6 +314,12 @@ module _ (depth : ℕ) {t : ℕ} (w : Bytes) where
   unfolding check_expr_field check_expr_by choose
   expr_79 k = record { then_is = rw (k, add-one depth) }
 
+  pub expr_number : ((t ≡ 0x71 → ⊥) → (t ≡ 0x75 → ⊥) → (t ≡ 0x7a → ⊥) → (t ≡ 0x7b → ⊥) → ⊥) → Checked (check_expr_field depth t w) depth (check_number t w)
+  unfolding check_expr_field check_expr_by choose
+  expr_number n =
+      tested t 0x71 (λ z. record { then_is = rw z }) λ i. tested t 0x75 (λ z. record { then_is = rw z }) λ j.
+      tested t 0x7a (λ z. record { then_is = rw z }) λ k. tested t 0x7b (λ z. record { then_is = rw z }) λ l. absurd (n i j k l)
+
   pub expr_tag : ((t ≡ 0x30 → ⊥) → (t ≡ 0x31 → ⊥) → ⊥) → check_tag_field depth t w ≡ check_expr_field depth t w
   unfolding check_tag_field check_expr_field check_expr_by choose
   expr_tag n = tested t 0x30 (λ z. rw z) λ x. tested t 0x31 (λ z. rw z) λ y. absurd (n x y)
@@ -339,22 +344,12 @@ module _ (depth : ℕ) {t : ℕ} (w : Bytes) where
   unfolding check_tag_field check_piece_field choose
   piece_tag n = rw (ne_eqb t 0x20 n)
 
--- what is none of the others: a number, or misplaced
-number_then : (o : Bool) (depth : ℕ) (v : Verdict) (k : Unit {0} → Verdict) → after (check_header o depth) (λ _. choose o (λ _. v) k) ≡ after (unless o R.Misplaced) λ _. after (check_header true depth) λ _. v
-unfolding choose check_header after
-number_then true depth v k = refl
-number_then false depth v k = refl
+-- no expression's tag
+module _ (depth : ℕ) {t : ℕ} (w : Bytes) (a : t ≡ 0x70 → ⊥) (b : t ≡ 0x71 → ⊥) (c : t ≡ 0x72 → ⊥) (d : t ≡ 0x73 → ⊥) (e : t ≡ 0x74 → ⊥) (f : t ≡ 0x75 → ⊥) (g : t ≡ 0x76 → ⊥) (h : t ≡ 0x79 → ⊥) (i : t ≡ 0x7a → ⊥) (j : t ≡ 0x7b → ⊥) (k : t ≡ 0x30 → ⊥) (l : t ≡ 0x31 → ⊥) where
+  none : (o : Bool) → is_expr t ≡ o → is_expr t ≡ false
+  none true q = absurd (expr_cases (λ (n : ℕ). t ≡ n → ⊥) t a b c d e f g h i j k l q refl)
+  none false q = q
 
-module _ (depth : ℕ) {t : ℕ} (w : Bytes) (a : t ≡ 0x70 → ⊥) (b : t ≡ 0x74 → ⊥) (c : t ≡ 0x72 → ⊥) (d : t ≡ 0x73 → ⊥) (e : t ≡ 0x76 → ⊥) (f : t ≡ 0x79 → ⊥) (g : t ≡ 0x30 → ⊥) (h : t ≡ 0x31 → ⊥) where
-  number_alone : is_expr t ≡ (is_number t || is_minus t)
-  number_alone =
-      tested t 0x71 (λ z. rw z) λ i. tested t 0x75 (λ z. rw z) λ j. tested t 0x7a (λ z. rw z) λ k. tested t 0x7b (λ z. rw z) λ l.
-      rw (ne_eqb t 0x71 i, ne_eqb t 0x7a k, ne_eqb t 0x75 j, ne_eqb t 0x7b l) (none i j k l (is_expr t) refl)
-    where
-      none : (t ≡ 0x71 → ⊥) → (t ≡ 0x75 → ⊥) → (t ≡ 0x7a → ⊥) → (t ≡ 0x7b → ⊥) → (o : Bool) → is_expr t ≡ o → is_expr t ≡ false
-      none i j k l true q = absurd (expr_cases (λ (n : ℕ). t ≡ n → ⊥) t a i c d b j e f k l g h q refl)
-      none i j k l false q = q
-
-  pub expr_number : Then (check_expr_field depth t w) (unless (is_number t || is_minus t) R.Misplaced) (after (check_header true depth) λ _. check_number t w)
-  unfolding check_expr_field check_expr_by choose
-  expr_number = record { then_is = rw (number_alone, ne_eqb t 0x70 a, ne_eqb t 0x74 b) (number_then (is_number t || is_minus t) depth (check_number t w) _) }
+  pub expr_other : Refused R.Misplaced ≡ check_expr_field depth t w
+  unfolding check_expr_field
+  expr_other = header_other (is_expr t) depth _ (none (is_expr t) refl)

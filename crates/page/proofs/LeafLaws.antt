@@ -1,15 +1,15 @@
 -- What the code learns of numbers and of names. Main statements: `number_eight`, `name_first`, `hyphen_none`. Assumes nothing.
 use mathlib.Core.Path.{◌≡◌, refl, sym, ap, ◌∙◌}
-use mathlib.Core.Bool.{Bool, true, false, not, ◌&&◌, ◌||◌}
-use Prim.Native.Nat.{ℕ, ◌+◌, ◌*◌, ◌^◌, ◌≤◌, ◌<◌}
+use mathlib.Core.Bool.{Bool, false, not, ◌&&◌}
+use Prim.Native.Nat.{ℕ, zero, suc, ◌+◌, ◌*◌, ◌^◌, ◌≤◌, ◌<◌}
 use native.Mathlib.Omega.{arith}
 use native.Mathlib.Numerals.{add-one}
 use native.Mathlib.Nat.{pow-suc, pow-le-pow_right}
 use mathlib.Core.List.{[], ◌∷◌}
-use lib.ListN.{length, take, drop, get_or, drop_of_length-le}
-use lib.Seq.{drop-cons, take-suc, take_all}
+use lib.ListN.{length, take, drop, get_or}
+use lib.Seq.{take-suc, take_all}
 use lib.Dec.{leb, eqb}
-use Rattle.std.specs.List.{list_any, list_all}
+use Rattle.std.specs.List.{list_all}
 use Rattle.field.specs.Bytes.{Bytes}
 use Rattle.field.specs.Number.{number_from, number_of}
 use Rattle.field.proofs.NumberLaws.{number_append}
@@ -54,14 +54,13 @@ module _ (i n : ℕ) (h : n < 256 ^ i) where
   pub number_grown : {r : ℕ} → r < 256 * (n + 1) → r < 256 ^ (i + 1)
   number_grown {r} l = rw (add-one i, pow-suc 256 i) (omega arith)
 
--- one byte, at a place or past the end
-pub one_at : (s : Bytes) (i : ℕ) → i < length s → get_or s i 0 ≡ number_of (take 1 (drop i s))
+-- one byte, and 0 past the end
+pub byte_at : (s : Bytes) (i : ℕ) → get_or s i 0 ≡ number_of (take 1 (drop i s))
 unfolding number_from
-one_at s i h = rw (drop-cons s i 0 h) (omega arith)
-
-pub none_at : (s : Bytes) (i : ℕ) → length s ≤ i → 0 ≡ number_of (take 1 (drop i s))
-unfolding number_from
-none_at s i h = rw (drop_of_length-le s {i = i} h)
+byte_at [] zero = refl
+byte_at [] (suc i) = refl
+byte_at (c ∷ s) zero = omega arith
+byte_at (c ∷ s) (suc i) = byte_at s i
 
 -- ---- names
 
@@ -79,11 +78,7 @@ pub name_first : (s : Bytes) (c : ℕ) (r : Bytes) → s ≡ c ∷ r → is_name
 unfolding is_name
 name_first s c r e = ap is_name e ∙ rw (e, parts_all r)
 
-pub hyphen_none : (s : Bytes) → not (list_any (λ c. eqb c 45) s) ≡ no_hyphen s
+pub hyphen_none : (s : Bytes) → list_all (λ c. not (eqb c 45)) s ≡ no_hyphen s
 unfolding no_hyphen
 hyphen_none [] = refl
-hyphen_none (c ∷ s) = on (eqb c 45) (hyphen_none s)
-  where
-    on : (b : Bool) → not (list_any (λ c. eqb c 45) s) ≡ no_hyphen s → not (b || list_any (λ c. eqb c 45) s) ≡ (not b && no_hyphen s)
-    on true e = refl
-    on false e = e
+hyphen_none (c ∷ s) = ap (λ (b : Bool). not (eqb c 45) && b) (hyphen_none s)

@@ -7,6 +7,7 @@ use native.Mathlib.Omega.{arith}
 use lib.Dec.{eqb}
 use lib.ListN.{length}
 use borrow.Author.Tests.{eq-eqb, ne_eqb}
+use Rattle.std.specs.Prelude.{OnOk}
 use Rattle.field.specs.Bytes.{Bytes}
 use Rattle.field.specs.Row.{Row, end, loose, field, read, Inside, only_bytes, fields_after, counted, inside, opened, Next, nothing, no_field, next, next_of, built}
 use Rattle.field.specs.Front.{behind_of, behind_by}
@@ -71,6 +72,16 @@ unfolding check_missing check_nothing_after after
 missing_then end = record { then_is = refl }
 missing_then (loose b) = record { then_is = refl }
 missing_then (field t f i r) = record { then_is = refl }
+
+-- the lack of a field is never fine
+pub missing_refused : {v : Verdict} (A : Type 0) (r : Row) → v ≡ check_missing r → OnOk v A
+unfolding check_missing
+missing_refused {v} A r e = subst (λ (x : Verdict). OnOk x A) (sym e) (on r)
+  where
+    on : (r : Row) → OnOk (check_missing r) A
+    on end = tt
+    on (loose b) = tt
+    on (field t f i r) = tt
 
 -- ---- members: the code has counted n of them
 

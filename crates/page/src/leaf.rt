@@ -1,4 +1,5 @@
-// The bodies that hold no field: texts, booleans, and those that must be empty. (Numbers: `number`.)
+// The bodies that hold no field: texts, booleans, and those that must be empty. (Numbers: `number`.) Checks that are alike, here and in `name`, are one
+// call of refuse_unless each: what they have in common is that call, and each states the definition of its name.
 ghost use Rattle.std.specs.Prelude.{◌≡◌};
 ghost use Rattle.page.specs.Check.{check_text, check_empty, check_boolean, check_source};
 

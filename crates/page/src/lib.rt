@@ -12,7 +12,13 @@ pub mod name;
 pub mod number;
 pub mod whole;
 
-// 01, Limits and the answer: the depth of the deepest field.
+// 01, Limits and the answer: the longest page and the longest options, the shortest scratch, the depth of the deepest field.
+pub const MAX_PAGE: usize = 32768;
+
+pub const MAX_OPTIONS: usize = 4096;
+
+pub const MIN_SCRATCH: usize = 65536;
+
 pub const MAX_DEPTH: usize = 48;
 
 // The refusals of document 01, each under its number; the comments have its trade's word.
@@ -49,7 +55,7 @@ pub enum Refusal {
 }
 
 // What one test says.
-fn refuse_unless(fits: bool, refusal: Refusal) -> Result<(), Refusal>
+pub fn refuse_unless(fits: bool, refusal: Refusal) -> Result<(), Refusal>
     ensures { result ≡ unless fits refusal }
 {
     if fits { Ok(()) } else { Err(refusal) }

@@ -17,7 +17,7 @@ pub const MAX_DIGITS: u64 = 999_999_999_999_999;
 
 pub const MAX_PLACES: usize = 15;
 
-// The same byte by byte, of a body that has fewer and is refused.
+// The number in fewer than eight bytes, of a body that is refused.
 fn short_in(s: &[u8]) -> u64
     requires { length s.now < 8 }
     ensures { result ≡ number_of s.now }
@@ -40,15 +40,14 @@ pub fn number_in(s: &[u8]) -> u64
 }
 
 // The byte behind the digits.
+#[tactic(auto, using(crate::proofs::LeafLaws::byte_at))]
 fn places_in(s: &[u8]) -> u8
     ensures { result ≡ number_of (take 1 (drop 8 s.now)) }
 {
-    match s.get(8) {
-        Some(places) => *places,
-        None => 0,
-    }
+    s.get(8).copied().unwrap_or(0)
 }
 
+// A tag may be any number, here, in what follows and in check_name_by: as a byte it would ask more of callers.
 fn has_places(tag: usize) -> bool
     ensures { result ≡ has_places tag }
 {
@@ -75,9 +74,10 @@ pub fn put_number(out: &mut [u8], at: usize, tag: usize, s: &[u8]) -> usize
 {
     let n = number_in(s);
     if has_places(tag) {
-        return put_shortest(out, at, n, usize::from(places_in(s)).min(MAX_PLACES));
+        put_shortest(out, at, n, usize::from(places_in(s)).min(MAX_PLACES))
+    } else {
+        put_decimal(out, at, n)
     }
-    put_decimal(out, at, n)
 }
 
 // The body of its field.
@@ -85,9 +85,10 @@ pub fn put_number_bytes(out: &mut [u8], at: usize, tag: usize, s: &[u8]) -> usiz
     requires { at + 9 < 2 ^ 64 }
     ensures { Wrote out.old at (number_bytes (number_in tag s.now)) out.new result }
 {
-    let e = put_eight(out, at, number_in(s) as usize);
+    let e = put_eight(out, at, number_in(s));
     if has_places(tag) {
-        return put_byte(out, e, places_in(s));
+        put_byte(out, e, places_in(s))
+    } else {
+        e
     }
-    e
 }

@@ -1,4 +1,5 @@
-// A whole page and whole options.
+// A whole page and whole options. Items, texts and options are walked by a loop each: a walk over a check that is passed would ask, in a clause of its
+// own, how that check makes the row's, which is longer than a loop of one line.
 ghost use Rattle.std.specs.Prelude.{◌≡◌};
 ghost use Rattle.field.specs.Row.{read};
 ghost use Rattle.page.specs.Check.{check_module_items, check_page, check_texts, check_options};
@@ -11,12 +12,12 @@ use crate::{Refusal, refuse_unless};
 use field::reader::{Field, Fields};
 
 #[tactic(auto, unfolding(crate::specs::CheckField::check_module_item, crate::specs::Check::check_header, crate::specs::Refusal::after, crate::specs::Tree::choose))]
-fn check_module_item(tag: u8, body: &[u8]) -> Result<(), Refusal>
-    ensures { result ≡ check_module_item tag body.now }
+fn check_module_item(field: Field<'_>) -> Result<(), Refusal>
+    ensures { result ≡ check_module_item field.entry.tag field.entry.body.now }
 {
-    match tag {
-        0x10..=0x12 => check_pieces(body, 3),
-        0x13 => check_empty(body),
+    match field.tag {
+        0x10..=0x12 => check_pieces(field.body, 3),
+        0x13 => check_empty(field.body),
         _ => Err(Refusal::Misplaced),
     }
 }
@@ -26,7 +27,7 @@ fn check_module_items(s: &[u8]) -> Result<(), Refusal>
 {
     let mut fields = Fields(s);
     while let Some(field) = fields.next() {
-        check_module_item(field.tag, field.body)?;
+        check_module_item(field)?;
     }
     check_nothing_after(fields.0)
 }
@@ -60,16 +61,14 @@ fn check_texts(s: &[u8]) -> Result<(), Refusal>
 
 // One option; from is the least tag that may still come.
 #[tactic(auto, unfolding(crate::specs::CheckField::check_option, crate::specs::Check::check_header, crate::specs::Refusal::after, crate::specs::Tree::choose))]
-fn check_option(from: u8, tag: u8, body: &[u8]) -> Result<(), Refusal>
-    ensures { result ≡ check_option «from» tag body.now }
+fn check_option(from: u8, field: Field<'_>) -> Result<(), Refusal>
+    ensures { result ≡ check_option «from» field.entry.tag field.entry.body.now }
 {
-    if tag < from || 0x05 < tag {
-        return Err(Refusal::Misplaced);
-    }
-    match tag {
-        0x04 => check_source(body),
-        0x05 => check_empty(body),
-        _ => check_texts(body),
+    refuse_unless((from..=0x05).contains(&field.tag), Refusal::Misplaced)?;
+    match field.tag {
+        0x04 => check_source(field.body),
+        0x05 => check_empty(field.body),
+        _ => check_texts(field.body),
     }
 }
 
@@ -80,7 +79,7 @@ pub fn check_options(s: &[u8]) -> Result<(), Refusal>
     let mut fields = Fields(s);
     let mut from = 2;
     while let Some(field) = fields.next() {
-        check_option(from, field.tag, field.body)?;
+        check_option(from, field)?;
         from = field.tag + 1;
     }
     check_nothing_after(fields.0)

@@ -13,7 +13,7 @@ use Rattle.field.specs.Bytes.{Bytes, AllBytes, pick}
 use Rattle.field.specs.Row.{read}
 use Rattle.field.specs.Put.{put, Wrote}
 use Rattle.field.proofs.NumberLaws.{all_from, all_take}
-use Rattle.field.proofs.PutLaws.{length_put, put_fits, wrote_then, wrote_is}
+use Rattle.field.proofs.PutLaws.{length_put, put_fits, wrote_is}
 use Rattle.text.specs.Decimal.{decimal}
 use Rattle.page.specs.Tree.{page_in, works_sums, options_in}
 use Rattle.page.specs.Check.{check_page}
@@ -75,8 +75,8 @@ module _ (page options scratch t g : Bytes) {a : Answer} {s' t' g' : Bytes}
   abbrev what : Outcome
   what = outcome page options (length scratch) (length t) (length g)
 
-  pub refused_printed : (a.number ≡ 0 → ⊥) → {o o₁ o₂ : Bytes} {n r : ℕ} → Wrote o 0 (decimal a.number) o₁ n → Wrote o₁ n (10 ∷ []) o₂ r → Wrote o 0 (card_text what) o₂ r
-  refused_printed z u v = wrote_is (refused_text what x.number_is z) (wrote_then u v)
+  pub refused_printed : (a.number ≡ 0 → ⊥) → {o o₁ : Bytes} {n : ℕ} → Wrote o 0 (decimal a.number ++ (10 ∷ [])) o₁ n → Wrote o 0 (card_text what) o₁ n
+  refused_printed z u = wrote_is (refused_text what x.number_is z) u
 
   -- accepted: what is written stands at the front of both outs
   outs_text : a.number ≡ 0 → page_text (read (take a.templates_bytes t')) (read (take a.page_bytes g')) ≡ card_text what

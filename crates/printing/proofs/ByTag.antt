@@ -46,14 +46,13 @@ module _ (t : ℕ) (w : Bytes) {f i : Bytes} (p : f ≡ front_in t w) (q : i ≡
   unfolding text_by choose
   first_quoted = ⊎_elim (first_at 0x70) (first_at 0x81)
 
-  -- by the tag as it is handed on
-  pub first_number : {u : ℕ} → u ≡ t → (t ≡ 0x71) ⊎ (t ≡ 0x7a) → field_text t w ≡ render (number_in u f)
+  pub first_number : (t ≡ 0x71) ⊎ (t ≡ 0x7a) → field_text t w ≡ render (number_in t f)
   unfolding text_by choose
-  first_number {u} e = ⊎_elim (λ z. first_at 0x71 z ∙ ap (λ (x : ℕ). render (number_in x f)) (sym (e ∙ z))) (λ z. first_at 0x7a z ∙ ap (λ (x : ℕ). render (number_in x f)) (sym (e ∙ z)))
+  first_number = ⊎_elim (λ z. first_at 0x71 z ∙ ap (λ (x : ℕ). render (number_in x f)) (sym z)) (λ z. first_at 0x7a z ∙ ap (λ (x : ℕ). render (number_in x f)) (sym z))
 
-  pub first_minus : {u : ℕ} → u ≡ t → (t ≡ 0x75) ⊎ (t ≡ 0x7b) → field_text t w ≡ 45 ∷ render (number_in u f)
+  pub first_minus : (t ≡ 0x75) ⊎ (t ≡ 0x7b) → field_text t w ≡ 45 ∷ render (number_in t f)
   unfolding text_by choose
-  first_minus {u} e = ⊎_elim (λ z. first_at 0x75 z ∙ ap (λ (x : ℕ). 45 ∷ render (number_in x f)) (sym (e ∙ z))) (λ z. first_at 0x7b z ∙ ap (λ (x : ℕ). 45 ∷ render (number_in x f)) (sym (e ∙ z)))
+  first_minus = ⊎_elim (λ z. first_at 0x75 z ∙ ap (λ (x : ℕ). 45 ∷ render (number_in x f)) (sym z)) (λ z. first_at 0x7b z ∙ ap (λ (x : ℕ). 45 ∷ render (number_in x f)) (sym z))
 
   pub first_spread : (t ≡ 0x53) ⊎ (t ≡ 0x77) → field_text t w ≡ ascii "..." ++ first_text (read i)
   unfolding text_by choose

@@ -3,7 +3,7 @@
 -- Assumes nothing.
 use mathlib.Core.Path.{◌≡◌, refl, sym, ap, ◌∙◌, subst}
 use mathlib.Core.Bool.{Bool, true, false}
-use Prim.Native.Nat.{ℕ, ◌+◌, ◌-◌, ◌*◌, ◌≤◌, ◌<◌, min}
+use Prim.Native.Nat.{ℕ, ◌+◌, ◌*◌, ◌≤◌, ◌<◌, min}
 use native.Mathlib.Nat.{le_refl}
 use native.Mathlib.Omega.{arith}
 use mathlib.Core.List.{[], ◌∷◌}
@@ -103,12 +103,7 @@ front_length_within only_bytes w = le_refl (length w)
 front_length_within (fields_after k) w = at_most_within k (length w)
 front_length_within (counted k) w = at_most_within (counted_front k w) (length w)
 
--- a body that is too short for the count is all front, and elsewhere the count is its fifth and sixth byte
-pub counted_short : (w : Bytes) → length w < 6 → length w ≡ front_length (counted 4) w
-counted_short w h =
-    let l : length w < counted_front 4 w = omega arith in
-    rw (lt-leb (counted_front 4 w) (length w) l)
-
+-- the count is the fifth and the sixth byte
 pub counted_is : (w : Bytes) → 6 ≤ length w → 6 + (get_or w 4 0 * 256 + get_or w 5 0) ≡ counted_front 4 w
 unfolding number_from
 counted_is [] h = absurd (omega arith)
@@ -154,8 +149,8 @@ module _ (t : ℕ) (b : Bytes) {n : ℕ} (en : n ≡ front_length (inside t) b) 
   pub front_is : take n b ≡ front_in t b
   front_is = ap (λ (k : ℕ). take k b) en ∙ front_cut (inside t) b
 
-  pub inner_is : take (length b - n) (drop n b) ≡ inner_in t b
-  inner_is = take_all (length b - n) (drop n b) (omega (arith, length-drop n b)) ∙ ap (λ (k : ℕ). drop k b) en ∙ inner_cut (inside t) b
+  pub inner_is : drop n b ≡ inner_in t b
+  inner_is = ap (λ (k : ℕ). drop k b) en ∙ inner_cut (inside t) b
 
 -- ---- of a field that a row gives
 

@@ -1,9 +1,10 @@
 -- The lines, piece by piece: the import, the templates, the items.
--- Main statements: `helper_none`, `helper_later`, `helper_first`, `helpers_is`, `sum_field`, `sum_none`, `sum_loose`, `import_is`, `templates_on`, `templates_end`, `page_import`,
--- `page_templates`, `page_empty`, `page_item`, `page_end`; beside them the room that the pieces have. Assumes nothing.
+-- Main statements: `helper_none`, `helper_here`, `helpers_is`, `sum_field`, `sum_first`, `import_is`, `templates_on`, `templates_end`, `page_import`, `page_templates`,
+-- `page_empty`, `page_item`, `page_end`; beside them the room that the pieces have. Assumes nothing.
 use mathlib.Core.Path.{◌≡◌, refl, sym, ap, ◌∙◌}
-use mathlib.Core.Bool.{Bool, true, false, ◌||◌}
-use Prim.Native.Nat.{ℕ, ◌+◌, ◌/◌, ◌<◌, ◌^◌}
+use mathlib.Core.Bool.{Bool, true, false, ◌||◌, not}
+use Prim.Native.Nat.{ℕ, zero, suc, ◌+◌, ◌*◌, ◌/◌, ◌<◌, ◌^◌}
+use lib.Dec.{eqb}
 use native.Mathlib.Omega.{arith}
 use mathlib.Core.List.{[], ◌∷◌, ◌++◌, append_assoc}
 use lib.ListN.{length, take, get_or, length-append}
@@ -11,8 +12,12 @@ use borrow.Author.Tests.{ne_eqb}
 use Rattle.std.specs.Prelude.{Option}
 use Rattle.std.specs.Option.{unwrap_or}
 use Rattle.std.specs.List.{slice_get}
+use Rattle.std.specs.Int.{bit_at}
+use Rattle.std.specs.Int.Bits.{bit_and}
+use Rattle.std.proofs.lemmas.Nat.{pow_pos}
+use Rattle.std.proofs.lemmas.Nat.Bits.{and_pow}
 use Rattle.std.proofs.lemmas.Option.{unwrap_or-slice_get}
-use Rattle.field.specs.Bytes.{Bytes, ascii}
+use Rattle.field.specs.Bytes.{Bytes, ascii, pick}
 use Rattle.field.specs.Number.{number_of, number_from}
 use Rattle.field.specs.Row.{Row, end, loose, field, read, Ended}
 use Rattle.field.specs.Front.{behind_of}
@@ -28,31 +33,62 @@ use Rattle.printing.proofs.ByTag.{front_first}
 
 -- ---- the helpers
 
-module _ (s l : Bool) (n : Bytes) where
-  pub helper_none : s ≡ false → [] ≡ helper_text s l n
-  unfolding helper_text
-  helper_none e = rw e
+pub helper_none : (s l : Bool) (n : Bytes) → s ≡ false → [] ≡ helper_text s l n
+unfolding helper_text
+helper_none s l n e = rw e
 
-  pub helper_later : s ≡ true → l ≡ true → ascii ", " ++ (n ++ (ascii " as _" ++ n)) ≡ helper_text s l n
-  unfolding helper_text
-  helper_later e k = rw (e, k)
+-- what stands before one that stands, and the two names
+pub helper_here : (s l : Bool) (n : Bytes) → s ≡ true → pick l (ascii ", ") [] ++ (n ++ (ascii " as _" ++ n)) ≡ helper_text s l n
+unfolding helper_text
+helper_here s true n e = rw e
+helper_here s false n e = rw e
 
-  pub helper_first : s ≡ true → l ≡ false → n ++ (ascii " as _" ++ n) ≡ helper_text s l n
-  unfolding helper_text
-  helper_first e k = rw (e, k)
+-- a helper's bit in the sum, as the code tests it
+abbrev pub bit : ℕ → ℕ → Bool
+bit n m = not (eqb (bit_and n m) 0)
 
-module _ (k : ℕ) {a b c d e f g : Bool} (ea : a ≡ odd k) (eb : b ≡ odd (k / 2)) (ec : c ≡ odd (k / 4)) (ed : d ≡ odd (k / 8)) (ee : e ≡ (a || b)) (ef : f ≡ (b || c)) (eg : g ≡ (a || f)) where
-  pub helpers_is : helper_text a false (ascii "jsx") ++ (helper_text b a (ascii "jsxTemplate") ++ (helper_text c e (ascii "jsxAttr") ++ helper_text d g (ascii "jsxEscape"))) ≡ helpers_text k
+pub bit_set : (n m : ℕ) → (bit_and n m ≡ 0 → ⊥) → bit n m ≡ true
+bit_set n m h = ap not (ne_eqb (bit_and n m) 0 h)
+
+pub bit_clear : (n m : ℕ) → bit_and n m ≡ 0 → bit n m ≡ false
+bit_clear n m h = ap (λ (x : ℕ). not (eqb x 0)) h
+
+bit_odd : (n i : ℕ) → bit n (2 ^ i) ≡ odd (n / 2 ^ i)
+bit_odd n i = ap (λ (x : ℕ). not (eqb x 0)) (and_pow n i) ∙ on (bit_at n i) (omega arith)
+  where
+    on : (b : ℕ) → b < 2 → not (eqb (b * 2 ^ i) 0) ≡ eqb b 1
+    on zero h = ap (λ (x : ℕ). not (eqb x 0)) (let z : 0 * 2 ^ i ≡ 0 = omega arith in z)
+    on (suc zero) h = ap not (ne_eqb (1 * 2 ^ i) 0 (λ z. omega (arith, pow_pos i)))
+    on (suc (suc b)) h = absurd (omega arith)
+
+-- `||` takes its second operand where the first is false
+pub or_left : (b : Bool) {a r : Bool} → a ≡ true → r ≡ a → r ≡ (a || b)
+or_left b e q = rw e at q ∙ sym (ap (λ (x : Bool). x || b) e)
+
+pub or_right : {a b r : Bool} → a ≡ false → r ≡ b → r ≡ (a || b)
+or_right {b = b} e q = q ∙ sym (ap (λ (x : Bool). x || b) e)
+
+or_three : (a b c : Bool) → ((a || b) || c) ≡ (a || (b || c))
+or_three true b c = refl
+or_three false b c = refl
+
+module _ (k : ℕ) {e g : Bool} (ee : e ≡ (bit k 1 || bit k 2)) (eg : g ≡ (e || bit k 4)) where
+  pub helpers_is : helper_text (bit k 1) false (ascii "jsx") ++ (helper_text (bit k 2) (bit k 1) (ascii "jsxTemplate") ++ (helper_text (bit k 4) e (ascii "jsxAttr") ++ helper_text (bit k 8) g (ascii "jsxEscape"))) ≡ helpers_text k
   unfolding helpers_text
-  helpers_is = rw (eg, ef, ee, ea, eb, ec, ed)
+  helpers_is =
+      let a : bit k 1 ≡ odd k = bit_odd k 0 ∙ ap odd (omega arith) in
+      let b : bit k 2 ≡ odd (k / 2) = bit_odd k 1 in
+      let c : bit k 4 ≡ odd (k / 4) = bit_odd k 2 in
+      let d : bit k 8 ≡ odd (k / 8) = bit_odd k 3 in
+      rw (eg, ee, or_three (bit k 1) (bit k 2) (bit k 4), a, b, c, d)
 
-  pub helpers_room : (n : ℕ) → n + length (helpers_text k) < 2 ^ 63 → n + (length (helper_text a false (ascii "jsx")) + (length (helper_text b a (ascii "jsxTemplate")) + (length (helper_text c e (ascii "jsxAttr")) + length (helper_text d g (ascii "jsxEscape"))))) < 2 ^ 63
+  pub helpers_room : (n : ℕ) → n + length (helpers_text k) < 2 ^ 63 → n + (length (helper_text (bit k 1) false (ascii "jsx")) + (length (helper_text (bit k 2) (bit k 1) (ascii "jsxTemplate")) + (length (helper_text (bit k 4) e (ascii "jsxAttr")) + length (helper_text (bit k 8) g (ascii "jsxEscape"))))) < 2 ^ 63
   helpers_room n h =
-      let w = helper_text a false (ascii "jsx") in
-      let x = helper_text b a (ascii "jsxTemplate") in
-      let y = helper_text c e (ascii "jsxAttr") in
-      let z = helper_text d g (ascii "jsxEscape") in
-      omega (arith, ap length helpers_is, length-append w (x ++ (y ++ z)), length-append x (y ++ z), length-append y z)
+      let w = helper_text (bit k 1) false (ascii "jsx") in
+      let x = helper_text (bit k 2) (bit k 1) (ascii "jsxTemplate") in
+      let y = helper_text (bit k 4) e (ascii "jsxAttr") in
+      let z = helper_text (bit k 8) g (ascii "jsxEscape") in
+      omega (arith, h, ap length helpers_is, length-append w (x ++ (y ++ z)), length-append x (y ++ z), length-append y z)
 
 -- ---- the sum
 

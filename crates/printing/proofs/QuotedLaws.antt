@@ -1,6 +1,5 @@
 -- Laws of strings in quotes and of names: bytes are quoted one by one, and a name goes on byte by byte.
--- Main statements: `quoted_more`, `quoted_le`; `quoted_escaped`, `quoted_hex`, `quoted_plain`; `name_none`, `name_first`, `goes_on_all`.
--- Assumes nothing.
+-- Main statements: `quoted_more`, `quoted_le`; `name_by`; `quoted_escaped`, `quoted_hex`, `quoted_plain`. Assumes nothing.
 use mathlib.Core.Path.{◌≡◌, refl, sym, ap, ◌∙◌}
 use mathlib.Core.Bool.{Bool, true, false, ◌&&◌, ◌||◌}
 use Prim.Native.Nat.{ℕ, ◌+◌, ◌/◌, ◌%◌, ◌≤◌, ◌<◌}
@@ -14,9 +13,13 @@ use mathlib.Core.Logic.{◌⊎◌, inl, inr}
 use borrow.Author.Tests.{ne_eqb}
 use Rattle.std.proofs.lemmas.Bool.Decides.{nat_tests}
 use Rattle.std.specs.Char.{is_ascii_control}
-use Rattle.std.specs.List.{list_all}
+use Rattle.std.specs.Prelude.{Option, None, Some}
+use Rattle.std.specs.Option.{MatchOption}
+use Rattle.std.specs.List.{list_all, IsFirstAndRest}
+use denote.Ref.{Bor}
 use Rattle.field.specs.Bytes.{Bytes}
-use Rattle.printing.specs.Card.{hex_digit, quoted_byte, quoted_bytes, starts_name, goes_on, is_identifier}
+use Rattle.page.specs.Check.{name_start}
+use Rattle.printing.specs.Card.{hex_digit, quoted_byte, quoted_bytes, goes_on, is_identifier}
 
 -- ---- bytes, one by one
 
@@ -43,19 +46,23 @@ quoted_le s i =
 
 -- ---- a name: its first byte, and those behind it
 
-pub name_none : (s : Bytes) → length s ≡ 0 → false ≡ is_identifier s
+goes_on_all : (s : Bytes) → list_all (λ c. name_start c || (leb 48 c && leb c 57)) s ≡ goes_on s
+unfolding goes_on
+goes_on_all [] = refl
+goes_on_all (c ∷ s) = ap (λ (b : Bool). (name_start c || (leb 48 c && leb c 57)) && b) (goes_on_all s)
+
+name_none : (s : Bytes) → length s ≡ 0 → false ≡ is_identifier s
 unfolding is_identifier
 name_none [] h = refl
 name_none (c ∷ s) h = absurd (omega arith)
 
-pub name_first : (s : Bytes) (c : ℕ) (r : Bytes) → s ≡ c ∷ r → is_identifier s ≡ (starts_name c && goes_on r)
+name_first : (s : Bytes) (c : ℕ) (r : Bytes) → s ≡ c ∷ r → (name_start c && list_all (λ c. name_start c || (leb 48 c && leb c 57)) r) ≡ is_identifier s
 unfolding is_identifier
-name_first s c r e = ap is_identifier e
+name_first s c r e = ap (λ (b : Bool). name_start c && b) (goes_on_all r) ∙ sym (ap is_identifier e)
 
-pub goes_on_all : (s : Bytes) → list_all (λ c. starts_name c || (leb 48 c && leb c 57)) s ≡ goes_on s
-unfolding goes_on
-goes_on_all [] = refl
-goes_on_all (c ∷ s) = ap (λ (b : Bool). (starts_name c || (leb 48 c && leb c 57)) && b) (goes_on_all s)
+pub name_by : (s : Bytes) {o : Option (Bor ℕ × Bor Bytes)} {r : Bool} → MatchOption o (length s ≡ 0) (λ p. IsFirstAndRest s p.0.now p.1.now) → (o ≡ None → r ≡ false) → ((p : Bor ℕ × Bor Bytes) → o ≡ Some p → r ≡ (name_start p.0.now && list_all (λ c. name_start c || (leb 48 c && leb c 57)) p.1.now)) → r ≡ is_identifier s
+name_by s {o = None} m h k = h refl ∙ name_none s m
+name_by s {o = Some p} m h k = k p refl ∙ name_first s p.0.now p.1.now m.0
 
 -- ---- a byte in a string, by the tests that its writer makes
 

@@ -7,6 +7,7 @@ use Rattle.text.specs.Decimal.{decimal}
 use Rattle.printing.specs.Front.{front_in, inner_in}
 use Rattle.page.specs.Number.{is_number, is_minus, number_in, render}
 use Rattle.page.specs.Tree.{choose, boolean_in}
+use Rattle.page.specs.Check.{name_start}
 use Rattle.page.specs.Refusal.{refusal_number}
 use Rattle.spec.specs.Answer.{Outcome, refused, accepted, outcome}
 
@@ -31,16 +32,13 @@ abbrev pub quoted : Bytes → Bytes
 quoted b = 34 ∷ (quoted_bytes b ++ (34 ∷ []))
 
 -- is_text_valid_identifier: a letter, `_` or `$`, and then digits too
-abbrev pub starts_name : ℕ → Bool
-starts_name c = (leb 97 c && leb c 122) || ((leb 65 c && leb c 90) || (eqb c 95 || eqb c 36))
-
 unfoldable pub goes_on : Bytes → Bool
 goes_on [] = true
-goes_on (c ∷ cs) = (starts_name c || (leb 48 c && leb c 57)) && goes_on cs
+goes_on (c ∷ cs) = (name_start c || (leb 48 c && leb c 57)) && goes_on cs
 
 unfoldable pub is_identifier : Bytes → Bool
 is_identifier [] = false
-is_identifier (c ∷ cs) = starts_name c && goes_on cs
+is_identifier (c ∷ cs) = name_start c && goes_on cs
 
 -- a property's name: bare, or in quotes
 abbrev pub prop_name : Bytes → Bytes

@@ -5,7 +5,7 @@ ghost use Rattle.field.specs.Bytes.{ascii};
 ghost use Rattle.field.specs.Row.{read};
 ghost use Rattle.printing.specs.Card.{quoted, prop_name, template_name, first_front, second_front, all_text, parted_text, behind_text, first_text, second_text, field_text};
 
-use crate::front::{first_front, front, inner};
+use crate::front::{first_front, parts};
 use crate::name::{put_boolean, put_minus, put_pointed, put_template_name};
 use crate::quoted::{put_prop_name, put_quoted};
 use field::reader::{Field, Fields, behind, field_at};
@@ -18,8 +18,7 @@ fn print_field(out: &mut [u8], at: usize, field: Field<'_>) -> usize
     requires { at + length (field_text field.tag field.body.now) < 2 ^ 63 }
     ensures { Wrote out.old at (field_text field.entry.tag field.entry.body.now) out.new result }
 {
-    let f = front(field);
-    let i = inner(field);
+    let (f, i) = parts(field);
     match field.tag {
         0x20 | 0x40 | 0x74 => put_bytes(out, at, f),
         0x41 => put_pointed(out, at, i),
@@ -143,7 +142,8 @@ pub fn print_parted(out: &mut [u8], at: usize, s: &[u8]) -> usize
     print_behind(out, a, fields.0)
 }
 
-// With `, ` before each. A loop of its own beside `print_all`: one loop with an empty separator would state neither of the two definitions.
+// With `, ` before each. A loop of its own beside `print_all`: one loop for both, with what it puts before each as a parameter, would promise
+// a third text, which each caller would turn into its own.
 #[cycle(print)]
 fn print_behind(out: &mut [u8], at: usize, s: &[u8]) -> usize
     requires { at + length (behind_text (read s.now)) < 2 ^ 63 }

@@ -29,7 +29,7 @@ fn holds_fields(tag: u8) -> bool
     )
 }
 
-// How many bytes of a body stand before its fields: by the tag, as `inside` says.
+// How many bytes of a body stand before its fields: by the tag, as `inside` says. A length, 0 where fields alone stand there.
 fn front_len(tag: u8, b: &[u8]) -> usize
     ensures { result ≡ front_length (inside tag) b.now }
 {
@@ -47,32 +47,29 @@ fn front_len(tag: u8, b: &[u8]) -> usize
 fn counted_len(b: &[u8]) -> usize
     ensures { result ≡ front_length (counted 4) b.now }
 {
-    let n = b.len();
-    if n < 6 {
-        return n;
+    match b {
+        [_, _, _, _, high, low, rest @ ..] => {
+            6 + usize::from(u16::from_be_bytes([*high, *low])).min(rest.len())
+        }
+        _ => b.len(),
     }
-    let count = usize::from(u16::from_be_bytes([b[4], b[5]]));
-    n.min(6 + count)
 }
 
-pub fn front(field: Field<'_>) -> &[u8]
-    ensures { result.now ≡ front_in field.entry.tag field.entry.body.now }
+// The bytes in front, and the fields behind them.
+pub fn parts(field: Field<'_>) -> (&[u8], &[u8])
+    ensures front { result.0.now ≡ front_in field.entry.tag field.entry.body.now }
+    ensures inner { result.1.now ≡ inner_in field.entry.tag field.entry.body.now }
 {
-    &field.body[..front_len(field.tag, field.body)]
+    field.body.split_at(front_len(field.tag, field.body))
 }
 
-pub fn inner(field: Field<'_>) -> &[u8]
-    ensures { result.now ≡ inner_in field.entry.tag field.entry.body.now }
-{
-    &field.body[front_len(field.tag, field.body)..]
-}
-
-// The front of the first field, empty where there is none.
+// The front of the first field. Where there is none it is no bytes, as in the definition: of an Option each of the three that print it would
+// make them again.
 pub fn first_front(s: &[u8]) -> &[u8]
     ensures { result.now ≡ front_of s.now }
 {
     match field_at(s) {
-        Some(field) => front(field),
+        Some(field) => parts(field).0,
         None => &[],
     }
 }

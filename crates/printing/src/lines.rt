@@ -3,10 +3,10 @@ ghost use Rattle.std.specs.Prelude.{◌≡◌, ◌+◌, ◌<◌, ◌^◌, length
 ghost use Rattle.field.specs.Put.{Wrote};
 ghost use Rattle.field.specs.Bytes.{ascii};
 ghost use Rattle.field.specs.Row.{read};
-ghost use Rattle.printing.specs.Card.{odd, helper_text, helpers_text, sum_in, import_text, templates_text, page_text, all_text};
+ghost use Rattle.printing.specs.Card.{helper_text, helpers_text, sum_in, import_text, templates_text, page_text, all_text};
 
 use crate::expression::{print_all, print_parted};
-use crate::front::{first_front, front, inner};
+use crate::front::{first_front, parts};
 use crate::name::put_template_name;
 use crate::quoted::put_quoted;
 use field::reader::{Fields, behind, field_at};
@@ -27,20 +27,12 @@ fn put_helper(out: &mut [u8], at: usize, stands: bool, later: bool, name: &[u8])
     requires { at + length (helper_text stands later name.now) < 2 ^ 63 }
     ensures { Wrote out.old at (helper_text stands later name.now) out.new result }
 {
-    if !stands {
-        return at;
+    if stands {
+        let a = if later { put_bytes(out, at, b", ") } else { at };
+        put_renamed(out, a, name)
+    } else {
+        at
     }
-    if later {
-        let a = put_bytes(out, at, b", ");
-        return put_renamed(out, a, name);
-    }
-    put_renamed(out, at, name)
-}
-
-fn odd(n: u8) -> bool
-    ensures { result ≡ odd n }
-{
-    n % 2 == 1
 }
 
 // The helpers of a sum.
@@ -48,17 +40,18 @@ fn put_helpers(out: &mut [u8], at: usize, n: u8) -> usize
     requires { at + length (helpers_text n) < 2 ^ 63 }
     ensures { Wrote out.old at (helpers_text n) out.new result }
 {
-    let jsx = odd(n);
-    let template = odd(n / 2);
-    let attr = odd(n / 4);
-    let escape = odd(n / 8);
+    let jsx = n & 1 != 0;
+    let template = n & 2 != 0;
+    let attr = n & 4 != 0;
+    let escape = n & 8 != 0;
+    let earlier = jsx || template;
     let a = put_helper(out, at, jsx, false, b"jsx");
     let b = put_helper(out, a, template, jsx, b"jsxTemplate");
-    let c = put_helper(out, b, attr, jsx | template, b"jsxAttr");
-    put_helper(out, c, escape, jsx | (template | attr), b"jsxEscape")
+    let c = put_helper(out, b, attr, earlier, b"jsxAttr");
+    put_helper(out, c, escape, earlier || attr, b"jsxEscape")
 }
 
-// The sum in an import's body.
+// The sum in an import's body: one byte, as 01 has it, and 0 where it does not stand.
 fn sum_in(s: &[u8]) -> u8
     ensures { result ≡ sum_in (read s.now) }
 {
@@ -88,10 +81,11 @@ fn print_templates(out: &mut [u8], at: usize, s: &[u8]) -> usize
 {
     let mut a = at;
     for template in Fields(s) {
+        let (number, strings) = parts(template);
         let b = put_bytes(out, a, b"const ");
-        let c = put_template_name(out, b, front(template));
+        let c = put_template_name(out, b, number);
         let d = put_bytes(out, c, b" = [");
-        let e = print_parted(out, d, inner(template));
+        let e = print_parted(out, d, strings);
         a = put_bytes(out, e, b"];\n");
     }
     a
@@ -113,11 +107,12 @@ pub fn print_page<'a>(out: &mut [u8], at: usize, templates: &'a [u8], page: &'a 
 {
     let mut a = at;
     for item in Fields(page) {
+        let (_, fields) = parts(item);
         a = match item.tag {
-            0x82 => print_import(out, a, inner(item)),
+            0x82 => print_import(out, a, fields),
             0x83 => print_templates(out, a, templates),
             0x13 => put_bytes(out, a, b";\n"),
-            _ => print_item(out, a, inner(item)),
+            _ => print_item(out, a, fields),
         };
     }
     a

@@ -7,7 +7,7 @@ ghost use Rattle.page.specs.Number.{number_in, render};
 ghost use Rattle.page.specs.Tree.{boolean_in};
 ghost use Rattle.printing.specs.Card.{pointed, template_name};
 
-use crate::front::front;
+use crate::front::parts;
 use decisions::expr::boolean_in;
 use field::reader::Fields;
 use field::writer::{put_byte, put_bytes};
@@ -23,10 +23,10 @@ pub fn put_pointed(out: &mut [u8], at: usize, s: &[u8]) -> usize
     let Some(first) = names.next() else {
         return at;
     };
-    let mut a = put_bytes(out, at, front(first));
+    let mut a = put_bytes(out, at, parts(first).0);
     for name in names {
         let b = put_byte(out, a, b'.');
-        a = put_bytes(out, b, front(name));
+        a = put_bytes(out, b, parts(name).0);
     }
     a
 }
@@ -37,10 +37,7 @@ pub fn put_template_name(out: &mut [u8], at: usize, f: &[u8]) -> usize
     ensures { Wrote out.old at (template_name f.now) out.new result }
 {
     let a = put_bytes(out, at, b"$$_tpl_");
-    if 4 <= f.len() {
-        return put_decimal(out, a, number_in(&f[..4]));
-    }
-    put_decimal(out, a, number_in(f))
+    put_decimal(out, a, number_in(f.get(..4).unwrap_or(f)))
 }
 
 pub fn put_boolean(out: &mut [u8], at: usize, f: &[u8]) -> usize
@@ -48,9 +45,10 @@ pub fn put_boolean(out: &mut [u8], at: usize, f: &[u8]) -> usize
     ensures { Wrote out.old at (pick (boolean_in f.now) (ascii "true") (ascii "false")) out.new result }
 {
     if boolean_in(f) {
-        return put_bytes(out, at, b"true");
+        put_bytes(out, at, b"true")
+    } else {
+        put_bytes(out, at, b"false")
     }
-    put_bytes(out, at, b"false")
 }
 
 // A minus before its number.

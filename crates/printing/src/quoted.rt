@@ -3,19 +3,17 @@ ghost use Rattle.std.specs.Prelude.{◌≡◌, ◌+◌, ◌<◌, ◌^◌, ◌||�
 ghost use Rattle.std.specs.List.{list_all};
 ghost use Rattle.std.specs.Char.{is_ascii_digit};
 ghost use Rattle.field.specs.Put.{Wrote};
-ghost use Rattle.printing.specs.Card.{hex_digit, quoted_byte, quoted_bytes, quoted, starts_name, is_identifier, prop_name};
+ghost use Rattle.page.specs.Check.{name_start};
+ghost use Rattle.printing.specs.Card.{hex_digit, quoted_byte, quoted_bytes, quoted, is_identifier, prop_name};
 
 use field::writer::{put_byte, put_bytes};
+use page::name::is_start;
 
-// The library's from_digit answers an Option of a char, which would be unwrapped and cut to its byte again.
 fn hex_digit(n: u8) -> u8
     requires { n < 16 }
     ensures { result ≡ hex_digit n }
 {
-    if n < 10 {
-        return b'0' + n;
-    }
-    b'a' + (n - 10)
+    b"0123456789abcdef"[usize::from(n)]
 }
 
 // A byte in a string.
@@ -56,26 +54,18 @@ pub fn put_quoted(out: &mut [u8], at: usize, s: &[u8]) -> usize
     put_byte(out, b, b'"')
 }
 
-fn starts_name(c: u8) -> bool
-    ensures { result ≡ starts_name c }
-{
-    matches!(c, b'a'..=b'z' | b'A'..=b'Z' | b'_' | b'$')
-}
-
 fn goes_on(s: &[u8]) -> bool
-    ensures { result ≡ list_all (λ c. starts_name c || is_ascii_digit c) s.now }
+    ensures { result ≡ list_all (λ c. name_start c || is_ascii_digit c) s.now }
 {
-    s.iter().all(|c| starts_name(*c) || c.is_ascii_digit())
+    s.iter().all(|c| is_start(*c) || c.is_ascii_digit())
 }
 
 // is_text_valid_identifier
 fn is_identifier(s: &[u8]) -> bool
     ensures { result ≡ is_identifier s.now }
 {
-    let Some((first, rest)) = s.split_first() else {
-        return false;
-    };
-    starts_name(*first) && goes_on(rest)
+    s.split_first()
+        .is_some_and(|(first, rest)| is_start(*first) && goes_on(rest))
 }
 
 // A property's name: bare, or in quotes.
@@ -84,7 +74,8 @@ pub fn put_prop_name(out: &mut [u8], at: usize, s: &[u8]) -> usize
     ensures { Wrote out.old at (prop_name s.now) out.new result }
 {
     if is_identifier(s) {
-        return put_bytes(out, at, s);
+        put_bytes(out, at, s)
+    } else {
+        put_quoted(out, at, s)
     }
-    put_quoted(out, at, s)
 }

@@ -1,5 +1,5 @@
 -- Which of the known it is, by the tests in their order. Main statements: `barred_number` and those beside it, `rest_other`,
--- `unquoted_rest`, `unquoted_whole`, `unquoted_scaled`, `trimmed_true` to `trimmed_unquoted`, `known_trims`. Assumes nothing.
+-- `unquoted_rest`, `unquoted_whole`, `unquoted_scaled`, `known_trims`. Assumes nothing.
 use Prim.Native.Nat.{ℕ}
 use mathlib.Core.Path.{◌≡◌, refl, sym, ◌∙◌, ap, ap₂, subst}
 use mathlib.Core.Bool.{Bool, true, false, ◌&&◌, ◌||◌, not}
@@ -7,9 +7,9 @@ use mathlib.Core.List.{[], ◌∷◌, ◌++◌}
 use lib.Dec.{T, eqb}
 use lib.ListN.{length}
 use Rattle.std.specs.Prelude.{Option, None, Some}
-use Rattle.field.specs.Bytes.{Bytes, ascii, same}
+use Rattle.field.specs.Bytes.{Bytes}
 use Rattle.grammar.specs.Signs.{choose, some_byte}
-use Rattle.grammar.specs.Known.{Known, whole, minus_whole, decimal, minus_decimal, quoted, boolean, null, other, value_from, is_whole, is_decimal, before_point, after_point, number_of, unsigned, has_minus, trimmed_front, trimmed_end, string_of, digit_or_point, of_a_number, not_read, rest_of, or_else, known_trimmed, known_of}
+use Rattle.grammar.specs.Known.{Known, whole, minus_whole, decimal, minus_decimal, other, value_from, is_whole, is_decimal, before_point, after_point, number_of, unsigned, has_minus, trimmed_front, trimmed_end, digit_or_point, of_a_number, not_read, rest_of, or_else, known_trimmed, known_of}
 use Rattle.grammar.proofs.Tests.{chose, passed}
 use Rattle.read_tag.specs.Knowns.{Numbered, signed_whole, signed_decimal, barred, unquoted, Holding, Holds, HeldWhole, HeldDecimal}
 use Rattle.read_tag.specs.declared.known.Held.{Held}
@@ -131,53 +131,6 @@ module _ (s : Bytes) where
         let x : Holding (signed_decimal m c p) o at o' h = k c n.2 in
         let z : Holding (signed_decimal (has_minus s) c (length (after_point (unsigned s)))) o at o' h = subst (λ (q : ℕ). Holding (signed_decimal (has_minus s) c q) o at o' h) n.3 (subst (λ (b : Bool). Holding (signed_decimal b c p) o at o' h) e x) in
         subst (λ (z : Option Known). Holds z o at o' (Some h)) (sym (is_signed ∙ ap (λ (z : Option Known). or_else z (rest_of s)) (signed_of_decimal n.0 n.1 (has_minus s) refl))) z
-
--- ---- the tests in their order
-
-cascade : Bool → Bool → Bool → Option Known → Option Known
-cascade a b c k = choose a (Some (boolean true)) (choose b (Some (boolean false)) (choose c (Some null) k))
-
-module _ (s o : Bytes) (at : ℕ) (o' : Bytes) (h : Option Held) where
-  by_words : cascade (same s (ascii "true")) (same s (ascii "false")) (same s (ascii "null")) (or_else (string_of s) (unquoted s)) ≡ known_trimmed s
-  unfolding cascade known_trimmed unquoted
-  by_words = refl
-
-  is : (k : Option Known) → k ≡ known_trimmed s → Holds k o at o' h → Holds (known_trimmed s) o at o' h
-  is k e y = subst (λ (z : Option Known). Holds z o at o' h) e y
-
-  left : Option Known
-  left = or_else (string_of s) (unquoted s)
-
-  pub trimmed_true : same s (ascii "true") ≡ true → Holds (Some (boolean true)) o at o' h → Holds (known_trimmed s) o at o' h
-  unfolding cascade choose left
-  trimmed_true a = is (Some (boolean true)) (sym (ap (λ (z : Bool). cascade z (same s (ascii "false")) (same s (ascii "null")) left) a) ∙ by_words)
-
-  module _ (a : same s (ascii "true") ≡ false) where
-    pub trimmed_false : same s (ascii "false") ≡ true → Holds (Some (boolean false)) o at o' h → Holds (known_trimmed s) o at o' h
-    unfolding cascade choose left
-    trimmed_false b = is (Some (boolean false)) (sym (ap₂ (λ (y z : Bool). cascade y z (same s (ascii "null")) left) a b) ∙ by_words)
-
-    module _ (b : same s (ascii "false") ≡ false) where
-      by_two : (c : Bool) → same s (ascii "null") ≡ c → cascade false false c left ≡ known_trimmed s
-      unfolding left
-      by_two c e = sym (ap₂ (λ (y z : Bool). cascade y z c left) a b) ∙ sym (ap (λ (z : Bool). cascade (same s (ascii "true")) (same s (ascii "false")) z left) e) ∙ by_words
-
-      pub trimmed_null : same s (ascii "null") ≡ true → Holds (Some null) o at o' h → Holds (known_trimmed s) o at o' h
-      unfolding cascade choose
-      trimmed_null c = is (Some null) (by_two true c)
-
-      module _ (c : same s (ascii "null") ≡ false) where
-        is_left : left ≡ known_trimmed s
-        unfolding cascade choose
-        is_left = by_two false c
-
-        pub trimmed_string : {w : Bytes} → string_of s ≡ Some (quoted w) → Holds (Some (quoted w)) o at o' h → Holds (known_trimmed s) o at o' h
-        unfolding left or_else
-        trimmed_string {w} e = is (Some (quoted w)) (sym (ap (λ (z : Option Known). or_else z (unquoted s)) e) ∙ is_left)
-
-        pub trimmed_unquoted : string_of s ≡ None → Holds (unquoted s) o at o' h → Holds (known_trimmed s) o at o' h
-        unfolding left or_else
-        trimmed_unquoted e = is (unquoted s) (sym (ap (λ (z : Option Known). or_else z (unquoted s)) e) ∙ is_left)
 
 -- w is s without the white space at its end
 pub known_trims : (s w o : Bytes) (at : ℕ) (o' : Bytes) (h : Option Held) → w ≡ trimmed_end s → Holds (known_trimmed w) o at o' h → Holds (known_of s) o at o' h

@@ -140,14 +140,14 @@ module _ (minus : Bool) (t v : ℕ) where
   whole_range true x = refl
   whole_range false x = refl
 
-  pub held_whole : {o o₁ o' : Bytes} {at a e : ℕ} → t ≡ whole_tag minus → Wrote o at (head t 8) o₁ a → Wrote o₁ a (big_endian 8 v []) o' e → HeldWhole minus v o at o' record { fits = leb v 9_007_199_254_740_991; at = e; deep = 0 }
+  pub held_whole : {o o' : Bytes} {at e : ℕ} → t ≡ whole_tag minus → Wrote o at (field_bytes t (big_endian 8 v [])) o' e → HeldWhole minus v o at o' record { fits = leb v 9_007_199_254_740_991; at = e; deep = 0 }
   unfolding HeldWhole number_bytes big_endian
-  held_whole {o} {o₁} {o'} {at} {a} {e} q u w x c =
+  held_whole {o} {o'} {at} {e} q u x c =
       leaf_held (signed_whole minus x) (whole_tag minus) (number_bytes (N.whole x)) (whole_row minus x) (omega arith) (leb v 9_007_199_254_740_991) (number_bytes (N.whole v))
       (capped_leb x v 9_007_199_254_740_991 (omega arith) c ∙ sym (whole_range minus x))
       (λ z. ap (λ (n : ℕ). number_bytes (N.whole n)) (c.small (leb-true v 9_007_199_254_740_991 z)))
       (length_whole v ∙ sym (length_whole x))
-      (wrote_field (whole_tag minus) (subst (λ (n : ℕ). Wrote o at (head n 8) o₁ a) q u) w)
+      (subst (λ (n : ℕ). Wrote o at (field_bytes n (big_endian 8 v [])) o' e) q u)
 
   module _ (p : ℕ) where
     decimal_row : (b : Bool) (x : ℕ) → expr_row (page_expr (known_expr (signed_decimal b x p))) end ≡ field (decimal_tag b) (number_bytes (N.scaled x p)) end end

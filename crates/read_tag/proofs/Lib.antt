@@ -14,4 +14,5 @@ pub mod TextLaws
 pub mod KnownLaws
 pub mod HeldLaws
 pub mod DigitLaws
+pub mod WordLaws
 pub mod ChoiceLaws

@@ -1,9 +1,10 @@
 -- A name that stands in a text, part by part: its field as it is written, and two names as they are compared. Main statements: `apart`,
--- `putting_first`, `putting_step`, `parts_out`, `comparing_first`, `comparing_step`, `words_differ`, `signs_differ`, `names_out`.
+-- `putting_first`, `putting_step`, `parts_out`, `pairs_compared`.
 -- Assumes nothing.
 use Prim.Native.Nat.{ℕ, suc, ◌+◌, ◌-◌, ◌*◌, ◌≤◌, ◌<◌}
 use mathlib.Core.Path.{◌≡◌, refl, sym, ◌∙◌, ap, ap₂, subst}
 use mathlib.Core.Bool.{Bool, true, false, ◌&&◌, not}
+use mathlib.Core.Logic.{◌⊎◌, inl, inr}
 use mathlib.Core.List.{List, [], ◌∷◌, ◌++◌, append-nil, append_assoc}
 use native.Mathlib.Omega.{arith}
 use borrow.Author.Tests.{eq-eqb, ne_eqb}
@@ -13,6 +14,7 @@ use Rattle.field.specs.Bytes.{Bytes, same}
 use Rattle.field.specs.Row.{field_bytes, bytes}
 use Rattle.field.specs.Put.{Wrote}
 use Rattle.field.proofs.PutLaws.{wrote_none, wrote_then, wrote_is, wrote_length, length_field_bytes}
+use Rattle.names.proofs.ListLaws.{and_left, and_right}
 use Rattle.page.specs.Encode.{texts_row}
 use Rattle.grammar.specs.Signs.{name_byte, separator, space, name_goes_on}
 use Rattle.grammar.specs.Syntax.{part, Name, same_name}
@@ -20,11 +22,18 @@ use Rattle.grammar.specs.Grammar.{Ends, Run, run_ends, run_on, Spaces, no_space,
 use Rattle.grammar.proofs.Tests.{clash, not_or, or_right, letter_no_space, separator_no_space}
 use Rattle.tag_tree.specs.PageTag.{idents}
 use Rattle.std.specs.Prelude.{Option, Some, None}
-use Rattle.std.specs.Option.{option_eq}
-use Rattle.read_tag.specs.Names.{PartAt, place_behind, PartStep, NameAt, parts_bytes, PartsPut, NamesCompared}
+use Rattle.std.specs.Option.{MatchOption, option_eq}
+use Rattle.std.specs.Fn.{Called}
+use Rattle.std.specs.List.{FoldsTo}
+use Rattle.std.specs.Iterator.{Yields, ChecksAll}
+use Rattle.std.specs.declared.iter.Zip.{Zip}
+use Rattle.std.specs.Iterator.Adapters.{zip_first, zip_second, zip_steps}
+use denote.Param.Members.{Mut}
+use Rattle.read_tag.specs.Names.{PartAt, place_behind, PartStep, GivesPart, NameAt, parts_bytes, PartsPut, NamesCompared}
 use Rattle.read_tag.specs.declared.name.NamePart.{NamePart}
+use Rattle.read_tag.specs.declared.name.NameParts.{NameParts}
 use Rattle.read_tag.proofs.RunLaws.{next}
-use Rattle.read_tag.proofs.NameLaws.{word, word_next, unsigned, signed, part_after, next_after, part_length}
+use Rattle.read_tag.proofs.NameLaws.{word, word_next, unsigned, signed, part_after, next_after, part_length, step_in}
 
 -- ---- runs and white space end at one place
 
@@ -276,6 +285,36 @@ pub record Aside (s : Bytes) (m n : Name) (a b : ℕ) : Type 0 where
 pub record Comparing (s : Bytes) (i j a b : ℕ) : Type 0 where
   pub aside : (m n : Name) (x y : Bytes) → IsName (drop i s) m x → IsName (drop j s) n y → Aside s m n a b
 
+-- ---- what holds at each turn of `all`
+
+module _ {S A F : Type 0} (steps : S → Option A → S → Type 0) (g : Mut F (A × Unit {0}) Bool) (P : S → Type 0) (Q : Bool → Type 0) (test : A → Bool) (f : F)
+    (calls : (x : A) (b : Bool) (q : F) → Called g f (x, tt) b q → (q ≡ f) × (b ≡ test x))
+    (pass : (s : S) (x : A) (t : S) → P s → steps s (Some x) t → test x ≡ true → P t)
+    (stop : (s : S) (x : A) (t : S) → P s → steps s (Some x) t → test x ≡ false → Q false)
+    (end : (s t : S) → P s → steps s None t → Q true) where
+  call_at : (x : A) (b : Bool) (e q : F) → e ≡ f → Called g e (x, tt) b q → (q ≡ f) × (b ≡ test x)
+  call_at x b e q h c = calls x b q (subst (λ (z : F). Called g z (x, tt) b q) h c)
+
+  along : (xs : List A) (s t : S) (e j : F) → e ≡ f → P s → Yields steps s xs t → FoldsTo (λ p x q. Called g p (x, tt) true q) e xs j → P t × (j ≡ f)
+  along [] s t e j h p y c = (subst P y p, sym c ∙ h)
+  along (x ∷ xs) s t e j h p y c =
+      let k = call_at x true e c.0 h c.1 in
+      along xs y.0 t c.0 j k.0 (pass s x y.0 p y.1 (sym k.1)) y.2 c.2
+
+  all_along : (r : Bool) (s u : S) → P s → ChecksAll steps g s f r u → Q r
+  all_along r s u p d =
+      let w = along d.0 s d.3.0 f d.2 refl p d.3.1 d.4 in
+      on d.1 d.3.0 d.2 w.0 w.1 d.3.2 d.5
+    where
+      on : (o : Option A) (t : S) (j : F) → P t → j ≡ f → steps t o u → MatchOption o (r ≡ true) (λ x. (r ≡ false) × ((h : F) × Called g j (x, tt) false h)) → Q r
+      on None t j p h y e = subst Q (sym e) (end t u p y)
+      on (Some x) t j p h y e = subst Q (sym e.0) (stop t x u p y (sym (call_at x false j e.1.0 h e.1.1).1))
+
+-- ---- both scans side by side
+
+abbrev same_part : NamePart × NamePart → Bool
+same_part x = same x.0.word.now x.1.word.now && option_eq eqb x.0.sign x.1.sign
+
 -- the same by the places: both are left, or none
 abbrev pub ComparingOn : Bytes → ℕ → ℕ → Option ℕ → Option ℕ → Type 0
 ComparingOn s i j None None = NamesCompared s i j true
@@ -283,17 +322,13 @@ ComparingOn s i j None (Some b) = ⊥
 ComparingOn s i j (Some a) None = ⊥
 ComparingOn s i j (Some a) (Some b) = Comparing s i j a b
 
-same_sign : (f g : Option ℕ) → not (option_eq eqb f g) ≡ false → f ≡ g
+same_sign : (f g : Option ℕ) → option_eq eqb f g ≡ true → f ≡ g
 same_sign None None e = refl
 same_sign None (Some g) e = cc
 same_sign (Some f) None e = cc
-same_sign (Some f) (Some g) e = ap Some (eqb→eq f g (on (eqb f g) e))
-  where
-    on : (b : Bool) → not b ≡ false → T b
-    on true t = tt
-    on false t = cc
+same_sign (Some f) (Some g) e = ap Some (eqb→eq f g (subst T (sym e) tt))
 
-other_sign : (f g : Option ℕ) → not (option_eq eqb f g) ≡ true → f ≡ g → ⊥
+other_sign : (f g : Option ℕ) → option_eq eqb f g ≡ false → f ≡ g → ⊥
 other_sign None None e z = cc
 other_sign None (Some g) e z = cc
 other_sign (Some f) None e z = cc
@@ -311,23 +346,19 @@ unfolding same_name
 other_signs d e w v ps qs h = ap (λ (b : Bool). (b && same w v) && same_name ps qs) (ne_eqb d e h)
 
 module _ (s : Bytes) (i j : ℕ) (f : NameAt s i) (g : NameAt s j) where
-  pub comparing_first : Comparing s i j i j
+  comparing_first : Comparing s i j i j
   comparing_first = record { aside = λ m n x y u v. record { left_m = m; left_n = n; sign = 0; left_a = left_first s i u; left_b = left_first s j v; is = refl } }
 
   given : {a b : ℕ} → Comparing s i j a b → Aside s f.name g.name a b
   given u = u.aside f.name g.name f.rest g.rest f.is g.is
 
-  -- the text ends where a part is left: it stood there
-  pub names_out : (a b a' : Option ℕ) → ComparingOn s i j a b → PartStep s a None a' → NamesCompared s i j true
-  names_out None None a' u y = u
-  names_out None (Some b) a' u y = absurd u
-  names_out (Some a) None a' u y = absurd u
-  names_out (Some a) (Some b) a' u y = absurd (let l = left_inside s a _ (given u).left_a in omega arith)
-
-  pub names_both : (p : NamePart) (a b a' b' : Option ℕ) → ComparingOn s i j a b → PartStep s a (Some p) a' → PartStep s b None b' → ⊥
-  names_both p None b a' b' u y z = y
-  names_both p (Some a) None a' b' u y z = u
-  names_both p (Some a) (Some b) a' b' u y z = let l = left_inside s b _ (given u).left_b in omega arith
+  -- the text ends where a part of either is left: it stood there
+  names_out : (a b : Option ℕ) → ComparingOn s i j a b → (a' : Option ℕ) → PartStep s a None a' ⊎ PartStep s b None a' → NamesCompared s i j true
+  names_out None None u a' y = u
+  names_out None (Some b) u a' y = absurd u
+  names_out (Some a) None u a' y = absurd u
+  names_out (Some a) (Some b) u a' (inl y) = absurd (let l = left_inside s a _ (given u).left_a in omega arith)
+  names_out (Some a) (Some b) u a' (inr y) = absurd (let l = left_inside s b _ (given u).left_b in omega arith)
 
   module _ (p q : NamePart) where
     module _ (a b : ℕ) (u : Comparing s i j a b) (h : PartAt s a p) (k : PartAt s b q) where
@@ -381,23 +412,43 @@ module _ (s : Bytes) (i j : ℕ) (f : NameAt s i) (g : NameAt s j) where
                   record { left_m = l.0.more; left_n = l.1.more; sign = d; left_a = l.0.some d x; left_b = l.1.some d y; is = rest_same m n o l.0 l.1 };
             }
 
-    -- by what the test of the words answered
-    module _ (a' b' : Option ℕ) (c : Bool) (e : c ≡ same p.word.now q.word.now) where
-      pub words_differ : (a b : Option ℕ) → ComparingOn s i j a b → PartStep s a (Some p) a' → PartStep s b (Some q) b' → c ≡ false → NamesCompared s i j false
-      words_differ None b u y z t = absurd y
-      words_differ (Some a) None u y z t = absurd u
-      words_differ (Some a) (Some b) u y z t = words_apart a b u y.part z.part (sym e ∙ t)
+    -- by what the test of both answered
+    module _ (a' b' : Option ℕ) where
+      parts_differ : (a b : Option ℕ) → ComparingOn s i j a b → PartStep s a (Some p) a' → PartStep s b (Some q) b' → same_part (p, q) ≡ false → NamesCompared s i j false
+      parts_differ None b u y z t = absurd y
+      parts_differ (Some a) None u y z t = absurd u
+      parts_differ (Some a) (Some b) u y z t = on (same p.word.now q.word.now) refl
+        where
+          on : (c : Bool) → same p.word.now q.word.now ≡ c → NamesCompared s i j false
+          on true e = signs_apart a b u y.part z.part e (other_sign p.sign q.sign (sym (ap (λ (c : Bool). c && option_eq eqb p.sign q.sign) e) ∙ t))
+          on false e = words_apart a b u y.part z.part e
 
-      module _ (t : c ≡ true) (x : Bool) (d : x ≡ not (option_eq eqb p.sign q.sign)) where
-        pub signs_differ : (a b : Option ℕ) → ComparingOn s i j a b → PartStep s a (Some p) a' → PartStep s b (Some q) b' → x ≡ true → NamesCompared s i j false
-        signs_differ None b u y z f = absurd y
-        signs_differ (Some a) None u y z f = absurd u
-        signs_differ (Some a) (Some b) u y z f = signs_apart a b u y.part z.part (sym e ∙ t) (other_sign p.sign q.sign (sym d ∙ f))
+      comparing_step : (a b : Option ℕ) → ComparingOn s i j a b → PartStep s a (Some p) a' → PartStep s b (Some q) b' → same_part (p, q) ≡ true → ComparingOn s i j a' b'
+      comparing_step None b u y z t = absurd y
+      comparing_step (Some a) None u y z t = absurd u
+      comparing_step (Some a) (Some b) u y z t =
+          let h : p.sign ≡ q.sign = same_sign p.sign q.sign (and_right (same p.word.now q.word.now) (option_eq eqb p.sign q.sign) t) in
+          subst (λ (m : Option ℕ). ComparingOn s i j m b') (sym y.then)
+          (subst (ComparingOn s i j (place_behind p.sign p.next)) (sym (z.then ∙ ap (λ (m : Option ℕ). place_behind m q.next) (sym h))) (compared_behind a b u y.part z.part (and_left (same p.word.now q.word.now) (option_eq eqb p.sign q.sign) t) p.sign refl (sym h)))
 
-        pub comparing_step : (a b : Option ℕ) → ComparingOn s i j a b → PartStep s a (Some p) a' → PartStep s b (Some q) b' → x ≡ false → ComparingOn s i j a' b'
-        comparing_step None b u y z f = absurd y
-        comparing_step (Some a) None u y z f = absurd u
-        comparing_step (Some a) (Some b) u y z f =
-            let h : p.sign ≡ q.sign = same_sign p.sign q.sign (sym d ∙ f) in
-            subst (λ (m : Option ℕ). ComparingOn s i j m b') (sym y.then)
-            (subst (ComparingOn s i j (place_behind p.sign p.next)) (sym (z.then ∙ ap (λ (m : Option ℕ). place_behind m q.next) (sym h))) (compared_behind a b u y.part z.part (sym e ∙ t) p.sign refl (sym h)))
+  -- both scans of parts are where the names are compared
+  abbrev Pairing : Zip NameParts NameParts → Type 0
+  Pairing z = ((zip_first z).text.now ≡ s) × ((zip_second z).text.now ≡ s) × ComparingOn s i j (zip_first z).at (zip_second z).at
+
+  pairs_pass : (z : Zip NameParts NameParts) (x : NamePart × NamePart) (t : Zip NameParts NameParts) → Pairing z → zip_steps GivesPart GivesPart z (Some x) t → same_part x ≡ true → Pairing t
+  pairs_pass z x t u y e =
+      (y.0.0 ∙ u.0, y.1.0 ∙ u.1, comparing_step x.0 x.1 (zip_first t).at (zip_second t).at (zip_first z).at (zip_second z).at u.2 (step_in s _ _ _ u.0 y.0.1) (step_in s _ _ _ u.1 y.1.1) e)
+
+  pairs_stop : (z : Zip NameParts NameParts) (x : NamePart × NamePart) (t : Zip NameParts NameParts) → Pairing z → zip_steps GivesPart GivesPart z (Some x) t → same_part x ≡ false → NamesCompared s i j false
+  pairs_stop z x t u y e = parts_differ x.0 x.1 (zip_first t).at (zip_second t).at (zip_first z).at (zip_second z).at u.2 (step_in s _ _ _ u.0 y.0.1) (step_in s _ _ _ u.1 y.1.1) e
+
+  pairs_end : (z t : Zip NameParts NameParts) → Pairing z → zip_steps GivesPart GivesPart z None t → NamesCompared s i j true
+  pairs_end z t u (inl y) = names_out (zip_first z).at (zip_second z).at u.2 y.0.at (inl (step_in s _ _ _ u.0 y.1.1))
+  pairs_end z t u (inr y) = names_out (zip_first z).at (zip_second z).at u.2 y.0.at (inr (step_in s _ _ _ u.1 y.1.1))
+
+  pub pairs_compared : {F : Type 0} {call : Mut F ((NamePart × NamePart) × Unit {0}) Bool} (f : F) (r : Bool) (z u : Zip NameParts NameParts) →
+      (zip_first z).text.now ≡ s → (zip_second z).text.now ≡ s → (zip_first z).at ≡ Some i → (zip_second z).at ≡ Some j →
+      ((x : NamePart × NamePart) (b : Bool) (q : F) → Called call f (x, tt) b q → (q ≡ f) × (b ≡ same_part x)) → ChecksAll (zip_steps GivesPart GivesPart) call z f r u → NamesCompared s i j r
+  pairs_compared {call = call} f r z u a b c d calls ran =
+      all_along (zip_steps GivesPart GivesPart) call Pairing (NamesCompared s i j) same_part f calls pairs_pass pairs_stop pairs_end r z u
+      (a, b, subst (λ (k : Option ℕ). ComparingOn s i j k (zip_second z).at) (sym c) (subst (ComparingOn s i j (Some i)) (sym d) comparing_first)) ran

@@ -63,6 +63,14 @@ unquoted s = or_else (choose (has_minus s) (number_of (unsigned s) minus_whole m
 
 -- ---- answers
 
+-- a field can hold s, and the place behind it, from `at` on, does not wrap
+abbrev pub Short : Bytes → ℕ → Type 0
+Short s at = (length s ≤ 32768) × (at + length s < 2 ^ 63)
+
+-- of a field up to `at` that holds no others and no number
+abbrev pub leaf_at : ℕ → Held
+leaf_at at = record { fits = true; at = at; deep = 0 }
+
 -- of k: whether its number is within the limit, the place behind its field, which is written if so, and how deep it is
 pub record Holding (k : Known) (o : Bytes) (at : ℕ) (o' : Bytes) (r : Held) : Type 0 where
   pub in_limit : r.fits ≡ known_in_range k

@@ -1,12 +1,12 @@
 -- What the scans of names promise, by the grammar's words and by what its reader does there. Main definitions: `Scanned`,
 -- `NamePut`, `NamesCompared`.
 -- Assumes nothing: these are definitions.
-use Rattle.std.specs.Prelude.{ℕ, ◌+◌, ◌-◌, ◌≤◌, ◌<◌, ◌≡◌, Bool, [], ◌∷◌, T, eqb, length, take, drop, get_or, Option, Some, None}
+use Rattle.std.specs.Prelude.{ℕ, ◌+◌, ◌-◌, ◌≤◌, ◌<◌, ◌≡◌, Bool, true, [], ◌∷◌, T, eqb, length, take, drop, get_or, Option, Some, None}
 use Rattle.field.specs.Bytes.{Bytes}
 use Rattle.field.specs.Row.{bytes}
 use Rattle.field.specs.Put.{Wrote}
 use Rattle.page.specs.Encode.{texts_row}
-use Rattle.grammar.specs.Signs.{choose, name_byte, separator, space, name_goes_on}
+use Rattle.grammar.specs.Signs.{choose, letter, name_byte, separator, space, name_goes_on}
 use Rattle.grammar.specs.Syntax.{Name, tag_name_fits, same_name}
 use Rattle.grammar.specs.Grammar.{Ends, IsName}
 use Rattle.grammar.specs.Reader.{For, State, in_ident, refused, fits, named, no_reading, outcome}
@@ -62,6 +62,10 @@ parts_left x = left_at x.at (length x.text.now)
 -- the reader behind the name m, which was read for x
 unfoldable pub named_if : For → Name → State
 named_if x m = choose (fits x m) (named x m) refused
+
+-- a letter stands at i
+abbrev pub LetterAt : Bytes → ℕ → Type 0
+LetterAt s i = (i < length s) × (letter (get_or s i 0) ≡ true)
 
 -- a name stands at i
 pub record NameAt (s : Bytes) (i : ℕ) : Type 0 where

@@ -2,26 +2,17 @@
 ghost use Rattle.std.specs.Prelude.{◌≡◌};
 ghost use Rattle.grammar.specs.Known.{entity_of};
 
-use names::same_bytes;
-
 // The byte that it stands for, if it is one of them.
+#[tactic(auto, using(names::proofs::CompareLaws::same_other, crate::proofs::WordLaws::head_other), unfolding(grammar::specs::Known::entity_of, grammar::specs::Signs::choose, field::specs::Bytes::same))]
 pub fn entity_code(e: &[u8]) -> Option<u8>
     ensures { result ≡ entity_of e.now }
 {
-    if same_bytes(e, b"amp") {
-        return Some(b'&');
+    match e {
+        b"amp" => Some(b'&'),
+        b"lt" => Some(b'<'),
+        b"gt" => Some(b'>'),
+        b"quot" => Some(b'"'),
+        b"#39" => Some(b'\''),
+        _ => None,
     }
-    if same_bytes(e, b"lt") {
-        return Some(b'<');
-    }
-    if same_bytes(e, b"gt") {
-        return Some(b'>');
-    }
-    if same_bytes(e, b"quot") {
-        return Some(b'"');
-    }
-    if same_bytes(e, b"#39") {
-        return Some(b'\'');
-    }
-    None
 }

@@ -2,27 +2,21 @@
 ghost use Rattle.std.specs.Prelude.{◌≡◌, ◌+◌, ◌-◌, ◌^◌, ◌≤◌, ◌<◌, length, take, drop, MatchOption, IfSome, None, Some};
 ghost use Rattle.std.specs.List.{list_any};
 ghost use Rattle.grammar.specs.Known.{boolean, null, quoted, other, not_read, of_a_number, digit_or_point, unsigned, has_minus, trimmed_end, string_of, rest_of, known_trimmed, known_of};
-ghost use Rattle.read_tag.specs.Knowns.{Counted, Numbered, barred, unquoted, Holding, Holds, HeldWhole, HeldDecimal};
+ghost use Rattle.read_tag.specs.Knowns.{Counted, Numbered, barred, unquoted, Short, leaf_at, Holding, Holds, HeldWhole, HeldDecimal};
 
 use crate::signs::{is_quote, is_space, skip_spaces};
-use field::writer::{put_byte, put_eight, put_field, put_head};
+use field::writer::{put_byte, put_eight, put_field, put_head, put_number_field};
 use names::same_bytes;
 use page::number::{MAX_DIGITS, MAX_PLACES, MAX_WHOLE};
 
-// What was read: whether its number is within the limit, the place behind its field, and how many fields deep it is below the first.
+// What was read: whether its number is within the limit, the place behind its field, and how many fields deep it is below the first. A flag, and no
+// Option of the place: the text is read on behind a number over the limit, since 14 and 15 come before 7.
 #[derive(Clone, Copy)]
 pub struct Held {
     pub fits: bool,
     pub at: usize,
     pub deep: usize,
 }
-
-// Of a field that holds no others; its place is set where it is written.
-const LEAF: Held = Held {
-    fits: true,
-    at: 0,
-    deep: 0,
-};
 
 // How many digits stand in front, and their value as far as it counts.
 #[derive(Clone, Copy)]
@@ -80,10 +74,7 @@ fn read_number(s: &[u8]) -> Option<Numeral>
     ensures { Numbered s.now result }
 {
     let whole = read_digits(s, 0);
-    if whole.count == 0 {
-        return None;
-    }
-    if (s[0] == b'0') & (1 < whole.count) {
+    if whole.count == 0 || (s[0] == b'0') & (1 < whole.count) {
         return None;
     }
     match &s[whole.count..] {
@@ -148,6 +139,7 @@ fn is_of_number(c: u8) -> bool
     matches!(c, b'A'..=b'Z' | b'a'..=b'z' | b'.' | b'_')
 }
 
+// Here and below: apart from is_barred, since what `any` finds is proved only where it is all that a function does.
 fn holds_not_read(s: &[u8]) -> bool
     ensures { result ≡ list_any not_read s.now }
 {
@@ -175,89 +167,91 @@ fn is_barred(s: &[u8], number: &[u8]) -> bool
     holds_not_read(s) || begins_number(number) && holds_of_number(s)
 }
 
+// Of a field up to `at` that holds no others and no number.
+fn leaf(at: usize) -> Held
+    ensures { result ≡ leaf_at at }
+{
+    Held {
+        fits: true,
+        at,
+        deep: 0,
+    }
+}
+
 fn put_boolean(out: &mut [u8], at: usize, b: bool) -> Held
     requires { at + 4 < 2 ^ 63 }
     ensures { Holding (boolean b) out.old at out.new result }
 {
     let a = put_head(out, at, 0x72, 1);
-    let e = put_byte(out, a, u8::from(b));
-    Held { at: e, ..LEAF }
+    leaf(put_byte(out, a, u8::from(b)))
 }
 
 fn put_null(out: &mut [u8], at: usize) -> Held
     requires { at + 3 < 2 ^ 63 }
     ensures { Holding null out.old at out.new result }
 {
-    let e = put_head(out, at, 0x73, 0);
-    Held { at: e, ..LEAF }
+    leaf(put_head(out, at, 0x73, 0))
 }
 
 fn put_quoted(out: &mut [u8], at: usize, s: &[u8]) -> Held
-    requires { (length s.now ≤ 32768) × (at + 3 + length s.now < 2 ^ 63) }
+    requires { Short s.now (at + 3) }
     ensures { Holding (quoted s.now) out.old at out.new result }
 {
-    let e = put_field(out, at, 0x70, s);
-    Held { at: e, ..LEAF }
+    leaf(put_field(out, at, 0x70, s))
 }
 
 // A 79 of one 20.
 fn put_other(out: &mut [u8], at: usize, s: &[u8]) -> Held
-    requires { (length s.now ≤ 32768) × (at + 6 + length s.now < 2 ^ 63) }
+    requires { Short s.now (at + 6) }
     ensures { Holding (other s.now) out.old at out.new result }
 {
     let a = put_head(out, at, 0x79, 3 + s.len());
     let e = put_field(out, a, 0x20, s);
-    Held {
-        at: e,
-        deep: 1,
-        ..LEAF
-    }
+    Held { deep: 1, ..leaf(e) }
 }
 
-// `as`, here and below: From makes no usize of a u64, and cuts no number.
 fn put_whole(out: &mut [u8], at: usize, minus: bool, v: u64) -> Held
     requires { at + 11 < 2 ^ 63 }
     ensures { HeldWhole minus v out.old at out.new result }
 {
     let tag = if minus { 0x75 } else { 0x71 };
-    let a = put_head(out, at, tag, 8);
-    let e = put_eight(out, a, v as usize);
+    let e = put_number_field(out, at, tag, v);
     Held {
         fits: v <= MAX_WHOLE,
-        at: e,
-        ..LEAF
+        ..leaf(e)
     }
 }
 
+// The places are cut to a byte: where that changes them, they are over the limit, and no byte of the field matters.
 fn put_scaled(out: &mut [u8], at: usize, minus: bool, v: u64, places: usize) -> Held
     requires { at + 12 < 2 ^ 63 }
     ensures { HeldDecimal minus v places out.old at out.new result }
 {
     let tag = if minus { 0x7b } else { 0x7a };
     let a = put_head(out, at, tag, 9);
-    let b = put_eight(out, a, v as usize);
+    let b = put_eight(out, a, v);
     let e = put_byte(out, b, (places % 256) as u8);
     Held {
         fits: (v <= MAX_DIGITS) & (places <= MAX_PLACES),
-        at: e,
-        ..LEAF
+        ..leaf(e)
     }
 }
 
 // What is no string and no number; number is behind its minus.
 fn put_rest(s: &[u8], number: &[u8], out: &mut [u8], at: usize) -> Option<Held>
-    requires { (number.now ≡ unsigned s.now) × (length s.now ≤ 32768) × (at + 6 + length s.now < 2 ^ 63) }
+    requires { (number.now ≡ unsigned s.now) × Short s.now (at + 6) }
     ensures { Holds (rest_of s.now) out.old at out.new result }
 {
     if is_barred(s, number) {
-        return None;
+        None
+    } else {
+        Some(put_other(out, at, s))
     }
-    Some(put_other(out, at, s))
 }
 
 // What is no string.
 fn put_unquoted(s: &[u8], out: &mut [u8], at: usize) -> Option<Held>
-    requires { (length s.now ≤ 32768) × (at + 12 + length s.now < 2 ^ 63) }
+    requires { Short s.now (at + 12) }
     ensures { Holds (unquoted s.now) out.old at out.new result }
 {
     let number = sign_of(s);
@@ -270,24 +264,24 @@ fn put_unquoted(s: &[u8], out: &mut [u8], at: usize) -> Option<Held>
     }
 }
 
-// Without white space around it.
+// Without white space around it. No match on the words, which entity_code has: the arm behind them, which calls on, would be proved once for each letter
+// that may differ.
+#[tactic(auto, unfolding(crate::specs::Knowns::Holds, crate::specs::Knowns::unquoted, grammar::specs::Known::known_trimmed, grammar::specs::Known::or_else, grammar::specs::Signs::choose))]
 fn put_trimmed(s: &[u8], out: &mut [u8], at: usize) -> Option<Held>
-    requires { (length s.now ≤ 32768) × (at + 12 + length s.now < 2 ^ 63) }
+    requires { Short s.now (at + 12) }
     ensures { Holds (known_trimmed s.now) out.old at out.new result }
 {
     if same_bytes(s, b"true") {
-        return Some(put_boolean(out, at, true));
+        Some(put_boolean(out, at, true))
+    } else if same_bytes(s, b"false") {
+        Some(put_boolean(out, at, false))
+    } else if same_bytes(s, b"null") {
+        Some(put_null(out, at))
+    } else if let Some(inner) = string_in(s) {
+        Some(put_quoted(out, at, inner))
+    } else {
+        put_unquoted(s, out, at)
     }
-    if same_bytes(s, b"false") {
-        return Some(put_boolean(out, at, false));
-    }
-    if same_bytes(s, b"null") {
-        return Some(put_null(out, at));
-    }
-    if let Some(inner) = string_in(s) {
-        return Some(put_quoted(out, at, inner));
-    }
-    put_unquoted(s, out, at)
 }
 
 // From i, where no white space stands, to the brace at e.

@@ -6,6 +6,7 @@ ghost use Rattle.read_tag.specs.Runs.{Ran, plain_text, plain_string};
 use page::name::{is_part, is_start};
 use text::runs::{Class, run_end};
 
+// A start of a name, in the grammar's word, by which the turns of the pass are stated.
 #[tactic(auto, unfolding(grammar::specs::Signs::letter))]
 pub fn is_letter(c: u8) -> bool
     ensures { result ≡ letter c }
@@ -13,7 +14,8 @@ pub fn is_letter(c: u8) -> bool
     is_start(c)
 }
 
-// Tab, LF, CR, space: one test of bits. A matches! of them is three tests, which takes 5 % more on `<b/>`.
+// Tab, LF, CR, space: one test of bits. A matches! of them is three tests: a row of `<b/>` takes 85.9 instructions a byte for 81.1, and dense tags 47.1
+// for 45.5: 5.9 and 3.5 % more, where a set may take 3 %.
 #[tactic(auto, unfolding(grammar::specs::Signs::space))]
 pub fn is_space(c: u8) -> bool
     ensures { result ≡ space c }
@@ -28,8 +30,8 @@ pub fn is_quote(c: u8) -> bool
     matches!(c, b'"' | b'\'')
 }
 
-// In source text, out of quotes. Here and in text most bytes are told by two tests, and the others by one of bits: by matches! alone source takes
-// 38 % more, and text 22 %.
+// In source text, out of quotes. Here and in text most bytes are told by two tests, and the others by one of bits: by matches! alone components take
+// 36.0 instructions a byte for 33.5, and a text of white space 14.3 for 9.3: 7 % more and over, where a set may take 3 %.
 #[tactic(auto, unfolding(grammar::specs::Signs::source_byte, grammar::specs::Signs::quote))]
 pub fn is_source(c: u8) -> bool
     ensures { result ≡ source_byte c }
@@ -111,7 +113,8 @@ impl Class for QuotedSource {
     }
 }
 
-// Behind the white space at i.
+// Behind the white space at i. A text and a place, here and in all scans above it: a name, an entity or a tag is told by its place in the text, and the
+// contracts speak of `drop i text`; a slice of what is left would have to be turned into a place again.
 pub fn skip_spaces(text: &[u8], i: usize) -> usize
     requires { i ≤ length text.now }
     ensures { Ran space text.now i result }

@@ -22,7 +22,7 @@ pub fn source_end(text: &[u8], i: usize) -> Option<usize>
             b'}' => depth -= 1,
             _ if is_quote(c) => {
                 let e = run_end(&QuotedSource { quote: c }, text, k + 1);
-                if text.len() <= e || text[e] != c {
+                if *text.get(e)? != c {
                     return None;
                 }
                 k = e;

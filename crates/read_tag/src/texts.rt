@@ -71,9 +71,9 @@ fn decode(text: &[u8], i: usize, x: Around, out: &mut [u8], at: usize) -> Option
     loop {
         let e = plain_end(text, k, x);
         let b = put_bytes(out, a, &text[k..e]);
-        if text.len() <= e || text[e] != b'&' {
+        let Some(b'&') = text.get(e) else {
             return Some(Run { end: e, at: b });
-        }
+        };
         let entity = read_entity(text, e + 1)?;
         a = put_byte(out, b, entity.code);
         k = entity.end;
@@ -96,9 +96,7 @@ pub fn read_string(text: &[u8], i: usize, q: u8, out: &mut [u8], at: usize) -> O
     ensures { StringRead q text.now i out.old at out.new result }
 {
     let run = decode(text, i, Around::Quotes(q), out, at + 3)?;
-    if text.len() <= run.end {
-        return None;
-    }
+    text.get(run.end)?;
     put_head(out, at, 0x51, run.at - (at + 3));
     Some(Run {
         end: run.end + 1,

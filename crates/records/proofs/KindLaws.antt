@@ -9,12 +9,13 @@ use mathlib.Core.Logic.{◌⊎◌, inl, inr}
 use mathlib.Core.Option.{Option, none, some}
 use lib.Dec.{T, eqb}
 use lib.ListN.{length, set, take, drop, get_or, length-append, length-drop, length-set, take-append-drop}
-use lib.Seq.{drop-cons, drop-length, drop-drop, length-take-le, take-append-le, drop-append-le, drop-append_seam}
+use lib.Seq.{drop-cons, drop-drop, length-take-le, take-append-le, drop-append-le, drop-append_seam}
 use borrow.Author.Tests.{eq-eqb, ne_eqb}
 use Rattle.field.specs.Bytes.{Bytes, pick}
-use Rattle.field.specs.Row.{bytes, field_bytes}
-use Rattle.field.specs.Front.{body_of, behind_of}
+use Rattle.field.specs.Row.{bytes, field_bytes, Inside, only_bytes, fields_after, counted, inside, Next, nothing, no_field, next, next_of, opened, built, read, Ended}
+use Rattle.field.specs.Front.{body_by, behind_by, body_of, behind_of}
 use Rattle.field.specs.Put.{put}
+use Rattle.field.proofs.RowLaws.{read_step}
 use Rattle.field.proofs.PutLaws.{length_field_bytes, put_nil, put_one, put_put, put_whole, put_fits}
 use Rattle.field.proofs.FrontLaws.{body_written, behind_written}
 use Rattle.spec.specs.Words.{free, behind_last, holds, starts_with, opening, inside_opening_tag, places_after}
@@ -89,16 +90,22 @@ module _ (q : ℕ) (s : Bytes) (i j : ℕ) (step : i ≡ suc j) (h : i ≤ lengt
       let z : sign (sign_after q (take j s)) (get_or s j 0) ≡ 2 = ap (sign (sign_after q (take j s))) e in
       g ∙ sym (sign_split ∙ ap (λ (x : ℕ). sign_after x (drop i s)) z)
 
-  pub more_free : (get_or s j 0 ≡ 62 → ⊥) → (get_or s j 0 ≡ 60 → ⊥) → T (free (drop j s))
-  unfolding free
-  more_free a b =
-      let e : drop j s ≡ get_or s j 0 ∷ drop i s = drop-cons s j 0 (omega arith) ∙ ap (λ (k : ℕ). get_or s j 0 ∷ drop k s) (sym step) in
-      subst (λ (x : Bytes). T (free x)) (sym e) (on (eqb (get_or s j 0) 60) (eqb (get_or s j 0) 62) (ne_eqb _ _ b) (ne_eqb _ _ a))
-    where
-      on : (x y : Bool) → x ≡ false → y ≡ false → T (not x && (not y && free (drop i s)))
-      on false false p q = f
-      on true y p q = absurd (let k : ◌≡◌ {A = ℕ} 0 1 = ap (λ (b : Bool). pick b 0 1) p in omega arith)
-      on false true p q = absurd (let k : ◌≡◌ {A = ℕ} 0 1 = ap (λ (b : Bool). pick b 0 1) q in omega arith)
+-- no byte is a sign
+pub no_sign : (s : Bytes) → ((k : ℕ) → k < length s → (get_or s k 0 ≡ 60 → ⊥) × (get_or s k 0 ≡ 62 → ⊥)) → T (free s)
+unfolding free
+no_sign [] h = tt
+no_sign (c ∷ s) h =
+    let e = ne_eqb c 60 (h 0 (omega arith)).0 in
+    let g = ne_eqb c 62 (h 0 (omega arith)).1 in
+    let t : T (free s) = no_sign s (λ k l. h (suc k) (omega arith)) in
+    subst (λ (b : Bool). T (not b && (not (eqb c 62) && free s))) (sym e) (subst (λ (b : Bool). T (not b && free s)) (sym g) t)
+
+-- and none behind place i
+pub free_behind : (s : Bytes) (i : ℕ) → ((k : ℕ) → i < k → k < length s → (get_or s k 0 ≡ 60 → ⊥) × (get_or s k 0 ≡ 62 → ⊥)) → T (free (drop (suc i) s))
+unfolding free
+free_behind [] i h = tt
+free_behind (c ∷ s) zero h = no_sign s (λ k l. h (suc k) (omega arith) (omega arith))
+free_behind (c ∷ s) (suc i) h = free_behind s i (λ k l m. h (suc k) (omega arith) (omega arith))
 
 -- ---- a text without a sign, as the code tests it
 
@@ -120,10 +127,6 @@ closing_tag (c ∷ cs) f h g = sym (behind_open (c ∷ cs) f ∙ ap (λ (b : Boo
 pub opening_tag : (s : Bytes) → T (free s) → 1 ≤ length s → (get_or s 0 0 ≡ 47 → ⊥) → 1 ≡ sign_after 2 s
 opening_tag [] f h g = absurd (omega (arith, h))
 opening_tag (c ∷ cs) f h g = sym (behind_open (c ∷ cs) f ∙ ap (λ (b : Bool). pick b 0 1) (ne_eqb c 47 g))
-
-pub free_end : (s : Bytes) → T (free (drop (length s) s))
-unfolding free
-free_end s = subst (λ (x : Bytes). T (free x)) (sym (drop-length s)) tt
 
 -- ---- the sign and demand 3's place
 
@@ -262,6 +265,36 @@ one_written ks i q s {b} {r} {q'} {k} h e f g d =
     ∙ put_put ks i (k ∷ []) (kinds_at m q' r)
     ∙ ap₂ (λ (x : ℕ) (y : Bytes). put ks i (x ∷ y)) (d ∙ ap kind_at z) (ap₂ (kinds_at m) z f)
     ∙ sym (ap (λ (x : ℕ). put ks i (kinds_at x q s)) n)
+
+-- where the strings run out, nothing is left to read
+gone_by : (s : Bytes) (n : Next) → Ended (built read s n) → (body_by n ≡ []) × (behind_by n ≡ [])
+unfolding built opened
+gone_by s nothing i = (refl, refl)
+gone_by s no_field i = (refl, refl)
+gone_by s (next t w r) i = absurd (on (inside t) i)
+  where
+    on : (c : Inside) → Ended (opened c read t w r) → ⊥
+    on only_bytes i = i
+    on (fields_after k) i = i
+    on (counted k) i = i
+
+gone : (s : Bytes) → Ended (read s) → (body_of s ≡ []) × (behind_of s ≡ [])
+unfolding body_of behind_of
+gone s i = gone_by s (next_of s) (subst Ended (read_step s) i)
+
+kinds_gone : (n q : ℕ) (s : Bytes) → Ended (read s) → kinds_at n q s ≡ kinds_at n q []
+unfolding kinds_at body_of behind_of next_of
+kinds_gone zero q s i = refl
+kinds_gone (suc n) q s i = let g = gone s i in ap₂ (λ (x y : Bytes). kind_at (sign_after q x) ∷ kinds_at n (sign_after q x) y) g.0 g.1
+
+-- then the sign stays
+pub gone_written : (ks : Bytes) (i q : ℕ) (s : Bytes) {r : Bytes} {k : ℕ} → i < length ks → Ended (read s) → r ≡ s → k ≡ kind_at q → to_come (set ks i k) (i + 1) q r ≡ to_come ks i q s
+unfolding sign_after
+gone_written ks i q s {r} {k} h e f d =
+    let g = gone s e in
+    ap (λ (x : Bytes). put (set ks i k) (i + 1) (kinds_at (length (set ks i k) - (i + 1)) q x)) f
+    ∙ ap (put (set ks i k) (i + 1)) (kinds_gone (length (set ks i k) - (i + 1)) q s e)
+    ∙ one_written ks i q s h (sym g.0) (sym g.1) refl d
 
 pub all_written : (ks : Bytes) (i q : ℕ) (s : Bytes) → length ks ≤ i → ks ≡ to_come ks i q s
 unfolding kinds_at

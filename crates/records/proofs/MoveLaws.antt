@@ -1,15 +1,18 @@
 -- Bytes moved up within a buffer, as far as they fit, and what stands where a write was made. Main statements: `move_none`, `move_one`,
--- `move_block`, `move_clip`, `drop_put`, `put_over`. Assumes nothing.
+-- `move_block`, `move_fit`, `drop_put`, `put_over`. Assumes nothing.
 use mathlib.Core.Path.{◌≡◌, refl, sym, ap, ap₂, ◌∙◌}
-use Prim.Native.Nat.{ℕ, zero, suc, ◌+◌, ◌-◌, ◌≤◌, ◌<◌}
+use Prim.Native.Nat.{ℕ, zero, suc, min, ◌+◌, ◌-◌, ◌≤◌, ◌<◌}
 use native.Mathlib.Nat.{le_of_suc-le-suc, not-suc-le-zero}
 use native.Mathlib.Omega.{arith}
 use mathlib.Core.List.{[], ◌∷◌, ◌++◌}
+use mathlib.Core.Bool.{Bool, true, false}
+use lib.Dec.{leb}
 use lib.ListN.{length, set, take, drop, get_or, length-drop}
 use lib.Seq.{take-nil, drop-nil, drop-cons, drop-drop, take-take, take-add, length-take-le}
 use Rattle.field.specs.Bytes.{Bytes}
 use Rattle.field.specs.Put.{put}
 use Rattle.field.proofs.PutLaws.{length_put, put_nil, put_one, put_back, put_clip}
+use borrow.Author.Tests.{leb-true, leb-false}
 
 -- ---- what stands after a write
 
@@ -83,5 +86,13 @@ move_block {o₁} {o₂} o k i j e n s h l g f =
     f ∙ ap₂ (λ (x y : Bytes). put x (j + n) y) (g ∙ ap (λ (m : ℕ). put o m w) next) same ∙ put_back o (j + n) b w ∙ ap (put o (j + n)) whole
 
 -- as many as fit
-pub move_clip : (o : Bytes) (p e n k : ℕ) → length o ≤ p + n + k → k ≤ e - p → put o (p + n) (take k (drop p o)) ≡ put o (p + n) (take (e - p) (drop p o))
+move_clip : (o : Bytes) (p e n k : ℕ) → length o ≤ p + n + k → k ≤ e - p → put o (p + n) (take k (drop p o)) ≡ put o (p + n) (take (e - p) (drop p o))
 move_clip o p e n k h l = ap (put o (p + n)) (sym (take-take k (e - p) (drop p o) l)) ∙ put_clip o (p + n) k (take (e - p) (drop p o)) h
+
+-- up to the end, or as far as they fit
+pub move_fit : (o : Bytes) (p e n : ℕ) {m : ℕ} → p + n < length o → p ≤ e → m ≡ min e (length o - n) → put o (p + n) (take (m - p) (drop p o)) ≡ put o (p + n) (take (e - p) (drop p o))
+move_fit o p e n {m} h l g = on (leb e (length o - n)) refl
+  where
+    on : (b : Bool) → leb e (length o - n) ≡ b → put o (p + n) (take (m - p) (drop p o)) ≡ put o (p + n) (take (e - p) (drop p o))
+    on true q = let z : m ≡ e = omega (arith, g, leb-true e (length o - n) q) in ap (λ (k : ℕ). put o (p + n) (take (k - p) (drop p o))) z
+    on false q = let z = leb-false e (length o - n) q in move_clip o p e n (m - p) (omega (arith, g, z)) (omega (arith, g, z))

@@ -1,5 +1,5 @@
 -- Elements and series of children as they stand in bytes: what the walk does at each tag, and what it goes by at an element.
--- Main statements: `within_30`, `called_30` and the like; `serialize_call`, `serialize_template`, `inner_call`, `inner_void`, `inner_kids`,
+-- Main statements: `within_30`, `called_30` and the like; `serialize_call`, `serialize_template`, `inner_call`, `inner_is`,
 -- `inner_none`; `found_0`, `only_30`, `only_31`, `only_other`, `found_2`, `found_merged`. Assumes nothing.
 use mathlib.Core.Path.{◌≡◌, refl, sym, ap, ◌∙◌, subst}
 use Prim.Native.Nat.{ℕ, ◌≤◌}
@@ -45,6 +45,13 @@ behind_shorter s {r} q = subst (λ (x : Bytes). length x ≤ length s) (sym q) (
     on nothing h = omega arith
     on no_field h = omega arith
     on (next t w r) h = omega (arith, next_sizes s t w r h)
+
+pub inner_shorter : (b : Bytes) {i : Bytes} → i ≡ pick (is_void_element (identifier_bytes (element_name (read b)))) [] (behind_of b) → length i ≤ length b
+inner_shorter b {i} q = either (is_void_element (identifier_bytes (element_name (read b)))) q
+  where
+    either : (v : Bool) → i ≡ pick v [] (behind_of b) → length i ≤ length b
+    either true p = omega (arith, ap length p)
+    either false p = behind_shorter b p
 
 module _ (k p : Bytes) where
   abbrev o : Options
@@ -143,6 +150,14 @@ module _ (k p b : Bytes) {r : Bytes} (q : r ≡ behind_of b) where
   kids_behind : children_at k p (behind_name (read b)) ≡ children_at k p (read r)
   kids_behind = ap (children_at k p) (behind_name_at b ∙ ap read (sym q))
 
+  -- no bytes are no children
+  none_read : (s : Bytes) → length s ≡ 0 → children_at k p (read s) ≡ []
+  none_read s l = kids_none k p s (subst Ended (sym (read_empty s l)) tt)
+
+  none_within : (s : Bytes) → length s ≡ 0 → (w : Kept) → keep (dynamic_exprs (children_to_string false (children_at k p (read s)))) w ≡ w
+  unfolding dynamic_exprs within
+  none_within s l w = ap (λ (cs : List Child). keep (dynamic_exprs (children_to_string false cs)) w) (none_read s l) ∙ (parts_within false [] w ∙ keep_pure _ w)
+
   module _ {z : Bool} (d : z ≡ serializable k b) where
     decided : {y : Bool} → z ≡ y → (element_at k p b).serializable ≡ y
     decided h = element_serializable k p b ∙ sym d ∙ h
@@ -176,31 +191,27 @@ module _ (k p b : Bytes) {r : Bytes} (q : r ≡ behind_of b) where
           element_inner (opts k p) (attributes_at k p (behind_name (read b))) (children_at k p (behind_name (read b))) w (element_name (read b)) (decided_by h)
           ∙ ap (λ (cs : List Child). keep (dynamic_exprs (pick (is_void_element (identifier_bytes (element_name (read b)))) [] (children_to_string false cs))) w) kids_behind
 
-      module _ {n : Bytes} (i : n ≡ identifier_bytes (element_name (read b))) {v : Bool} (u : v ≡ is_void_element n) where
-        is_void : {y : Bool} → v ≡ y → is_void_element (identifier_bytes (element_name (read b))) ≡ y
-        is_void g = ap is_void_element (sym i) ∙ sym u ∙ g
-
-        pub inner_void : v ≡ true → keep (dynamic_exprs (element_at k p b).to_string_vec) w ≡ w
-        unfolding dynamic_exprs
-        inner_void g = inner ∙ rw (is_void g) (keep_pure _ w)
-
-        pub inner_kids : v ≡ false → keep (dynamic_exprs (element_at k p b).to_string_vec) w ≡ keep (dynamic_exprs (children_to_string false (children_at k p (read r)))) w
-        inner_kids g = inner ∙ rw (is_void g)
+      pub inner_is : {i : Bytes} → i ≡ pick (is_void_element (identifier_bytes (element_name (read b)))) [] r →
+          keep (dynamic_exprs (element_at k p b).to_string_vec) w ≡ keep (dynamic_exprs (children_to_string false (children_at k p (read i)))) w
+      unfolding dynamic_exprs
+      inner_is {i} u = inner ∙ on (is_void_element (identifier_bytes (element_name (read b)))) u
+        where
+          on : (v : Bool) → i ≡ pick v [] r →
+              keep (dynamic_exprs (pick v [] (children_to_string false (children_at k p (read r))))) w ≡ keep (dynamic_exprs (children_to_string false (children_at k p (read i)))) w
+          on true e = keep_pure _ w ∙ sym (none_within i (ap length e) w)
+          on false e = ap (λ (x : Bytes). keep (dynamic_exprs (children_to_string false (children_at k p (read x)))) w) (sym e)
 
   -- one with nothing behind its name records nothing
   module _ (l : length r ≡ 0) (w : Kept) where
-    no_kids : children_at k p (read r) ≡ []
-    no_kids = kids_none k p r (subst Ended (sym (read_empty r l)) tt)
-
     found_nothing : keep (found_pass (children_to_expr (children_at k p (read r)))) w ≡ w
     unfolding few_of
-    found_nothing = found_none (children_at k p (read r)) (ap few_of no_kids) w
+    found_nothing = found_none (children_at k p (read r)) (ap few_of (none_read r l)) w
 
     -- in a template, whatever it is
     within_void : (v : Bool) → keep (dynamic_exprs (pick v [] (children_to_string false (children_at k p (read r))))) w ≡ w
-    unfolding dynamic_exprs within
+    unfolding dynamic_exprs
     within_void true = keep_pure _ w
-    within_void false = ap (λ (cs : List Child). keep (dynamic_exprs (children_to_string false cs)) w) no_kids ∙ (parts_within false [] w ∙ keep_pure _ w)
+    within_void false = none_within r l w
 
     inner_either : (z : Bool) → z ≡ serializable k b → keep (dynamic_exprs (element_at k p b).to_string_vec) w ≡ w
     inner_either true d = inner d refl w ∙ within_void (is_void_element (identifier_bytes (element_name (read b))))

@@ -4,7 +4,7 @@ ghost use Rattle.field.specs.Put.{put};
 ghost use Rattle.spec.specs.Words.{free};
 ghost use Rattle.records.specs.Kinds.{sign_of, sign_after, kind_at, kinds_at};
 
-use field::reader::{behind, body};
+use field::reader::Fields;
 
 // Where the text so far leaves us.
 #[derive(Clone, Copy)]
@@ -17,22 +17,15 @@ enum Sign {
     Inside,
 }
 
-// From the back, since the last sign decides and is mostly near. Letters come behind both signs, and are told first.
+// From the back, since the last sign decides and is mostly near.
 fn sign_after(q: Sign, s: &[u8]) -> Sign
     ensures { sign_of result ≡ sign_after (sign_of q) s.now }
 {
-    for i in (0..s.len()).rev() {
-        if b'>' < s[i] {
-            continue;
-        }
-        if s[i] == b'>' {
-            return Sign::Outside;
-        }
-        if s[i] == b'<' {
-            return behind_sign(Sign::Opened, &s[i + 1..]);
-        }
+    match s.iter().rposition(|b| matches!(b, b'<' | b'>')) {
+        Some(last) if s[last] == b'<' => behind_sign(Sign::Opened, &s[last + 1..]),
+        Some(_) => Sign::Outside,
+        None => behind_sign(q, s),
     }
-    behind_sign(q, s)
 }
 
 // The same of a text in which no sign stands: only what follows a `<` matters.
@@ -50,6 +43,7 @@ fn behind_sign(q: Sign, s: &[u8]) -> Sign
     }
 }
 
+// The byte that A6 (02) has for it.
 fn kind_at(q: Sign) -> u8
     ensures { result ≡ kind_at (sign_of q) }
 {
@@ -59,15 +53,16 @@ fn kind_at(q: Sign) -> u8
     }
 }
 
-// For each gap the kind that the strings leave, which stand one behind the other.
+// For each gap the kind that the strings leave, which stand one behind the other. Where they run out, the sign stays.
 fn fill_kinds(kinds: &mut [u8], strings: &[u8])
     ensures { kinds.new ≡ kinds_at (length kinds.old) 0 strings.now }
 {
-    let mut rest = strings;
+    let mut rest = Fields(strings);
     let mut q = Sign::Outside;
     for kind in kinds.iter_mut() {
-        q = sign_after(q, body(rest));
-        rest = behind(rest);
+        if let Some(string) = rest.next() {
+            q = sign_after(q, string.body);
+        }
         *kind = kind_at(q);
     }
 }

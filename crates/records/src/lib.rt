@@ -7,7 +7,7 @@ ghost use Rattle.field.specs.Row.{read};
 ghost use Rattle.spec.specs.Merge.{merge, long_run, short_runs};
 ghost use Rattle.spec.specs.Output.{dynamic_exprs, gen_template};
 ghost use Rattle.spec.specs.Children.{children_to_string, children_to_expr, serialize_jsx, entries, entries_pass, found_pass};
-ghost use Rattle.decisions.specs.At.{element_at, children_at, serializable};
+ghost use Rattle.decisions.specs.At.{element_at, children_at, serializable, under};
 ghost use Rattle.strings.specs.Carve as C;
 ghost use Rattle.records.specs.Keep.{at, keep, write, begun, kinded_if, end_at, bumped, Low, Room};
 
@@ -16,16 +16,17 @@ pub mod moves;
 
 use crate::kinds::put_kinds;
 use crate::moves::move_up;
-use decisions::children::{Count, becomes_template, child_count, children_at};
-use decisions::element::{identifier, is_serializable};
+use decisions::children::{Children, becomes_template, children_of};
+use decisions::element::{inner_children, is_serializable};
 use decisions::options::Options;
-use field::reader::{Field, Fields, behind, field_at};
+use field::MAX_BODY;
+use field::reader::{Field, Fields, behind};
 use field::writer::{put_four, put_head, put_two};
-use names::is_void_element;
 use strings::due::{Due, with_body};
 use strings::{Open, children_strings, merged_children_strings, tag_strings};
 
-// The next number, the place behind what was written, and what is due: a state by value, as the open string of `strings` is.
+// The next number, the place behind what was written, and what is due: a state by value (01, What must change shape), as the open string of
+// `strings` is. Beside it go options, scratch and out one by one: of slices in a struct a caller knows no length any more behind a call.
 #[derive(Clone, Copy)]
 pub struct Records {
     pub next: usize,
@@ -51,25 +52,21 @@ fn put_gaps(out: &mut [u8], place: usize, end: usize, gaps: usize)
     requires { (place + 9 ≤ end) × (end + gaps < 2 ^ 63) }
     ensures { out.new ≡ kinded_if place end gaps out.old }
 {
-    if gaps == 0 {
-        return;
+    let size = end + gaps - (place + 3);
+    if gaps != 0 && size <= MAX_BODY && end + gaps <= out.len() {
+        let at = place + 9;
+        move_up(out, at, end, gaps);
+        put_kinds(out, at, at + gaps, gaps);
     }
-    if 65535 < end + gaps - (place + 3) {
-        return;
-    }
-    if out.len() < end + gaps {
-        return;
-    }
-    let at = place + 9;
-    move_up(out, at, end, gaps);
-    put_kinds(out, at, at + gaps, gaps);
 }
 
+// The open string is closed as strings' `cut` does it, which asks room for a next one: here none comes. What both share is a head and what is due
+// behind it, a call each.
 fn closed(out: &mut [u8], n: usize, st: Records, open: Open) -> Records
     requires { (st.place + 9 ≤ C.end «open») × C.Low (C.at out.old «open») }
     ensures { at out.new result ≡ end_at n st «open».gaps (C.close (C.at out.old «open»)) }
 {
-    let Records { place, .. } = st;
+    let place = st.place;
     let Open {
         head,
         len,
@@ -95,8 +92,8 @@ fn closed(out: &mut [u8], n: usize, st: Records, open: Open) -> Records
 
 // Of an element that is HTML.
 fn write_element(options: &Options<'_>, b: &[u8], out: &mut [u8], n: usize, st: Records) -> Records
-    requires { (serializable options.now.skip.now b.now ≡ true) × Low (write n false (element_at options.now.skip.now options.now.props.now b.now).to_string_vec (at out.old st)) }
-    ensures { at out.new result ≡ write n false (element_at options.now.skip.now options.now.props.now b.now).to_string_vec (at out.old st) }
+    requires { (serializable options.now.skip.now b.now ≡ true) × Low (write n false (under options.now element_at b.now).to_string_vec (at out.old st)) }
+    ensures { at out.new result ≡ write n false (under options.now element_at b.now).to_string_vec (at out.old st) }
 {
     let a = opened(st);
     let c = tag_strings(options, b, out, a);
@@ -104,8 +101,8 @@ fn write_element(options: &Options<'_>, b: &[u8], out: &mut [u8], n: usize, st: 
 }
 
 fn write_children(options: &Options<'_>, s: &[u8], out: &mut [u8], n: usize, st: Records) -> Records
-    requires { Low (write n false (children_to_string false (children_at options.now.skip.now options.now.props.now (read s.now))) (at out.old st)) }
-    ensures { at out.new result ≡ write n false (children_to_string false (children_at options.now.skip.now options.now.props.now (read s.now))) (at out.old st) }
+    requires { Low (write n false (children_to_string false (under options.now children_at (read s.now))) (at out.old st)) }
+    ensures { at out.new result ≡ write n false (children_to_string false (under options.now children_at (read s.now))) (at out.old st) }
 {
     let a = opened(st);
     let c = children_strings(options, s, false, out, a);
@@ -120,8 +117,8 @@ fn write_merged(
     n: usize,
     st: Records,
 ) -> Records
-    requires { Room scratch.old s.now (write n (long_run (merge false false [] (children_at options.now.skip.now options.now.props.now (read s.now)))) (children_to_string false (short_runs (merge false false [] (children_at options.now.skip.now options.now.props.now (read s.now))))) (at out.old st)) }
-    ensures { at out.new result ≡ write n (long_run (merge false false [] (children_at options.now.skip.now options.now.props.now (read s.now)))) (children_to_string false (short_runs (merge false false [] (children_at options.now.skip.now options.now.props.now (read s.now))))) (at out.old st) }
+    requires { Room scratch.old s.now (write n (long_run (merge false false [] (under options.now children_at (read s.now)))) (children_to_string false (short_runs (merge false false [] (under options.now children_at (read s.now))))) (at out.old st)) }
+    ensures { at out.new result ≡ write n (long_run (merge false false [] (under options.now children_at (read s.now)))) (children_to_string false (short_runs (merge false false [] (under options.now children_at (read s.now))))) (at out.old st) }
 {
     let a = opened(st);
     let c = merged_children_strings(options, s, scratch, out, a);
@@ -147,32 +144,14 @@ pub fn record_serialize(
     out: &mut [u8],
     st: Records,
 ) -> Records
-    requires { Room scratch.old b.now (keep (serialize_jsx (element_at options.now.skip.now options.now.props.now b.now)) (at out.old st)) }
-    ensures { at out.new result ≡ keep (serialize_jsx (element_at options.now.skip.now options.now.props.now b.now)) (at out.old st) }
+    requires { Room scratch.old b.now (keep (serialize_jsx (under options.now element_at b.now)) (at out.old st)) }
+    ensures { at out.new result ≡ keep (serialize_jsx (under options.now element_at b.now)) (at out.old st) }
 {
     if !is_serializable(options.skip, b) {
         return record_found(options, behind(b), scratch, out, st);
     }
-    let inner = record_inner(options, b, scratch, out, taken(st));
+    let inner = record_parts(options, inner_children(b), scratch, out, taken(st));
     write_element(options, b, out, st.next, inner)
-}
-
-// What an element that is HTML holds in its template.
-#[cycle(record)]
-fn record_inner(
-    options: &Options<'_>,
-    b: &[u8],
-    scratch: &mut [u8],
-    out: &mut [u8],
-    st: Records,
-) -> Records
-    requires { (serializable options.now.skip.now b.now ≡ true) × Room scratch.old b.now (keep (dynamic_exprs (element_at options.now.skip.now options.now.props.now b.now).to_string_vec) (at out.old st)) }
-    ensures { at out.new result ≡ keep (dynamic_exprs (element_at options.now.skip.now options.now.props.now b.now).to_string_vec) (at out.old st) }
-{
-    if is_void_element(identifier(b)) {
-        return st;
-    }
-    record_parts(options, behind(b), scratch, out, st)
 }
 
 // An element in a template. One with nothing behind its name, as most void ones, needs no test of the name.
@@ -184,20 +163,21 @@ fn record_element(
     out: &mut [u8],
     st: Records,
 ) -> Records
-    requires { Room scratch.old b.now (keep (dynamic_exprs (element_at options.now.skip.now options.now.props.now b.now).to_string_vec) (at out.old st)) }
-    ensures { at out.new result ≡ keep (dynamic_exprs (element_at options.now.skip.now options.now.props.now b.now).to_string_vec) (at out.old st) }
+    requires { Room scratch.old b.now (keep (dynamic_exprs (under options.now element_at b.now).to_string_vec) (at out.old st)) }
+    ensures { at out.new result ≡ keep (dynamic_exprs (under options.now element_at b.now).to_string_vec) (at out.old st) }
 {
     let rest = behind(b);
     if rest.is_empty() {
-        return st;
+        st
+    } else if is_serializable(options.skip, b) {
+        record_parts(options, inner_children(b), scratch, out, st)
+    } else {
+        record_found(options, rest, scratch, out, st)
     }
-    if !is_serializable(options.skip, b) {
-        return record_found(options, rest, scratch, out, st);
-    }
-    record_inner(options, b, scratch, out, st)
 }
 
-// Children in a template. record_entries differs in what each of its two arms does: one function for both would take a switch on which to run.
+// Children in a template. Not one loop with `record_entries`, whose arms call other functions: it would choose at each field by a switch, and
+// its contract would choose by the same switch between what a template's parts and what a call's entries record.
 #[cycle(record)]
 fn record_parts(
     options: &Options<'_>,
@@ -206,8 +186,8 @@ fn record_parts(
     out: &mut [u8],
     st: Records,
 ) -> Records
-    requires { Room scratch.old s.now (keep (dynamic_exprs (children_to_string false (children_at options.now.skip.now options.now.props.now (read s.now)))) (at out.old st)) }
-    ensures { at out.new result ≡ keep (dynamic_exprs (children_to_string false (children_at options.now.skip.now options.now.props.now (read s.now)))) (at out.old st) }
+    requires { Room scratch.old s.now (keep (dynamic_exprs (children_to_string false (under options.now children_at (read s.now)))) (at out.old st)) }
+    ensures { at out.new result ≡ keep (dynamic_exprs (children_to_string false (under options.now children_at (read s.now)))) (at out.old st) }
 {
     let mut cur = st;
     for field in Fields(s) {
@@ -229,17 +209,18 @@ pub fn record_found(
     out: &mut [u8],
     st: Records,
 ) -> Records
-    requires { Room scratch.old s.now (keep (found_pass (children_to_expr (children_at options.now.skip.now options.now.props.now (read s.now)))) (at out.old st)) }
-    ensures { at out.new result ≡ keep (found_pass (children_to_expr (children_at options.now.skip.now options.now.props.now (read s.now)))) (at out.old st) }
+    requires { Room scratch.old s.now (keep (found_pass (children_to_expr (under options.now children_at (read s.now)))) (at out.old st)) }
+    ensures { at out.new result ≡ keep (found_pass (children_to_expr (under options.now children_at (read s.now)))) (at out.old st) }
 {
-    match child_count(s) {
-        Count::Zero => st,
-        Count::One => match field_at(children_at(s)) {
-            Some(Field { tag: 0x30, body }) => record_serialize(options, body, scratch, out, st),
-            Some(Field { tag: 0x31, body }) => record_found(options, body, scratch, out, st),
-            _ => st,
-        },
-        Count::More => {
+    match children_of(s) {
+        Children::Zero => st,
+        Children::One(Field { tag: 0x30, body }) => {
+            record_serialize(options, body, scratch, out, st)
+        }
+        Children::One(Field { tag: 0x31, body }) => record_found(options, body, scratch, out, st),
+        // An arm of its own: that no child records nothing, and that this one does, are two laws.
+        Children::One(_) => st,
+        Children::More => {
             if becomes_template(options.skip, s) {
                 let inner = record_parts(options, s, scratch, out, taken(st));
                 write_merged(options, s, scratch, out, st.next, inner)
@@ -258,8 +239,8 @@ fn record_entries(
     out: &mut [u8],
     st: Records,
 ) -> Records
-    requires { Room scratch.old s.now (keep (entries_pass (entries (merge false false [] (children_at options.now.skip.now options.now.props.now (read s.now))))) (at out.old st)) }
-    ensures { at out.new result ≡ keep (entries_pass (entries (merge false false [] (children_at options.now.skip.now options.now.props.now (read s.now))))) (at out.old st) }
+    requires { Room scratch.old s.now (keep (entries_pass (entries (merge false false [] (under options.now children_at (read s.now))))) (at out.old st)) }
+    ensures { at out.new result ≡ keep (entries_pass (entries (merge false false [] (under options.now children_at (read s.now))))) (at out.old st) }
 {
     let mut cur = st;
     for field in Fields(s) {
@@ -280,8 +261,8 @@ pub fn record_fragment(
     out: &mut [u8],
     st: Records,
 ) -> Records
-    requires { Room scratch.old s.now (keep (gen_template (children_to_string false (children_at options.now.skip.now options.now.props.now (read s.now)))) (at out.old st)) }
-    ensures { at out.new result ≡ keep (gen_template (children_to_string false (children_at options.now.skip.now options.now.props.now (read s.now)))) (at out.old st) }
+    requires { Room scratch.old s.now (keep (gen_template (children_to_string false (under options.now children_at (read s.now)))) (at out.old st)) }
+    ensures { at out.new result ≡ keep (gen_template (children_to_string false (under options.now children_at (read s.now)))) (at out.old st) }
 {
     let inner = record_parts(options, s, scratch, out, taken(st));
     write_children(options, s, out, st.next, inner)

@@ -2,18 +2,10 @@
 ghost use Rattle.std.specs.Prelude.{◌≡◌, ◌+◌, ◌-◌, ◌≤◌, ◌<◌, ◌^◌, length, take, drop};
 ghost use Rattle.field.specs.Put.{put};
 
+use field::writer::copy_bytes;
+
 // Loops, by blocks where there are many bytes, though the library has copy_from_slice and copy_within: in a probe of 1100 moves of 3 to 1000 bytes
 // these took 170,100 instructions, and the library's methods 264,600.
-
-// The first sixteen bytes of s, which fit.
-fn copy_sixteen(out: &mut [u8], at: usize, s: &[u8])
-    requires { (at + 16 ≤ length out.old) × (16 ≤ length s.now) }
-    ensures { out.new ≡ put out.old at (take 16 s.now) }
-{
-    for i in 0..16 {
-        out[at + i] = s[i];
-    }
-}
 
 // Sixteen bytes from i on. They may move over themselves: a local holds them, and makes one load and one store of it.
 fn move_block(out: &mut [u8], i: usize, n: usize)
@@ -21,8 +13,8 @@ fn move_block(out: &mut [u8], i: usize, n: usize)
     ensures { out.new ≡ put out.old (i + n) (take 16 (drop i out.old)) }
 {
     let mut block = [0u8; 16];
-    copy_sixteen(&mut block, 0, &out[i..]);
-    copy_sixteen(out, i + n, &block);
+    copy_bytes(&mut block, &out[i..i + 16]);
+    copy_bytes(&mut out[i + n..i + n + 16], &block);
 }
 
 // The bytes from p up to end, which fit: from the back, since they may move over themselves.
@@ -35,7 +27,7 @@ fn move_bytes(out: &mut [u8], p: usize, end: usize, n: usize)
     }
 }
 
-// The same by blocks, and the first few bytes one by one.
+// The same by blocks, and the first few bytes one by one. A `while`, since behind it i is wanted: there the blocks end.
 fn move_run(out: &mut [u8], p: usize, end: usize, n: usize)
     requires { (p ≤ end) × (end + n ≤ length out.old) }
     ensures { out.new ≡ put out.old (p + n) (take (end - p) (drop p out.old)) }
@@ -54,12 +46,7 @@ pub fn move_up(out: &mut [u8], p: usize, end: usize, n: usize)
     ensures { out.new ≡ put out.old (p + n) (take (end - p) (drop p out.old)) }
 {
     let room = out.len();
-    if end + n <= room {
-        move_run(out, p, end, n);
-        return;
+    if p + n < room {
+        move_run(out, p, end.min(room - n), n);
     }
-    if room <= p + n {
-        return;
-    }
-    move_run(out, p, room - n, n);
 }

@@ -7,7 +7,7 @@ use native.Mathlib.Omega.{arith}
 use mathlib.Core.List.{[]}
 use lib.Dec.{T, eqb, eqb→eq}
 use lib.ListN.{length}
-use borrow.Author.Tests.{eq-eqb, eqb-true}
+use borrow.Author.Tests.{eq-eqb, ne_eqb, eqb-true}
 use Rattle.field.specs.Bytes.{Bytes, AllBytes, pick}
 use Rattle.field.specs.Number.{number_of, big_endian}
 use Rattle.field.specs.Row.{Row, end, loose, field, bytes, Inside, only_bytes}
@@ -22,7 +22,6 @@ use Rattle.outs.specs.PageOut.{allowed, left, within, front_right, check_leaf, g
 use Rattle.outs.specs.Renumber.{renumbered_front, renumbered}
 use Rattle.outs.specs.declared.Expect.{Expect}
 use Rattle.outs.specs.declared.Expect.TheVariants as E
-use Rattle.renumber.proofs.Renumbering.{leaf_held}
 
 -- no number grows by more than two bytes
 abbrev pub Fronts : ℕ → Row → Type 0
@@ -65,6 +64,10 @@ leaf_ends from t f i k = on i (subst (λ (c : Inside). FrontFits c f i → Front
     on end g x = refl
     on (loose b) g x = absurd (unfold FrontFits in g x)
     on (field u h m r) g x = absurd (unfold FrontFits in g x)
+
+leaf_held : (from t : ℕ) → (t ≡ 0x90 → ⊥) → nests t ≡ false → held from t ≡ only_bytes
+unfolding held
+leaf_held from t z n = rw (ne_eqb t 0x90 z, n)
 
 module _ (from to : ℕ) (l : to ≤ 2 + from) where
   pub good_fronts : (c : Expect) (x : Row) → ShapedBy (held from) x → good from c x ≡ Fine → Fronts to x

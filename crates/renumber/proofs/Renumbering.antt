@@ -1,4 +1,4 @@
--- The rewriting as a walk, and its turns. Main statements: `begins`, `fits`, `on_torn`, `on_leaf`, `on_open`, `on_close`, `on_done`.
+-- The rewriting as a walk, and its turns. Main statements: `begins`, `fits`, `on_torn`, `on_leaf`, `on_open`, `on_pop`, `on_done`.
 -- Assumes nothing.
 use mathlib.Core.Path.{◌≡◌, refl, sym, ap, ap₂, ◌∙◌, subst}
 use mathlib.Core.Logic.{◌⊎◌, inl, inr}
@@ -27,9 +27,11 @@ use Rattle.loops.proofs.Headers.{read_empty, read_torn, front_of, inner_of, body
 use Rattle.loops.proofs.Parts.{part, Room, drop_take}
 use Rattle.loops.specs.Until.{until}
 use Rattle.loops.proofs.Turns as T
-use Rattle.outs.specs.Held.{nests, held, read_out}
+use Rattle.outs.specs.Held.{held, read_out}
 use Rattle.outs.specs.Renumber.{renumbered_front, renumbered, Renumbers}
-use Rattle.renumber.specs.Step.{Holding, numbered}
+use Rattle.outs.specs.Step.{Holding}
+use Rattle.outs.proofs.StepLaws.{held_front, held_none}
+use Rattle.renumber.specs.Step.{numbered}
 use Rattle.renumber.specs.declared.Frame.{Frame}
 use Rattle.renumber.proofs.Worlds.{World, over, does, writes, enters, leaves, does_end, does_loose, does_leaf, does_field, does_all}
 use Rattle.renumber.proofs.Spans.{outer, outer_low, outer_out, span_in}
@@ -39,7 +41,7 @@ world o n l v = record { out = o; at = n; long = l; wide = v }
 
 -- what a list of frames reads as past its end
 abbrev pub none : Frame
-none = record { head = 0; rest = 0; tag = 0; spare = 0 }
+none = record { head = 0; rest = 0; tag = 0 }
 
 -- the frames, and the head from which the heads in them are counted
 pub record Stack : Type 0 where
@@ -47,7 +49,7 @@ pub record Stack : Type 0 where
   pub frames : List Frame
 
 abbrev pub lifted : ℕ → Frame → Frame
-lifted base f = record { head = base + f.head; rest = f.rest; tag = f.tag; spare = f.spare }
+lifted base f = record { head = base + f.head; rest = f.rest; tag = f.tag }
 
 abbrev pub rests : List Frame → ℕ → ℕ
 rests fs i = (get_or fs i none).rest
@@ -91,39 +93,16 @@ base_same k e = record { kept = λ u. e; first = λ z. absurd (k z) }
 
 -- ---- what a body holds
 
-pub nest_held : (from t : ℕ) → (t ≡ 0x90 → ⊥) → nests t ≡ true → held from t ≡ fields_after 0
-unfolding held
-nest_held from t z n = rw (ne_eqb t 0x90 z, n)
-
-pub leaf_held : (from t : ℕ) → (t ≡ 0x90 → ⊥) → nests t ≡ false → held from t ≡ only_bytes
-unfolding held
-leaf_held from t z n = rw (ne_eqb t 0x90 z, n)
-
 not_call : (from t : ℕ) → held from t ≡ only_bytes → t ≡ 0x90 → ⊥
-unfolding held
-not_call from t k z =
-    let e : fields_after from ≡ only_bytes = ap (held from) (sym z) ∙ k in
-    let x : ◌≡◌ {A = ℕ} 0 1 = cc in
-    omega arith
+not_call from t k = (held_none from t k).0
 
 -- only a call has a front
 module _ (from t m : ℕ) (k : held from t ≡ fields_after m) where
   front_call : t ≡ 0x90 → m ≡ from
-  unfolding held
-  front_call z =
-      let e : fields_after from ≡ fields_after m = ap (held from) (sym z) ∙ k in
-      let x : from ≡ m = cc in
-      sym x
+  front_call = (held_front from t m k).of_call
 
   front_none : (t ≡ 0x90 → ⊥) → m ≡ 0
-  unfolding held
-  front_none z = on (nests t) (ap (λ (b : Bool). pick b (fields_after from) (pick (nests t) (fields_after 0) only_bytes)) (sym (ne_eqb t 0x90 z)) ∙ k)
-    where
-      on : (b : Bool) → pick b (fields_after 0) only_bytes ≡ fields_after m → m ≡ 0
-      on true e =
-          let x : 0 ≡ m = cc in
-          sym x
-      on false e = absurd (let x : ◌≡◌ {A = ℕ} 0 1 = cc in omega arith)
+  front_none = (held_front from t m k).of_other
 
   pub front_low : from ≤ 4 → m ≤ 4
   front_low l = on (eqb t 0x90) refl
@@ -407,13 +386,13 @@ module _ {from to : ℕ} {s o : Bytes} {fs : List Frame} {h base at e : ℕ} {ou
             omega (arith, fits open_is, length_bytes hd.tag f (renumbered to (read_out from (take (hd.end - st) (drop st c)))) (renumbered to (read_out from (drop hd.end c))), ap length written)
 
         pub on_open : {b' : ℕ} {out' : Bytes} {n' : ℕ} → Based h base n b' → to ≤ 4 → Wrote out (n + 3) (numbered to hd.tag u) out' n'
-            → Keeps from to s o (set fs h (record { head = n - b'; rest = (e - at - hd.end) % 65536; tag = hd.tag; spare = 0 })) (h + 1) b' (at + st) (at + hd.end) out' n' l (v || ltb 65535 u)
+            → Keeps from to s o (set fs h (record { head = n - b'; rest = (e - at - hd.end) % 65536; tag = hd.tag })) (h + 1) b' (at + st) (at + hd.end) out' n' l (v || ltb 65535 u)
         unfolding enters
         on_open {b'} {out'} {n'} eb four w =
             let c : Bytes = part s at e in
             let f : Bytes = take (st - 3) (drop 3 c) in
-            let fr : Frame = record { head = n - b'; rest = (e - at - hd.end) % 65536; tag = hd.tag; spare = 0 } in
-            let up : Frame = record { head = n; rest = (e - at - hd.end) % 65536; tag = hd.tag; spare = 0 } in
+            let fr : Frame = record { head = n - b'; rest = (e - at - hd.end) % 65536; tag = hd.tag } in
+            let up : Frame = record { head = n; rest = (e - at - hd.end) % 65536; tag = hd.tag } in
             let inner : Row = read_out from (take (hd.end - st) (drop st c)) in
             let rest : Row = read_out from (drop hd.end c) in
             let lo = starts in
@@ -421,7 +400,7 @@ module _ {from to : ℕ} {s o : Bytes} {fs : List Frame} {h base at e : ℕ} {ou
             let fits : h < length fs = omega (arith, p.size) in
             let found : b' + (n - b') ≡ n = omega (arith, base_low eb) in
             let same : lifted b' (get_or (set fs h fr) h none) ≡ up =
-            ap (lifted b') (get_or-set_same fs h fr none fits) ∙ ap (λ (j : ℕ). record { head = j; rest = (e - at - hd.end) % 65536; tag = hd.tag; spare = 0 }) found in
+            ap (lifted b') (get_or-set_same fs h fr none fits) ∙ ap (λ (j : ℕ). record { head = j; rest = (e - at - hd.end) % 65536; tag = hd.tag }) found in
             let below : (j : ℕ) → j < h → lifted b' (get_or (set fs h fr) j none) ≡ lifted base (get_or fs j none) = λ j z. ap₂ lifted (eb.kept (λ o. omega arith)) (T.set_below fs h fr none j z) in
             let again : (h ≡ 0 → ⊥) → at + hd.end + (get_or (set fs h fr) h none).rest ≡ e =
             λ z. omega (arith, ap (λ (j : Frame). j.rest) (get_or-set_same fs h fr none fits), room_low h at e p.going.room z, T.left_is p.going, lo.2, p.going.ordered) in
@@ -437,7 +416,7 @@ module _ {from to : ℕ} {s o : Bytes} {fs : List Frame} {h base at e : ℕ} {ou
               spans = λ z. rw (add-one h) (span_in (rests fs) (rests (set fs h fr)) h at e hd.end st base b' n (length (numbered to hd.tag u)) n' p.spans (λ j z. ap (λ (x : Frame). x.rest) (T.set_below fs h fr none j z)) again eb.kept eb.first lo.0 short (length_numbered to hd.tag u four) w.end_is);
             }
 
-pub on_close : {from to : ℕ} {s o : Bytes} {fs : List Frame} (h : ℕ) {base at e : ℕ} {out out' : Bytes} {n n' : ℕ} {l v : Bool} → Keeps from to s o fs h base at e out n l v → length (part s at e) ≡ 0 → (h ≡ 0 → ⊥)
+on_close : {from to : ℕ} {s o : Bytes} {fs : List Frame} (h : ℕ) {base at e : ℕ} {out out' : Bytes} {n n' : ℕ} {l v : Bool} → Keeps from to s o fs h base at e out n l v → length (part s at e) ≡ 0 → (h ≡ 0 → ⊥)
     → Wrote out (base + (get_or fs (h - 1) none).head) (head (get_or fs (h - 1) none).tag (n - (base + (get_or fs (h - 1) none).head) - 3)) out' n'
     → Keeps from to s o fs (h - 1) base at (until (h - 1) at (get_or fs (h - 1) none).rest (length s)) out' n (l || ltb 65535 (n - (base + (get_or fs (h - 1) none).head) - 3)) v
 unfolding leaves
@@ -451,3 +430,13 @@ on_close {s = s} {fs = fs} h {base} {at} {e} p z x w =
       heads = λ i u. p.heads i (omega arith);
       spans = λ u. omega (arith, p.spans x, outer_out (rests fs) h at (length s) x u, ap (outer (rests fs) h) same);
     }
+
+-- the same, where f is the frame on top of h' more
+pub on_pop : {from to : ℕ} {s o : Bytes} {fs : List Frame} {h base at e : ℕ} {out out' : Bytes} {n n' : ℕ} {l v : Bool} → Keeps from to s o fs h base at e out n l v → length (part s at e) ≡ 0 → {h' : ℕ} {f : Frame} → h ≡ h' + 1 → get_or fs h' none ≡ f
+    → Wrote out (base + f.head) (head f.tag (n - (base + f.head) - 3)) out' n'
+    → Keeps from to s o fs h' base at (until h' at f.rest (length s)) out' n (l || ltb 65535 (n - (base + f.head) - 3)) v
+on_pop {from} {to} {s} {o} {fs} {h} {base} {at} {e} {out} {out'} {n} {n'} {l} {v} p z {h'} {f} x q =
+    let m : h - 1 ≡ h' = omega arith in
+    subst (λ (j : Frame). Wrote out (base + j.head) (head j.tag (n - (base + j.head) - 3)) out' n' → Keeps from to s o fs h' base at (until h' at j.rest (length s)) out' n (l || ltb 65535 (n - (base + j.head) - 3)) v) q
+    (subst (λ (i : ℕ). Wrote out (base + (get_or fs i none).head) (head (get_or fs i none).tag (n - (base + (get_or fs i none).head) - 3)) out' n' → Keeps from to s o fs i base at (until i at (get_or fs i none).rest (length s)) out' n (l || ltb 65535 (n - (base + (get_or fs i none).head) - 3)) v) m
+    (on_close h p z (λ o. omega arith)))

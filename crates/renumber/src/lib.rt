@@ -5,28 +5,31 @@
 ghost use Rattle.std.specs.Prelude.{◌≡◌, ◌⊎◌, ◌+◌, ◌-◌, ◌<◌, ◌≤◌, ◌^◌, min, length};
 ghost use Rattle.field.specs.Row.{bytes, field_bytes};
 ghost use Rattle.field.specs.Put.{Wrote};
-ghost use Rattle.outs.specs.Held.{held, read_out};
+ghost use Rattle.outs.specs.Held.{read_out};
 ghost use Rattle.outs.specs.Renumber.{renumbered, Renumbers};
-ghost use Rattle.renumber.specs.Step.{Holding, numbered};
+ghost use Rattle.renumber.specs.Step.{numbered};
 
+use field::MAX_BODY;
 use field::reader::read_header;
 use field::writer::{put_bytes, put_field, put_four, put_head, put_two};
-use loops::{DEPTH, waits_until};
-use outs::order::is_nest;
+use loops::{DEPTH, Stack, waits_until};
+use outs::order::front_of;
 use page::number::number_in;
 
 // A body that waits for a field in it to end: where that field's head is to be written, counted from the head of the outermost field that is
-// open, with its tag, and how many bytes of the body come behind it. Eight bytes without padding, so that the stack is cleared at once: spare is
-// nothing else.
+// open, with its tag, and how many bytes of the body come behind it.
 #[derive(Clone, Copy)]
 pub struct Frame {
     pub head: u32,
     pub rest: u16,
     pub tag: u8,
-    pub spare: u8,
 }
 
-// How many bytes there are to write, whether some body of them is over 65,535 bytes, and whether some number is over 65,535.
+// The largest number that two bytes say.
+pub const LARGEST: usize = 65535;
+
+// How many bytes there are to write, whether some body of them is over 65,535 bytes, and whether some number is over 65,535. Flags and no Result,
+// since what is written and counted is promised whatever they say.
 #[derive(Clone, Copy)]
 pub struct Renumbered {
     pub bytes: usize,
@@ -34,45 +37,28 @@ pub struct Renumbered {
     pub wide: bool,
 }
 
-// How many bytes stand in a body before its fields, by its tag, or none where it holds bytes alone.
-fn front_of(tag: u8, from: usize) -> Option<usize>
-    ensures { Holding (held from tag) result }
-{
-    if tag == 0x90 {
-        return Some(from);
-    }
-    if is_nest(tag) {
-        return Some(0);
-    }
-    None
-}
-
 fn put_number(out: &mut [u8], at: usize, tag: u8, width: usize, number: usize) -> usize
     requires { (at + length (numbered width tag number) < 2 ^ 64) × ((width ≡ 2) ⊎ (width ≡ 4)) }
     ensures { Wrote out.old at (numbered width tag number) out.new result }
 {
-    if tag != 0x90 {
-        return at;
+    match (tag, width) {
+        (0x90, 2) => put_two(out, at, number),
+        (0x90, _) => put_four(out, at, number),
+        _ => at,
     }
-    if width == 2 {
-        return put_two(out, at, number);
-    }
-    put_four(out, at, number)
 }
 
-// Both calls are from 2 to 4 and from 4 to 2. The last premise says that there are not too many bytes to count.
+// Both calls are from 2 to 4 and from 4 to 2. Widths are numbers, and no Kinds, since any up to 4 may be read. The last premise says that there
+// are not too many bytes to count.
 pub fn renumber(s: &[u8], from: usize, to: usize, out: &mut [u8]) -> Renumbered
     requires { (from ≤ 4) × ((to ≡ 2) ⊎ (to ≡ 4)) × (length (bytes (renumbered to (read_out from s.now))) < 2 ^ 64) }
     ensures { Renumbers to (read_out from s.now) out.old out.new result.bytes result.long result.wide }
 {
-    let none = Frame {
+    let mut stack: Stack<Frame, DEPTH> = Stack::new(Frame {
         head: 0,
         rest: 0,
         tag: 0,
-        spare: 0,
-    };
-    let mut stack = [none; DEPTH];
-    let mut height: usize = 0;
+    });
     let mut base: usize = 0;
     let mut at: usize = 0;
     let mut end = s.len();
@@ -81,27 +67,26 @@ pub fn renumber(s: &[u8], from: usize, to: usize, out: &mut [u8]) -> Renumbered
     let mut wide = false;
     loop {
         let b = &s[at..end];
+        // By its header, since the loop goes by places.
         match read_header(b) {
+            None if !b.is_empty() => {
+                n = put_bytes(out, n, b);
+                at = end;
+            }
             None => {
-                if 0 < b.len() {
-                    n = put_bytes(out, n, b);
-                    at = end;
-                } else {
-                    if height == 0 {
-                        return Renumbered {
-                            bytes: n,
-                            long,
-                            wide,
-                        };
-                    }
-                    height -= 1;
-                    let f = stack[height];
-                    let head = base + f.head as usize;
-                    let len = n - head - 3;
-                    long |= 65535 < len;
-                    put_head(out, head, f.tag, len);
-                    end = waits_until(height, at, f.rest, s.len());
-                }
+                let Some(f) = stack.pop() else {
+                    return Renumbered {
+                        bytes: n,
+                        long,
+                        wide,
+                    };
+                };
+                // From makes no usize of a u32.
+                let head = base + f.head as usize;
+                let len = n - head - 3;
+                long |= MAX_BODY < len;
+                put_head(out, head, f.tag, len);
+                end = waits_until(stack.height, at, f.rest, s.len());
             }
             Some(h) => match front_of(h.tag, from) {
                 None => {
@@ -110,18 +95,20 @@ pub fn renumber(s: &[u8], from: usize, to: usize, out: &mut [u8]) -> Renumbered
                 }
                 Some(front) => {
                     let start = 3 + front.min(h.end - 3);
+                    // Of four bytes at the most; From makes no usize of a u64.
                     let number = number_in(&b[3..start]) as usize;
-                    base = if height == 0 { n } else { base };
-                    // The outermost row alone may be longer, and of it the end is known: waits_until.
-                    stack[height] = Frame {
+                    if stack.height == 0 {
+                        base = n;
+                    }
+                    // Both are cut: of an outermost field fewer than 2^32 bytes are written, and the outermost row alone may be longer than 65,535,
+                    // and of it the end is known (waits_until). try_from has an error, which never comes.
+                    stack.push(Frame {
                         head: (n - base) as u32,
                         rest: ((end - at - h.end) % 65536) as u16,
                         tag: h.tag,
-                        spare: 0,
-                    };
-                    height += 1;
+                    });
                     n = put_number(out, n + 3, h.tag, to, number);
-                    wide |= 65535 < number;
+                    wide |= LARGEST < number;
                     end = at + h.end;
                     at += start;
                 }

@@ -9,7 +9,7 @@ use call::{Difference, replay};
 use input::read_full;
 use input::room::room;
 use std::io;
-use words::{cut, word};
+use words::split_line;
 
 // Room for all lines.
 const TEXT: usize = 1600000;
@@ -18,13 +18,13 @@ const TEXT: usize = 1600000;
 const ROOM: usize = 131072;
 
 // One line for a difference: the line's number and name, and what differs.
-fn print_difference(rt: &impl Print, number: usize, line: &[u8], d: Difference) -> io::Result<()> {
+fn print_difference(rt: &impl Print, number: usize, name: &[u8], d: Difference) -> io::Result<()> {
     print!(rt; "line {number} ")?;
-    rt.write_all(word(line, 11))?;
+    rt.write_all(name)?;
     println!(rt; ": {d}")
 }
 
-fn replay_lines(rt: &impl Print, text: &[u8]) -> io::Result<()> {
+fn replay_lines(rt: HostRuntime, text: &[u8]) -> io::Result<()> {
     let mut input = room::<ROOM>();
     let mut options = room::<ROOM>();
     let mut scratch = room::<ROOM>();
@@ -32,12 +32,11 @@ fn replay_lines(rt: &impl Print, text: &[u8]) -> io::Result<()> {
     let mut page = room::<ROOM>();
     let mut lines: usize = 0;
     let mut differences: usize = 0;
-    let mut t = text;
-    while !t.is_empty() {
-        let (line, rest) = cut(t);
+    for ended in text.split_inclusive(|b| *b == b'\n') {
+        let stored = split_line(ended.strip_suffix(b"\n").unwrap_or(ended));
         lines += 1;
         if let Err(d) = replay(
-            line,
+            &stored,
             &mut input,
             &mut options,
             &mut scratch,
@@ -45,9 +44,8 @@ fn replay_lines(rt: &impl Print, text: &[u8]) -> io::Result<()> {
             &mut page,
         ) {
             differences += 1;
-            print_difference(rt, lines, line, d)?;
+            print_difference(&rt, lines, stored.name, d)?;
         }
-        t = rest;
     }
     println!(rt; "{lines} lines, {differences} differences")
 }
@@ -58,5 +56,5 @@ fn main(rt: HostRuntime) -> io::Result<()> {
     if n == text.len() {
         return println!(rt; "too many lines");
     }
-    replay_lines(&rt, &text[..n])
+    replay_lines(rt, &text[..n])
 }

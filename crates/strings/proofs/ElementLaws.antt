@@ -1,5 +1,5 @@
 -- Elements and children as they are written: a name byte by byte, the loop over children, and an element piece by piece.
--- Main statements: `byte_on`, `last_child`, `Left`, `text_on` and the like, `left_end`, `gap_end`, `void_end`, `close_end`.
+-- Main statements: `last_child`, `Left`, `text_on` and the like, `left_end`, `gap_end`, `void_end`, `close_end`.
 -- Assumes nothing.
 use mathlib.Core.Path.{◌≡◌, sym, ap, ◌∙◌, subst}
 use Prim.Native.Nat.{ℕ, ◌+◌, ◌*◌, ◌≤◌, ◌<◌}
@@ -28,12 +28,6 @@ use Rattle.strings.proofs.CarveLaws.{carving, lows}
 use Rattle.strings.proofs.MergeLaws.{to_string_direct}
 use Rattle.strings.proofs.ShapeLaws.{parts_contained}
 use Rattle.strings.proofs.TreeLaws.{kids, attrs_at, parts_at, parts_60, parts_52, parts_30, parts_31, parts_none, parts_other, no_child_left, inner, void, not_void, element_gap, element_open}
-
--- ---- a name, byte by byte: the first i bytes of s are written
-
-module _ {o o₁ : Bytes} {n a : ℕ} (s : Bytes) (i : ℕ) (h : i < length s) (w : Wrote o n (take i s) o₁ a) where
-  pub byte_on : {o₂ : Bytes} {b : ℕ} → Wrote o₁ a (get_or s i 0 ∷ []) o₂ b → Wrote o n (take (i + 1) s) o₂ b
-  byte_on v = wrote_is (rw (add-one, take-suc s i 0)) (wrote_then w v)
 
 -- ---- whether a child follows
 

@@ -1,11 +1,10 @@
--- What a container gives, by the shape that the code matches on and the body of its expression; an attribute by its value's tag.
+-- What a container gives, by the shape that the code matches on and the body of its expression; an attribute by its value.
 -- Main statements: `container_shape`; `joins_shape`, `joined_shape`, `parts_contained`; of an attribute `listed`, `absent_boolean`,
 -- `in_container`, `string_gap`, `string_plain`, `no_text`. Assumes nothing.
-use Rattle.std.specs.Prelude as Std
-use Rattle.std.specs.Prelude.{Some, None}
+use Rattle.std.specs.Prelude.{Some}
 use mathlib.Core.Path.{◌≡◌, refl, sym, ap, ◌∙◌, subst}
 use mathlib.Core.Logic.{◌⊎◌, inl, inr}
-use Prim.Native.Nat.{ℕ, ◌+◌, ◌*◌, ◌≤◌}
+use Prim.Native.Nat.{◌+◌, ◌*◌, ◌≤◌}
 use native.Mathlib.Omega.{arith}
 use mathlib.Core.Bool.{Bool, true, false, ◌||◌}
 use mathlib.Core.List.{List, [], ◌∷◌}
@@ -13,14 +12,14 @@ use mathlib.Core.Option.{Option, none, some}
 use lib.ListN.{length}
 use Rattle.field.specs.Bytes.{Bytes, ascii, pick, same, among}
 use Rattle.field.specs.Row.{read}
-use Rattle.field.specs.Front.{body_of, behind_of}
+use Rattle.field.specs.Front.{body_of}
 use Rattle.text.specs.Escape.{escape_html}
 use Rattle.text.proofs.EscapeLaws.{length_escape_html}
 use Rattle.names.specs.Names.{get_attr_name, is_boolean_attr}
 use Rattle.page.proofs.NumberLaws.{render_length}
 use Rattle.page.specs.Page as P
 use Rattle.page.specs.Page.{Options}
-use Rattle.page.specs.Tree.{Contained, nothing_contained, contained, contained_value, contained_in, attr_name_in, value_in, value_behind}
+use Rattle.page.specs.Tree.{Contained, nothing_contained, contained, contained_value, contained_in, attr_name_in, value_in}
 use Rattle.spec.specs.Pass as M
 use Rattle.spec.specs.Pass.{Part, chars, gap, pure, Mid}
 use Rattle.spec.specs.Merge.{joined_text}
@@ -28,13 +27,11 @@ use Rattle.spec.specs.Attributes as A
 use Rattle.spec.specs.Attributes.{attribute, serialize_attr, listed_attr, dynamic_attr, container_attr, plain_attr, attr_parts}
 use Rattle.spec.specs.Children.{maybe_wrap}
 use Rattle.spec.specs.Transform.{shape_of, value, expr}
-use Rattle.decisions.specs.At.{shape_of_contained, number_at, number_text, value_of}
+use Rattle.decisions.specs.At.{shape_of_contained, number_at, number_text, TagHeld, Holds}
 use Rattle.decisions.specs.declared.attribute.Value.{Value}
-use Rattle.decisions.specs.declared.attribute.Value.TheVariants as Held
 use Rattle.decisions.specs.declared.expr.Shape.{Shape}
 use Rattle.decisions.specs.declared.expr.Shape.TheVariants as Form
-use Rattle.decisions.proofs.Series.{value_in_at}
-use Rattle.decisions.proofs.Laws.{ValueAt, is_string, is_container, is_element, is_fragment, value_view, string_held, container_held, absent_held, ContainedAt, is_empty, is_text, is_number, is_boolean, is_null, is_literal, is_minus, is_other, contained_view}
+use Rattle.decisions.proofs.Laws.{ContainedAt, is_empty, is_text, is_number, is_boolean, is_null, is_literal, is_minus, is_other, contained_view}
 use Rattle.strings.specs.Carve.{Carved, put_on, close, carve, name_at, space_gap, attr_by, option_bytes, is_some, joined_by, is_joined, child_parts, contained_parts, put_contained}
 use Rattle.strings.proofs.CarveLaws.{spaced, put_on_nil}
 use Rattle.strings.proofs.FrontSizes.{body_le}
@@ -190,16 +187,9 @@ parts_contained o (contained e) w = on (joined_text (shape_of e))
 
 -- ---- an attribute by its value
 
--- a tag as the value leaves nothing
-tag_carve : (o : Options) (n : Bytes) (w : Carved) {s : Bytes} {x : P.Value} {g : Value} → ValueAt s x (Some g) → (g ≡ Held.Element) ⊎ (g ≡ Held.Fragment) →
-    carve (plain_attr n (value o x)) w ≡ w
-unfolding plain_attr value carve
-tag_carve o n w is_string (inl e) = absurd (let z : ◌≡◌ {A = ℕ} 0 1 = cc e in omega arith)
-tag_carve o n w is_string (inr e) = absurd (let z : ◌≡◌ {A = ℕ} 0 1 = cc e in omega arith)
-tag_carve o n w is_container (inl e) = absurd (let z : ◌≡◌ {A = ℕ} 0 1 = cc e in omega arith)
-tag_carve o n w is_container (inr e) = absurd (let z : ◌≡◌ {A = ℕ} 0 1 = cc e in omega arith)
-tag_carve o n w is_element k = refl
-tag_carve o n w is_fragment k = refl
+-- what is held, by the arm of the code
+pub held_as : (a : Bytes) {g h : Value} → Holds a (Some g) → g ≡ h → Holds a (Some h)
+held_as a k e = subst (λ (x : Value). Holds a (Some x)) e k
 
 module _ (o : Options) (a : Bytes) (w : Carved) {l : Bool} (le : l ≡ among (get_attr_name (attr_name_in (read a)) false) o.skip_prop_serialize) where
   abbrev total : Carved
@@ -222,16 +212,15 @@ module _ (o : Options) (a : Bytes) (w : Carved) {l : Bool} (le : l ≡ among (ge
   pub listed : l ≡ true → total ≡ spaced w
   listed h = by_list true h ∙ listed_carve (get_attr_name (attr_name_in (read a)) false) (value o (value_in (read a)))
 
-  -- what stands there is h, and v is its body
-  module _ (ln : l ≡ false) {h : Std.Option Value} (he : h ≡ value_of (value_in (read a))) where
+  module _ (ln : l ≡ false) where
     plain : {x : P.Value} → value_in (read a) ≡ x → total ≡ carve (plain_attr (name_at a) (value o x)) w
     plain e = by_list false ln ∙ ap (λ (x : P.Value). carve (plain_attr (name_at a) (value o x)) w) e
 
-    module _ (e : h ≡ None) {b : Bool} (t : b ≡ is_boolean_attr (name_at a)) where
+    module _ (e : value_in (read a) ≡ P.absent) {b : Bool} (t : b ≡ is_boolean_attr (name_at a)) where
       absent_by : (x : Bool) → b ≡ x → total ≡ carve (pick x (chars (32 ∷ escape_html (name_at a)) ∷ []) space_gap) w
       unfolding plain_attr value carve
       absent_by x k =
-          plain (absent_held a (sym he ∙ e)) ∙ else_carve (is_boolean_attr (name_at a)) _ _ space_gap w refl
+          plain e ∙ else_carve (is_boolean_attr (name_at a)) _ _ space_gap w refl
           ∙ ap (λ (x : Bool). carve (pick x (chars (32 ∷ escape_html (name_at a)) ∷ []) space_gap) w) (sym t ∙ k)
 
       pub absent_boolean : b ≡ true → total ≡ carve (chars (32 ∷ name_at a) ∷ []) w
@@ -241,29 +230,22 @@ module _ (o : Options) (a : Bytes) (w : Carved) {l : Bool} (le : l ≡ among (ge
       unfolding carve
       absent_other k = absent_by false k
 
-    module _ {g : Value} (e : h ≡ Some g) {v : Bytes} (ve : v ≡ body_of (behind_of a)) where
-      field_is : {k : Value} → g ≡ k → value_of (value_in (read a)) ≡ Some k
-      field_is q = sym he ∙ e ∙ ap Some q
+    pub in_container : (c : Bytes) → value_in (read a) ≡ contained_value (contained_in (read c)) → total ≡ carve (attr_by (name_at a) (shape_of_contained (contained_in (read c))) c) w
+    in_container c e = plain e ∙ container_shape o (name_at a) c w
 
-      pub in_container : g ≡ Held.Container → total ≡ carve (attr_by (name_at a) (shape_of_contained (contained_in (read v))) v) w
-      in_container q =
-          plain (container_held a (field_is q)) ∙ ap (λ (x : Bytes). carve (plain_attr (name_at a) (value o (contained_value (contained_in (read x))))) w) (sym ve)
-          ∙ container_shape o (name_at a) v w
+    pub no_text : {t : Bytes} → TagHeld (value_in (read a)) t → total ≡ w
+    unfolding plain_attr value carve
+    no_text h = plain h.value_is
 
-      pub no_text : (g ≡ Held.Element) ⊎ (g ≡ Held.Fragment) → total ≡ w
-      no_text k =
-          plain (value_in_at a)
-          ∙ tag_carve o (name_at a) w (subst (ValueAt (behind_of a) (value_behind (read (behind_of a)))) (ap value_of (sym (value_in_at a)) ∙ sym he ∙ e) (value_view (behind_of a))) k
+    module _ {v : Bytes} (e : value_in (read a) ≡ P.string_value v) {k : Bool} (ke : k ≡ (same (name_at a) (ascii "key") || same (name_at a) (ascii "ref"))) where
+      string_by : (x : Bool) → k ≡ x → total ≡ carve (pick x space_gap (chars (serialize_attr (name_at a) v) ∷ [])) w
+      unfolding plain_attr value carve
+      string_by x p =
+          plain e ∙ then_carve (same (name_at a) (ascii "key") || same (name_at a) (ascii "ref")) _ _ space_gap w refl ∙ rw (← ke, p)
 
-      module _ (gs : g ≡ Held.String) {k : Bool} (ke : k ≡ (same (name_at a) (ascii "key") || same (name_at a) (ascii "ref"))) where
-        string_by : (x : Bool) → k ≡ x → total ≡ carve (pick x space_gap (chars (serialize_attr (name_at a) v) ∷ [])) w
-        unfolding plain_attr value carve
-        string_by x p =
-            plain (string_held a (field_is gs)) ∙ then_carve (same (name_at a) (ascii "key") || same (name_at a) (ascii "ref")) _ _ space_gap w refl ∙ rw (← ke, p, ve)
+      pub string_gap : k ≡ true → total ≡ spaced w
+      unfolding carve
+      string_gap p = string_by true p
 
-        pub string_gap : k ≡ true → total ≡ spaced w
-        unfolding carve
-        string_gap p = string_by true p
-
-        pub string_plain : k ≡ false → total ≡ carve (chars (serialize_attr (name_at a) v) ∷ []) w
-        string_plain p = string_by false p
+      pub string_plain : k ≡ false → total ≡ carve (chars (serialize_attr (name_at a) v) ∷ []) w
+      string_plain p = string_by false p

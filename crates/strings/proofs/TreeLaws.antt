@@ -1,5 +1,5 @@
 -- The parts of a template at bytes, by the tag of the field in front: names, attributes, children, and an element by what the code asks of it.
--- Main statements: `attrs_50`, `kids_60`, `parts_60`, `element_gap`, `element_open`. Assumes nothing.
+-- Main statements: `attrs_step`, `kids_60`, `parts_60`, `element_gap`, `element_open`. Assumes nothing.
 use mathlib.Core.Path.{◌≡◌, refl, sym, ap, ◌∙◌}
 use Prim.Native.Nat.{ℕ}
 use mathlib.Core.Bool.{Bool, true, false, ◌&&◌}
@@ -27,8 +27,8 @@ use Rattle.spec.specs.Attributes.{attr_parts, attrs_parts, tag_flags}
 use Rattle.spec.specs.Children.{children_to_string, open_close, element_to_string_vec, to_call_expr}
 use Rattle.spec.specs.Transform.{value, attributes, children, expr, shape_of, element_of, fragment_of}
 use Rattle.decisions.specs.Index.{names_of}
-use Rattle.decisions.specs.At.{opts, element_name, behind_name, identifier_bytes, children_at, attributes_at, element_at, forbids, serializable_by, serializable, is_none, FirstChild}
-use Rattle.decisions.proofs.Series.{tested, behind_name_at, attributes_50, attributes_53, attributes_other, children_60, children_52, children_30, children_31, children_61, children_other, children_none}
+use Rattle.decisions.specs.At.{opts, element_name, behind_name, identifier_bytes, children_at, attributes_at, element_at, forbids, serializable_by, serializable, is_none, FirstChild, written, IsAttribute, NoAttribute}
+use Rattle.decisions.proofs.Series.{tested, behind_name_at, children_60, children_52, children_30, children_31, children_61, children_other, children_none}
 use Rattle.decisions.proofs.Laws.{child_element, child_fragment, serializable_is}
 use Rattle.strings.specs.Carve.{Carved, close, carve, contained_parts, flags_at}
 use Rattle.strings.proofs.TagLaws.{flags_same}
@@ -76,10 +76,6 @@ module _ (skip props : Bytes) where
 
   -- b is the body of the field in front of s, and r what lies behind it
   module _ (s : Bytes) (t : ℕ) (e : t ≡ tag_of_front s) {b r : Bytes} (p : b ≡ body_of s) (q : r ≡ behind_of s) where
-    pub attrs_50 : t ≡ 0x50 → attrs_at s ≡ attr_at b ++ attrs_at r
-    unfolding attributes attrs_parts
-    attrs_50 k = ap (λ x. attrs_parts (opts skip props) (attributes (opts skip props) x)) (attributes_50 s t e k) ∙ rw (p, q)
-
     pub kids_60 : t ≡ 0x60 → kids s ≡ M.text b ∷ kids r
     unfolding children
     kids_60 k = ap (children (opts skip props)) (children_60 s t e k) ∙ rw (p, q)
@@ -99,10 +95,6 @@ module _ (skip props : Bytes) where
         ∙ ap (λ (x : Child). x ∷ kids (behind_of s)) (child_fragment skip props (body_of s)) ∙ rw (p, q)
 
   module _ (s : Bytes) (t : ℕ) (e : t ≡ tag_of_front s) {r : Bytes} (q : r ≡ behind_of s) where
-    pub attrs_53 : t ≡ 0x53 → attrs_at s ≡ attrs_at r
-    unfolding attributes attrs_parts attr_parts
-    attrs_53 k = ap (λ x. attrs_parts (opts skip props) (attributes (opts skip props) x)) (attributes_53 s t e k) ∙ rw q
-
     -- a spread child, or no child, which F does not look at
     pub kids_other : {C : Type 0} (F : List Child → C) → ((m : Mid) (cs : List Child) → F (M.spread m ∷ cs) ≡ F cs) →
         (t ≡ 256 → ⊥) → (t ≡ 0x60 → ⊥) → (t ≡ 0x52 → ⊥) → (t ≡ 0x30 → ⊥) → (t ≡ 0x31 → ⊥) → F (kids s) ≡ F (kids r)
@@ -111,9 +103,22 @@ module _ (skip props : Bytes) where
         tested t 0x61 (λ k. ap (λ x. F (children (opts skip props) x)) (children_61 s t e k) ∙ f _ _ ∙ rw q)
         λ k. ap (λ x. F (children (opts skip props) x)) (children_other s t e h a b c d k) ∙ rw q
 
-  pub attrs_other : (s : Bytes) (t : ℕ) → t ≡ tag_of_front s → (t ≡ 0x50 → ⊥) → (t ≡ 0x53 → ⊥) → attrs_at s ≡ []
+  -- the same by the attributes that are written
+  attrs_written : (as' : P.Attributes) → attrs_parts (opts skip props) (attributes (opts skip props) (written as')) ≡ attrs_parts (opts skip props) (attributes (opts skip props) as')
+  unfolding attributes attrs_parts attr_parts written
+  attrs_written P.no_attributes = refl
+  attrs_written (P.attribute n v as') = ap (λ ps. attr_parts (opts skip props) (A.attribute n (value (opts skip props) v)) ++ ps) (attrs_written as')
+  attrs_written (P.spread_attribute x as') = attrs_written as'
+
+  pub attrs_step : {s a r : Bytes} → IsAttribute s a r → attrs_at s ≡ attr_at a ++ attrs_at r
   unfolding attributes attrs_parts
-  attrs_other s t e a b = ap (λ x. attrs_parts (opts skip props) (attributes (opts skip props) x)) (attributes_other s t e a b)
+  attrs_step {s} {a} {r} f =
+      sym (attrs_written (attributes_in (read s))) ∙ ap (λ x. attrs_parts (opts skip props) (attributes (opts skip props) x)) f.written_is
+      ∙ ap (λ ps. attr_at a ++ ps) (attrs_written (attributes_in (read r)))
+
+  pub attrs_gone : {s r : Bytes} → NoAttribute s r → attrs_at s ≡ []
+  unfolding attributes attrs_parts
+  attrs_gone {s} f = sym (attrs_written (attributes_in (read s))) ∙ ap (λ x. attrs_parts (opts skip props) (attributes (opts skip props) x)) f.none_written
 
   pub kids_none : (s : Bytes) → Ended (read s) → kids s ≡ []
   unfolding children

@@ -8,32 +8,23 @@ ghost use Rattle.page.specs.Tree.{attr_name_in, value_in, attributes_in, contain
 ghost use Rattle.spec.specs.Pass.{chars};
 ghost use Rattle.spec.specs.Attributes.{attribute, serialize_attr, attr_parts, attrs_parts};
 ghost use Rattle.spec.specs.Transform.{value, attributes};
-ghost use Rattle.decisions.specs.At.{opts, shape_of_contained};
+ghost use Rattle.decisions.specs.At.{opts, shape_of_contained, under};
 ghost use Rattle.strings.specs.Carve.{at, carve, name_at, text, attr_by, Low};
 
 use crate::writer::{Open, space_and_cut};
 use decisions::attribute::{
-    AttrName, Value, attr_name_at, is_boolean, is_key, is_listed, is_ref, value_at,
+    AttrName, Attributes, Value, attr_name_at, is_boolean, is_key, is_listed, is_ref, put_name,
+    value_at,
 };
 use decisions::expr::{Shape, put_number_at, shape_at};
 use decisions::options::Options;
-use field::reader::{Fields, behind, body};
+use field::reader::body;
 use field::writer::{put_byte, put_bytes};
-use names::{normalize_dom_attr_name, normalize_namespaced, put_attr_name, put_namespaced};
+use names::{put_attr_name, put_namespaced};
 use text::escape::put_escaped;
 
-// The normalised name.
-pub fn put_name(out: &mut [u8], at: usize, a: &[u8]) -> usize
-    requires { at + length (name_at a.now) < 2 ^ 63 }
-    ensures { Wrote out.old at (name_at a.now) out.new result }
-{
-    match attr_name_at(a) {
-        AttrName::Ident(n) => normalize_dom_attr_name(out, at, n),
-        AttrName::Namespaced(ns, n) => normalize_namespaced(out, at, ns, n),
-    }
-}
-
-// The normalised name, escaped, as serialize_attr puts it. Each of the two calls a pair of writers of its own, and they share no line but the match.
+// The normalised name, escaped, as serialize_attr puts it. The match is that of `put_name`, over writers that escape as they go: one function for both
+// would take the two writers of each and keep the match alone.
 fn put_escaped_name(out: &mut [u8], at: usize, a: &[u8]) -> usize
     requires { at + length (escape_html (name_at a.now)) < 2 ^ 63 }
     ensures { Wrote out.old at (escape_html (name_at a.now)) out.new result }
@@ -83,7 +74,7 @@ fn put_serialized(out: &mut [u8], st: Open, a: &[u8], value: Text<'_>) -> Open
     st.ended(f)
 }
 
-// `disabled`, or `disabled={true}`: no escape changes a boolean name.
+// `disabled`, or `disabled={true}`: no escape changes a boolean name. Like `put_open` it is a byte and a name, and each name has its writer.
 #[inline(always)]
 #[tactic(auto, unfolding(crate::specs::Carve::carve))]
 fn put_boolean_name(out: &mut [u8], st: Open, a: &[u8]) -> Open
@@ -91,7 +82,7 @@ fn put_boolean_name(out: &mut [u8], st: Open, a: &[u8]) -> Open
     ensures { at out.new result ≡ carve (chars (32 ∷ name_at a.now) ∷ []) (at out.old st) }
 {
     let p = put_byte(out, st.end(), b' ');
-    let q = put_name(out, p, a);
+    let q = put_name(out, p, a, true);
     st.ended(q)
 }
 
@@ -106,16 +97,9 @@ fn container_strings(a: &[u8], c: &[u8], out: &mut [u8], st: Open) -> Open
         Shape::String => put_serialized(out, st, a, Text::String(body(c))),
         Shape::Number => put_serialized(out, st, a, Text::Number(c)),
         Shape::Minus => put_serialized(out, st, a, Text::Minus(c)),
-        Shape::Boolean(b) => {
-            if !is_boolean(a) {
-                space_and_cut(out, st)
-            } else if b {
-                put_boolean_name(out, st, a)
-            } else {
-                st
-            }
-        }
-        Shape::Null | Shape::Literal | Shape::Other => space_and_cut(out, st),
+        Shape::Boolean(true) if is_boolean(a) => put_boolean_name(out, st, a),
+        Shape::Boolean(false) if is_boolean(a) => st,
+        Shape::Boolean(_) | Shape::Null | Shape::Literal | Shape::Other => space_and_cut(out, st),
     }
 }
 
@@ -126,9 +110,10 @@ fn is_key_or_ref(a: &[u8]) -> bool
     is_key(a, true) || is_ref(a)
 }
 
+// 01 has one without a value take its own way, by let .. else.
 fn attribute_strings(options: &Options<'_>, a: &[u8], out: &mut [u8], st: Open) -> Open
-    requires { Low (carve (attr_parts (opts options.now.skip.now options.now.props.now) (attribute (attr_name_in (read a.now)) (value (opts options.now.skip.now options.now.props.now) (value_in (read a.now))))) (at out.old st)) }
-    ensures { at out.new result ≡ carve (attr_parts (opts options.now.skip.now options.now.props.now) (attribute (attr_name_in (read a.now)) (value (opts options.now.skip.now options.now.props.now) (value_in (read a.now))))) (at out.old st) }
+    requires { Low (carve (attr_parts (under options.now opts) (attribute (attr_name_in (read a.now)) (value (under options.now opts) (value_in (read a.now))))) (at out.old st)) }
+    ensures { at out.new result ≡ carve (attr_parts (under options.now opts) (attribute (attr_name_in (read a.now)) (value (under options.now opts) (value_in (read a.now))))) (at out.old st) }
 {
     if is_listed(options.props, a) {
         return space_and_cut(out, st);
@@ -140,25 +125,21 @@ fn attribute_strings(options: &Options<'_>, a: &[u8], out: &mut [u8], st: Open) 
         return space_and_cut(out, st);
     };
     match value {
-        Value::String if is_key_or_ref(a) => space_and_cut(out, st),
-        Value::String => put_serialized(out, st, a, Text::String(body(behind(a)))),
-        Value::Container => container_strings(a, body(behind(a)), out, st),
-        Value::Element | Value::Fragment => st,
+        Value::String(_) if is_key_or_ref(a) => space_and_cut(out, st),
+        Value::String(s) => put_serialized(out, st, a, Text::String(s)),
+        Value::Container(c) => container_strings(a, c, out, st),
+        Value::Tag(_) => st,
     }
 }
 
 // Attributes stand before children: the first field that is none ends them.
 pub fn attributes_strings(options: &Options<'_>, s: &[u8], out: &mut [u8], st: Open) -> Open
-    requires { Low (carve (attrs_parts (opts options.now.skip.now options.now.props.now) (attributes (opts options.now.skip.now options.now.props.now) (attributes_in (read s.now)))) (at out.old st)) }
-    ensures { at out.new result ≡ carve (attrs_parts (opts options.now.skip.now options.now.props.now) (attributes (opts options.now.skip.now options.now.props.now) (attributes_in (read s.now)))) (at out.old st) }
+    requires { Low (carve (attrs_parts (under options.now opts) (attributes (under options.now opts) (attributes_in (read s.now)))) (at out.old st)) }
+    ensures { at out.new result ≡ carve (attrs_parts (under options.now opts) (attributes (under options.now opts) (attributes_in (read s.now)))) (at out.old st) }
 {
     let mut cur = st;
-    for field in Fields(s) {
-        match field.tag {
-            0x50 => cur = attribute_strings(options, field.body, out, cur),
-            0x53 => {}
-            _ => break,
-        }
+    for a in Attributes(s) {
+        cur = attribute_strings(options, a, out, cur);
     }
     cur
 }

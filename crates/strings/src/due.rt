@@ -2,7 +2,10 @@
 ghost use Rattle.std.specs.Prelude.{◌≡◌, ltb};
 ghost use Rattle.strings.specs.Due.{graver, long_due};
 
-// Of two reasons the later one here is answered.
+use field::MAX_BODY;
+
+// Of two reasons the later one here is answered. Nothing is the least of them: as an Option each reason that is given would stand in a Some, and
+// the order would be the same.
 #[derive(Clone, Copy, PartialEq, Eq, PartialOrd, Ord)]
 pub enum Due {
     Nothing,
@@ -28,8 +31,9 @@ pub fn graver(a: Due, b: Due) -> Due
 pub fn with_body(due: Due, len: usize) -> Due
     ensures { result ≡ graver due (long_due (ltb 65535 len)) }
 {
-    if 65535 < len {
-        return graver(due, Due::Long);
+    if MAX_BODY < len {
+        graver(due, Due::Long)
+    } else {
+        due
     }
-    due
 }

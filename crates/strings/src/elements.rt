@@ -9,7 +9,7 @@ ghost use Rattle.names.specs.Table.{void_kind};
 ghost use Rattle.page.specs.Tree.{children_in, contained_in};
 ghost use Rattle.spec.specs.Pass.{chars};
 ghost use Rattle.spec.specs.Children.{children_to_string};
-ghost use Rattle.decisions.specs.At.{children_at, element_at, serializable, is_none};
+ghost use Rattle.decisions.specs.At.{children_at, element_at, serializable, is_none, under};
 ghost use Rattle.strings.specs.Due.{graver, grave};
 ghost use Rattle.strings.specs.Carve.{at, carve, flags_at, opening, is_joined, joined_by, put_contained, Low};
 
@@ -41,13 +41,11 @@ fn put_open(out: &mut [u8], st: Open, n: &[u8]) -> Open
 fn tag_due(due: Due, kind: Option<Void>, rest: &[u8]) -> Due
     ensures { (n : Bytes) → kind ≡ void_kind n → result ≡ graver due (grave (flags_at n rest.now)) }
 {
-    if repeats(rest) {
-        return graver(due, Due::Repeated);
+    match kind {
+        _ if repeats(rest) => graver(due, Due::Repeated),
+        Some(Void::InSmallLetters) => graver(due, Due::Mixed),
+        Some(Void::AsWritten) | None => due,
     }
-    if let Some(Void::InSmallLetters) = kind {
-        return graver(due, Due::Mixed);
-    }
-    due
 }
 
 fn open_tag(out: &mut [u8], st: Open, n: &[u8], kind: Option<Void>, rest: &[u8]) -> Open
@@ -61,21 +59,6 @@ fn open_tag(out: &mut [u8], st: Open, n: &[u8], kind: Option<Void>, rest: &[u8])
     }
 }
 
-// A name, which mostly has a few bytes: byte by byte that costs less.
-fn put_short(out: &mut [u8], at: usize, s: &[u8]) -> usize
-    requires { at + length s.now < 2 ^ 63 }
-    ensures { Wrote out.old at s.now out.new result }
-{
-    if 8 <= s.len() {
-        return put_bytes(out, at, s);
-    }
-    let mut end = at;
-    for b in s {
-        end = put_byte(out, end, *b);
-    }
-    end
-}
-
 // `</name>`
 #[tactic(auto, unfolding(crate::specs::Carve::carve))]
 fn put_close(out: &mut [u8], st: Open, n: &[u8]) -> Open
@@ -84,7 +67,7 @@ fn put_close(out: &mut [u8], st: Open, n: &[u8]) -> Open
 {
     let p = put_byte(out, st.end(), b'<');
     let q = put_byte(out, p, b'/');
-    let r = put_short(out, q, n);
+    let r = put_bytes(out, q, n);
     let e = put_byte(out, r, b'>');
     st.ended(e)
 }
@@ -121,11 +104,12 @@ fn container_child(c: &[u8], out: &mut [u8], st: Open) -> Open
     requires { Low (put_contained (contained_in (read c.now)) (at out.old st)) }
     ensures { at out.new result ≡ put_contained (contained_in (read c.now)) (at out.old st) }
 {
-    if !joins(c) {
-        return cut(out, st);
+    if joins(c) {
+        let end = put_joined(out, st.end(), c);
+        st.ended(end)
+    } else {
+        cut(out, st)
     }
-    let end = put_joined(out, st.end(), c);
-    st.ended(end)
 }
 
 // Whether no child follows, where that matters to a text's last line.
@@ -138,20 +122,22 @@ fn is_last(parent: bool, s: &[u8]) -> bool
 // An element in a template: one that is no HTML leaves a gap.
 #[cycle(strings)]
 pub fn element_strings(options: &Options<'_>, b: &[u8], out: &mut [u8], st: Open) -> Open
-    requires { Low (carve (element_at options.now.skip.now options.now.props.now b.now).to_string_vec (at out.old st)) }
-    ensures { at out.new result ≡ carve (element_at options.now.skip.now options.now.props.now b.now).to_string_vec (at out.old st) }
+    requires { Low (carve (under options.now element_at b.now).to_string_vec (at out.old st)) }
+    ensures { at out.new result ≡ carve (under options.now element_at b.now).to_string_vec (at out.old st) }
 {
-    if !is_serializable(options.skip, b) {
-        return cut(out, st);
+    if is_serializable(options.skip, b) {
+        tag_strings(options, b, out, st)
+    } else {
+        cut(out, st)
     }
-    tag_strings(options, b, out, st)
 }
 
-// One that is known to be HTML: its tags, and what stands between them.
+// One that is known to be HTML: its tags, and what stands between them. That it is serializable is the caller's test: a type of tested elements
+// would have to say by which options they were tested, which is this clause again.
 #[cycle(strings)]
 pub fn tag_strings(options: &Options<'_>, b: &[u8], out: &mut [u8], st: Open) -> Open
-    requires { (serializable options.now.skip.now b.now ≡ true) × Low (carve (element_at options.now.skip.now options.now.props.now b.now).to_string_vec (at out.old st)) }
-    ensures { at out.new result ≡ carve (element_at options.now.skip.now options.now.props.now b.now).to_string_vec (at out.old st) }
+    requires { (serializable options.now.skip.now b.now ≡ true) × Low (carve (under options.now element_at b.now).to_string_vec (at out.old st)) }
+    ensures { at out.new result ≡ carve (under options.now element_at b.now).to_string_vec (at out.old st) }
 {
     let n = identifier(b);
     let rest = behind(b);
@@ -159,11 +145,13 @@ pub fn tag_strings(options: &Options<'_>, b: &[u8], out: &mut [u8], st: Open) ->
     let p = open_tag(out, st, n, kind, rest);
     let a = attributes_strings(options, rest, out, p);
     let c = put_chars(out, a, b">");
-    if let Some(Void::AsWritten) = kind {
-        return c;
+    match kind {
+        Some(Void::AsWritten) => c,
+        Some(Void::InSmallLetters) | None => {
+            let d = children_strings(options, rest, true, out, c);
+            put_close(out, d, n)
+        }
     }
-    let d = children_strings(options, rest, true, out, c);
-    put_close(out, d, n)
 }
 
 // Children in a template; `parent` where they are an element's.
@@ -175,8 +163,8 @@ pub fn children_strings(
     out: &mut [u8],
     st: Open,
 ) -> Open
-    requires { Low (carve (children_to_string parent (children_at options.now.skip.now options.now.props.now (read s.now))) (at out.old st)) }
-    ensures { at out.new result ≡ carve (children_to_string parent (children_at options.now.skip.now options.now.props.now (read s.now))) (at out.old st) }
+    requires { Low (carve (children_to_string parent (under options.now children_at (read s.now))) (at out.old st)) }
+    ensures { at out.new result ≡ carve (children_to_string parent (under options.now children_at (read s.now))) (at out.old st) }
 {
     let mut cur = st;
     let mut fields = Fields(s);

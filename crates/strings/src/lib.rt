@@ -9,7 +9,6 @@ mod elements;
 mod merged;
 mod writer;
 
-pub use attributes::put_name;
 pub use elements::{children_strings, joins, put_joined, tag_strings};
 pub use merged::merged_children_strings;
 pub use writer::{Open, cut};

@@ -3,7 +3,7 @@ ghost use Rattle.std.specs.Prelude.{◌≡◌, ◌≤◌, ◌<◌, ◌^◌, fals
 ghost use Rattle.field.specs.Row.{read};
 ghost use Rattle.spec.specs.Children.{children_to_string};
 ghost use Rattle.spec.specs.Merge.{merge, long_run, short_runs};
-ghost use Rattle.decisions.specs.At.{children_at};
+ghost use Rattle.decisions.specs.At.{children_at, under};
 ghost use Rattle.strings.specs.Due.{long_due};
 ghost use Rattle.strings.specs.Carve.{at, carve, flagged, put_again, Low};
 
@@ -11,6 +11,7 @@ use crate::due::{Due, graver};
 use crate::elements::{children_strings, element_strings, joins, put_joined};
 use crate::writer::{Open, cut, put_text};
 use decisions::options::Options;
+use field::MAX_BODY;
 use field::reader::Fields;
 use text::jsx_text::jsx_text_to_str;
 
@@ -20,13 +21,14 @@ fn put_run(out: &mut [u8], st: Open, scratch: &[u8], n: usize) -> Open
     requires low { Low (put_again n (take n scratch.now) (at out.old st)) }
     ensures { at out.new result ≡ put_again n (take n scratch.now) (at out.old st) }
 {
-    if 65535 < n {
-        return Open {
+    if MAX_BODY < n {
+        Open {
             due: graver(st.due, Due::Long),
             ..st
-        };
+        }
+    } else {
+        put_text(out, st, &scratch[..n], false)
     }
-    put_text(out, st, &scratch[..n], false)
 }
 
 pub fn merged_children_strings(
@@ -37,14 +39,15 @@ pub fn merged_children_strings(
     st: Open,
 ) -> Open
     requires in_bounds { (65536 ≤ length scratch.old) × (length s.now < 2 ^ 32) }
-    requires low { Low (carve (children_to_string false (short_runs (merge false false [] (children_at options.now.skip.now options.now.props.now (read s.now))))) (at out.old st)) }
-    ensures { at out.new result ≡ flagged (long_due (long_run (merge false false [] (children_at options.now.skip.now options.now.props.now (read s.now))))) (carve (children_to_string false (short_runs (merge false false [] (children_at options.now.skip.now options.now.props.now (read s.now))))) (at out.old st)) }
+    requires low { Low (carve (children_to_string false (short_runs (merge false false [] (under options.now children_at (read s.now))))) (at out.old st)) }
+    ensures { at out.new result ≡ flagged (long_due (long_run (merge false false [] (under options.now children_at (read s.now))))) (carve (children_to_string false (short_runs (merge false false [] (under options.now children_at (read s.now))))) (at out.old st)) }
 {
     let mut cur = st;
     // How long the run in scratch is. One of no bytes writes nothing, so 0 needs no case of its own; one that is longer than scratch is only
     // counted, so no slice of scratch could stand for both.
     let mut n: usize = 0;
     for field in Fields(s) {
+        // Three arms write the run first: one arm for all three would match the tag again.
         match field.tag {
             0x60 => n = jsx_text_to_str(scratch, n, field.body, false, false),
             0x52 => {

@@ -54,13 +54,12 @@ pub fn cut(out: &mut [u8], st: Open) -> Open
     requires { Low (close (at out.old st)) }
     ensures { at out.new result ≡ close (at out.old st) }
 {
-    let len = st.len;
-    put_head(out, st.head, 0x81, len);
+    put_head(out, st.head, 0x81, st.len);
     Open {
-        head: st.head + 3 + len,
+        head: st.end(),
         len: 0,
         gaps: st.gaps + 1,
-        due: with_body(st.due, len),
+        due: with_body(st.due, st.len),
     }
 }
 

@@ -20,12 +20,13 @@ use Rattle.sums.specs.Value.{Worked}
 use Rattle.std.specs.Prelude.{Some, None}
 use Rattle.sums.specs.declared.reader.Before.{Before}
 use Rattle.sums.specs.declared.reader.Before.TheVariants.{NoSum, SumPlus, SumMinus}
+use Rattle.sums.specs.declared.reader.Waiting.{Waiting}
 use Rattle.sums.specs.declared.reader.State.{State}
 use Rattle.sums.specs.declared.reader.State.TheVariants.{Awaits, Digits, Behind}
 use Rattle.sums.specs.declared.reader.Act.{Act}
 use Rattle.sums.specs.declared.reader.Act.TheVariants.{On, Open, Close, Refused}
 use Rattle.sums.specs.Small.{Factor}
-use Rattle.sums.specs.Small.{finished, times_by, act_behind, act_awaits, act_digits, act, frame, Stack, stands, stopped, moved, small_step, ended, small_end, result}
+use Rattle.sums.specs.Small.{finished, times_by, act_behind, act_awaits, act_digits, awaits, act, Stack, stands, stopped, moved, small_step, ended, small_end, result}
 use Rattle.sums.specs.Packed.{before_tag, before_of, factor_tag, factor_of, words}
 use Rattle.sums.proofs.Packs.{factor_low, words_low, before_none, factor_none}
 use Rattle.sums.proofs.Sim.{result_is}
@@ -39,9 +40,9 @@ none_stopped (c ∷ s) = none_stopped s
 short_moved : (s : Bytes) → ((x : State) (K : Stack) → length s < length K → None ≡ result (stands x K) s) → (a : Act) (K : Stack) → suc (length s) < length K → None ≡ result (moved a K) s
 unfolding moved
 short_moved s ih (On x) K h = ih x K (omega arith)
-short_moved s ih (Open b f) K h = ih (Awaits NoSum None) (frame b f ∷ K) (omega arith)
-short_moved s ih (Close w) [] h = none_stopped s
-short_moved s ih (Close w) (frame b f ∷ K) h = ih (Behind b (times_by f w)) K (omega arith)
+short_moved s ih (Open w) K h = ih (awaits NoSum) (w ∷ K) (omega arith)
+short_moved s ih (Close y) [] h = none_stopped s
+short_moved s ih (Close y) (w ∷ K) h = ih (Behind w.before (times_by w.factor y)) K (omega arith)
 short_moved s ih Refused K h = none_stopped s
 
 short : (s : Bytes) (x : State) (K : Stack) → length s < length K → None ≡ result (stands x K) s
@@ -52,14 +53,14 @@ short (c ∷ s) x K h = short_moved s (short s) (act x c) K h
 
 -- ---- each word that waits has cost two bytes, and each bracket one
 pub weight : State → ℕ
-weight (Awaits b f) = 2 * words (before_tag b) + 2 * words (factor_tag f)
-weight (Digits n b f) = 2 * words (before_tag b) + 2 * words (factor_tag f) + 1
+weight (Awaits w) = 2 * words (before_tag w.before) + 2 * words (factor_tag w.factor)
+weight (Digits n w) = 2 * words (before_tag w.before) + 2 * words (factor_tag w.factor) + 1
 weight (Behind b y) = 2 * words (before_tag b) + 1
 
 Light : ℕ → Act → Type 0
 Light n (On x) = weight x ≤ n + 1
-Light n (Open b f) = 2 * words (before_tag b) + 2 * words (factor_tag f) ≤ n
-Light n (Close w) = Unit {0}
+Light n (Open w) = 2 * words (before_tag w.before) + 2 * words (factor_tag w.factor) ≤ n
+Light n (Close y) = Unit {0}
 Light n Refused = Unit {0}
 
 light_behind : (n : ℕ) (b : Before) (y : Worked) (c : ℕ) → 2 * words (before_tag b) + 1 ≤ n → Light n (act_behind b y c)
@@ -77,15 +78,15 @@ light_behind n b y c h =
 
 light : (x : State) (c : ℕ) → Light (weight x) (act x c)
 unfolding act act_awaits act_digits Light weight
-light (Awaits b f) c =
-    let n : ℕ = 2 * words (before_tag b) + 2 * words (factor_tag f) in
+light (Awaits w) c =
+    let n : ℕ = 2 * words (before_tag w.before) + 2 * words (factor_tag w.factor) in
     either (Light n) (eqb c 32) _ _ (λ _. omega arith)
     (λ _. either (Light n) (eqb c 48) _ _ (λ _. omega arith)
     (λ _. either (Light n) (digit c) _ _ (λ _. omega arith)
     (λ _. either (Light n) (eqb c 40) _ _ (λ _. omega arith) (λ _. tt))))
-light (Digits k b f) c =
-    let n : ℕ = 2 * words (before_tag b) + 2 * words (factor_tag f) + 1 in
-    either (Light n) (digit c) _ _ (λ _. omega arith) (λ _. light_behind n b (times_by f (upward k)) c (omega arith))
+light (Digits k w) c =
+    let n : ℕ = 2 * words (before_tag w.before) + 2 * words (factor_tag w.factor) + 1 in
+    either (Light n) (digit c) _ _ (λ _. omega arith) (λ _. light_behind n w.before (times_by w.factor (upward k)) c (omega arith))
 light (Behind b y) c = light_behind (2 * words (before_tag b) + 1) b y c (omega arith)
 
 -- ---- the frames
@@ -97,17 +98,17 @@ last_of t b f = t + words (before_tag b) + words (factor_tag f)
 
 pub data Frames (fs : List ℕ) : ℕ → Stack → Type 0 where
   none : {n : ℕ} → n ≡ 0 → Frames fs n []
-  more : {n : ℕ} {K : Stack} (t : ℕ) (b : Before) (f : Factor) → Frames fs t K → n ≡ last_of t b f + 1 → before_of (before_tag b) (get_or fs t 0) ≡ b → factor_of (factor_tag f) (get_or fs (at_of t b) 0) ≡ f
-      → get_or fs (last_of t b f) 0 ≡ before_tag b * 4 + factor_tag f → Frames fs n (frame b f ∷ K)
+  more : {n : ℕ} {K : Stack} (t : ℕ) (w : Waiting) → Frames fs t K → n ≡ last_of t w.before w.factor + 1 → before_of (before_tag w.before) (get_or fs t 0) ≡ w.before → factor_of (factor_tag w.factor) (get_or fs (at_of t w.before) 0) ≡ w.factor
+      → get_or fs (last_of t w.before w.factor) 0 ≡ before_tag w.before * 4 + factor_tag w.factor → Frames fs n (w ∷ K)
 
 kept : {fs : List ℕ} (gs : List ℕ) {n : ℕ} {K : Stack} → ((i : ℕ) → i < n → get_or gs i 0 ≡ get_or fs i 0) → Frames fs n K → Frames gs n K
 kept gs x (none z) = none z
-kept gs x (more t b f h e p q r) =
-    let l = words_low (before_tag b) in
-    more t b f (kept gs (λ i y. x i (omega arith)) h) e
-    (ap (before_of (before_tag b)) (x t (omega arith)) ∙ p)
-    (ap (factor_of (factor_tag f)) (x (at_of t b) (omega arith)) ∙ q)
-    (x (last_of t b f) (omega arith) ∙ r)
+kept gs x (more t w h e p q r) =
+    let l = words_low (before_tag w.before) in
+    more t w (kept gs (λ i y. x i (omega arith)) h) e
+    (ap (before_of (before_tag w.before)) (x t (omega arith)) ∙ p)
+    (ap (factor_of (factor_tag w.factor)) (x (at_of t w.before) (omega arith)) ∙ q)
+    (x (last_of t w.before w.factor) (omega arith) ∙ r)
 
 pub record Going (s : Bytes) (fs : List ℕ) (top i : ℕ) (x : State) : Type 0 where
   pub within : i ≤ length s
@@ -117,18 +118,18 @@ pub record Going (s : Bytes) (fs : List ℕ) (top i : ℕ) (x : State) : Type 0 
   pub paid : 2 * top + weight x ≤ i + length frames
   pub total : result (stands x frames) (drop i s) ≡ sum_of s
 
-pub begins : (s : Bytes) (fs : List ℕ) → Going s fs 0 0 (Awaits NoSum None)
+pub begins : (s : Bytes) (fs : List ℕ) → Going s fs 0 0 (awaits NoSum)
 unfolding weight words before_tag factor_tag choose
 begins s fs = record { within = omega arith; high = omega arith; frames = []; held = none refl; paid = omega arith; total = result_is s }
 
 at_bottom : {fs : List ℕ} {n : ℕ} {K : Stack} → Frames fs n K → n ≡ 0 → K ≡ []
 at_bottom (none z) e = refl
-at_bottom (more t b f h z p q r) e = absurd (omega arith)
+at_bottom (more t w h z p q r) e = absurd (omega arith)
 
 no_bottom : {fs : List ℕ} {n : ℕ} {K : Stack} → Frames fs n K → (n ≡ 0 → ⊥) → (x : State) → None ≡ small_end (stands x K)
 unfolding small_end
 no_bottom (none z) e x = absurd (e z)
-no_bottom (more t b f h z p q r) e x = refl
+no_bottom (more t w h z p q r) e x = refl
 
 module _ {s : Bytes} {fs : List ℕ} {top i : ℕ} {x : State} (g : Going s fs top i x) where
   ends : i ≡ length s → small_end (stands x g.frames) ≡ sum_of s
@@ -169,27 +170,27 @@ module _ {s : Bytes} {fs : List ℕ} {top i : ℕ} {x : State} (g : Going s fs t
           total = ap (λ (z : Act). result (moved z g.frames) (drop (i + 1) s)) (sym h) ∙ turn;
         }
 
-    module _ {b : Before} {f : Factor} (h : a ≡ Open b f) where
-      heavy : 2 * words (before_tag b) + 2 * words (factor_tag f) ≤ weight x
+    module _ {w : Waiting} (h : a ≡ Open w) where
+      heavy : 2 * words (before_tag w.before) + 2 * words (factor_tag w.factor) ≤ weight x
       unfolding Light
       heavy = subst (Light (weight x)) h weighs
 
-      opened : result (stands (Awaits NoSum None) (frame b f ∷ g.frames)) (drop (i + 1) s) ≡ sum_of s
+      opened : result (stands (awaits NoSum) (w ∷ g.frames)) (drop (i + 1) s) ≡ sum_of s
       unfolding moved
       opened = ap (λ (z : Act). result (moved z g.frames) (drop (i + 1) s)) (sym h) ∙ turn
 
-      pub too_deep : 16384 ≤ last_of top b f → length s ≤ 32768 → None ≡ sum_of s
-      too_deep d m = short (drop (i + 1) s) (Awaits NoSum None) (frame b f ∷ g.frames) (omega (arith, heavy, g.paid, length-drop (i + 1) s)) ∙ opened
+      pub too_deep : 16384 ≤ last_of top w.before w.factor → length s ≤ 32768 → None ≡ sum_of s
+      too_deep d m = short (drop (i + 1) s) (awaits NoSum) (w ∷ g.frames) (omega (arith, heavy, g.paid, length-drop (i + 1) s)) ∙ opened
 
-      pub opens : (gs : List ℕ) → ((j : ℕ) → j < top → get_or gs j 0 ≡ get_or fs j 0) → before_of (before_tag b) (get_or gs top 0) ≡ b → factor_of (factor_tag f) (get_or gs (at_of top b) 0) ≡ f
-          → get_or gs (last_of top b f) 0 ≡ before_tag b * 4 + factor_tag f → last_of top b f < 16384 → Going s gs (last_of top b f + 1) (i + 1) (Awaits NoSum None)
+      pub opens : (gs : List ℕ) → ((j : ℕ) → j < top → get_or gs j 0 ≡ get_or fs j 0) → before_of (before_tag w.before) (get_or gs top 0) ≡ w.before → factor_of (factor_tag w.factor) (get_or gs (at_of top w.before) 0) ≡ w.factor
+          → get_or gs (last_of top w.before w.factor) 0 ≡ before_tag w.before * 4 + factor_tag w.factor → last_of top w.before w.factor < 16384 → Going s gs (last_of top w.before w.factor + 1) (i + 1) (awaits NoSum)
       unfolding weight words before_tag factor_tag choose
       opens gs below p o r d =
           record {
             within = omega arith;
             high = omega arith;
-            frames = frame b f ∷ g.frames;
-            held = more top b f (kept gs below g.held) refl p o r;
+            frames = w ∷ g.frames;
+            held = more top w (kept gs below g.held) refl p o r;
             paid = omega (arith, heavy, g.paid);
             total = opened;
           }
@@ -252,75 +253,74 @@ module _ (fs : List ℕ) (t : ℕ) (b : Before) (f : Factor) (sb sf g : ℕ) (n 
           ∙ e
 
 -- the same, as the code has its numbers
-module _ {s : Bytes} {fs : List ℕ} {top i : ℕ} {x : State} (p : Going s fs top i x) (l : i < length s) {a : Act} (q : a ≡ act x (get_or s i 0)) {b : Before} {f : Factor} (h : a ≡ Open b f) {bt ft w₁ w₂ : ℕ} (e₁ : bt ≡ before_tag b) (e₂ : ft ≡ factor_tag f) (u₁ : w₁ ≡ words bt) (u₂ : w₂ ≡ words ft) where
-  one_word : w₁ ≡ words (before_tag b)
+module _ {s : Bytes} {fs : List ℕ} {top i : ℕ} {x : State} (p : Going s fs top i x) (l : i < length s) {a : Act} (q : a ≡ act x (get_or s i 0)) {w : Waiting} (h : a ≡ Open w) {bt ft w₁ w₂ : ℕ} (e₁ : bt ≡ before_tag w.before) (e₂ : ft ≡ factor_tag w.factor) (u₁ : w₁ ≡ words bt) (u₂ : w₂ ≡ words ft) where
+  one_word : w₁ ≡ words (before_tag w.before)
   one_word = u₁ ∙ ap words e₁
 
-  two_words : w₂ ≡ words (factor_tag f)
+  two_words : w₂ ≡ words (factor_tag w.factor)
   two_words = u₂ ∙ ap words e₂
 
   pub too_high : 16384 ≤ top + w₁ + w₂ → length s ≤ 32768 → None ≡ sum_of s
   too_high d m = too_deep p l q h (omega (arith, one_word, two_words)) m
 
-  pub pushes : (sb sf : ℕ) → before_of bt sb ≡ b → factor_of ft sf ≡ f → length fs ≡ 16384 → top + w₁ + w₂ < 16384
-      → Going s (set (set (set fs top sb) (top + w₁) sf) (top + w₁ + w₂) (bt * 4 + ft)) (top + w₁ + w₂ + 1) (i + 1) (Awaits NoSum None)
+  pub pushes : (sb sf : ℕ) → before_of bt sb ≡ w.before → factor_of ft sf ≡ w.factor → length fs ≡ 16384 → top + w₁ + w₂ < 16384
+      → Going s (set (set (set fs top sb) (top + w₁) sf) (top + w₁ + w₂) (bt * 4 + ft)) (top + w₁ + w₂ + 1) (i + 1) (awaits NoSum)
   unfolding stored
   pushes sb sf y z n d =
-      let o : last_of top b f < 16384 = omega (arith, one_word, two_words) in
-      let c : Going s (stored fs top b f sb sf (bt * 4 + ft) n o) (last_of top b f + 1) (i + 1) (Awaits NoSum None) =
-      opens p l q h (stored fs top b f sb sf (bt * 4 + ft) n o) (stored_below fs top b f sb sf (bt * 4 + ft) n o) (stored_before fs top b f sb sf (bt * 4 + ft) n o (ap (λ (k : ℕ). before_of k sb) (sym e₁) ∙ y))
-      (stored_factor fs top b f sb sf (bt * 4 + ft) n o (ap (λ (k : ℕ). factor_of k sf) (sym e₂) ∙ z)) (stored_tag fs top b f sb sf (bt * 4 + ft) n o ∙ omega (arith, e₁, e₂)) o in
-      subst (λ (v : ℕ). Going s (set (set (set fs top sb) (top + w₁) sf) (top + w₁ + v) (bt * 4 + ft)) (top + w₁ + v + 1) (i + 1) (Awaits NoSum None)) (sym two_words)
-      (subst (λ (v : ℕ). Going s (set (set (set fs top sb) (top + v) sf) (top + v + words (factor_tag f)) (bt * 4 + ft)) (top + v + words (factor_tag f) + 1) (i + 1) (Awaits NoSum None)) (sym one_word) c)
+      let o : last_of top w.before w.factor < 16384 = omega (arith, one_word, two_words) in
+      let c : Going s (stored fs top w.before w.factor sb sf (bt * 4 + ft) n o) (last_of top w.before w.factor + 1) (i + 1) (awaits NoSum) =
+      opens p l q h (stored fs top w.before w.factor sb sf (bt * 4 + ft) n o) (stored_below fs top w.before w.factor sb sf (bt * 4 + ft) n o) (stored_before fs top w.before w.factor sb sf (bt * 4 + ft) n o (ap (λ (k : ℕ). before_of k sb) (sym e₁) ∙ y))
+      (stored_factor fs top w.before w.factor sb sf (bt * 4 + ft) n o (ap (λ (k : ℕ). factor_of k sf) (sym e₂) ∙ z)) (stored_tag fs top w.before w.factor sb sf (bt * 4 + ft) n o ∙ omega (arith, e₁, e₂)) o in
+      subst (λ (v : ℕ). Going s (set (set (set fs top sb) (top + w₁) sf) (top + w₁ + v) (bt * 4 + ft)) (top + w₁ + v + 1) (i + 1) (awaits NoSum)) (sym two_words)
+      (subst (λ (v : ℕ). Going s (set (set (set fs top sb) (top + v) sf) (top + v + words (factor_tag w.factor)) (bt * 4 + ft)) (top + v + words (factor_tag w.factor) + 1) (i + 1) (awaits NoSum)) (sym one_word) c)
 
 -- ---- a frame is taken back
 record Popped (fs : List ℕ) (n : ℕ) (K : Stack) : Type 0 where
   t : ℕ
-  b : Before
-  f : Factor
+  w : Waiting
   rest : Stack
-  is : K ≡ frame b f ∷ rest
+  is : K ≡ w ∷ rest
   held : Frames fs t rest
-  up : n ≡ last_of t b f + 1
-  one : before_of (before_tag b) (get_or fs t 0) ≡ b
-  two : factor_of (factor_tag f) (get_or fs (at_of t b) 0) ≡ f
-  tag : get_or fs (last_of t b f) 0 ≡ before_tag b * 4 + factor_tag f
+  up : n ≡ last_of t w.before w.factor + 1
+  one : before_of (before_tag w.before) (get_or fs t 0) ≡ w.before
+  two : factor_of (factor_tag w.factor) (get_or fs (at_of t w.before) 0) ≡ w.factor
+  tag : get_or fs (last_of t w.before w.factor) 0 ≡ before_tag w.before * 4 + factor_tag w.factor
 
 popped : {fs : List ℕ} {n : ℕ} {K : Stack} → Frames fs n K → (n ≡ 0 → ⊥) → Popped fs n K
 popped (none z) e = absurd (e z)
-popped (more {K = K} t b f h z p q r) e = record { t = t; b = b; f = f; rest = K; is = refl; held = h; up = z; one = p; two = q; tag = r }
+popped (more {K = K} t w h z p q r) e = record { t = t; w = w; rest = K; is = refl; held = h; up = z; one = p; two = q; tag = r }
 
 module _ {s : Bytes} {fs : List ℕ} {top i : ℕ} {x : State} (g : Going s fs top i x) (z : top ≡ 0 → ⊥) {tag : ℕ} (e : tag ≡ get_or fs (top - 1) 0) where
   top_frame : Popped fs top g.frames
   top_frame = popped g.held z
 
-  tag_is : tag ≡ before_tag top_frame.b * 4 + factor_tag top_frame.f
+  tag_is : tag ≡ before_tag top_frame.w.before * 4 + factor_tag top_frame.w.factor
   tag_is =
       let u = top_frame.up in
-      let m : top - 1 ≡ last_of top_frame.t top_frame.b top_frame.f = omega arith in
+      let m : top - 1 ≡ last_of top_frame.t top_frame.w.before top_frame.w.factor = omega arith in
       e ∙ ap (λ (k : ℕ). get_or fs k 0) m ∙ top_frame.tag
 
-  low_is : tag % 4 ≡ factor_tag top_frame.f
-  low_is = let h = factor_low top_frame.f in let k = tag_is in omega arith
+  low_is : tag % 4 ≡ factor_tag top_frame.w.factor
+  low_is = let h = factor_low top_frame.w.factor in let k = tag_is in omega arith
 
-  high_is : tag / 4 ≡ before_tag top_frame.b
-  high_is = let h = factor_low top_frame.f in let k = tag_is in omega arith
+  high_is : tag / 4 ≡ before_tag top_frame.w.before
+  high_is = let h = factor_low top_frame.w.factor in let k = tag_is in omega arith
 
   module _ {w₃ : ℕ} (u₃ : w₃ ≡ words (tag % 4)) where
-    third : w₃ ≡ words (factor_tag top_frame.f)
+    third : w₃ ≡ words (factor_tag top_frame.w.factor)
     third = u₃ ∙ ap words low_is
 
     pub closes_low : w₃ ≤ top - 1
     closes_low = let u = top_frame.up in let v = third in omega arith
 
     module _ {w₄ : ℕ} (u₄ : w₄ ≡ words (tag / 4)) where
-      fourth : w₄ ≡ words (before_tag top_frame.b)
+      fourth : w₄ ≡ words (before_tag top_frame.w.before)
       fourth = u₄ ∙ ap words high_is
 
       pub closes_lower : w₄ ≤ top - 1 - w₃
       closes_lower = let u = top_frame.up in let v = third in let y = fourth in omega arith
 
-      at_is : top - 1 - w₃ ≡ at_of top_frame.t top_frame.b
+      at_is : top - 1 - w₃ ≡ at_of top_frame.t top_frame.w.before
       at_is = let u = top_frame.up in let v = third in omega arith
 
       t_is : top - 1 - w₃ - w₄ ≡ top_frame.t
@@ -331,11 +331,11 @@ module _ {s : Bytes} {fs : List ℕ} {top i : ℕ} {x : State} (g : Going s fs t
       unfolding moved weight
       closes l {w = w} q h {b'} {f'} {y} p o r =
           let k = top_frame in
-          let bs : b' ≡ k.b = p ∙ ap (λ (n : ℕ). before_of (tag / 4) (get_or fs n 0)) t_is ∙ ap (λ (n : ℕ). before_of n (get_or fs k.t 0)) high_is ∙ k.one in
-          let ks : f' ≡ k.f = o ∙ ap (λ (n : ℕ). factor_of (tag % 4) (get_or fs n 0)) at_is ∙ ap (λ (n : ℕ). factor_of n (get_or fs (at_of k.t k.b) 0)) low_is ∙ k.two in
-          let ys : y ≡ times_by k.f w = r ∙ ap (λ (j : Factor). times_by j w) ks in
+          let bs : b' ≡ k.w.before = p ∙ ap (λ (n : ℕ). before_of (tag / 4) (get_or fs n 0)) t_is ∙ ap (λ (n : ℕ). before_of n (get_or fs k.t 0)) high_is ∙ k.one in
+          let ks : f' ≡ k.w.factor = o ∙ ap (λ (n : ℕ). factor_of (tag % 4) (get_or fs n 0)) at_is ∙ ap (λ (n : ℕ). factor_of n (get_or fs (at_of k.t k.w.before) 0)) low_is ∙ k.two in
+          let ys : y ≡ times_by k.w.factor w = r ∙ ap (λ (j : Factor). times_by j w) ks in
           let m : length g.frames ≡ length k.rest + 1 = ap length k.is ∙ sym (add-one (length k.rest)) in
-          let c : Going s fs k.t (i + 1) (Behind k.b (times_by k.f w)) = record {
+          let c : Going s fs k.t (i + 1) (Behind k.w.before (times_by k.w.factor w)) = record {
             within = omega arith;
             high = omega (arith, k.up, g.high);
             frames = k.rest;
@@ -346,4 +346,4 @@ module _ {s : Bytes} {fs : List ℕ} {top i : ℕ} {x : State} (g : Going s fs t
                 ∙ turn g l q;
           } in
           subst (λ (n : ℕ). Going s fs n (i + 1) (Behind b' y)) (sym t_is)
-          (subst (λ (j : Before). Going s fs k.t (i + 1) (Behind j y)) (sym bs) (subst (λ (j : Worked). Going s fs k.t (i + 1) (Behind k.b j)) (sym ys) c))
+          (subst (λ (j : Before). Going s fs k.t (i + 1) (Behind j y)) (sym bs) (subst (λ (j : Worked). Going s fs k.t (i + 1) (Behind k.w.before j)) (sym ys) c))

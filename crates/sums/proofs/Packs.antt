@@ -1,15 +1,13 @@
 -- Words of open brackets and what they are read back as, and the growing number. Assumes nothing.
-use Prim.Native.Nat.{ℕ, ◌+◌, ◌-◌, ◌*◌, ◌≤◌, ◌<◌, min}
+use Prim.Native.Nat.{ℕ, ◌+◌, ◌-◌, ◌*◌, ◌≤◌, min}
 use mathlib.Core.Path.{◌≡◌, refl, ◌∙◌, ap₂}
-use mathlib.Core.Bool.{Bool, true, false, not}
+use mathlib.Core.Bool.{Bool, true, false}
 use native.Mathlib.Omega.{arith}
 use native.Mathlib.Decide.{dec_le}
 use lib.Dec.{leb, eqb}
 use borrow.Author.Tests.{le-leb, lt-leb}
 use Rattle.std.specs.Prelude.{Some, None}
-use mir.Val.{bool_byte}
-use Rattle.std.specs.Char.{is_ascii_digit}
-use Rattle.sums.specs.Choice.{choose, digit}
+use Rattle.sums.specs.Choice.{choose}
 use Rattle.sums.specs.Value.{Worked, most}
 use Rattle.sums.specs.declared.value.Sum.TheVariants.{Plus, Minus}
 use Rattle.sums.specs.declared.reader.Before.{Before}
@@ -18,10 +16,6 @@ use Rattle.sums.specs.Small.{Factor, capped, grown}
 use Rattle.sums.specs.Packed.{worked_kind, worked_from, before_tag, before_size, before_of, factor_tag, factor_size, factor_of, words}
 use Rattle.sums.proofs.Tests.{takes, leaves}
 
-pub grown_past : (n c : ℕ) → most < n → 9007199254740992 ≡ grown n c
-unfolding grown capped
-grown_past n c h = leaves _ _ _ (lt-leb (n * 10 + (c - 48)) most (omega arith))
-
 pub grown_fits : (n c : ℕ) → min (n * 10 + (c - 48)) 9007199254740992 ≡ grown n c
 unfolding grown capped
 grown_fits n c = on (dec_le (n * 10 + (c - 48)) most)
@@ -29,18 +23,6 @@ grown_fits n c = on (dec_le (n * 10 + (c - 48)) most)
     on : Dec (n * 10 + (c - 48) ≤ most) → min (n * 10 + (c - 48)) 9007199254740992 ≡ choose (leb (n * 10 + (c - 48)) most) (n * 10 + (c - 48)) 9007199254740992
     on (yes h) = let e : min (n * 10 + (c - 48)) 9007199254740992 ≡ n * 10 + (c - 48) = omega arith in e ∙ takes _ _ _ (le-leb (n * 10 + (c - 48)) most h)
     on (no h) = let e : min (n * 10 + (c - 48)) 9007199254740992 ≡ 9007199254740992 = omega arith in e ∙ leaves _ _ _ (lt-leb (n * 10 + (c - 48)) most (omega arith))
-
-pub digit_is : (c : ℕ) → digit c ≡ is_ascii_digit c
-unfolding digit
-digit_is c = refl
-
-pub words_is : (t : ℕ) → bool_byte (not (eqb t 0)) ≡ words t
-unfolding words choose
-words_is t = on (eqb t 0)
-  where
-    on : (b : Bool) → bool_byte (not b) ≡ choose b 0 1
-    on true = refl
-    on false = refl
 
 pub kind_low : (w : Worked) → worked_kind w ≤ 2
 kind_low None = omega arith

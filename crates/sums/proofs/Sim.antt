@@ -18,12 +18,13 @@ use Rattle.sums.specs.declared.value.Sum.TheVariants as W
 use Rattle.std.specs.Prelude.{Some, None}
 use Rattle.sums.specs.declared.reader.Before.{Before}
 use Rattle.sums.specs.declared.reader.Before.TheVariants.{NoSum, SumPlus, SumMinus}
+use Rattle.sums.specs.declared.reader.Waiting.{Waiting}
 use Rattle.sums.specs.declared.reader.State.{State}
 use Rattle.sums.specs.declared.reader.State.TheVariants.{Awaits, Digits, Behind}
 use Rattle.sums.specs.declared.reader.Act.{Act}
 use Rattle.sums.specs.declared.reader.Act.TheVariants.{Close}
 use Rattle.sums.specs.Small.{Factor}
-use Rattle.sums.specs.Small.{finished, times_by, capped, grown, act_behind, act_awaits, act_digits, act, frame, Stack, Small, stands, stopped, moved, small_step, ended, small_end, result}
+use Rattle.sums.specs.Small.{finished, times_by, capped, grown, act_behind, act_awaits, act_digits, act, awaits, Stack, Small, stands, stopped, moved, small_step, ended, small_end, result}
 
 before_worked : M.Before → Before
 before_worked M.no_sum = NoSum
@@ -36,11 +37,11 @@ factor_worked (M.product_times x) = Some (value x)
 
 frames_worked : M.Stack → Stack
 frames_worked [] = []
-frames_worked (M.frame b f ∷ K) = frame (before_worked b) (factor_worked f) ∷ frames_worked K
+frames_worked (M.frame b f ∷ K) = (record { before = before_worked b; factor = factor_worked f }) ∷ frames_worked K
 
 erase : M.State → Small
-erase (M.awaits b f K) = stands (Awaits (before_worked b) (factor_worked f)) (frames_worked K)
-erase (M.in_digits n b f K) = stands (Digits (capped n) (before_worked b) (factor_worked f)) (frames_worked K)
+erase (M.awaits b f K) = stands (Awaits (record { before = before_worked b; factor = factor_worked f })) (frames_worked K)
+erase (M.in_digits n b f K) = stands (Digits (capped n) (record { before = before_worked b; factor = factor_worked f })) (frames_worked K)
 erase (M.behind b y K) = stands (Behind (before_worked b) (value y)) (frames_worked K)
 erase M.refused = stopped
 
@@ -112,8 +113,8 @@ unfolding step_behind act_behind erase moved before_worked factor_worked
 behind_worked b y K c =
     let m : Act → Small = λ a. moved a (frames_worked K) in
     alike erase m (eqb c 32) _ _ _ _ (λ _. refl)
-    (alike erase m (eqb c 43) _ _ _ _ (λ _. ap (λ (w : Worked). stands (Awaits (SumPlus w) None) (frames_worked K)) (sum_worked b y))
-    (alike erase m (eqb c 45) _ _ _ _ (λ _. ap (λ (w : Worked). stands (Awaits (SumMinus w) None) (frames_worked K)) (sum_worked b y))
+    (alike erase m (eqb c 43) _ _ _ _ (λ _. ap (λ (w : Worked). stands (awaits (SumPlus w)) (frames_worked K)) (sum_worked b y))
+    (alike erase m (eqb c 45) _ _ _ _ (λ _. ap (λ (w : Worked). stands (awaits (SumMinus w)) (frames_worked K)) (sum_worked b y))
     (alike erase m (eqb c 42) _ _ _ _ (λ _. refl)
     (alike erase m (eqb c 41) _ _ _ _ (λ _. closed_worked (sum_with b y) K ∙ ap (λ (w : Worked). moved (Close w) (frames_worked K)) (sum_worked b y)) refl))))
 
@@ -127,11 +128,11 @@ step_worked (M.awaits b f K) c =
     let m : Act → Small = λ a. moved a (frames_worked K) in
     alike erase m (eqb c 32) _ _ _ _ (λ _. refl)
     (alike erase m (eqb c 48) _ _ _ _ (λ _. ap (λ (w : Worked). stands (Behind (before_worked b) w) (frames_worked K)) (number_worked f 0))
-    (alike erase m (digit c) _ _ _ _ (λ u. ap (λ (n : ℕ). stands (Digits n (before_worked b) (factor_worked f)) (frames_worked K)) (digit_fits c u))
+    (alike erase m (digit c) _ _ _ _ (λ u. ap (λ (n : ℕ). stands (Digits n (record { before = before_worked b; factor = factor_worked f })) (frames_worked K)) (digit_fits c u))
     (alike erase m (eqb c 40) _ _ _ _ (λ _. refl) refl)))
 step_worked (M.in_digits n b f K) c =
     let m : Act → Small = λ a. moved a (frames_worked K) in
-    alike erase m (digit c) _ _ _ _ (λ u. ap (λ (k : ℕ). stands (Digits k (before_worked b) (factor_worked f)) (frames_worked K)) (grown_capped n c))
+    alike erase m (digit c) _ _ _ _ (λ u. ap (λ (k : ℕ). stands (Digits k (record { before = before_worked b; factor = factor_worked f })) (frames_worked K)) (grown_capped n c))
     (behind_worked b (product_with f (number n)) K c ∙ ap (λ (w : Worked). moved (act_behind (before_worked b) w c) (frames_worked K)) (number_worked f n ∙ ap (times_by (factor_worked f)) (upward_capped n)))
 step_worked (M.behind b y K) c = behind_worked b y K c
 step_worked M.refused c = refl
@@ -142,16 +143,16 @@ unfolding found whole small_end frames_worked
 whole_worked x [] y e = e
 whole_worked x (M.frame b f ∷ K) y e = refl
 
-await_worked : (b : Before) (f : Factor) (K : Stack) → None ≡ small_end (stands (Awaits b f) K)
+await_worked : (w : Waiting) (K : Stack) → None ≡ small_end (stands (Awaits w) K)
 unfolding small_end ended
-await_worked b f [] = refl
-await_worked b f (g ∷ K) = refl
+await_worked w [] = refl
+await_worked w (g ∷ K) = refl
 
 end_worked : (x : M.State) → found (at_end x) ≡ small_end (erase x)
 unfolding at_end erase ended found small_end
-end_worked (M.awaits b f K) = await_worked (before_worked b) (factor_worked f) (frames_worked K)
+end_worked (M.awaits b f K) = await_worked (record { before = before_worked b; factor = factor_worked f }) (frames_worked K)
 end_worked (M.in_digits n b f K) =
-    whole_worked _ K (Digits (capped n) (before_worked b) (factor_worked f))
+    whole_worked _ K (Digits (capped n) (record { before = before_worked b; factor = factor_worked f }))
     (sum_worked b (product_with f (number n)) ∙ ap (finished (before_worked b)) (number_worked f n ∙ ap (times_by (factor_worked f)) (upward_capped n)))
 end_worked (M.behind b y K) = whole_worked _ K (Behind (before_worked b) (value y)) (sum_worked b y)
 end_worked M.refused = refl
@@ -161,6 +162,6 @@ unfolding outcome result
 all_worked x [] = end_worked x
 all_worked x (c ∷ s) = all_worked (step x c) s ∙ ap (λ (z : Small). result z s) (step_worked x c)
 
-pub result_is : (s : Bytes) → result (stands (Awaits NoSum None) []) s ≡ sum_of s
+pub result_is : (s : Bytes) → result (stands (awaits NoSum) []) s ≡ sum_of s
 unfolding sum_of erase before_worked factor_worked frames_worked
 result_is s = sym (all_worked start s)

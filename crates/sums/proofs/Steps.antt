@@ -1,6 +1,7 @@
--- Sizes and signs: what passes the bound stays, and what stays makes all stay. Main statements: `up_fits`, `up_passes`, `down_fits`,
--- `down_passes`, `difference_up`, `difference_down`, `up_capped`, `down_capped`, `none_added`, `none_taken`, `none_multiplied`. Assumes nothing.
+-- Sizes and signs: what passes the bound stays, and what stays makes all stay. Main statements: `bounded_is`, `up_passes`, `down_passes`,
+-- `difference_up`, `difference_down`, `taken_as`, `up_capped`, `down_capped`, `none_added`, `none_multiplied`. Assumes nothing.
 use Prim.Native.Nat.{ℕ, ◌+◌, ◌-◌, ◌^◌, ◌≤◌, ◌<◌, min}
+use mathlib.Core.Bool.{Bool, true, false}
 use mathlib.Core.Path.{◌≡◌, refl, sym, ◌∙◌, ap}
 use mathlib.Core.Logic.{◌⊎◌, inl, inr}
 use native.Mathlib.Omega.{arith}
@@ -8,31 +9,36 @@ use native.Mathlib.Decide.{dec_le}
 use lib.Dec.{leb, eqb}
 use native.Mathlib.Nat.{mul_comm}
 use Rattle.sums.specs.Choice.{choose}
-use Rattle.sums.specs.Small.{mixed_product}
+use Rattle.sums.specs.Small.{size, bounded, opposite, mixed_product}
 use borrow.Author.Tests.{le-leb, lt-leb}
 use Rattle.sums.specs.Value.{most, upward, downward, difference, added, taken, multiplied}
 use Rattle.sums.proofs.Tests.{takes, leaves}
 use Rattle.sums.specs.Value.{Worked}
+use Rattle.sums.specs.declared.value.Sum.{Sum}
 use Rattle.sums.specs.declared.value.Sum.TheVariants.{Plus, Minus}
 use Rattle.std.specs.Prelude.{Some, None}
+use Rattle.std.specs.Bool.{then_some}
+use Rattle.std.specs.Option.{MatchOption, IsSomeAnd}
 
 -- ---- a size and its sign
-
-pub up_fits : (n : ℕ) → n ≤ most → Some (Plus n) ≡ upward n
-unfolding upward
-up_fits n h = takes (leb n most) (Some (Plus n)) None (le-leb n most h)
 
 pub up_passes : (n : ℕ) → most < n → None ≡ upward n
 unfolding upward
 up_passes n h = leaves (leb n most) (Some (Plus n)) None (lt-leb n most h)
 
-pub down_fits : (n : ℕ) → n ≤ most → Some (Minus n) ≡ downward n
-unfolding downward
-down_fits n h = takes (leb n most) (Some (Minus n)) None (le-leb n most h)
-
 pub down_passes : (n : ℕ) → most < n → None ≡ downward n
 unfolding downward
 down_passes n h = leaves (leb n most) (Some (Minus n)) None (lt-leb n most h)
+
+in_bound : (b : Bool) (n : Sum) → then_some b n ≡ choose b (Some n) None
+unfolding choose
+in_bound true n = refl
+in_bound false n = refl
+
+pub bounded_is : (n : Sum) → then_some (leb (size n) most) n ≡ bounded n
+unfolding upward downward
+bounded_is (Plus n) = in_bound (leb n most) (Plus n)
+bounded_is (Minus n) = in_bound (leb n most) (Minus n)
 
 pub difference_up : (a b n : ℕ) → a ≡ b + n → difference a b ≡ upward n
 unfolding difference
@@ -64,6 +70,21 @@ multiplied_stays None = refl
 multiplied_stays (Some (Plus a)) = refl
 multiplied_stays (Some (Minus a)) = refl
 
+-- a less b is a and the opposite of b together
+pub taken_as : (a b m : Worked) → MatchOption b (m ≡ None) (λ x. IsSomeAnd m (λ y. y ≡ opposite x)) → added a m ≡ taken a b
+unfolding added taken
+taken_as None b m h = refl
+taken_as (Some (Plus a)) None m h = ap (added (Some (Plus a))) h
+taken_as (Some (Minus a)) None m h = ap (added (Some (Minus a))) h
+taken_as (Some (Plus a)) (Some (Plus b)) None h = absurd h
+taken_as (Some (Plus a)) (Some (Plus b)) (Some y) h = ap (λ (z : Sum). added (Some (Plus a)) (Some z)) h
+taken_as (Some (Plus a)) (Some (Minus b)) None h = absurd h
+taken_as (Some (Plus a)) (Some (Minus b)) (Some y) h = ap (λ (z : Sum). added (Some (Plus a)) (Some z)) h
+taken_as (Some (Minus a)) (Some (Plus b)) None h = absurd h
+taken_as (Some (Minus a)) (Some (Plus b)) (Some y) h = ap (λ (z : Sum). added (Some (Minus a)) (Some z)) h
+taken_as (Some (Minus a)) (Some (Minus b)) None h = absurd h
+taken_as (Some (Minus a)) (Some (Minus b)) (Some y) h = ap (λ (z : Sum). added (Some (Minus a)) (Some z)) h
+
 -- ---- sizes past 64 bits are past the bound
 
 pub up_capped : (n : ℕ) → upward (min n (2 ^ 64 - 1)) ≡ upward n
@@ -86,11 +107,6 @@ pub none_added : (x y : Worked) → (x ≡ None) ⊎ (y ≡ None) → None ≡ a
 unfolding added
 none_added x y (inl e) = ap (λ (z : Worked). added z y) (sym e)
 none_added x y (inr e) = sym (ap (added x) e ∙ added_stays x)
-
-pub none_taken : (x y : Worked) → (x ≡ None) ⊎ (y ≡ None) → None ≡ taken x y
-unfolding taken
-none_taken x y (inl e) = ap (λ (z : Worked). taken z y) (sym e)
-none_taken x y (inr e) = sym (ap (taken x) e ∙ taken_stays x)
 
 pub none_multiplied : (x y : Worked) → (x ≡ None) ⊎ (y ≡ None) → None ≡ multiplied x y
 unfolding multiplied

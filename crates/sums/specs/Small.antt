@@ -3,8 +3,11 @@ use Rattle.std.specs.Prelude.{ℕ, ◌+◌, ◌-◌, ◌*◌, List, [], ◌∷�
 use Rattle.sums.specs.Choice.{choose, digit}
 use Rattle.field.specs.Bytes.{Bytes}
 use Rattle.sums.specs.Value.{Worked, most, upward, downward, added, taken, multiplied}
+use Rattle.sums.specs.declared.value.Sum.{Sum}
+use Rattle.sums.specs.declared.value.Sum.TheVariants.{Plus, Minus}
 use Rattle.sums.specs.declared.reader.Before.{Before}
 use Rattle.sums.specs.declared.reader.Before.TheVariants.{NoSum, SumPlus, SumMinus}
+use Rattle.sums.specs.declared.reader.Waiting.{Waiting}
 use Rattle.sums.specs.declared.reader.State.{State}
 use Rattle.sums.specs.declared.reader.State.TheVariants.{Awaits, Digits, Behind}
 use Rattle.sums.specs.declared.reader.Act.{Act}
@@ -14,6 +17,19 @@ use Rattle.std.specs.Prelude.{Option, Some, None}
 -- what waits for an operand: nothing, or a product and `*`
 abbrev pub Factor : Type 0
 Factor = Option Worked
+
+abbrev pub size : Sum → ℕ
+size (Plus n) = n
+size (Minus n) = n
+
+-- a number whose size is within the bound
+abbrev pub bounded : Sum → Worked
+bounded (Plus n) = upward n
+bounded (Minus n) = downward n
+
+abbrev pub opposite : Sum → Sum
+opposite (Plus n) = Minus n
+opposite (Minus n) = Plus n
 
 -- x from zero up times one below zero of size y
 unfoldable pub mixed_product : ℕ → ℕ → Worked
@@ -35,34 +51,35 @@ capped n = choose (leb n most) n 9007199254740992
 unfoldable pub grown : ℕ → ℕ → ℕ
 grown n c = capped (n * 10 + (c - 48))
 
+-- the first operand of a product is awaited
+abbrev pub awaits : Before → State
+awaits b = Awaits (record { before = b; factor = None })
+
 unfoldable pub act_behind : Before → Worked → ℕ → Act
 act_behind b y c =
     choose (eqb c 32) (On (Behind b y))
-    (choose (eqb c 43) (On (Awaits (SumPlus (finished b y)) None))
-    (choose (eqb c 45) (On (Awaits (SumMinus (finished b y)) None))
-    (choose (eqb c 42) (On (Awaits b (Some y)))
+    (choose (eqb c 43) (On (awaits (SumPlus (finished b y))))
+    (choose (eqb c 45) (On (awaits (SumMinus (finished b y))))
+    (choose (eqb c 42) (On (Awaits (record { before = b; factor = Some y })))
     (choose (eqb c 41) (Close (finished b y)) Refused))))
 
-unfoldable pub act_awaits : Before → Factor → ℕ → Act
-act_awaits b f c =
-    choose (eqb c 32) (On (Awaits b f))
-    (choose (eqb c 48) (On (Behind b (times_by f (upward 0))))
-    (choose (digit c) (On (Digits (c - 48) b f))
-    (choose (eqb c 40) (Open b f) Refused)))
+unfoldable pub act_awaits : Waiting → ℕ → Act
+act_awaits w c =
+    choose (eqb c 32) (On (Awaits w))
+    (choose (eqb c 48) (On (Behind w.before (times_by w.factor (upward 0))))
+    (choose (digit c) (On (Digits (c - 48) w))
+    (choose (eqb c 40) (Open w) Refused)))
 
-unfoldable pub act_digits : ℕ → Before → Factor → ℕ → Act
-act_digits n b f c = choose (digit c) (On (Digits (grown n c) b f)) (act_behind b (times_by f (upward n)) c)
+unfoldable pub act_digits : ℕ → Waiting → ℕ → Act
+act_digits n w c = choose (digit c) (On (Digits (grown n c) w)) (act_behind w.before (times_by w.factor (upward n)) c)
 
 unfoldable pub act : State → ℕ → Act
-act (Awaits b f) c = act_awaits b f c
-act (Digits n b f) c = act_digits n b f c
+act (Awaits w) c = act_awaits w c
+act (Digits n w) c = act_digits n w c
 act (Behind b y) c = act_behind b y c
 
-pub data Frame : Type 0 where
-  frame : Before → Factor → Frame
-
 abbrev pub Stack : Type 0
-Stack = List Frame
+Stack = List Waiting
 
 pub data Small : Type 0 where
   stands : State → Stack → Small
@@ -70,9 +87,9 @@ pub data Small : Type 0 where
 
 unfoldable pub moved : Act → Stack → Small
 moved (On x) K = stands x K
-moved (Open b f) K = stands (Awaits NoSum None) (frame b f ∷ K)
-moved (Close w) [] = stopped
-moved (Close w) (frame b f ∷ K) = stands (Behind b (times_by f w)) K
+moved (Open w) K = stands (awaits NoSum) (w ∷ K)
+moved (Close y) [] = stopped
+moved (Close y) (w ∷ K) = stands (Behind w.before (times_by w.factor y)) K
 moved Refused K = stopped
 
 unfoldable pub small_step : Small → ℕ → Small
@@ -80,8 +97,8 @@ small_step (stands x K) c = moved (act x c) K
 small_step stopped c = stopped
 
 unfoldable pub ended : State → Worked
-ended (Awaits b f) = None
-ended (Digits n b f) = finished b (times_by f (upward n))
+ended (Awaits w) = None
+ended (Digits n w) = finished w.before (times_by w.factor (upward n))
 ended (Behind b y) = finished b y
 
 unfoldable pub small_end : Small → Worked

@@ -1,13 +1,14 @@
 // What a text comes to: one loop over its bytes, with what waits for open brackets in lent words. What is right says `sum_of`.
 ghost use Rattle.std.specs.Prelude.{◌≡◌, ◌+◌, ◌*◌, ◌≤◌, ◌<◌, length};
 ghost use Rattle.sums.specs.Machine.{sum_of};
-ghost use Rattle.sums.specs.Small.{finished, times_by, grown, act, act_awaits, act_behind, ended};
+ghost use Rattle.sums.specs.Small.{finished, times_by, grown, awaits, act, act_awaits, act_behind, ended};
 ghost use Rattle.sums.specs.Packed.{worked_kind, worked_size, worked_from, before_tag, before_size, before_of, factor_tag, factor_size, factor_of, words};
 
-use crate::value::{MOST, Sum, add, multiply, subtract, up};
+use crate::value::{MOST, Sum, add, bounded, multiply, size, subtract};
+use page::MAX_PAGE;
 
-// How many words open brackets take in a text of up to 32,768 bytes.
-pub const ROOM: usize = 16384;
+// How many words open brackets take in a text no longer than a page.
+pub const ROOM: usize = MAX_PAGE / 2;
 
 // What waits for a product: nothing, or a sum and `+` or `-`.
 #[derive(Clone, Copy)]
@@ -17,11 +18,17 @@ enum Before {
     SumMinus(Option<Sum>),
 }
 
-// What waits for an operand is nothing, or a product and `*`: an option of what the product comes to.
+// What waits for an operand: nothing, or a product and `*`, which is an option of what the product comes to; and what waits for its product.
+#[derive(Clone, Copy)]
+struct Waiting {
+    before: Before,
+    factor: Option<Option<Sum>>,
+}
+
 #[derive(Clone, Copy)]
 enum State {
-    Awaits(Before, Option<Option<Sum>>),
-    Digits(u64, Before, Option<Option<Sum>>),
+    Awaits(Waiting),
+    Digits(u64, Waiting),
     Behind(Before, Option<Sum>),
 }
 
@@ -29,7 +36,7 @@ enum State {
 #[derive(Clone, Copy)]
 enum Act {
     On(State),
-    Open(Before, Option<Option<Sum>>),
+    Open(Waiting),
     Close(Option<Sum>),
     Refused,
 }
@@ -39,14 +46,13 @@ fn grow(n: u64, c: u8) -> u64
     requires { 48 ≤ c }
     ensures { result ≡ grown n c }
 {
-    if MOST < n {
-        return MOST + 1;
-    }
-    let m = n * 10 + u64::from(c - b'0');
-    m.min(MOST + 1)
+    n.saturating_mul(10)
+        .saturating_add(u64::from(c - b'0'))
+        .min(MOST + 1)
 }
 
 // The sum so far, with the product y.
+#[tactic(auto, unfolding(crate::specs::Small::finished))]
 fn total(before: Before, y: Option<Sum>) -> Option<Sum>
     ensures { result ≡ finished before y }
 {
@@ -58,6 +64,7 @@ fn total(before: Before, y: Option<Sum>) -> Option<Sum>
 }
 
 // The product so far, with the operand y.
+#[tactic(auto, unfolding(crate::specs::Small::times_by))]
 fn product(factor: Option<Option<Sum>>, y: Option<Sum>) -> Option<Sum>
     ensures { result ≡ times_by factor y }
 {
@@ -67,60 +74,92 @@ fn product(factor: Option<Option<Sum>>, y: Option<Sum>) -> Option<Sum>
     }
 }
 
+// The first operand of a product is awaited.
+fn awaits(before: Before) -> State
+    ensures { result ≡ awaits before }
+{
+    State::Awaits(Waiting {
+        before,
+        factor: None,
+    })
+}
+
 // Where an operand is awaited.
-fn act_awaits(before: Before, factor: Option<Option<Sum>>, c: u8) -> Act
-    ensures { result ≡ act_awaits before factor c }
+#[inline(always)]
+#[tactic(auto, unfolding(crate::specs::Small::act_awaits, crate::specs::Choice::choose, crate::specs::Choice::digit))]
+fn act_awaits(waiting: Waiting, c: u8) -> Act
+    ensures { result ≡ act_awaits waiting c }
 {
     match c {
-        b' ' => Act::On(State::Awaits(before, factor)),
-        b'0' => Act::On(State::Behind(before, product(factor, up(0)))),
-        b'(' => Act::Open(before, factor),
-        _ if c.is_ascii_digit() => Act::On(State::Digits(u64::from(c - b'0'), before, factor)),
+        b' ' => Act::On(State::Awaits(waiting)),
+        b'0' => Act::On(State::Behind(
+            waiting.before,
+            product(waiting.factor, bounded(Sum::Plus(0))),
+        )),
+        b'(' => Act::Open(waiting),
+        _ if c.is_ascii_digit() => Act::On(State::Digits(u64::from(c - b'0'), waiting)),
         _ => Act::Refused,
     }
 }
 
 // Behind an operand, with the product so far.
+#[inline(always)]
+#[tactic(auto, unfolding(crate::specs::Small::act_behind, crate::specs::Choice::choose))]
 fn act_behind(before: Before, y: Option<Sum>, c: u8) -> Act
     ensures { result ≡ act_behind before y c }
 {
     match c {
         b' ' => Act::On(State::Behind(before, y)),
-        b'+' => Act::On(State::Awaits(Before::SumPlus(total(before, y)), None)),
-        b'-' => Act::On(State::Awaits(Before::SumMinus(total(before, y)), None)),
-        b'*' => Act::On(State::Awaits(before, Some(y))),
+        b'+' => Act::On(awaits(Before::SumPlus(total(before, y)))),
+        b'-' => Act::On(awaits(Before::SumMinus(total(before, y)))),
+        b'*' => Act::On(State::Awaits(Waiting {
+            before,
+            factor: Some(y),
+        })),
         b')' => Act::Close(total(before, y)),
         _ => Act::Refused,
     }
 }
 
+// What a byte does. Inlined, as the two before it: by calls a text of `1+` takes 181 instructions a byte for 128, and one of digits 167 for 49.
+#[inline(always)]
+#[tactic(auto, unfolding(crate::specs::Small::act, crate::specs::Small::act_digits, crate::specs::Choice::choose, crate::specs::Choice::digit))]
 fn act_of(state: State, c: u8) -> Act
     ensures { result ≡ act state c }
 {
     match state {
-        State::Awaits(before, factor) => act_awaits(before, factor, c),
-        State::Digits(n, before, factor) => {
-            if c.is_ascii_digit() {
-                return Act::On(State::Digits(grow(n, c), before, factor));
-            }
-            act_behind(before, product(factor, up(n)), c)
-        }
+        State::Awaits(waiting) => act_awaits(waiting, c),
+        State::Digits(n, waiting) if c.is_ascii_digit() => Act::On(State::Digits(
+            grow(n, c),
+            waiting,
+        )),
+        State::Digits(n, waiting) => act_behind(
+            waiting.before,
+            product(waiting.factor, bounded(Sum::Plus(n))),
+            c,
+        ),
         State::Behind(before, y) => act_behind(before, y, c),
     }
 }
 
 // The answer where the text ends and no bracket is open.
+#[tactic(auto, unfolding(crate::specs::Small::ended))]
 fn end_of(state: State) -> Option<Sum>
     ensures { result ≡ ended state }
 {
     match state {
-        State::Awaits(_, _) => None,
-        State::Digits(n, before, factor) => total(before, product(factor, up(n))),
+        State::Awaits(..) => None,
+        State::Digits(n, waiting) => total(
+            waiting.before,
+            product(waiting.factor, bounded(Sum::Plus(n))),
+        ),
         State::Behind(before, y) => total(before, y),
     }
 }
 
-// ---- an open bracket in words: fixed memory. A number tells what waits, and a size of its own stands before it only where there is one.
+// ---- an open bracket in words: fixed memory. A number tells what waits, and a size of its own stands before it only where there is one. So 16,384
+// words, 131,072 bytes of stack, are enough. As a struct a bracket would take three words at the least, for two sizes and what they are, and
+// 16,384 of them 393,216 bytes of the half megabyte that a call has (host/tests/stack.rs).
 
 fn kind_of(v: Option<Sum>) -> u64
     ensures { (result ≡ worked_kind v) × (result ≤ 2) }
@@ -135,13 +174,10 @@ fn kind_of(v: Option<Sum>) -> u64
 fn size_of(v: Option<Sum>) -> u64
     ensures { result ≡ worked_size v }
 {
-    match v {
-        None => 0,
-        Some(Sum::Plus(n)) => n,
-        Some(Sum::Minus(n)) => n,
-    }
+    v.map_or(0, size)
 }
 
+#[tactic(auto, unfolding(crate::specs::Packed::worked_from, crate::specs::Choice::choose))]
 fn value_of(kind: u64, size: u64) -> Option<Sum>
     ensures { result ≡ worked_from kind size }
 {
@@ -152,6 +188,7 @@ fn value_of(kind: u64, size: u64) -> Option<Sum>
     }
 }
 
+#[tactic(auto, unfolding(crate::specs::Packed::before_tag))]
 fn before_tag(before: Before) -> u64
     ensures { (result ≡ before_tag before) × (result ≤ 6) }
 {
@@ -162,16 +199,17 @@ fn before_tag(before: Before) -> u64
     }
 }
 
+#[tactic(auto, unfolding(crate::specs::Packed::before_size))]
 fn before_size(before: Before) -> u64
     ensures { result ≡ before_size before }
 {
     match before {
         Before::NoSum => 0,
-        Before::SumPlus(v) => size_of(v),
-        Before::SumMinus(v) => size_of(v),
+        Before::SumPlus(v) | Before::SumMinus(v) => size_of(v),
     }
 }
 
+#[tactic(auto, unfolding(crate::specs::Packed::before_of, crate::specs::Choice::choose))]
 fn before_of(tag: u64, size: u64) -> Before
     ensures { result ≡ before_of tag size }
 {
@@ -182,6 +220,7 @@ fn before_of(tag: u64, size: u64) -> Before
     }
 }
 
+#[tactic(auto, unfolding(crate::specs::Packed::factor_tag))]
 fn factor_tag(factor: Option<Option<Sum>>) -> u64
     ensures { (result ≡ factor_tag factor) × (result ≤ 3) }
 {
@@ -191,15 +230,14 @@ fn factor_tag(factor: Option<Option<Sum>>) -> u64
     }
 }
 
+#[tactic(auto, unfolding(crate::specs::Packed::factor_size))]
 fn factor_size(factor: Option<Option<Sum>>) -> u64
     ensures { result ≡ factor_size factor }
 {
-    match factor {
-        None => 0,
-        Some(v) => size_of(v),
-    }
+    factor.map_or(0, size_of)
 }
 
+#[tactic(auto, unfolding(crate::specs::Packed::factor_of, crate::specs::Choice::choose))]
 fn factor_of(tag: u64, size: u64) -> Option<Option<Sum>>
     ensures { result ≡ factor_of tag size }
 {
@@ -210,6 +248,7 @@ fn factor_of(tag: u64, size: u64) -> Option<Option<Sum>>
 }
 
 // Whether what waits takes a word of its own.
+#[tactic(auto, unfolding(crate::specs::Packed::words, crate::specs::Choice::choose))]
 fn words_of(tag: u64) -> usize
     ensures { (result ≡ words tag) × (result ≤ 1) }
 {
@@ -219,29 +258,29 @@ fn words_of(tag: u64) -> usize
 // A bracket that opens takes one word, and one more for each of the two that is not nothing: two bytes of text each, with those that close,
 // so that 16,384 words are enough. A text that asks for more ends before its brackets do.
 pub fn sum_in(text: &[u8], stack: &mut [u64; ROOM]) -> Option<Sum>
-    requires { (length text.now ≤ 32768) × (length stack.old ≡ 16384) }
-    ensures { (result ≡ sum_of text.now) × (length stack.new ≡ 16384) }
+    requires { length text.now ≤ 32768 }
+    ensures { result ≡ sum_of text.now }
 {
-    let mut state = State::Awaits(Before::NoSum, None);
+    let mut state = awaits(Before::NoSum);
     let mut top: usize = 0;
     for c in text {
         match act_of(state, *c) {
             Act::On(next) => {
                 state = next;
             }
-            Act::Open(before, factor) => {
-                let b = before_tag(before);
-                let f = factor_tag(factor);
+            Act::Open(waiting) => {
+                let b = before_tag(waiting.before);
+                let f = factor_tag(waiting.factor);
                 let at = top + words_of(b);
                 let last = at + words_of(f);
                 if ROOM <= last {
                     return None;
                 }
-                stack[top] = before_size(before);
-                stack[at] = factor_size(factor);
+                stack[top] = before_size(waiting.before);
+                stack[at] = factor_size(waiting.factor);
                 stack[last] = b * 4 + f;
                 top = last + 1;
-                state = State::Awaits(Before::NoSum, None);
+                state = awaits(Before::NoSum);
             }
             Act::Close(v) => {
                 if top == 0 {
@@ -258,8 +297,5 @@ pub fn sum_in(text: &[u8], stack: &mut [u64; ROOM]) -> Option<Sum>
             Act::Refused => return None,
         }
     }
-    if 0 < top {
-        return None;
-    }
-    end_of(state)
+    if top == 0 { end_of(state) } else { None }
 }

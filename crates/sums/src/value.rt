@@ -1,43 +1,55 @@
 // What a sum comes to, and the three steps on it: a number by sign and size, or nothing where it stays. What is right says specs/Value.antt.
 ghost use Rattle.std.specs.Prelude.{◌≡◌};
-ghost use Rattle.sums.specs.Value.{upward, downward, difference, added, taken, multiplied};
-ghost use Rattle.sums.specs.Small.{mixed_product};
+ghost use Rattle.sums.specs.Value.{difference, added, taken, multiplied};
+ghost use Rattle.sums.specs.Small.{size, bounded, opposite, mixed_product};
 
-// The largest size of a number or of a step.
-pub const MOST: u64 = 9007199254740991;
+use page::number::MAX_WHOLE;
 
-// A number from zero up, or one below zero by its size.
+// The largest size of a number or of a step: a sum becomes a whole number of the page.
+pub const MOST: u64 = MAX_WHOLE;
+
+// A number from zero up, or one below zero by its size. It is no i64: specs/Value.antt says with this type, by sign and size, what a sum comes to,
+// and the fields 71 and 75 hold a size.
 #[derive(Clone, Copy)]
 pub enum Sum {
     Plus(u64),
     Minus(u64),
 }
 
-pub fn up(n: u64) -> Option<Sum>
-    ensures { result ≡ upward n }
+#[tactic(auto, unfolding(crate::specs::Small::size))]
+pub fn size(n: Sum) -> u64
+    ensures { result ≡ size n }
 {
-    if MOST < n {
-        return None;
+    match n {
+        Sum::Plus(size) | Sum::Minus(size) => size,
     }
-    Some(Sum::Plus(n))
 }
 
-fn down(n: u64) -> Option<Sum>
-    ensures { result ≡ downward n }
+// A number whose size is within the bound.
+pub fn bounded(n: Sum) -> Option<Sum>
+    ensures { result ≡ bounded n }
 {
-    if MOST < n {
-        return None;
-    }
-    Some(Sum::Minus(n))
+    (size(n) <= MOST).then_some(n)
 }
 
 fn difference(a: u64, b: u64) -> Option<Sum>
     ensures { result ≡ difference a b }
 {
-    if b <= a {
-        return up(a - b);
+    bounded(if b <= a {
+        Sum::Plus(a - b)
+    } else {
+        Sum::Minus(b - a)
+    })
+}
+
+#[tactic(auto, unfolding(crate::specs::Small::opposite))]
+fn opposite(n: Sum) -> Sum
+    ensures { result ≡ opposite n }
+{
+    match n {
+        Sum::Plus(size) => Sum::Minus(size),
+        Sum::Minus(size) => Sum::Plus(size),
     }
-    down(b - a)
 }
 
 // A sum or a product that passes 64 bits passes the bound at 64 bits too.
@@ -45,22 +57,16 @@ pub fn add(a: Option<Sum>, b: Option<Sum>) -> Option<Sum>
     ensures { result ≡ added a b }
 {
     match (a?, b?) {
-        (Sum::Plus(x), Sum::Plus(y)) => up(x.saturating_add(y)),
-        (Sum::Plus(x), Sum::Minus(y)) => difference(x, y),
-        (Sum::Minus(x), Sum::Plus(y)) => difference(y, x),
-        (Sum::Minus(x), Sum::Minus(y)) => down(x.saturating_add(y)),
+        (Sum::Plus(x), Sum::Plus(y)) => bounded(Sum::Plus(x.saturating_add(y))),
+        (Sum::Minus(x), Sum::Minus(y)) => bounded(Sum::Minus(x.saturating_add(y))),
+        (Sum::Plus(x), Sum::Minus(y)) | (Sum::Minus(y), Sum::Plus(x)) => difference(x, y),
     }
 }
 
 pub fn subtract(a: Option<Sum>, b: Option<Sum>) -> Option<Sum>
     ensures { result ≡ taken a b }
 {
-    match (a?, b?) {
-        (Sum::Plus(x), Sum::Plus(y)) => difference(x, y),
-        (Sum::Plus(x), Sum::Minus(y)) => up(x.saturating_add(y)),
-        (Sum::Minus(x), Sum::Plus(y)) => down(x.saturating_add(y)),
-        (Sum::Minus(x), Sum::Minus(y)) => difference(y, x),
-    }
+    add(a, b.map(opposite))
 }
 
 // The product of x, from zero up, and one below zero of size y.
@@ -68,18 +74,19 @@ fn down_product(x: u64, y: u64) -> Option<Sum>
     ensures { result ≡ mixed_product x y }
 {
     if x == 0 {
-        return None;
+        None
+    } else {
+        bounded(Sum::Minus(x.saturating_mul(y)))
     }
-    down(x.saturating_mul(y))
 }
 
 pub fn multiply(a: Option<Sum>, b: Option<Sum>) -> Option<Sum>
     ensures { result ≡ multiplied a b }
 {
     match (a?, b?) {
-        (Sum::Plus(x), Sum::Plus(y)) => up(x.saturating_mul(y)),
-        (Sum::Plus(x), Sum::Minus(y)) => down_product(x, y),
-        (Sum::Minus(x), Sum::Plus(y)) => down_product(y, x),
-        (Sum::Minus(x), Sum::Minus(y)) => up(x.saturating_mul(y)),
+        (Sum::Plus(x), Sum::Plus(y)) | (Sum::Minus(x), Sum::Minus(y)) => bounded(Sum::Plus(
+            x.saturating_mul(y),
+        )),
+        (Sum::Plus(x), Sum::Minus(y)) | (Sum::Minus(y), Sum::Plus(x)) => down_product(x, y),
     }
 }

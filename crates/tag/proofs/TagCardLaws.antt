@@ -9,12 +9,14 @@ use mathlib.Core.Bool.{true, false}
 use lib.ListN.{length, take, drop, get_or}
 use lib.Seq.{drop-cons, drop-length}
 use Rattle.std.proofs.Math.Bool.{and-true}
-use Rattle.std.specs.Prelude.{nat_eq}
+use denote.Ref.{Bor}
+use Rattle.std.specs.Prelude.{nat_eq, Option, None, Some}
+use Rattle.std.specs.Option.{MatchOption, unwrap_or}
 use lib.Pointwise.{pointwise}
 use Rattle.field.specs.Bytes.{Bytes}
 use Rattle.field.specs.Row.{field_bytes, bytes}
 use Rattle.field.specs.Put.{Wrote, head}
-use Rattle.field.proofs.PutLaws.{length_put, wrote_then, wrote_is, wrote_length, wrote_field, length_field_bytes}
+use Rattle.field.proofs.PutLaws.{length_put, wrote_is, wrote_length, wrote_field, length_field_bytes}
 use Rattle.text.specs.Decimal.{decimal}
 use Rattle.page.specs.Page as P
 use Rattle.page.specs.Encode.{encode, page_row, module_items_row, tag_row}
@@ -40,13 +42,19 @@ ends_by : (s : Bytes) → pointwise nat_eq (drop (length s - 1) s) (10 ∷ []) �
 ends_by [] = refl
 ends_by (c ∷ s) = rw (last (c ∷ s) (omega arith)) (and-true (eqb (get_or (c ∷ s) (length (c ∷ s) - 1) 0) 10))
 
-pub end_dropped : (s : Bytes) → pointwise nat_eq (drop (length s - 1) s) (10 ∷ []) ≡ true → take (length s - 1) s ≡ without_end s
+end_dropped : (s : Bytes) → pointwise nat_eq (drop (length s - 1) s) (10 ∷ []) ≡ true → take (length s - 1) s ≡ without_end s
 unfolding without_end
 end_dropped s e = rw (sym (ends_by s) ∙ e)
 
-pub other_kept : (s : Bytes) → pointwise nat_eq (drop (length s - 1) s) (10 ∷ []) ≡ false → s ≡ without_end s
+other_kept : (s : Bytes) → pointwise nat_eq (drop (length s - 1) s) (10 ∷ []) ≡ false → s ≡ without_end s
 unfolding without_end
 other_kept s e = rw (sym (ends_by s) ∙ e)
+
+-- what stands before a line end, or all
+pub end_taken : (s : Bor Bytes) (o : Option (Bor Bytes)) → MatchOption o (pointwise nat_eq (drop (length s.now - 1) s.now) (10 ∷ []) ≡ false) (λ x. (pointwise nat_eq (drop (length s.now - 1) s.now) (10 ∷ []) ≡ true) × (x.now ≡ take (length s.now - 1) s.now) × (length x.now + 1 ≡ length s.now)) →
+    (unwrap_or o s).now ≡ without_end s.now
+end_taken s None m = other_kept s.now m
+end_taken s (Some x) m = m.1 ∙ end_dropped s.now m.0
 
 -- ---- the page of a tag is its field in two heads
 
@@ -115,9 +123,9 @@ module _ (scratch tr pr : ℕ) where
   refused_text (tag_refused r) e z = ap (λ (n : ℕ). decimal n ++ (10 ∷ [])) e
   refused_text (tag_accepted t) e z = absurd (z e)
 
-  pub tag_refused_printed : (s out : Bytes) {a : TagAnswer} {out' : Bytes} → TagAnswers s out a out' → (a.number ≡ 0 → ⊥) → {o o₁ o₂ : Bytes} {n r : ℕ} → Wrote o 0 (decimal a.number) o₁ n → Wrote o₁ n (10 ∷ []) o₂ r →
-      Wrote o 0 (tag_text scratch tr pr (tag_outcome s (length out))) o₂ r
-  tag_refused_printed s out x z u v = wrote_is (refused_text (tag_outcome s (length out)) x.number_is z) (wrote_then u v)
+  pub tag_refused_printed : (s out : Bytes) {a : TagAnswer} {out' : Bytes} → TagAnswers s out a out' → (a.number ≡ 0 → ⊥) → {o o₁ : Bytes} {n : ℕ} → Wrote o 0 (decimal a.number ++ (10 ∷ [])) o₁ n →
+      Wrote o 0 (tag_text scratch tr pr (tag_outcome s (length out))) o₁ n
+  tag_refused_printed s out x z u = wrote_is (refused_text (tag_outcome s (length out)) x.number_is z) u
 
   -- read: the field stands at the front of the out, and the card of the page around it is what is printed
   pub record TagStands (s out : Bytes) (a : TagAnswer) (out' : Bytes) : Type 0 where

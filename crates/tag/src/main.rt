@@ -4,34 +4,31 @@
 
 mod tag_card;
 
+use field::MAX_BODY;
 use input::read_full;
 use input::room::room;
+use page::MAX_PAGE;
+use print_card::{OUT_ROOM, TEXT_ROOM};
 use std::io;
 use tag_card::print_tag;
 
 // Room for a text and a line end behind it, and one byte more: so a longer one is seen.
-const TEXT: usize = 32770;
+const TEXT: usize = MAX_PAGE + 2;
 
 // The longest field: three bytes and a body of 65,535.
-const TAG: usize = 65538;
+const TAG: usize = 3 + MAX_BODY;
 
 // The page of such a field: two heads more.
-const PAGE: usize = 65544;
-
-// Scratch, and what is lent for each out.
-const OUT: usize = 65536;
-
-// Room for the card of any two outs, as in the program `card`.
-const PRINTED: usize = 2097280;
+const PAGE: usize = TAG + 6;
 
 fn main(rt: HostRuntime) -> io::Result<()> {
     let mut text = room::<TEXT>();
     let mut tag = room::<TAG>();
     let mut input = room::<PAGE>();
-    let mut scratch = room::<OUT>();
-    let mut templates = room::<OUT>();
-    let mut page = room::<OUT>();
-    let mut printed = room::<PRINTED>();
+    let mut scratch = room::<OUT_ROOM>();
+    let mut templates = room::<OUT_ROOM>();
+    let mut page = room::<OUT_ROOM>();
+    let mut printed = room::<TEXT_ROOM>();
     let n = read_full(&mut rt.reader(), &mut text)?;
     let end = print_tag(
         &text[..n],

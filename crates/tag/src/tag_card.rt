@@ -5,19 +5,15 @@ ghost use Rattle.field.specs.Row.{field_bytes};
 ghost use Rattle.tag_tree.specs.TagAnswer.{tag_outcome};
 ghost use Rattle.tag.specs.TagCard.{without_end, tag_text};
 
-use field::writer::{put_byte, put_bytes, put_head};
-use print_card::print_card;
+use field::writer::{put_bytes, put_head};
+use print_card::{print_card, print_refusal};
 use tag_pass::answer::read_tag;
-use text::decimal::put_decimal;
 
 // A text file ends with a line end, which is no part of the tag.
 fn without_end(s: &[u8]) -> &[u8]
     ensures { result.now ≡ without_end s.now }
 {
-    match s.strip_suffix(b"\n") {
-        Some(t) => t,
-        None => s,
-    }
+    s.strip_suffix(b"\n").unwrap_or(s)
 }
 
 // The page around a tag's field. Of a body over 65,535 bytes a head has the low half of the length: such a page is over 32,768 bytes, and
@@ -32,8 +28,7 @@ fn put_page(out: &mut [u8], tag: &[u8]) -> usize
     put_bytes(out, b, tag)
 }
 
-// Six buffers one by one: a struct of them would be filled in `main` and taken apart here, and nowhere else. The two calls that print a refusal
-// stand in print_card too: a function for both would take as many.
+// Six buffers one by one: a struct of them would be filled in `main` and taken apart here, and nowhere else.
 pub fn print_tag(
     text: &[u8],
     tag: &mut [u8],
@@ -47,10 +42,12 @@ pub fn print_tag(
     ensures { Wrote printed.old 0 (tag_text (length scratch.old) (length templates.old) (length page.old) (tag_outcome (without_end text.now) (length tag.old))) printed.new result }
 {
     let a = read_tag(without_end(text), tag);
-    if a.number != 0 {
-        let end = put_decimal(printed, 0, u64::from(a.number));
-        return put_byte(printed, end, b'\n');
+    // a number, since the export answers C: 0, or a refusal's
+    match a.number {
+        0 => {
+            let end = put_page(input, &tag[..a.tag_bytes]);
+            print_card(&input[..end], scratch, templates, page, printed)
+        }
+        number => print_refusal(printed, number),
     }
-    let end = put_page(input, &tag[..a.tag_bytes]);
-    print_card(&input[..end], scratch, templates, page, printed)
 }

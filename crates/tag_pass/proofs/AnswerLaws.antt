@@ -14,6 +14,10 @@ use Rattle.field.specs.Put.{put}
 use Rattle.field.proofs.PutLaws.{length_field_bytes}
 use Rattle.utf8.specs.Utf8.{utf8}
 use Rattle.page.specs.Page as P
+use Rattle.page.specs.Refusal.{Verdict, unless, refusal_number}
+use Rattle.page.proofs.Verdicts.{refused}
+use Rattle.page.specs.declared.Refusal.{Refusal}
+use Rattle.page.specs.declared.Refusal.TheVariants as F
 use Rattle.page.specs.Encode.{name_row, tag_row, attributes_row, children_row}
 use Rattle.grammar.specs.Signs.{choose}
 use Rattle.grammar.specs.Syntax.{Tag, matched}
@@ -22,13 +26,13 @@ use Rattle.tag_tree.specs.PageTag.{page_tag}
 use Rattle.tag_tree.specs.TagAnswer as TA
 use Rattle.tag_tree.specs.TagAnswer.{TagOutcome, tag_refused, tag_accepted, numbers_in_range, shallow, tag_field, tag_encode, given, within, answered, tag_outcome, tag_number, tag_refusal_number, tag_left}
 use Rattle.read_tag.specs.Progress as R
-use Rattle.std.specs.Prelude.{Option, Some, None, Result, Ok, Err}
+use Rattle.std.specs.Prelude.{Option, Some, None, Result, Ok, Err, IsErrAnd}
 use Rattle.std.specs.Option.{ok_or}
 use Rattle.tag_pass.specs.declared.answer.Unread.{Unread}
 use Rattle.tag_pass.specs.declared.answer.Unread.TheVariants as U
 use Rattle.tag_pass.specs.Worlds.{ended_world, nothing_made, Made}
 use Rattle.tag_pass.specs.States.{Passed, passed_none, passed_tag}
-use Rattle.tag_pass.specs.Answers.{TagAnswers, reason, refused_if, checked, FieldPut, FieldRead}
+use Rattle.tag_pass.specs.Answers.{TagAnswers, unread_number, refused_if, checked, FieldPut, FieldRead}
 use Rattle.tag_pass.specs.declared.state.Reading.{Reading}
 use Rattle.tag_pass.specs.declared.answer.TagAnswer.{TagAnswer}
 
@@ -95,13 +99,13 @@ outcome_by m n s f r x =
     (tag_refused TA.names_differ)
 
 -- a body too long, no room
-by_tests : (m n s l q : Bool) (x : P.Tag) (at : ℕ) (text o out : Bytes) → tag_outcome text (length o) ≡ outcome_by m n s (not l) (not q) x → at ≡ length (tag_encode x) → (n ≡ true → out ≡ put o 0 (tag_encode x)) → FieldRead text o (refused_if (not m) U.NamesDiffer (refused_if (not n) U.NumberTooLarge (refused_if (not s) U.TooDeep (refused_if l U.OutputTooLong (refused_if q U.TagTooSmall (Ok at)))))) out
-unfolding outcome_by choose given refused_if reason
-by_tests false n s l q x at text o out e a p = e
-by_tests true false s l q x at text o out e a p = e
-by_tests true true false l q x at text o out e a p = e
-by_tests true true true true q x at text o out e a p = e
-by_tests true true true false true x at text o out e a p = e
+by_tests : (m n s l q : Bool) (x : P.Tag) (at : ℕ) (text o out : Bytes) → tag_outcome text (length o) ≡ outcome_by m n s (not l) (not q) x → at ≡ length (tag_encode x) → (n ≡ true → out ≡ put o 0 (tag_encode x)) → FieldRead text o (refused_if (not m) U.NamesDiffer (refused_if (not n) (U.Refused F.NumberTooLarge) (refused_if (not s) (U.Refused F.TooDeep) (refused_if l (U.Refused F.OutputTooLong) (refused_if q (U.Refused F.PageTooSmall) (Ok at)))))) out
+unfolding outcome_by choose given refused_if tag_refusal_number unread_number refusal_number
+by_tests false n s l q x at text o out e a p = record { refusal = TA.names_differ; refused = e; number = refl }
+by_tests true false s l q x at text o out e a p = record { refusal = TA.number_too_large; refused = e; number = refl }
+by_tests true true false l q x at text o out e a p = record { refusal = TA.too_deep; refused = e; number = refl }
+by_tests true true true true q x at text o out e a p = record { refusal = TA.output_too_long; refused = e; number = refl }
+by_tests true true true false true x at text o out e a p = record { refusal = TA.tag_too_small; refused = e; number = refl }
 by_tests true true true false false x at text o out e a p = record { tag = x; accepted = e; count = a; out_is = p refl }
 
 -- ---- the answer by the grammar's reader
@@ -149,29 +153,34 @@ read_bytes t m e = m.out_is (sym m.numbers_is ∙ e)
 
 -- ---- the field, or why there is none
 
-pub field_long : (s o out : Bytes) → 32768 < length s → FieldRead s o (Err U.InputTooLong) out
-unfolding tag_outcome given reason
-field_long s o out l = ap (λ (z : Bool). given z TA.input_too_long (λ _. given (utf8 s) TA.not_utf8 (λ _. answered (length o) (answer s)))) (lt-leb (length s) 32768 l)
+pub field_long : (s o out : Bytes) → 32768 < length s → FieldRead s o (Err (U.Refused F.InputTooLong)) out
+unfolding tag_outcome given tag_refusal_number unread_number refusal_number
+field_long s o out l =
+    record {
+      refusal = TA.input_too_long;
+      refused = ap (λ (z : Bool). given z TA.input_too_long (λ _. given (utf8 s) TA.not_utf8 (λ _. answered (length o) (answer s)))) (lt-leb (length s) 32768 l);
+      number = refl;
+    }
 
-is_false : (x : Bool) → not x ≡ true → x ≡ false
-is_false true e = sym e
-is_false false e = refl
-
-is_true : (x : Bool) → not x ≡ false → x ≡ true
-is_true true e = refl
-is_true false e = sym e
-
-pub field_no_utf8 : {u : Bool} (s o out : Bytes) → length s ≤ 32768 → u ≡ utf8 s → not u ≡ true → FieldRead s o (Err U.NotUtf8) out
-unfolding tag_outcome given reason
+pub field_no_utf8 : {u : Bool} (s o out : Bytes) → length s ≤ 32768 → u ≡ utf8 s → u ≡ false → FieldRead s o (Err (U.Refused F.NotUtf8)) out
+unfolding tag_outcome given tag_refusal_number unread_number refusal_number
 field_no_utf8 {u} s o out l is no_utf8 =
-    ap (λ (z : Bool). given z TA.input_too_long (λ _. given (utf8 s) TA.not_utf8 (λ _. answered (length o) (answer s)))) (le-leb (length s) 32768 l) ∙
-    ap (λ (z : Bool). given z TA.not_utf8 (λ _. answered (length o) (answer s))) (sym is ∙ is_false u no_utf8)
+    record {
+      refusal = TA.not_utf8;
+      refused = ap (λ (z : Bool). given z TA.input_too_long (λ _. given (utf8 s) TA.not_utf8 (λ _. answered (length o) (answer s)))) (le-leb (length s) 32768 l) ∙ ap (λ (z : Bool). given z TA.not_utf8 (λ _. answered (length o) (answer s))) (sym is ∙ no_utf8);
+      number = refl;
+    }
 
-field_none : {s o out : Bytes} {u : Bool} → length s ≤ 32768 → u ≡ utf8 s → not u ≡ false → Passed s o None out → FieldRead s o (Err U.NoReading) out
-unfolding tag_outcome given answer judged answered reason
+field_none : {s o out : Bytes} {u : Bool} → length s ≤ 32768 → u ≡ utf8 s → u ≡ true → Passed s o None out → FieldRead s o (Err U.NoReading) out
+unfolding tag_outcome given answer judged answered tag_refusal_number unread_number
 field_none {s} {o} {u = u} l is ok (passed_none e) =
-    ap (λ (z : Bool). given z TA.input_too_long (λ _. given (utf8 s) TA.not_utf8 (λ _. answered (length o) (judged (outcome start s))))) (le-leb (length s) 32768 l) ∙
-    (ap (λ (z : Bool). given z TA.not_utf8 (λ _. answered (length o) (judged (outcome start s)))) (sym is ∙ is_true u ok) ∙ ap (λ z. answered (length o) (judged z)) e)
+    record {
+      refusal = TA.no_reading;
+      refused =
+          ap (λ (z : Bool). given z TA.input_too_long (λ _. given (utf8 s) TA.not_utf8 (λ _. answered (length o) (judged (outcome start s))))) (le-leb (length s) 32768 l) ∙
+          (ap (λ (z : Bool). given z TA.not_utf8 (λ _. answered (length o) (judged (outcome start s)))) (sym is ∙ ok) ∙ ap (λ z. answered (length o) (judged z)) e);
+      number = refl;
+    }
 
 -- the error that `ok_or` was given
 given_to : {A E : Type 0} {o : Option A} {n e : E} → o ≡ None → Err e ≡ ok_or o n → e ≡ n
@@ -179,18 +188,37 @@ given_to {A} {E} {o} {n} {e} b a =
     let h : Err e ≡ Err n = a ∙ ap (λ (x : Option A). ok_or x n) b in
     cc
 
-pub field_unread : {s o out : Bytes} {u : Bool} {q : Option Reading} (e d : Unread) → e ≡ d → Err d ≡ ok_or q U.NoReading → q ≡ None → length s ≤ 32768 → u ≡ utf8 s → not u ≡ false → Passed s o q out → FieldRead s o (Err e) out
-field_unread {s} {o} {out} {u} {q} e d same given_as unread l is ok p =
-    field_none l is ok (subst (λ (x : Option Reading). Passed s o x out) unread p) ∙ ap (λ (z : Unread). tag_refused (reason z)) (sym (same ∙ given_to unread given_as))
+-- the exit of a `?` behind a test
+pub refused_by : {b : Bool} {v : Verdict} {n e : Refusal} → v ≡ unless b n → v ≡ Err e → (b ≡ false) × (e ≡ n)
+refused_by {b} {v} {n} {e} u i = on b (sym u ∙ i)
+  where
+    on : (c : Bool) → unless c n ≡ Err e → (c ≡ false) × (e ≡ n)
+    on true q = absurd (refused e (sym q))
+    on false q = (refl, cc)
 
-pub field_read : {s o out : Bytes} {u : Bool} {st : Reading} {p : Option Reading} {q : Result ℕ Unread} {room : ℕ} → p ≡ Some st → length s ≤ 32768 → u ≡ utf8 s → not u ≡ false → Passed s o p out → room ≡ length o → q ≡ checked st room → FieldRead s o q out
+pub fine_by : {b : Bool} {v : Verdict} (n : Refusal) → v ≡ unless b n → v ≡ Ok tt → b ≡ true
+fine_by {b} n u i = on b (sym u ∙ i)
+  where
+    on : (c : Bool) → unless c n ≡ Ok tt → c ≡ true
+    on true q = refl
+    on false q = absurd (refused n q)
+
+pub handed : {r : Result ℕ Unread} {e : Refusal} → IsErrAnd r (λ v. v ≡ U.Refused e) → r ≡ Err (U.Refused e)
+handed {r = Ok x} h = absurd h
+handed {r = Err v} h = ap Err h
+
+pub field_unread : {s o out : Bytes} {u : Bool} {q : Option Reading} (e d : Unread) → e ≡ d → Err d ≡ ok_or q U.NoReading → q ≡ None → length s ≤ 32768 → u ≡ utf8 s → u ≡ true → Passed s o q out → FieldRead s o (Err e) out
+field_unread {s} {o} {out} {u} {q} e d same given_as unread l is ok p =
+    subst (λ (z : Unread). FieldRead s o (Err z) out) (sym (same ∙ given_to unread given_as)) (field_none l is ok (subst (λ (x : Option Reading). Passed s o x out) unread p))
+
+pub field_read : {s o out : Bytes} {u : Bool} {st : Reading} {p : Option Reading} {q : Result ℕ Unread} {room : ℕ} → p ≡ Some st → length s ≤ 32768 → u ≡ utf8 s → u ≡ true → Passed s o p out → room ≡ length o → q ≡ checked st room → FieldRead s o q out
 unfolding checked
 field_read {s} {o} {out} {u} {st} {p} {q} {room} some l is ok passed same qs = on (subst (λ (x : Option Reading). Passed s o x out) some passed)
   where
     on : Passed s o (Some st) out → FieldRead s o q out
     on (passed_tag {t} m e made) =
         subst (λ (z : Result ℕ Unread). FieldRead s o z out) (sym (qs ∙ ap (checked st) same))
-        (by_tests st.names st.numbers st.shallow (ltb 65538 st.at) (ltb (length o) st.at) (page_tag t) st.at s o out (pass_outcome s st t (length o) (le-leb (length s) 32768 l) (sym is ∙ is_true u ok) e made) (at_encode t made.at_is) (read_bytes t made))
+        (by_tests st.names st.numbers st.shallow (ltb 65538 st.at) (ltb (length o) st.at) (page_tag t) st.at s o out (pass_outcome s st t (length o) (le-leb (length s) 32768 l) (sym is ∙ ok) e made) (at_encode t made.at_is) (read_bytes t made))
 
 -- ---- whole answers
 
@@ -199,7 +227,11 @@ unfolding tag_number TA.bytes_of_tag tag_left
 answer_put {o = o} p n =
     record { number_is = n ∙ sym (ap tag_number p.accepted); bytes_is = p.count ∙ sym (ap TA.bytes_of_tag p.accepted); out_is = p.out_is ∙ sym (ap (λ (z : TagOutcome). tag_left z o) p.accepted) }
 
-pub answer_refused : {s o out : Bytes} {r : TagAnswer} (out₁ : Bytes) (e : Unread) → FieldRead s o (Err e) out₁ → r.number ≡ tag_refusal_number (reason e) → r.tag_bytes ≡ 0 → length out₁ ≡ length o → out ≡ replicate (length out₁) 0 → TagAnswers s o r out
+pub answer_refused : {s o out : Bytes} {r : TagAnswer} (out₁ : Bytes) (e : Unread) → FieldRead s o (Err e) out₁ → r.number ≡ unread_number e → r.tag_bytes ≡ 0 → length out₁ ≡ length o → out ≡ replicate (length out₁) 0 → TagAnswers s o r out
 unfolding tag_number TA.bytes_of_tag tag_left
 answer_refused {o = o} out₁ q e n b same c =
-    record { number_is = n ∙ sym (ap tag_number e); bytes_is = b ∙ sym (ap TA.bytes_of_tag e); out_is = c ∙ ap (λ (k : ℕ). replicate k 0) same ∙ sym (ap (λ (z : TagOutcome). tag_left z o) e) }
+    record {
+      number_is = n ∙ sym e.number ∙ sym (ap tag_number e.refused);
+      bytes_is = b ∙ sym (ap TA.bytes_of_tag e.refused);
+      out_is = c ∙ ap (λ (k : ℕ). replicate k 0) same ∙ sym (ap (λ (z : TagOutcome). tag_left z o) e.refused);
+    }

@@ -1,10 +1,14 @@
--- The stack of the pass: tags put on it and found there. Main statements: `stacked_push`, `stacked_depth`. Assumes nothing.
-use Prim.Native.Nat.{ℕ, ◌+◌, ◌*◌, ◌%◌, ◌≤◌, ◌<◌}
+-- The stack of the pass: tags put on it and found there. Main statements: `stacked_push`, `stacked_depth`, `waited_last`. Assumes nothing.
+use Prim.Native.Nat.{ℕ, ◌+◌, ◌-◌, ◌*◌, ◌%◌, ◌≤◌, ◌<◌}
 use mathlib.Core.Path.{◌≡◌, refl, sym, ◌∙◌, ap, subst}
 use mathlib.Core.List.{List, ◌∷◌}
 use native.Mathlib.Omega.{arith}
-use lib.ListN.{length, get_or, set}
+use lib.ListN.{length, take, get_or, set}
 use lib.Seq.{get_or-set_same, get_or-set_other}
+use Rattle.std.specs.Prelude.{Some}
+use Rattle.std.specs.List.{slice_get}
+use Rattle.std.proofs.lemmas.List.{length-take-le, get_or-take}
+use Rattle.std.proofs.lemmas.Option.{slice_get_within, get_or_from_slice_get}
 use Rattle.field.specs.Bytes.{Bytes}
 use Rattle.grammar.specs.Reader.{child_braces, spread_child_braces, value_braces, spread_braces, Frame, within, value_of, in_braces, Stack}
 use Rattle.read_tag.specs.Flags.{depth_of, braces_depth}
@@ -60,3 +64,14 @@ stacked_depth (frame {h} {f} {K} u st) = omega (arith, added_of f K (kind_of f) 
 
 pub low_is : (x : ℕ) → x < 4294967296 → x % 4294967296 ≡ x
 low_is x l = omega arith
+
+-- ---- the tag that waited last
+
+pub none_waits : (fs : List Waiting) (h : ℕ) → h ≤ length fs → length (take h fs) ≤ 0 → h ≡ 0
+none_waits fs h l z = omega (arith, length-take-le h fs l, z)
+
+pub waited_last : (fs : List Waiting) (h : ℕ) (x : Waiting) → h ≤ length fs → Some x ≡ slice_get (take h fs) (length (take h fs) - 1) → (h ≡ 0 → ⊥) × (x ≡ get_or fs (h - 1) idle)
+waited_last fs h x l e =
+    let n = length-take-le h fs l in
+    let k = slice_get_within (take h fs) (length (take h fs) - 1) x (sym e) in
+    (λ z. omega (arith, n, k, z), sym (get_or_from_slice_get (take h fs) (length (take h fs) - 1) x idle (sym e)) ∙ (get_or-take h fs (length (take h fs) - 1) idle (omega (arith, n, k)) ∙ ap (λ (m : ℕ). get_or fs (m - 1) idle) n))

@@ -1,4 +1,5 @@
--- The grammar's reader at places of a text: white space, a sign behind it, and the text's end. Main statements: `sign`, `bad_sign`, `no_sign`.
+-- The grammar's reader at places of a text: white space, a sign behind it, and the text's end. Main statements: `spaces`, `reads`, `told`, `steps`,
+-- `stuck`, `out_of`.
 -- Assumes nothing.
 use Prim.Native.Nat.{ℕ, ◌+◌, ◌≤◌, ◌<◌}
 use mathlib.Core.Path.{◌≡◌, refl, sym, ◌∙◌, ap, subst}

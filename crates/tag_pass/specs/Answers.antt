@@ -1,10 +1,12 @@
--- The whole answer of the reader: `tag_outcome` in the numbers and bytes of a call. Main definitions: `TagAnswers`, `reason`.
+-- The whole answer of the reader: `tag_outcome` in the numbers and bytes of a call. Main definitions: `TagAnswers`, `unread_number`.
 -- Assumes nothing: these are definitions.
 use Rattle.std.specs.Prelude.{ℕ, ◌≡◌, Bool, true, false, Result, Ok, Err, not, ltb, length}
 use Rattle.field.specs.Bytes.{Bytes}
 use Rattle.field.specs.Put.{put}
 use Rattle.page.specs.Page as P
-use Rattle.tag_tree.specs.TagAnswer.{TagRefusal, input_too_long, not_utf8, no_reading, names_differ, number_too_large, too_deep, output_too_long, tag_too_small, tag_refused, tag_accepted, tag_encode, tag_outcome, tag_number, bytes_of_tag, tag_left}
+use Rattle.page.specs.Refusal.{refusal_number}
+use Rattle.page.specs.declared.Refusal.TheVariants as R
+use Rattle.tag_tree.specs.TagAnswer.{TagRefusal, TagOutcome, tag_refused, tag_accepted, tag_refusal_number, tag_encode, tag_outcome, tag_number, bytes_of_tag, tag_left}
 use Rattle.tag_pass.specs.declared.answer.TagAnswer.{TagAnswer}
 use Rattle.tag_pass.specs.declared.answer.Unread.{Unread}
 use Rattle.tag_pass.specs.declared.answer.Unread.TheVariants as U
@@ -18,15 +20,17 @@ pub record TagAnswers (text out : Bytes) (r : TagAnswer) (out' : Bytes) : Type 0
 
 -- ---- the reasons of the code
 
-unfoldable pub reason : Unread → TagRefusal
-reason U.InputTooLong = input_too_long
-reason U.NotUtf8 = not_utf8
-reason U.NoReading = no_reading
-reason U.NamesDiffer = names_differ
-reason U.NumberTooLarge = number_too_large
-reason U.TooDeep = too_deep
-reason U.OutputTooLong = output_too_long
-reason U.TagTooSmall = tag_too_small
+-- the number of each: of a refusal its own, and 02, A3's 14 and 15
+unfoldable pub unread_number : Unread → ℕ
+unread_number (U.Refused r) = refusal_number r
+unread_number U.NoReading = 14
+unread_number U.NamesDiffer = 15
+
+-- the outcome is a refusal under that number
+pub record RefusedAs (o : TagOutcome) (n : ℕ) : Type 0 where
+  pub refusal : TagRefusal
+  pub refused : o ≡ tag_refused refusal
+  pub number : tag_refusal_number refusal ≡ n
 
 unfoldable pub refused_if : Bool → Unread → Result ℕ Unread → Result ℕ Unread
 refused_if true e r = Err e
@@ -36,7 +40,8 @@ refused_if false e r = r
 unfoldable pub checked : Reading → ℕ → Result ℕ Unread
 checked st room =
     refused_if (not st.names) U.NamesDiffer
-    (refused_if (not st.numbers) U.NumberTooLarge (refused_if (not st.shallow) U.TooDeep (refused_if (ltb 65538 st.at) U.OutputTooLong (refused_if (ltb room st.at) U.TagTooSmall (Ok st.at)))))
+    (refused_if (not st.numbers) (U.Refused R.NumberTooLarge)
+    (refused_if (not st.shallow) (U.Refused R.TooDeep) (refused_if (ltb 65538 st.at) (U.Refused R.OutputTooLong) (refused_if (ltb room st.at) (U.Refused R.PageTooSmall) (Ok st.at)))))
 
 -- the tag's field stands in front, or there is a reason
 pub record FieldPut (text out : Bytes) (n : ℕ) (out' : Bytes) : Type 0 where
@@ -47,4 +52,4 @@ pub record FieldPut (text out : Bytes) (n : ℕ) (out' : Bytes) : Type 0 where
 
 abbrev pub FieldRead : Bytes → Bytes → Result ℕ Unread → Bytes → Type 0
 FieldRead text out (Ok n) out' = FieldPut text out n out'
-FieldRead text out (Err e) out' = tag_outcome text (length out) ≡ tag_refused (reason e)
+FieldRead text out (Err e) out' = RefusedAs (tag_outcome text (length out)) (unread_number e)

@@ -1,12 +1,15 @@
 // The whole answer: what is refused before the text is read, the pass, and what is refused behind it (document 02, A3).
 ghost use Rattle.std.specs.Prelude.{◌≡◌};
-ghost use Rattle.tag_tree.specs.TagAnswer.{tag_refusal_number};
-ghost use Rattle.tag_pass.specs.Answers.{TagAnswers, reason, checked, FieldRead};
+ghost use Rattle.tag_pass.specs.declared.answer.Unread.TheVariants as U;
+ghost use Rattle.tag_pass.specs.Answers.{TagAnswers, unread_number, checked, FieldRead};
 
 use crate::pass::read;
 use crate::state::Reading;
+use field::MAX_BODY;
+use page::{MAX_PAGE, Refusal, refuse_unless};
 use utf8::is_utf8;
 
+// It goes to C by value: a number, 0 for none refused, and no Result.
 #[repr(C)]
 #[derive(Clone, Copy)]
 pub struct TagAnswer {
@@ -14,52 +17,51 @@ pub struct TagAnswer {
     pub tag_bytes: usize,
 }
 
-// Why a text is not taken, each under its number.
-#[derive(Clone, Copy, Debug, PartialEq, Eq)]
+// Why a text is not taken: what is refused of a page too, where the tag's buffer is the page.
+#[derive(Clone, Copy, PartialEq, Eq)]
 pub enum Unread {
-    InputTooLong = 2,
-    NotUtf8 = 6,
-    NoReading = 14,
+    Refused(Refusal),
+    NoReading,
     // it would be read if closing names were not compared
-    NamesDiffer = 15,
-    NumberTooLarge = 7,
-    TooDeep = 8,
-    OutputTooLong = 11,
-    TagTooSmall = 13,
+    NamesDiffer,
 }
 
 impl From<Unread> for u32 {
-    ghost from_gives = { λ e n. n ≡ tag_refusal_number (reason e) };
+    ghost from_gives = { λ e n. n ≡ unread_number e };
 
-    #[tactic(auto, unfolding(tag_tree::specs::TagAnswer::tag_refusal_number, crate::specs::Answers::reason))]
+    #[tactic(auto, unfolding(crate::specs::Answers::unread_number))]
     fn from(e: Unread) -> u32 {
-        e as u32
+        match e {
+            Unread::Refused(refusal) => u32::from(refusal),
+            Unread::NoReading => 14,
+            Unread::NamesDiffer => 15,
+        }
     }
 }
 
-const MAX_TEXT: usize = 32768;
-// 01: a body has at most 65,535 bytes.
-const MAX_FIELD: usize = 65538;
+impl From<Refusal> for Unread {
+    ghost from_gives = { λ r e. e ≡ U.Refused r };
+
+    fn from(r: Refusal) -> Unread {
+        Unread::Refused(r)
+    }
+}
+
+// A head of three bytes and the longest body.
+const MAX_FIELD: usize = 3 + MAX_BODY;
 
 // The bytes that were written. The fields of a tag are in its own field, so that a body is too long exactly where the tag's is.
+#[tactic(auto, using(crate::proofs::AnswerLaws::refused_by, crate::proofs::AnswerLaws::fine_by, crate::proofs::AnswerLaws::handed), unfolding(crate::specs::Answers::checked, crate::specs::Answers::refused_if))]
 fn check(st: Reading, room: usize) -> Result<usize, Unread>
     ensures { result ≡ checked st room }
 {
     if !st.names {
         return Err(Unread::NamesDiffer);
     }
-    if !st.numbers {
-        return Err(Unread::NumberTooLarge);
-    }
-    if !st.shallow {
-        return Err(Unread::TooDeep);
-    }
-    if MAX_FIELD < st.at {
-        return Err(Unread::OutputTooLong);
-    }
-    if room < st.at {
-        return Err(Unread::TagTooSmall);
-    }
+    refuse_unless(st.numbers, Refusal::NumberTooLarge)?;
+    refuse_unless(st.shallow, Refusal::TooDeep)?;
+    refuse_unless(st.at <= MAX_FIELD, Refusal::OutputTooLong)?;
+    refuse_unless(st.at <= room, Refusal::PageTooSmall)?;
     Ok(st.at)
 }
 
@@ -67,12 +69,8 @@ fn check(st: Reading, room: usize) -> Result<usize, Unread>
 fn read_field(text: &[u8], out: &mut [u8]) -> Result<usize, Unread>
     ensures { FieldRead text.now out.old result out.new }
 {
-    if MAX_TEXT < text.len() {
-        return Err(Unread::InputTooLong);
-    }
-    if !is_utf8(text) {
-        return Err(Unread::NotUtf8);
-    }
+    refuse_unless(text.len() <= MAX_PAGE, Refusal::InputTooLong)?;
+    refuse_unless(is_utf8(text), Refusal::NotUtf8)?;
     let st = read(text, out).ok_or(Unread::NoReading)?;
     check(st, out.len())
 }

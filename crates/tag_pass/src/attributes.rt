@@ -1,15 +1,14 @@
 // Attributes of a tag.
-ghost use Rattle.std.specs.Prelude.{◌≡◌, true, ◌<◌, length, get_or};
-ghost use Rattle.grammar.specs.Signs.{letter, quote};
+ghost use Rattle.std.specs.Prelude.{◌≡◌, true, ◌<◌, length};
+ghost use Rattle.grammar.specs.Signs.{quote};
 ghost use Rattle.tag_pass.specs.States.{Bounded};
-ghost use Rattle.read_tag.specs.Names.{name_depth};
+ghost use Rattle.read_tag.specs.Names.{LetterAt, name_depth};
 ghost use Rattle.tag_pass.specs.Turns.{AttributeTurn, NoValueTurn, ValueTurn, StringTurn, SpreadTurn};
 
 use crate::braces::{braces, end_attribute, points};
 use crate::sign::sign_behind;
 use crate::state::{Braced, Holder, Mode, Reading};
 use field::writer::put_head;
-use page::MAX_DEPTH;
 use read_tag::name::{put_name, scan_name};
 use read_tag::signs::is_quote;
 use read_tag::texts::read_string;
@@ -28,7 +27,7 @@ fn string_value(text: &[u8], out: &mut [u8], st: Reading, i: usize, q: u8) -> Op
     ensures { StringTurn text.now st i q out.old result out.new }
 {
     let run = read_string(text, i, q, out, st.at)?;
-    let w = st.wrote(run.at, true, st.depth + 2 <= MAX_DEPTH);
+    let w = st.wrote(run.at, st.depth + 2);
     Some(end_attribute(out, w, run.end))
 }
 
@@ -57,9 +56,10 @@ fn behind_name(text: &[u8], out: &mut [u8], st: Reading, e: usize) -> Option<Rea
     }
 }
 
-// The attribute whose name begins at i.
+// The attribute whose name begins at i. Its three calls are open_named's too, with other numbers: one function for both would promise again, word for
+// word, what the three promise.
 pub fn attribute(text: &[u8], out: &mut [u8], st: Reading, i: usize) -> Option<Reading>
-    requires { Bounded (length text.now) st i × (i < length text.now) × (letter (get_or text.now i 0) ≡ true) }
+    requires { Bounded (length text.now) st i × LetterAt text.now i }
     ensures { AttributeTurn text.now st i out.old result out.new }
 {
     let name = scan_name(text, i)?;
@@ -69,7 +69,7 @@ pub fn attribute(text: &[u8], out: &mut [u8], st: Reading, i: usize) -> Option<R
     let a = put_head(out, st.at, 0x50, 0);
     let b = put_name(text, i, name.tag, name.end, out, a);
     let d = name_depth(name.tag, st.depth + 2);
-    let w = st.wrote(b, true, d <= MAX_DEPTH);
+    let w = st.wrote(b, d);
     behind_name(text, out, Reading { fifty: st.at, ..w }, name.end)
 }
 

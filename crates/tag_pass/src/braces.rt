@@ -9,7 +9,6 @@ ghost use Rattle.tag_pass.specs.Turns.{AttributeEnded, FilledTurn, KnownTurn, Br
 use crate::sign::sign_behind;
 use crate::state::{Braced, Holder, Mode, Reading, patch};
 use field::writer::put_head;
-use page::MAX_DEPTH;
 use read_tag::known::put_known;
 use read_tag::source::source_end;
 
@@ -53,7 +52,10 @@ fn known(
     let a = put_head(out, st.at, kind.tag(), 0);
     let held = put_known(text, j, e, out, a)?;
     let d = st.depth + kind.depth() + 1 + held.deep;
-    let w = st.wrote(held.at, held.fits, d <= MAX_DEPTH);
+    let w = Reading {
+        numbers: st.numbers & held.fits,
+        ..st.wrote(held.at, d)
+    };
     Some(end_braces(out, w, kind, st.at, e + 1))
 }
 
@@ -67,7 +69,7 @@ fn expression(text: &[u8], out: &mut [u8], st: Reading, kind: Braced, j: usize) 
         b'<' => {
             let a = put_head(out, st.at, kind.tag(), 0);
             let d = st.depth + kind.depth();
-            let w = st.wrote(a, true, d <= MAX_DEPTH);
+            let w = st.wrote(a, d);
             Some(w.in_mode(Mode::Inner(Holder::Braces(kind)), j + 1))
         }
         b'[' => None,
@@ -112,7 +114,7 @@ pub fn child_braces(text: &[u8], out: &mut [u8], st: Reading, i: usize) -> Optio
     match sign.byte {
         b'}' => {
             let a = put_head(out, st.at, 0x52, 0);
-            let w = st.wrote(a, true, st.depth + 1 <= MAX_DEPTH);
+            let w = st.wrote(a, st.depth + 1);
             Some(w.in_mode(Mode::InChildren, sign.place + 1))
         }
         b'.' => points(text, out, st, Braced::SpreadChild, sign.place + 1),

@@ -6,7 +6,6 @@ ghost use Rattle.tag_pass.specs.Turns.{ChildrenTurn};
 
 use crate::braces::child_braces;
 use crate::state::{Holder, Mode, Reading};
-use page::MAX_DEPTH;
 use read_tag::texts::read_text;
 
 fn text_child(text: &[u8], out: &mut [u8], st: Reading, i: usize) -> Option<Reading>
@@ -14,7 +13,7 @@ fn text_child(text: &[u8], out: &mut [u8], st: Reading, i: usize) -> Option<Read
     ensures { ChildrenTurn text.now st i out.old result out.new }
 {
     let run = read_text(text, i, out, st.at)?;
-    let w = st.wrote(run.at, true, st.depth + 1 <= MAX_DEPTH);
+    let w = st.wrote(run.at, st.depth + 1);
     Some(w.in_mode(Mode::InChildren, run.end))
 }
 

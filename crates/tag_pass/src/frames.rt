@@ -1,6 +1,6 @@
 // The tags that are open around the one that is read, in a lent stack.
 ghost use Rattle.std.specs.Prelude.{◌≡◌, ◌+◌, ◌%◌, ◌^◌, ◌≤◌, ◌<◌, length, slice_set};
-ghost use Rattle.tag_pass.specs.Turns.{low_name, waits, pushed, popped};
+ghost use Rattle.tag_pass.specs.Turns.{waits, pushed, popped};
 
 use crate::state::{Holder, Reading};
 
@@ -27,25 +27,15 @@ fn low(x: usize) -> u32
     (x % 4294967296) as u32
 }
 
-#[tactic(auto, unfolding(crate::specs::Turns::low_name))]
-fn low_name(name: Option<usize>) -> Option<u32>
-    ensures { result ≡ low_name name }
-{
-    match name {
-        Some(p) => Some(low(p)),
-        None => None,
-    }
-}
-
 // The tag of st waits for an inner one in that holder.
-#[tactic(auto, using(crate::proofs::FrameLaws::inner_depth_small))]
+#[tactic(auto, using(crate::proofs::FrameLaws::inner_depth_small), unfolding(crate::specs::Turns::low_name))]
 pub fn push(frames: &mut [Waiting], st: Reading, holder: Holder) -> Reading
     requires { (st.height < length frames.old) × (st.height < 2 ^ 62) × (st.depth < 2 ^ 62) }
     ensures { (result ≡ pushed st holder) × (frames.new ≡ slice_set frames.old st.height (waits st holder)) }
 {
     frames[st.height] = Waiting {
         head: low(st.head),
-        name: low_name(st.name),
+        name: st.name.map(|p| low(p)),
         fifty: low(st.fifty),
         holder,
     };
@@ -56,7 +46,7 @@ pub fn push(frames: &mut [Waiting], st: Reading, holder: Holder) -> Reading
     }
 }
 
-// The tag that waited last is read again.
+// The tag that waited last is read again. `as`: From makes no usize of a u32, and cuts none.
 pub fn resume(st: Reading, frame: Waiting) -> Reading
     ensures { result ≡ popped frame st }
 {

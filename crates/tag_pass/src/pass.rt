@@ -33,10 +33,7 @@ fn open_inner(
             let w = push(frames, st, holder);
             Some(open_fragment(out, w, sign.place + 1))
         }
-        b'/' => match holder {
-            Holder::Children => closing(text, out, st, sign.place + 1),
-            _ => None,
-        },
+        b'/' if holder == Holder::Children => closing(text, out, st, sign.place + 1),
         _ => None,
     }
 }
@@ -61,14 +58,13 @@ fn ended(text: &[u8], out: &mut [u8], frames: &[Waiting], st: Reading) -> Option
     requires { Bounded (length text.now) st st.place × (st.height ≤ length frames.now) }
     ensures { EndedTurn text.now frames.now st out.old result out.new × Unended result }
 {
-    if st.height == 0 {
+    let Some(frame) = frames[..st.height].last() else {
         if st.place < text.len() {
             return None;
         }
         return Some(st.in_mode(Mode::Done, st.place));
-    }
-    let frame = frames[st.height - 1];
-    let w = resume(st, frame);
+    };
+    let w = resume(st, *frame);
     match frame.holder {
         Holder::Children => Some(w.in_mode(Mode::InChildren, w.place)),
         Holder::Value => Some(end_attribute(out, w, w.place)),
@@ -136,7 +132,7 @@ const START: Reading = Reading {
     shallow: true,
 };
 
-// The outermost tag, up to its name.
+// The outermost tag, up to its name. Not one with open_inner: there a tag is put on the stack, and only in the two arms in which another opens.
 fn open_outer(text: &[u8], out: &mut [u8]) -> Option<Reading>
     requires { length text.now ≤ 32768 }
     ensures { OuterTurn text.now out.old result out.new × Unended result }
@@ -171,7 +167,8 @@ fn pass_in<const FRAMES: usize>(text: &[u8], out: &mut [u8]) -> Option<Reading>
     pass_with(text, out, &mut frames)
 }
 
-// A stack is cleared before it is used: a text of over 64 bytes pays for at most eight times what it can need. None: no reading.
+// A stack is cleared before it is used: a text of over 64 bytes pays for at most eight times what it can need. None: no reading. That the text is short
+// is asked of four functions here, and is no type's invariant: each reader below takes a slice, and would open the type again.
 pub fn read(text: &[u8], out: &mut [u8]) -> Option<Reading>
     requires { length text.now ≤ 32768 }
     ensures { Passed text.now out.old result out.new }

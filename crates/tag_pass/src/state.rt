@@ -1,9 +1,10 @@
 // Where the pass stands. Behind a mode stands a state of the grammar's reader (specs/States.antt).
-ghost use Rattle.std.specs.Prelude.{◌≡◌, ◌<◌, ◌^◌};
+ghost use Rattle.std.specs.Prelude.{◌≡◌, true, ◌<◌, ◌^◌, leb};
 ghost use Rattle.tag_pass.specs.States.{goes_on};
 ghost use Rattle.tag_pass.specs.Turns.{at_mode, at_more, kind_code, kind_depth, inner_depth, Patched};
 
 use field::writer::put_head;
+use page::MAX_DEPTH;
 
 // What is in braces.
 #[derive(Clone, Copy, Debug, PartialEq, Eq)]
@@ -27,6 +28,8 @@ pub enum Holder {
     Braces(Braced),
 }
 
+// One enum, also of a tag's end, since a turn may end a tag and go on in the one around it. That there is more to read the loop alone asks, and hands on
+// to its turn.
 #[derive(Clone, Copy, Debug, PartialEq, Eq)]
 pub enum Mode {
     // in a tag, behind its name or an attribute
@@ -41,6 +44,9 @@ pub enum Mode {
     Done,
 }
 
+// Places are numbers, and no slices of what is left: frames keep them in four bytes, and names are compared where they stand. What bounds a state
+// (specs/States.antt's Bounded) is no invariant of this type: it speaks of the text and of a place that is not yet the state's, and a type with an
+// invariant has no `..st`, by which each turn says what it changes.
 #[derive(Clone, Copy)]
 pub struct Reading {
     // in the text
@@ -55,7 +61,8 @@ pub struct Reading {
     pub depth: usize,
     // the head of the attribute that is read, or was last
     pub fifty: usize,
-    // closing names agree, numbers are in range, nothing is too deep
+    // closing names agree, numbers are in range, nothing is too deep: three, as the definition has them (specs/Worlds.antt), and each is noted by an `&`.
+    // By the gravest of what fails each would be an `if` under a `max`, and each clause of a turn would say which of two is graver; `check` orders them once
     pub names: bool,
     pub numbers: bool,
     pub shallow: bool,
@@ -121,14 +128,14 @@ impl Reading {
         }
     }
 
-    // Something more was written.
-    pub fn wrote(self, at: usize, fits: bool, shallow: bool) -> Reading
-        ensures { result ≡ at_more self at fits shallow }
+    // Something more was written, at that depth.
+    #[tactic(auto, using(crate::proofs::Standing::more_fits))]
+    pub fn wrote(self, at: usize, depth: usize) -> Reading
+        ensures { result ≡ at_more self at true (leb depth 48) }
     {
         Reading {
             at,
-            numbers: self.numbers & fits,
-            shallow: self.shallow & shallow,
+            shallow: self.shallow & (depth <= MAX_DEPTH),
             ..self
         }
     }
@@ -140,7 +147,7 @@ pub fn patch(out: &mut [u8], p: usize, tag: u8, at: usize)
     requires { at < 2 ^ 62 }
     ensures { Patched out.old p tag at out.new }
 {
-    if p.saturating_add(3) <= at {
-        put_head(out, p, tag, at - p - 3);
+    if let Some(len) = at.checked_sub(p.saturating_add(3)) {
+        put_head(out, p, tag, len);
     }
 }

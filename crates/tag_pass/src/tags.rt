@@ -1,7 +1,6 @@
 // Tags: how they open and end.
-ghost use Rattle.std.specs.Prelude.{◌≡◌, true, ◌^◌, ◌<◌, length, get_or, Some};
-ghost use Rattle.grammar.specs.Signs.{letter};
-ghost use Rattle.read_tag.specs.Names.{NameAt};
+ghost use Rattle.std.specs.Prelude.{◌≡◌, ◌^◌, ◌<◌, length, Some};
+ghost use Rattle.read_tag.specs.Names.{LetterAt, NameAt};
 ghost use Rattle.tag_pass.specs.States.{Bounded, Settled};
 ghost use Rattle.tag_pass.specs.Turns.{name_code, NamedTurn, FragmentTurn, TagTurn, SlashedTurn, ClosingTurn, TagEnded, NamePlace, ClosingCompared};
 
@@ -9,27 +8,24 @@ use crate::attributes::{attribute, name_depth, spread};
 use crate::sign::sign_behind;
 use crate::state::{Mode, Reading, patch};
 use field::writer::put_head;
-use page::MAX_DEPTH;
 use read_tag::name::{put_name, same_names, scan_name};
 use read_tag::signs::is_letter;
 
 // The tag whose name begins at i.
 #[inline(always)]
 pub fn open_named(text: &[u8], out: &mut [u8], st: Reading, i: usize) -> Option<Reading>
-    requires { Bounded (length text.now) st i × (i < length text.now) × (letter (get_or text.now i 0) ≡ true) }
+    requires { Bounded (length text.now) st i × LetterAt text.now i }
     ensures { NamedTurn text.now st i out.old result out.new × Settled result }
 {
     let name = scan_name(text, i)?;
     let a = put_head(out, st.at, 0x30, 0);
     let b = put_name(text, i, name.tag, name.end, out, a);
     let d = name_depth(name.tag, st.depth + 1);
-    let w = st.wrote(b, true, d <= MAX_DEPTH);
+    let w = st.wrote(b, d);
     Some(Reading {
         head: st.at,
         name: Some(i),
-        mode: Mode::InTag,
-        place: name.end,
-        ..w
+        ..w.in_mode(Mode::InTag, name.end)
     })
 }
 
@@ -40,13 +36,11 @@ pub fn open_fragment(out: &mut [u8], st: Reading, i: usize) -> Reading
     ensures { FragmentTurn st i out.old (Some result) out.new × Settled (Some result) }
 {
     let a = put_head(out, st.at, 0x31, 0);
-    let w = st.wrote(a, true, st.depth <= MAX_DEPTH);
+    let w = st.wrote(a, st.depth);
     Reading {
         head: st.at,
         name: None,
-        mode: Mode::InChildren,
-        place: i,
-        ..w
+        ..w.in_mode(Mode::InChildren, i)
     }
 }
 
@@ -69,9 +63,7 @@ fn end_tag(out: &mut [u8], st: Reading, same: bool, i: usize) -> Reading
     patch(out, st.head, tag_code(st.name), st.at);
     Reading {
         names: st.names & same,
-        mode: Mode::Ended,
-        place: i,
-        ..st
+        ..st.in_mode(Mode::Ended, i)
     }
 }
 
@@ -91,6 +83,7 @@ fn same_closing(text: &[u8], name: Option<usize>, j: usize) -> bool
     requires { NamePlace text.now name × NameAt text.now j }
     ensures { ClosingCompared text.now name j result }
 {
+    // Not is_some_and: of its closure a proof learns only what a contract of the closure says, which would be that of same_names again.
     match name {
         Some(p) => same_names(text, p, j),
         None => false,
@@ -103,18 +96,18 @@ pub fn closing(text: &[u8], out: &mut [u8], st: Reading, i: usize) -> Option<Rea
     ensures { ClosingTurn text.now st i out.old result out.new }
 {
     let sign = sign_behind(text, i)?;
-    if sign.byte == b'>' {
-        return Some(end_tag(out, st, st.name.is_none(), sign.place + 1));
+    match sign.byte {
+        b'>' => Some(end_tag(out, st, st.name.is_none(), sign.place + 1)),
+        c if is_letter(c) => {
+            let name = scan_name(text, sign.place)?;
+            if *text.get(name.end)? != b'>' {
+                return None;
+            }
+            let same = same_closing(text, st.name, sign.place);
+            Some(end_tag(out, st, same, name.end + 1))
+        }
+        _ => None,
     }
-    if !is_letter(sign.byte) {
-        return None;
-    }
-    let name = scan_name(text, sign.place)?;
-    if *text.get(name.end)? != b'>' {
-        return None;
-    }
-    let same = same_closing(text, st.name, sign.place);
-    Some(end_tag(out, st, same, name.end + 1))
 }
 
 // In a tag, behind its name or an attribute.

@@ -1,4 +1,5 @@
 -- The laws of `text` that the crates above cite.
+pub mod BlankLaws
 pub mod RunLaws
 pub mod WriteLaws
 pub mod LineLaws

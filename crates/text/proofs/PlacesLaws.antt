@@ -3,7 +3,7 @@
 -- `put_shortest`; `length_shortest`, `shortest_all_bytes`, `shortest_some`, `shortest_escaped`, and `shortest_each`, by which every byte
 -- is a digit or the point.
 -- Assumes nothing.
-use mathlib.Core.Path.{◌≡◌, refl, sym, ap, ◌∙◌}
+use mathlib.Core.Path.{◌≡◌, refl, sym, ap, ◌∙◌, subst}
 use mathlib.Core.Bool.{Bool, true, false}
 use Prim.Native.Nat.{ℕ, zero, suc, ◌+◌, ◌-◌, ◌/◌, ◌%◌, ◌^◌, ◌≤◌, ◌<◌}
 use native.Mathlib.Nat.{pow-succ', div-div-eq-div-mul, div-one}
@@ -56,15 +56,16 @@ placing_more {n} {places} {i} {m} {left} {buf} less f e =
       rest = ap {B = Bytes} (λ t. last_digits less (m / 10) t) front ∙ rest;
     }
 
-pub placed : {n places i m left : ℕ} {buf : Bytes} → Placing n places buf i m left → left ≡ 0 →
-    decimal m ++ take (16 - (i - 1)) (drop (i - 1) (set buf (i - 1) 46)) ≡ pointed n places
+pub placed : {n places i m left : ℕ} {buf : Bytes} (first : ℕ) → Placing n places buf i m left → left ≡ 0 → i ≡ first →
+    decimal m ++ take (16 - (first - 1)) (drop (first - 1) (set buf (first - 1) 46)) ≡ pointed n places
 unfolding last_digits pointed
-placed {n} {places} {i} {m} {left} {buf} f e =
-    let b = set buf (i - 1) 46 in
-    let all = take_all (16 - (i - 1)) (drop (i - 1) b) (rw (length-drop, length-set) (omega (arith, f.size))) in
-    let front = set_front buf i 46 (omega (arith, f.room)) (omega (arith, f.size, f.within)) in
-    let rest : drop i buf ≡ last_digits places n [] = rw e at f.rest in
-    let whole : m / 1 ≡ n / 10 ^ places = rw e at f.whole in
+placed {n} {places} {i} {m} {left} {buf} first f e q =
+    let g = subst (λ (k : ℕ). Placing n places buf k m left) q f in
+    let b = set buf (first - 1) 46 in
+    let all = take_all (16 - (first - 1)) (drop (first - 1) b) (rw (length-drop, length-set) (omega (arith, g.size))) in
+    let front = set_front buf first 46 (omega (arith, g.room)) (omega (arith, g.size, g.within)) in
+    let rest : drop first buf ≡ last_digits places n [] = rw e at g.rest in
+    let whole : m / 1 ≡ n / 10 ^ places = rw e at g.whole in
     rw (all, front, rest, ← whole, div-one)
 
 -- ---- the loop of `put_shortest`

@@ -1,16 +1,19 @@
 -- Laws of `run` and `all`: how a scan byte by byte, or block by block, finds where a run ends.
 -- Main statements: `scan_step`, `scan_block`, `scan_stop`, `scan_end`, `all_more`; `all_on`, `all_refused`, `all_last` for a test of all.
 -- Assumes nothing.
-use mathlib.Core.Path.{◌≡◌, refl, sym, ap, ◌∙◌}
+use mathlib.Core.Path.{◌≡◌, refl, sym, ap, subst, ◌∙◌}
 use mathlib.Core.Bool.{Bool, true, false, ◌&&◌, false≢true, and-true, and_assoc}
-use Prim.Native.Nat.{ℕ, zero, suc, ◌+◌, ◌-◌, ◌≤◌, ◌<◌}
+use Prim.Native.Nat.{ℕ, zero, suc, ◌+◌, ◌-◌, ◌*◌, ◌/◌, ◌%◌, ◌≤◌, ◌<◌}
 use native.Mathlib.Nat.{le_of_suc-le-suc, not-suc-le-zero}
 use native.Mathlib.Numerals.{add-one}
 use native.Mathlib.Omega.{arith}
-use mathlib.Core.List.{[], ◌∷◌, ◌++◌}
+use mathlib.Core.List.{List, [], ◌∷◌, ◌++◌}
 use lib.Dec.{eqb, eqb-suc-suc, eqb-zero-suc}
-use lib.ListN.{length, get_or, take, drop, length-drop, take-append-drop, drop_of_length-le}
+use lib.ListN.{length, get_or, take, drop, length-drop, take-append-drop}
 use lib.Seq.{take-suc, take_all, take-length, drop-cons, drop-drop, get_or-drop}
+use Rattle.std.specs.List.{list_all}
+use Rattle.std.specs.Simd.{first_chunks}
+use Rattle.std.proofs.Math.Nat.{mul-zero, mul-suc, div-add-mod, mod-lt}
 use Rattle.field.specs.Bytes.{Bytes, pick}
 use Rattle.text.specs.Runs.{run, all}
 
@@ -164,15 +167,6 @@ module _ {r : Bool} (p : ℕ → Bool) (s : Bytes) (i k : ℕ) (sofar : all p (d
   pub all_refused : all p (take k (drop i s)) ≡ false → false ≡ r
   all_refused e = sym (all_cut p s i k ∙ ap (λ (b : Bool). b && all p (drop (i + k) s)) e) ∙ sofar
 
--- one byte is a block of one
-pub all_one : {b : Bool} (p : ℕ → Bool) (s : Bytes) (i : ℕ) → i < length s → b ≡ p (get_or s i 0) → all p (take 1 (drop i s)) ≡ b
-unfolding all
-all_one p s i h e = rw (drop-cons s i 0) (and-true (p (get_or s i 0)) ∙ sym e)
-
-pub all_end : {r : Bool} (p : ℕ → Bool) (s : Bytes) (i : ℕ) → length s ≤ i → all p (drop i s) ≡ r → true ≡ r
-unfolding all
-all_end p s i h q = ap (all p) (sym (drop_of_length-le s {i = i} h)) ∙ q
-
 -- the last block, which may begin in front of the place
 pub all_last : (p : ℕ → Bool) (s : Bytes) (i k : ℕ) → i ≤ length s → k ≤ length s → length s - i < k → all p (drop i s) ≡ all p s → all p (take k (drop (length s - k) s)) ≡ all p s
 all_last p s i k h l w q =
@@ -196,6 +190,36 @@ run_is_all p (c ∷ cs) = on (p c) (run_is_all p cs)
     on : (b : Bool) → eqb (run p cs) (length cs) ≡ all p cs → eqb (pick b (suc (run p cs)) 0) (suc (length cs)) ≡ (b && all p cs)
     on true e = rw (eqb-suc-suc, e)
     on false e = eqb-zero-suc (length cs)
+
+-- each byte by itself, as the library asks
+pub each_is : (p : ℕ → Bool) (t : Bytes) → list_all p t ≡ all p t
+unfolding all
+each_is p [] = refl
+each_is p (c ∷ cs) = ap (λ (b : Bool). p c && b) (each_is p cs)
+
+-- ---- the blocks of k bytes that s has in front
+
+block_at : (k n i : ℕ) (s d : Bytes) → i < n → get_or (first_chunks k n s) i d ≡ take k (drop (k * i) s)
+block_at k zero i s d h = absurd (not-suc-le-zero h)
+block_at k (suc n) zero s d h = rw mul-zero refl
+block_at k (suc n) (suc i) s d h =
+    let e : k + k * i ≡ k * suc i = omega (arith, mul-suc k i) in
+    block_at k n i (drop k s) d (le_of_suc-le-suc h) ∙ ap (take k) (drop-drop (k * i) k s ∙ ap (λ (x : ℕ). drop x s) e)
+
+pub chunk_is : (s d : Bytes) (bs : List Bytes) (k n i : ℕ) → bs ≡ first_chunks k n s → length bs ≡ n → i < length bs → get_or bs i d ≡ take k (drop (k * i) s)
+chunk_is s d bs k n i e l h = ap (λ (z : List Bytes). get_or z i d) e ∙ block_at k n i s d (subst (λ (x : ℕ). i < x) l h)
+
+pub behind_chunk : (k i : ℕ) → k * (i + 1) ≡ k * i + k
+behind_chunk k i = rw add-one (mul-suc k i)
+
+-- fewer than k bytes are left behind all of them
+few_left : (a b r n k : ℕ) → a ≡ b → b + r ≡ n → r < k → (a ≤ n) × (n - a < k)
+few_left a b r n k e f h = (omega arith, omega arith)
+
+pub chunks_last : (p : ℕ → Bool) (s : Bytes) (k i n : ℕ) → 0 < k → k ≤ length s → i ≡ n → n ≡ length s / k → all p (drop (k * i) s) ≡ all p s → all p (take k (drop (length s - k) s)) ≡ all p s
+chunks_last p s k i n z h a b q =
+    let f = few_left (k * i) (k * (length s / k)) (length s % k) (length s) k (ap (λ (x : ℕ). k * x) (a ∙ b)) (div-add-mod (length s) k) (mod-lt (length s) z) in
+    all_last p s (k * i) k f.0 h f.1 q
 
 -- a block of k bytes, and the last k, as slices
 pub block_is : {r : Bool} (p : ℕ → Bool) (s : Bytes) (i k : ℕ) → r ≡ all p (take (i + k - i) (drop i s)) → r ≡ all p (take k (drop i s))

@@ -63,13 +63,15 @@ pub kept_none : (e later : Bool) (t : Bytes) → length t ≡ 0 → [] ≡ escap
 unfolding kept_line
 kept_none e later t h = rw (null_length t h) (sym (escape_if_nil e))
 
-pub kept_later : (e later : Bool) (t : Bytes) → (length t ≡ 0 → ⊥) → later ≡ true → 32 ∷ escape_if e t ≡ escape_if e (kept_line later t)
+pub kept_some : (e later : Bool) (t : Bytes) → (length t ≡ 0 → ⊥) → pick later (32 ∷ []) [] ++ escape_if e t ≡ escape_if e (kept_line later t)
 unfolding kept_line spaced_line
-kept_later e later t h l = rw (not_null t h, l) (sym (escape_if_space e t))
+kept_some e true t h = rw (not_null t h) (sym (escape_if_space e t))
+kept_some e false t h = rw (not_null t h)
 
-pub kept_first : (e later : Bool) (t : Bytes) → (length t ≡ 0 → ⊥) → later ≡ false → escape_if e t ≡ escape_if e (kept_line later t)
-unfolding kept_line spaced_line
-kept_first e later t h l = rw (not_null t h, l)
+pub spaced_is : (later : Bool) (t : Bytes) → pick later (32 ∷ []) [] ++ t ≡ spaced_line later t
+unfolding spaced_line
+spaced_is true t = refl
+spaced_is false t = refl
 
 pub null_kept : (t : Bytes) (ls : List Bytes) → 0 < length t → null? (joined (kept (t ∷ ls))) ≡ false
 unfolding kept joined
@@ -261,6 +263,3 @@ module _ (s : Bytes) (last : Bool) (i end next : ℕ) (t : Bytes) (cut : Cut s i
   blank_line h =
       let rest = trimmed_lines true last (lines (drop next s)) in
       sym (b ∙ ap (λ (ls : List Bytes). null? (joined ls)) blank_lines ∙ null_kept t rest h)
-
-pub blank_skip : (s : Bytes) (last : Bool) (i end next : ℕ) → Cut s i end next → Blank s last i → end ≡ i → Blank s last next
-blank_skip s last i end next cut b h = blank_step s last i end next [] cut (empty_line (ltb 0 i) (ltb next (length s) || last) s i end h) b (omega arith)

@@ -1,20 +1,22 @@
 -- Laws of trimming: the white space character at either end by the bytes there, and how a walk over such characters trims.
--- Main statements: `space_one`, `space_two`, `space_three` and what says that none stands there; `trim_step`, `trim_stop`, `trim_run`;
--- `last_byte`, `drop_last` for the walk from the back; `length_trim_start`, `length_trim_end`; `trim_spaces`, `trim_visible`.
+-- Main statements: `space_one`, `space_two`, `space_three` and what says that none stands there, with `taken` and `none_there` for the
+-- code's answers; `trim_step`, `trim_stop`, `trim_run`; `trim_on`, `trim_here`, and from the back `trim_back_on`, `trim_back_here`;
+-- `length_trim_start`, `length_trim_end`; `trim_spaces`, `trim_visible`.
 -- Assumes nothing.
 use mathlib.Core.Path.{◌≡◌, refl, sym, ap, ◌∙◌}
 use mathlib.Core.Bool.{Bool, true, false, or-true, and-false}
-use Prim.Native.Nat.{ℕ, zero, suc, ◌+◌, ◌-◌, ◌≤◌, ◌<◌}
-use native.Mathlib.Nat.{le_of_suc-le-suc, not-suc-le-zero, suc-sub-suc, sub-zero}
-use native.Mathlib.Numerals.{add-one}
+use Prim.Native.Nat.{ℕ, zero, suc, ◌-◌, ◌≤◌, ◌<◌}
+use native.Mathlib.Nat.{le_of_suc-le-suc, not-suc-le-zero}
 use native.Mathlib.Omega.{arith}
 use mathlib.Core.List.{[], ◌∷◌, ◌++◌, reverse, reverse-cons, reverse-append, reverse-reverse}
 use lib.ListN.{length, get_or, take, drop, length-drop, length-reverse, drop_of_length-le}
-use lib.Seq.{drop-cons, take-suc, take_all, length-take-le, drop-drop}
+use lib.Seq.{take_all}
 use borrow.Author.Tests.{eq-eqb, ne_eqb, lt-leb}
 use Rattle.field.specs.Bytes.{Bytes, pick}
 use Rattle.text.specs.Runs.{run, all, is_space}
 use Rattle.text.specs.Trim.{one_byte_space, two_byte_space, three_byte_space, space_by, front_space, back_space, trim_by, trim_start, trim_end}
+use Rattle.std.specs.Prelude.{Option, MatchOption}
+use Rattle.std.specs.Bool.{then_some}
 use Rattle.text.proofs.RunLaws.{run_whole}
 
 -- ---- the character in front, by its bytes
@@ -275,3 +277,8 @@ module _ (s t : Bytes) (some : 0 < back_space (reverse s)) (is : reverse t ≡ d
 pub trim_back_here : (s : Bytes) → back_space (reverse s) ≡ 0 → trim_end s ≡ s
 unfolding trim_end
 trim_back_here s e = ap {B = Bytes} reverse (trim_stop back_space (reverse s) (sym e)) ∙ reverse-reverse s
+
+-- a choice by a test, case by case
+pub then_matches : {A : Type 0} {r : Option A} (P : Type 0) (Q : A → Type 0) (b : Bool) (x : A) → r ≡ then_some b x → (b ≡ false → P) → (b ≡ true → Q x) → MatchOption r P Q
+then_matches P Q true x e f g = rw e (g refl)
+then_matches P Q false x e f g = rw e (f refl)

@@ -1,5 +1,5 @@
--- Laws of a text that is written piece by piece: each piece has room where the whole has; and of bytes stored one by one.
--- Main statements: `room_for`, `wrote_more`; `store_four`, `store_five`, `store_six`.
+-- Laws of a text that is written piece by piece: each piece has room where the whole has.
+-- Main statements: `room_for`, `wrote_more`.
 -- Assumes nothing.
 use mathlib.Core.Path.{◌≡◌, sym, ap, ◌∙◌}
 use mathlib.Core.Bool.{Bool, true, false, false≢true}
@@ -7,11 +7,11 @@ use lib.Dec.{eqb}
 use borrow.Author.Tests.{eqb-true, eq-eqb}
 use Prim.Native.Nat.{ℕ, ◌+◌, ◌≤◌, ◌<◌}
 use native.Mathlib.Omega.{arith}
-use mathlib.Core.List.{[], ◌∷◌, ◌++◌}
-use lib.ListN.{length, set, length-append}
+use mathlib.Core.List.{◌++◌}
+use lib.ListN.{length, length-append}
 use Rattle.field.specs.Bytes.{Bytes}
-use Rattle.field.specs.Put.{put, Wrote}
-use Rattle.field.proofs.PutLaws.{wrote_then, wrote_is, store_more, store_three}
+use Rattle.field.specs.Put.{Wrote}
+use Rattle.field.proofs.PutLaws.{wrote_then, wrote_is}
 
 -- what is written, and the next piece, are a front of the whole
 pub room_for : {o o₁ done front : Bytes} {at a m k : ℕ} (piece : Bytes) → Wrote o at done o₁ a → done ++ piece ≡ front → length front ≤ m → at + m < k → a + length piece < k
@@ -20,17 +20,6 @@ room_for {o} {o₁} {done} {front} piece w e h l = omega (arith, w.end_is, lengt
 -- the next piece is written
 pub wrote_more : {o o₁ o₂ done piece front : Bytes} {at a b : ℕ} → Wrote o at done o₁ a → done ++ piece ≡ front → Wrote o₁ a piece o₂ b → Wrote o at front o₂ b
 wrote_more w e v = wrote_is e (wrote_then w v)
-
--- ---- bytes stored one by one, where all of them fit
-
-pub store_four : (o : Bytes) (at a b c d : ℕ) → at + 4 ≤ length o → set (set (set (set o at a) (at + 1) b) (at + 2) c) (at + 3) d ≡ put o at (a ∷ b ∷ c ∷ d ∷ [])
-store_four o at a b c d h = ap {B = Bytes} (λ x. set x (at + 3) d) (store_three o at a b c (omega arith)) ∙ store_more o at (a ∷ b ∷ c ∷ []) d (omega arith)
-
-pub store_five : (o : Bytes) (at a b c d e : ℕ) → at + 5 ≤ length o → set (set (set (set (set o at a) (at + 1) b) (at + 2) c) (at + 3) d) (at + 4) e ≡ put o at (a ∷ b ∷ c ∷ d ∷ e ∷ [])
-store_five o at a b c d e h = ap {B = Bytes} (λ x. set x (at + 4) e) (store_four o at a b c d (omega arith)) ∙ store_more o at (a ∷ b ∷ c ∷ d ∷ []) e (omega arith)
-
-pub store_six : (o : Bytes) (at a b c d e f : ℕ) → at + 6 ≤ length o → set (set (set (set (set (set o at a) (at + 1) b) (at + 2) c) (at + 3) d) (at + 4) e) (at + 5) f ≡ put o at (a ∷ b ∷ c ∷ d ∷ e ∷ f ∷ [])
-store_six o at a b c d e f h = ap {B = Bytes} (λ x. set x (at + 5) f) (store_five o at a b c d e (omega arith)) ∙ store_more o at (a ∷ b ∷ c ∷ d ∷ e ∷ []) f (omega arith)
 
 -- what `is_empty` says of a length
 pub empty_is : {b : Bool} (n : ℕ) → b ≡ eqb n 0 → b ≡ true → n ≡ 0

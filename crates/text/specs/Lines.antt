@@ -3,6 +3,7 @@ use Rattle.std.specs.Prelude.{◌≡◌, ℕ, suc, ◌+◌, ◌-◌, ◌≤◌, 
 use Rattle.field.specs.Bytes.{Bytes, pick}
 use Rattle.text.specs.declared.lines.Line.{Line}
 use Rattle.text.specs.declared.lines.TextLine.{TextLine}
+use Rattle.text.specs.declared.lines.Lines.{Lines}
 
 abbrev pub starts_with_lf : Bytes → Bool
 starts_with_lf [] = false
@@ -41,3 +42,7 @@ abbrev pub ReadsLine : Bytes → ℕ → Option TextLine → ℕ → Type 0
 ReadsLine s at None next = (length s ≤ at) × (next ≡ at)
 ReadsLine s at (Some l) next =
     (at < length s) × (l.text.now ≡ take ((line_at s at).end - at) (drop at s)) × (l.has_before ≡ ltb 0 at) × (l.has_behind ≡ ltb next (length s)) × (next ≡ (line_at s at).next)
+
+-- a step of the reader x, which leaves y
+abbrev pub GivesLine : Lines → Option TextLine → Lines → Type 0
+GivesLine x l y = (y.text.now ≡ x.text.now) × ReadsLine x.text.now x.place l y.place

@@ -6,19 +6,20 @@ ghost use Rattle.text.specs.Decimal.{decimal, pointed, shortest};
 use field::writer::put_bytes;
 
 // The digits come last one first, so they are put into a buffer from its end, here and in put_pointed: written front to back by recursion a
-// number of 16 digits takes 85 % more. How many there are only the division says, so the loops are none over a range.
+// number of 16 digits takes 85 % more. How many there are only the division says: a `for` over the places would need an answer behind it,
+// where it never comes.
 pub fn put_decimal(out: &mut [u8], at: usize, n: u64) -> usize
     requires { at + length (decimal n) < 2 ^ 63 }
     ensures { Wrote out.old at (decimal n) out.new result }
 {
     // twenty digits hold every u64
     let mut buf = [b'0'; 20];
-    let mut i: usize = 20;
+    let mut i = buf.len();
     let mut m = n;
     loop {
         i -= 1;
         buf[i] = b'0' + (m % 10) as u8;
-        m = m / 10;
+        m /= 10;
         if m == 0 {
             return put_bytes(out, at, &buf[i..]);
         }
@@ -32,34 +33,28 @@ fn put_pointed(out: &mut [u8], at: usize, n: u64, places: usize) -> usize
 {
     // a point and fifteen digits; the places begin at `first`
     let mut buf = [b'0'; 16];
-    let first = 16 - places;
-    let mut i: usize = 16;
+    let first = buf.len() - places;
     let mut whole = n;
-    while first < i {
-        i -= 1;
+    for i in (first..buf.len()).rev() {
         buf[i] = b'0' + (whole % 10) as u8;
-        whole = whole / 10;
+        whole /= 10;
     }
-    i -= 1;
-    buf[i] = b'.';
+    buf[first - 1] = b'.';
     let a = put_decimal(out, at, whole);
-    put_bytes(out, a, &buf[i..])
+    put_bytes(out, a, &buf[first - 1..])
 }
 
-// The same without trailing zeros, and without the point where no place is left. Number and places fall together, so a `for` over the places
-// would keep the number beside it as the loop does.
+// The same without trailing zeros, and without the point where no place is left.
 pub fn put_shortest(out: &mut [u8], at: usize, n: u64, places: usize) -> usize
     requires { (places ≤ 15) × (at + length (shortest n places) < 2 ^ 63) }
     ensures { Wrote out.old at (shortest n places) out.new result }
 {
     let mut m = n;
-    let mut left = places;
-    while left != 0 {
+    for left in (1..=places).rev() {
         if m % 10 != 0 {
             return put_pointed(out, at, m, left);
         }
-        m = m / 10;
-        left -= 1;
+        m /= 10;
     }
     put_decimal(out, at, m)
 }

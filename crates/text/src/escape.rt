@@ -8,12 +8,6 @@ ghost use Rattle.text.specs.Runs.{plain};
 use crate::runs::{Class, is_run, long_run_end};
 use field::writer::{put_byte, put_bytes};
 
-fn is_plain(b: u8) -> bool
-    ensures { result ≡ plain b }
-{
-    (b != b'"') & (b != b'&') & (b != b'\'') & (b != b'<') & (b != b'>')
-}
-
 // The bytes that escaping leaves alone.
 struct Plain;
 
@@ -21,55 +15,25 @@ impl Class for Plain {
     ghost holds = { λ x b. plain b };
 
     fn has(&self, b: u8) -> bool {
-        is_plain(b)
+        // by &, as Class asks: by matches! a run of 100 bytes takes 953 instructions for 253 (a probe by rustc)
+        (b != b'"') & (b != b'&') & (b != b'\'') & (b != b'<') & (b != b'>')
     }
 }
 
-// The bytes of an escape where they fit, tested once for all of them; put_bytes clips them. One generic writer of an array by
-// copy_from_slice in place of the three took 12 % more instructions in put_escaped, and 8 % in jsx_text_to_str.
-fn put_four_bytes(out: &mut [u8], at: usize, a: u8, b: u8, c: u8, d: u8) -> usize
-    requires { at + 4 < 2 ^ 64 }
-    ensures { Wrote out.old at (a ∷ b ∷ c ∷ d ∷ []) out.new result }
+// The bytes of an escape, stored where they fit; put_bytes clips them. Inlined, so that LLVM knows them. By copy_from_slice in place of the
+// loop put_escaped took 12 % more instructions, and jsx_text_to_str 8 %.
+#[inline(always)]
+fn put_array<const N: usize>(out: &mut [u8], at: usize, bytes: &[u8; N]) -> usize
+    requires { at + N < 2 ^ 64 }
+    ensures { Wrote out.old at bytes.now out.new result }
 {
-    if at + 4 <= out.len() {
-        out[at] = a;
-        out[at + 1] = b;
-        out[at + 2] = c;
-        out[at + 3] = d;
-        return at + 4;
+    if out.len() < at + N {
+        return put_bytes(out, at, bytes);
     }
-    put_bytes(out, at, &[a, b, c, d])
-}
-
-fn put_five_bytes(out: &mut [u8], at: usize, a: u8, b: u8, c: u8, d: u8, e: u8) -> usize
-    requires { at + 5 < 2 ^ 64 }
-    ensures { Wrote out.old at (a ∷ b ∷ c ∷ d ∷ e ∷ []) out.new result }
-{
-    if at + 5 <= out.len() {
-        out[at] = a;
-        out[at + 1] = b;
-        out[at + 2] = c;
-        out[at + 3] = d;
-        out[at + 4] = e;
-        return at + 5;
+    for (i, b) in bytes.iter().enumerate() {
+        out[at + i] = *b;
     }
-    put_bytes(out, at, &[a, b, c, d, e])
-}
-
-fn put_six_bytes(out: &mut [u8], at: usize, a: u8, b: u8, c: u8, d: u8, e: u8, f: u8) -> usize
-    requires { at + 6 < 2 ^ 64 }
-    ensures { Wrote out.old at (a ∷ b ∷ c ∷ d ∷ e ∷ f ∷ []) out.new result }
-{
-    if at + 6 <= out.len() {
-        out[at] = a;
-        out[at + 1] = b;
-        out[at + 2] = c;
-        out[at + 3] = d;
-        out[at + 4] = e;
-        out[at + 5] = f;
-        return at + 6;
-    }
-    put_bytes(out, at, &[a, b, c, d, e, f])
+    at + N
 }
 
 fn put_escape(out: &mut [u8], at: usize, b: u8) -> usize
@@ -77,11 +41,11 @@ fn put_escape(out: &mut [u8], at: usize, b: u8) -> usize
     ensures { Wrote out.old at (escape_byte b) out.new result }
 {
     match b {
-        b'&' => put_five_bytes(out, at, b'&', b'a', b'm', b'p', b';'),
-        b'<' => put_four_bytes(out, at, b'&', b'l', b't', b';'),
-        b'>' => put_four_bytes(out, at, b'&', b'g', b't', b';'),
-        b'\'' => put_five_bytes(out, at, b'&', b'#', b'3', b'9', b';'),
-        b'"' => put_six_bytes(out, at, b'&', b'q', b'u', b'o', b't', b';'),
+        b'&' => put_array(out, at, b"&amp;"),
+        b'<' => put_array(out, at, b"&lt;"),
+        b'>' => put_array(out, at, b"&gt;"),
+        b'\'' => put_array(out, at, b"&#39;"),
+        b'"' => put_array(out, at, b"&quot;"),
         _ => put_byte(out, at, b),
     }
 }
@@ -95,7 +59,7 @@ pub fn put_escaped(out: &mut [u8], at: usize, s: &[u8]) -> usize
     let mut i: usize = 0;
     while i < s.len() {
         let b = s[i];
-        if is_plain(b) {
+        if Plain.has(b) {
             // the byte itself is known to be plain
             let e = long_run_end::<_, 16>(&Plain, s, i + 1);
             a = put_bytes(out, a, &s[i..e]);
@@ -108,7 +72,8 @@ pub fn put_escaped(out: &mut [u8], at: usize, s: &[u8]) -> usize
     a
 }
 
-// The same of a name, which mostly has a few bytes: to look for a run would cost more than to test each.
+// The same of a name, which mostly has a few bytes, each tested by itself: by put_escaped, which looks for a run, trees of elements take 8.8 %
+// more instructions (3,967,275 for 3,647,228).
 pub fn put_short_escaped(out: &mut [u8], at: usize, s: &[u8]) -> usize
     requires { at + length (escape_html s.now) < 2 ^ 63 }
     ensures { Wrote out.old at (escape_html s.now) out.new result }
@@ -118,7 +83,7 @@ pub fn put_short_escaped(out: &mut [u8], at: usize, s: &[u8]) -> usize
     }
     let mut a = at;
     for (i, b) in s.iter().enumerate() {
-        if !is_plain(*b) {
+        if !Plain.has(*b) {
             return put_escaped(out, a, &s[i..]);
         }
         a = put_byte(out, a, *b);

@@ -1,7 +1,8 @@
-// str::lines, by a reader that holds the text and a place.
-ghost use Rattle.std.specs.Prelude.{◌≡◌};
-ghost use Rattle.text.specs.Lines.{line_at, ReadsLine};
+// str::lines.
+ghost use Rattle.std.specs.Prelude.{◌≡◌, ◌-◌, ◌<◌, length};
+ghost use Rattle.text.specs.Lines.{line_at, GivesLine};
 ghost use Rattle.text.specs.Runs.{not_lf};
+ghost use Rattle.std.specs.Iterator.{at_most};
 
 use crate::runs::{Class, long_run_end};
 
@@ -23,15 +24,12 @@ impl Class for NotLf {
     }
 }
 
-// The line that begins at a place.
+// The line that begins at a place of a text.
 #[inline(never)]
 fn line_at(s: &[u8], at: usize) -> Line
+    requires { at < length s.now }
     ensures { result ≡ line_at s.now at }
 {
-    let n = s.len();
-    if n <= at {
-        return Line { end: at, next: at };
-    }
     // the first line of a text that is laid out over several lines is empty
     if s[at] == b'\n' {
         return Line {
@@ -40,18 +38,18 @@ fn line_at(s: &[u8], at: usize) -> Line
         };
     }
     let lf = long_run_end::<_, 16>(&NotLf, s, at);
-    if lf == n {
-        return Line { end: n, next: n };
-    }
-    if s[lf - 1] == b'\r' {
-        return Line {
+    if lf == s.len() {
+        Line { end: lf, next: lf }
+    } else if s[lf - 1] == b'\r' {
+        Line {
             end: lf - 1,
             next: lf + 1,
-        };
-    }
-    Line {
-        end: lf,
-        next: lf + 1,
+        }
+    } else {
+        Line {
+            end: lf,
+            next: lf + 1,
+        }
     }
 }
 
@@ -63,7 +61,7 @@ pub struct TextLine<'a> {
     pub has_behind: bool,
 }
 
-// A text, and the place in it where the next line begins.
+// The lines of a text, as 01 has it: "a thin line reader holding the text slice and a place", where the next line begins.
 #[derive(Clone, Copy)]
 pub struct Lines<'a> {
     text: &'a [u8],
@@ -76,13 +74,18 @@ impl<'a> Lines<'a> {
     {
         Lines { text, place: 0 }
     }
+}
+
+impl<'a> Iterator for Lines<'a> {
+    type Item = TextLine<'a>;
+
+    ghost next_gives = { GivesLine };
+
+    ghost remaining = { λ x. at_most (length x.text.now - x.place) };
 
     // Inlined, so that the line needs no memory: that costs 8 to 12 % less.
     #[inline(always)]
-    pub fn next_line(&mut self) -> Option<TextLine<'a>>
-        ensures text { self.new.text.now ≡ self.old.text.now }
-        ensures line { ReadsLine self.old.text.now self.old.place result self.new.place }
-    {
+    fn next(&mut self) -> Option<TextLine<'a>> {
         let s = self.text;
         let at = self.place;
         if s.len() <= at {

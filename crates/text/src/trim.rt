@@ -47,13 +47,11 @@ fn behind_space(s: &[u8]) -> Option<&[u8]>
         return Some(rest);
     }
     let (c, rest) = rest.split_first()?;
-    if is_three_byte_space(*a, *b, *c) {
-        return Some(rest);
-    }
-    None
+    is_three_byte_space(*a, *b, *c).then_some(rest)
 }
 
-// What is left in front of the white space character at the back, if one stands there.
+// What is left in front of the white space character at the back, if one stands there. One function for both ends would take the end as a
+// trait, with a split and the two tests of more bytes in either order: longer than the two.
 fn before_space(s: &[u8]) -> Option<&[u8]>
     ensures { MatchOption result (back_space (reverse s.now) ≡ 0) (λ t. (0 < back_space (reverse s.now)) × (reverse t.now ≡ drop (back_space (reverse s.now)) (reverse s.now))) }
 {
@@ -69,10 +67,7 @@ fn before_space(s: &[u8]) -> Option<&[u8]>
         return Some(rest);
     }
     let (a, rest) = rest.split_last()?;
-    if is_three_byte_space(*a, *b, *c) {
-        return Some(rest);
-    }
-    None
+    is_three_byte_space(*a, *b, *c).then_some(rest)
 }
 
 // Spaces indent most lines: they go without the other tests.

@@ -1,5 +1,5 @@
 -- The items in two parts, before the first 10 or 12 and from it on: their bytes are all bytes, and the place of the templates stands between
--- them. Main statements: `parts`, `first_page`, `cut_between`, `cut_before`. Assumes nothing.
+-- them. Main statements: `front_parts`, `front_page`, `cut_between`, `cut_before`. Assumes nothing.
 use Prim.Native.Nat.{ℕ, ◌+◌, ◌≤◌}
 use native.Mathlib.Omega.{arith}
 use native.Mathlib.Nat.{zero-add}
@@ -17,7 +17,8 @@ use Rattle.spec.specs.Pass.{Template, Done, pure, both, Mid, none, node, ◌+++�
 use Rattle.spec.specs.Visit.{visit_exprs}
 use Rattle.spec.specs.Transform as Row
 use Rattle.spec.specs.Transform.{with_templates, before_statement, pieces, module_items}
-use Rattle.walk.specs.See.{at, see}
+use Rattle.walk.specs.See.{World, at, see}
+use Rattle.walk.proofs.SeeLaws.{see_none}
 use Rattle.transform.specs.Run.{module_mid, has_statement, items_before, items_from, started}
 use Rattle.transform.proofs.RunLaws.{not_due, statement_same}
 
@@ -32,13 +33,19 @@ unfolding bytes
 cut_behind t i x u y h = let f = field_bytes t (bytes i) in ap (λ (z : Bytes). f ++ z) h ∙ sym (append_assoc f (bytes u) y)
 
 module _ (o : Options) where
-  pub parts : (is : Page) → module_mid o false is ≡ module_mid o false (items_before is) +++ module_mid o false (items_from is)
+  parts : (is : Page) → module_mid o false is ≡ module_mid o false (items_before is) +++ module_mid o false (items_from is)
   unfolding module_mid items_before items_from ◌+++◌
   parts [] = refl
   parts (P.export_item ps ∷ is) = refl
   parts (P.declaration_item ps ∷ is) = ap (node 0x11 [] (pieces o ps)) (parts is)
   parts (P.statement_item ps ∷ is) = refl
   parts (P.empty_item ∷ is) = ap (node 0x13 [] none) (parts is)
+
+  -- whether one stands or not
+  pub front_parts : (is : Page) (b : Bool) → module_mid o false is ≡ module_mid o false (pick b (items_before is) []) +++ module_mid o false (pick b (items_from is) is)
+  unfolding module_mid ◌+++◌
+  front_parts is true = parts is
+  front_parts is false = refl
 
   abbrev pub first_part : Page → ℕ → Done Row
   first_part is n = visit_exprs (module_mid o false (items_before is)) n
@@ -103,6 +110,12 @@ module _ (o : Options) where
     cut_before h = record { whole = refl; placed = λ l. ap bytes (placed_row false ts (statement_same o is n ∙ h) l) }
 
 -- the first part alone ends behind its bytes
-pub first_page : (o : Options) (is : Page) (t p : Bytes) → (see (module_mid o false (items_before is)) (at t p (started 0))).st.page ≡ length (bytes (first_part o is 1).value)
+first_page : (o : Options) (is : Page) (t p : Bytes) → (see (module_mid o false (items_before is)) (at t p (started 0))).st.page ≡ length (bytes (first_part o is 1).value)
 unfolding see
 first_page o is t p = zero-add (length (bytes (first_part o is 1).value))
+
+-- or where no part stands in front, at once
+pub front_page : (o : Options) (is : Page) (b : Bool) (t p : Bytes) → (see (module_mid o false (pick b (items_before is) [])) (at t p (started 0))).st.page ≡ pick b (length (bytes (first_part o is 1).value)) 0
+unfolding module_mid
+front_page o is true t p = first_page o is t p
+front_page o is false t p = ap (λ (w : World). w.st.page) (see_none (at t p (started 0)))

@@ -1,14 +1,14 @@
 -- The page that is given to the walks: as it came, or with its sums worked out. Both have a 01 in front, and the worked one is what the
 -- buffer holds. Main statements: `ready_page`; of the buffer `ready_worked`, `written_worked`; `written_plain`, `written_given`. Assumes
 -- nothing.
-use Prim.Native.Nat.{ℕ, ◌≤◌, ◌<◌}
+use Prim.Native.Nat.{ℕ, ◌≤◌}
 use mathlib.Core.Path.{◌≡◌, refl, sym, ap, ◌∙◌, subst}
 use mathlib.Core.Bool.{Bool, true, false}
 use native.Mathlib.Omega.{arith}
 use lib.Dec.{T, eqb}
 use lib.ListN.{length, take}
 use borrow.Author.Tests.{eqb-true}
-use Rattle.field.specs.Bytes.{Bytes, pick}
+use Rattle.field.specs.Bytes.{Bytes}
 use Rattle.field.specs.Row.{Row, end, loose, field, read}
 use Rattle.field.specs.Put.{Wrote}
 use Rattle.page.specs.Page.{Options, Page}

@@ -1,12 +1,12 @@
 -- The items of a page as the walk visits them: one item, the place of the templates, and each turn over the items; the import.
 -- b is the body of the item in front, r what lies behind it; total is where the loop is to end.
--- Main statements: `item_*`, `empty_*`, `items_end`; `first_*`, `part_room`, `place_*`; `import_written`. Assumes nothing.
+-- Main statements: `item_*`, `empty_*`, `items_end`; `part_room`, `place_*`; `import_written`. Assumes nothing.
 use mathlib.Core.Path.{◌≡◌, refl, sym, ap, ap₂, ◌∙◌}
-use mathlib.Core.Bool.{true, false, false≢true}
+use mathlib.Core.Bool.{Bool, true, false, not, false≢true}
 use Prim.Native.Nat.{ℕ, ◌+◌, ◌-◌, ◌≤◌, ◌<◌, ◌^◌}
 use native.Mathlib.Omega.{arith}
 use mathlib.Core.List.{[], ◌∷◌, ◌++◌, append-nil}
-use Rattle.field.specs.Bytes.{Bytes, ascii}
+use Rattle.field.specs.Bytes.{Bytes, ascii, pick}
 use Rattle.field.specs.Row.{read, Ended, field_bytes, bytes}
 use Rattle.field.specs.Front.{tag_of_front, body_of, behind_of}
 use Rattle.field.specs.Put.{Wrote, head}
@@ -24,7 +24,7 @@ use Rattle.walk.specs.See.{World, at, see, to_page, begun, wrap, Low}
 use Rattle.walk.proofs.SeeLaws.{see_none, see_node, see_grows, lift}
 use Rattle.visits.specs.Visiting.{pieces_at}
 use Rattle.visits.proofs.FieldLaws.{turn_low, turn_on, page_low, field_begin, field_inner, field_close, field_done}
-use Rattle.transform.specs.Run.{item_mid, module_mid, has_statement, items_before, items_from, items_mid, Splits, import_bytes}
+use Rattle.transform.specs.Run.{item_mid, placed_before, module_mid, has_statement, items_before, items_from, items_mid, Splits, import_bytes}
 use Rattle.transform.proofs.ExportLaws.{items_none, items_10, items_11, items_12, items_other}
 
 -- ---- one item: its pieces between `begin` and `close`
@@ -101,27 +101,22 @@ module _ (o : Options) where
   placed_parts (P.statement_item ps ∷ is) h = refl
   placed_parts (P.empty_item ∷ is) h = ap (node 0x13 [] none) (placed_parts is h)
 
+  -- whether one stands or not
+  placed_by : (is : Page) (b : Bool) → has_statement is ≡ b →
+      placed_before (not b) (module_mid o b is) ≡ module_mid o false (pick b (items_before is) []) +++ (leaf 0x83 [] +++ module_mid o false (pick b (items_from is) is))
+  unfolding module_mid ◌+++◌
+  placed_by is true h = placed_parts is h
+  placed_by is false h = refl
+
 module _ (k p s o q : Bytes) (st : Walk) where
   abbrev items_seen : World
   items_seen = see (items_mid (opts k p) (module_items_in (read s))) (at o q st)
 
-  -- no statement: it stands before all
-  module _ (h : has_statement (module_items_in (read s)) ≡ false) where
-    before_all : items_mid (opts k p) (module_items_in (read s)) ≡ leaf 0x83 [] +++ module_at k p s
-    unfolding ◌+++◌
-    before_all = rw h
-
-    pub first_room : Low items_seen.st → Low (see (leaf 0x83 []) (at [] q st)).st
-    first_room l = page_low (leaf 0x83 []) o q st (turn_low (leaf 0x83 []) (module_at k p s) before_all (at o q st) refl l)
-
-    pub first_on : {q' : Bytes} {y : Walk} → at [] q' y ≡ see (leaf 0x83 []) (at [] q st) → see (module_at k p s) (at o q' y) ≡ items_seen
-    first_on {q'} {y} d = turn_on (leaf 0x83 []) (module_at k p s) before_all (at o q st) refl (lift o q q' st y (leaf 0x83 []) refl d)
-
-  -- one, before which s is cut into a and b
+  -- s is cut there into a and b
   module _ {a b : Bytes} (c : Splits s a b) where
     between : items_mid (opts k p) (module_items_in (read s)) ≡ module_at k p a +++ (leaf 0x83 [] +++ module_at k p b)
     between =
-        rw c.stands (placed_parts (opts k p) (module_items_in (read s)) c.stands)
+        placed_by (opts k p) (module_items_in (read s)) (has_statement (module_items_in (read s))) refl
         ∙ ap₂ (λ (x y : Page). module_mid (opts k p) false x +++ (leaf 0x83 [] +++ module_mid (opts k p) false y)) (sym c.before) (sym c.from)
 
     pub part_room : Low items_seen.st → Low (see (module_at k p a) (at o q st)).st

@@ -1,7 +1,7 @@
 -- A page's items from the page's bytes: room for the walk over them, whatever they are, and for what is put in; and both outputs, written.
 -- Main statements: `page_body`, `source_short`, `items_room`, `all_low`, `before_room`,
--- `from_room`, `heads_room`, `page_shown`, `page_headed`, `page_moved`. Assumes nothing.
-use mathlib.Core.Path.{◌≡◌, refl, sym, ap, ap₂, ◌∙◌}
+-- `from_room`, `heads_room`, `page_shown`, `page_moved`. Assumes nothing.
+use mathlib.Core.Path.{◌≡◌, refl, sym, ap, ap₂, ◌∙◌, subst}
 use mathlib.Core.Bool.{Bool, true, false}
 use Prim.Native.Nat.{ℕ, ◌+◌, ◌*◌, ◌≤◌, ◌<◌, ◌^◌}
 use native.Mathlib.Omega.{arith}
@@ -30,11 +30,11 @@ use Rattle.decisions.proofs.Series.{tested, any_front}
 use Rattle.walk.specs.declared.state.Walk.{Walk}
 use Rattle.walk.specs.See.{World, at, see, Low}
 use Rattle.walk.proofs.SeeLaws.{see_grows, low_is}
-use Rattle.spec.specs.Pass.{Mid, ◌+++◌}
+use Rattle.spec.specs.Pass.{◌+++◌}
 use Rattle.visits.proofs.FieldLaws.{turn_low, turn_on}
 use Rattle.transform.specs.Run.{module_mid, has_statement, Splits, items_mid, has_html, started, sum_of, import_bytes, Headed, written_page, fronted}
 use Rattle.transform.proofs.RunLaws.{has_html_takes, walked, world, items_walked, module_walked}
-use Rattle.transform.proofs.CutLaws.{parts, first_part, first_page}
+use Rattle.transform.proofs.CutLaws.{front_parts, first_part, front_page}
 use Rattle.transform.proofs.WrittenLaws.{written_import, written_moved}
 use Rattle.transform.proofs.ItemLaws.{module_at}
 
@@ -138,7 +138,7 @@ module _ (k p s : Bytes) (short : length s < 2 ^ 32) where
     -- or in two parts
     module _ {a b : Bytes} (c : Splits s a b) where
       cut_is : module_at k p s ≡ module_at k p a +++ module_at k p b
-      cut_is = parts (opts k p) items_of ∙ ap₂ (λ (x y : Page). module_mid (opts k p) false x +++ module_mid (opts k p) false y) (sym c.before) (sym c.from)
+      cut_is = front_parts (opts k p) items_of (has_statement items_of) ∙ ap₂ (λ (x y : Page). module_mid (opts k p) false x +++ module_mid (opts k p) false y) (sym c.before) (sym c.from)
 
       pub before_room : Low (see (module_at k p a) (at t g x)).st
       before_room = turn_low (module_at k p a) (module_at k p b) cut_is (at t g x) refl all_low
@@ -162,7 +162,7 @@ html_takes k p is e h = has_html_takes k p is (sym e ∙ h)
 -- ---- both outputs, written: b is the page's body
 
 module _ (k p : Bytes) (r : Row) (e : (n : Bytes) → among n (names_of k) ≡ among n (listed_in 2 r)) (f : (n : Bytes) → among n (names_of p) ≡ among n (listed_in 3 r)) (b : Bytes) {is : Page}
-    (j : module_items_in (read b) ≡ is) (t g : Bytes) where
+    (j : module_items_in (read b) ≡ is) {source : Bytes} (i : source ≡ source_in r) (t g : Bytes) where
   abbrev items_read : Page
   items_read = module_items_in (read b)
 
@@ -170,31 +170,23 @@ module _ (k p : Bytes) (r : Row) (e : (n : Bytes) → among n (names_of k) ≡ a
   same_page = ap (λ (i : Page). written_page (options_in r) (transform (options_in r) i) t g) j
 
   -- behind room for the import, which is put in front
-  pub page_shown : 1 ≤ (transform (opts k p) items_read).taken → {q : ℕ} → q ≡ 19 + length (source_in r) → {x : Walk} → x ≡ started q →
-      {t' g' : Bytes} {y : Walk} → at t' g' y ≡ see (items_mid (opts k p) items_read) (at t g x) → {n : ℕ} → n ≡ sum_of y → {g'' : Bytes} {z : ℕ} → Wrote g' 0 (import_bytes (source_in r) n) g'' z →
+  pub page_shown : 1 ≤ (transform (opts k p) items_read).taken → {q : ℕ} → q ≡ 19 + length source → {x : Walk} → x ≡ started q →
+      {t' g' : Bytes} {y : Walk} → at t' g' y ≡ see (items_mid (opts k p) items_read) (at t g x) → {n : ℕ} → n ≡ sum_of y → {g'' : Bytes} {z : ℕ} → Wrote g' 0 (import_bytes source n) g'' z →
       at t' g'' y ≡ written_page (options_in r) (transform (options_in r) is) t g
   page_shown h {q} l s {t'} {g'} {y} v u w =
-      ap (λ (o : Bytes). at t' o y) (w.out_is ∙ ap (λ (n : ℕ). put g' 0 (import_bytes (source_in r) n)) u)
-      ∙ written_import k p r items_read e f (counted (opts k p) items_read) (called (opts k p) items_read) q t g (at t' g' y) h l (v ∙ ap (λ (x : Walk). see (items_mid (opts k p) items_read) (at t g x)) s)
+      ap (λ (o : Bytes). at t' o y) (w.out_is ∙ ap₂ (λ (x : Bytes) (n : ℕ). put g' 0 (import_bytes x n)) i u)
+      ∙ written_import k p r items_read e f (counted (opts k p) items_read) (called (opts k p) items_read) q t g (at t' g' y) h (l ∙ ap (λ (x : Bytes). 19 + length x) i) (v ∙ ap (λ (x : Walk). see (items_mid (opts k p) items_read) (at t g x)) s)
       ∙ same_page
 
-  -- without them, and what is due put in: before all items
-  pub page_headed : has_statement items_read ≡ false → {x : Walk} → x ≡ started 0 →
-      {t₂ g₂ : Bytes} {z : Walk} → at t₂ g₂ z ≡ see (module_at k p b) (at t g x) →
-      {g₃ : Bytes} {w : Walk} → ((o a c : Bytes) → g₂ ≡ put o 0 (a ++ c) → 0 ≡ length a → z.page ≡ length a + length c → Headed (source_in r) z o a c g₃ w) →
-      at t₂ g₃ w ≡ written_page (options_in r) (transform (options_in r) is) t g
-  page_headed h s v put_in =
-      written_moved k p r items_read e f (counted (opts k p) items_read) (called (opts k p) items_read) t g (v ∙ ap (λ (x : Walk). see (module_at k p b) (at t g x)) s) put_in false h refl
-      ∙ same_page
-
-  -- or before the first 10 or 12, before which the items are cut into b₀ and b₁
+  -- without them, and what is due put in, where the items are cut into b₀ and b₁
   pub page_moved : length b < 2 ^ 32 → {b₀ b₁ : Bytes} (c : Splits b b₀ b₁) {x : Walk} → x ≡ started 0 → {t₁ g₁ : Bytes} {y : Walk} → at t₁ g₁ y ≡ see (module_at k p b₀) (at t g x) →
       {t₂ g₂ : Bytes} {z : Walk} → at t₂ g₂ z ≡ see (module_at k p b₁) (at t₁ g₁ y) →
-      {g₃ : Bytes} {w : Walk} → ((o a c : Bytes) → g₂ ≡ put o 0 (a ++ c) → y.page ≡ length a → z.page ≡ length a + length c → Headed (source_in r) z o a c g₃ w) →
+      {g₃ : Bytes} {w : Walk} → ((o a c : Bytes) → g₂ ≡ put o 0 (a ++ c) → y.page ≡ length a → z.page ≡ length a + length c → Headed source z o a c g₃ w) →
       at t₂ g₃ w ≡ written_page (options_in r) (transform (options_in r) is) t g
-  page_moved short c s {y = y} d v put_in =
+  page_moved short c s {y = y} d {z = z} v {g₃} {w} put_in =
       let all = v ∙ from_is k p b short t g s c d ∙ ap (λ (x : Walk). see (module_at k p b) (at t g x)) s in
-      let first : y.page ≡ length (bytes (first_part (opts k p) items_read 1).value) =
-      ap (λ (w : World). w.st.page) (d ∙ ap₂ (λ (x : Walk) (i : Page). see (module_mid (opts k p) false i) (at t g x)) s c.before) ∙ first_page (opts k p) items_read t g in
-      written_moved k p r items_read e f (counted (opts k p) items_read) (called (opts k p) items_read) t g all put_in true c.stands first
+      let first : y.page ≡ pick (has_statement items_read) (length (bytes (first_part (opts k p) items_read 1).value)) 0 =
+      ap (λ (w : World). w.st.page) (d ∙ ap₂ (λ (x : Walk) (i : Page). see (module_mid (opts k p) false i) (at t g x)) s c.before) ∙ front_page (opts k p) items_read (has_statement items_read) t g in
+      written_moved k p r items_read e f (counted (opts k p) items_read) (called (opts k p) items_read) t g all
+      (λ o a l x u v. subst (λ (q : Bytes). Headed q z o a l g₃ w) i (put_in o a l x u v)) (has_statement items_read) refl first
       ∙ same_page

@@ -1,10 +1,10 @@
 -- The items before the first 10 or 12 by the bytes before it: a row cut behind some of its fields reads as those. t is what is left of the items
--- in s, n how many bytes were passed. Main statements: `next_cut`, `passing_begins`, `passing_on`, `splits`, `splits_not`. Assumes nothing.
+-- in s, n how many bytes were passed. Main statements: `next_cut`, `passing_begins`, `passing_on`, `splits`, `splits_all`. Assumes nothing.
 use mathlib.Core.Path.{◌≡◌, refl, sym, ap, ap₂, ◌∙◌, subst}
 use mathlib.Core.Bool.{Bool, true, false}
 use mathlib.Core.Logic.{◌⊎◌, inl, inr}
-use mathlib.Core.List.{List, [], ◌∷◌, ◌++◌, append_assoc}
-use Prim.Native.Nat.{ℕ, zero, suc, ◌+◌, ◌*◌, ◌≤◌}
+use mathlib.Core.List.{[], ◌∷◌, ◌++◌, append_assoc}
+use Prim.Native.Nat.{ℕ, suc, ◌+◌, ◌*◌}
 use native.Mathlib.Omega.{arith}
 use native.Mathlib.Nat.{zero-add}
 use lib.Dec.{T, eqb, leb, le→leb}
@@ -15,7 +15,7 @@ use borrow.Author.Tests.{ne_eqb}
 use Rattle.field.specs.Bytes.{Bytes, pick}
 use Rattle.field.specs.Row.{read, Ended, next, no_field, next_of}
 use Rattle.field.specs.Front.{tag_of_front, body_of, behind_of, tag_by, body_by, behind_by}
-use Rattle.field.specs.Fields.{IsFront, IsEnd}
+use Rattle.field.specs.Fields.{IsFront}
 use Rattle.field.proofs.RowLaws.{next_parts, read_nil}
 use Rattle.field.proofs.FrontLaws.{next_at}
 use Rattle.page.specs.Page as P
@@ -150,14 +150,18 @@ module _ {s t : Bytes} {n : ℕ} (p : Passing s t n) where
     splits_by : (i : P.ModuleItem) (is : Page) → module_items_in (read t) ≡ i ∷ is → has_statement (i ∷ is) ≡ true → items_before (i ∷ is) ≡ [] → items_from (i ∷ is) ≡ i ∷ is → Splits s a b
     splits_by i is e h x y =
         let z : n + 0 ≡ n = omega arith in
+        let is = module_items_in (read s) in
+        let one : has_statement is ≡ true = p.stands ∙ ap has_statement e ∙ h in
         record {
           sizes = omega (arith, ap length q, ap length v, length-take-le n s (omega (arith, p.sizes)), length-drop n s, p.sizes);
-          stands = p.stands ∙ ap has_statement e ∙ h;
           before =
               ap (λ (x : Bytes). module_items_in (read x)) q
               ∙ ap (λ (x : ℕ). module_items_in (read (take x s))) (sym z) ∙ p.cut 0 ∙ ap (λ (x : Page). p.passed ++ x) (items_none [] (subst Ended (sym read_nil) tt))
-              ∙ ap (λ (x : Page). p.passed ++ x) (sym (ap items_before e ∙ x)) ∙ sym p.before;
-          from = ap (λ (x : Bytes). module_items_in (read x)) (v ∙ sym p.rest_is) ∙ e ∙ sym (p.from ∙ ap items_from e ∙ y);
+              ∙ ap (λ (x : Page). p.passed ++ x) (sym (ap items_before e ∙ x)) ∙ sym p.before
+              ∙ sym (ap (λ (b : Bool). pick b (items_before is) []) one);
+          from =
+              ap (λ (x : Bytes). module_items_in (read x)) (v ∙ sym p.rest_is) ∙ e ∙ sym (p.from ∙ ap items_from e ∙ y)
+              ∙ sym (ap (λ (b : Bool). pick b (items_from is) is) one);
         }
 
     pub splits : {u : ℕ} → u ≡ tag_of_front t → (u ≡ 0x10) ⊎ (u ≡ 0x12) → Splits s a b
@@ -165,6 +169,14 @@ module _ {s t : Bytes} {n : ℕ} (p : Passing s t n) where
     splits {u} f (inl h) = splits_by _ _ (items_10 t u f h) refl refl refl
     splits {u} f (inr h) = splits_by _ _ (items_12 t u f h) refl refl refl
 
-  pub splits_not : Ended (read t) → has_statement (module_items_in (read s)) ≡ false
+  -- none stands: all of s is the second part
+  pub splits_all : Ended (read t) → Splits s [] s
   unfolding has_statement
-  splits_not i = p.stands ∙ ap has_statement (items_none t i)
+  splits_all i =
+      let is = module_items_in (read s) in
+      let none : has_statement is ≡ false = p.stands ∙ ap has_statement (items_none t i) in
+      record {
+        sizes = zero-add (length s);
+        before = items_none [] (subst Ended (sym read_nil) tt) ∙ sym (ap (λ (b : Bool). pick b (items_before is) []) none);
+        from = sym (ap (λ (b : Bool). pick b (items_from is) is) none);
+      }

@@ -9,7 +9,6 @@ use Rattle.page.specs.Tree.{pieces_in, module_items_in}
 use Rattle.page.specs.Refusal.{Verdict, Fine, Refused, unless, after}
 use Rattle.page.specs.declared.Refusal.TheVariants as R
 use Rattle.spec.specs.Pass.{Done, Mid, none, node}
-use Rattle.spec.specs.Output.{leaf}
 use Rattle.spec.specs.Transform as T
 use Rattle.spec.specs.Transform.{pieces, templates_row, page_out_row, stands}
 use Rattle.spec.specs.Answer.{Outcome, number, bytes_of_templates, bytes_of_page, templates, templates_left, page_left, scratch_left}
@@ -63,12 +62,18 @@ items_from (P.declaration_item ps ∷ is) = items_from is
 items_from (P.statement_item ps ∷ is) = P.statement_item ps ∷ is
 items_from (P.empty_item ∷ is) = items_from is
 
--- s is cut before the first 10 or 12 into a and b
+-- what stands in front of the place of the templates, and what follows it: where there is no 10 and no 12, nothing, and all
+abbrev pub front_items : Page → Page
+front_items is = pick (has_statement is) (items_before is) []
+
+abbrev pub back_items : Page → Page
+back_items is = pick (has_statement is) (items_from is) is
+
+-- s is cut there into a and b
 pub record Splits (s a b : Bytes) : Type 0 where
   pub sizes : length a + length b ≡ length s
-  pub stands : has_statement (module_items_in (read s)) ≡ true
-  pub before : module_items_in (read a) ≡ items_before (module_items_in (read s))
-  pub from : module_items_in (read b) ≡ items_from (module_items_in (read s))
+  pub before : module_items_in (read a) ≡ front_items (module_items_in (read s))
+  pub from : module_items_in (read b) ≡ back_items (module_items_in (read s))
 
 -- with the place of the templates before the first 10 or 12; none stands: before all items
 abbrev pub items_mid : Options → Page → Mid

@@ -11,11 +11,12 @@ ghost use Rattle.transform.specs.Run.{written_page};
 
 use crate::module::write_page;
 use crate::options::{room, works_sums};
+use page::MAX_PAGE;
 use walk::state::Walk;
 use worked::work_page;
 
-// A worked page: at most eleven sevenths of 32,768 bytes.
-const PAGE_ROOM: usize = 51493;
+// A worked page: at most eleven sevenths of the longest page.
+const PAGE_ROOM: usize = MAX_PAGE * 11 / 7 + 1;
 
 // The page with its sums worked out. It has a long frame, and is not merged into its caller.
 #[inline(never)]
@@ -46,7 +47,8 @@ pub fn write_given(
     ensures { at templates.new page.new result ≡ written_page (options_in (read options.now)) (transform (options_in (read options.now)) (page_given input.now options.now)) templates.old page.old }
 {
     if works_sums(options) {
-        return write_worked(input, options, scratch, templates, page);
+        write_worked(input, options, scratch, templates, page)
+    } else {
+        write_page(input, options, scratch, templates, page)
     }
-    write_page(input, options, scratch, templates, page)
 }

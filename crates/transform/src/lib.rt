@@ -12,11 +12,12 @@ mod module;
 mod options;
 
 use given::write_given;
-use page::Refusal;
 use page::whole::{check_options, check_page};
+use page::{MAX_OPTIONS, MAX_PAGE, MIN_SCRATCH, Refusal, refuse_unless};
 use strings::due::Due;
 use walk::state::Walk;
 
+// As C reads it: 0, or the number of a refusal (page's `From`), and what else it has beside it, since C has no Result.
 #[repr(C)]
 #[derive(Clone, Copy)]
 pub struct Answer {
@@ -27,18 +28,13 @@ pub struct Answer {
 }
 
 // 1 to 8.
+#[tactic(auto, unfolding(spec::specs::Answer::check_inputs, page::specs::Refusal::after))]
 fn check_inputs(page: &[u8], options: &[u8], scratch: usize) -> Result<(), Refusal>
     ensures { result ≡ check_inputs page.now options.now scratch }
 {
-    if scratch < 65536 {
-        return Err(Refusal::ScratchTooSmall);
-    }
-    if 32768 < page.len() {
-        return Err(Refusal::InputTooLong);
-    }
-    if 4096 < options.len() {
-        return Err(Refusal::InputTooLong);
-    }
+    refuse_unless(MIN_SCRATCH <= scratch, Refusal::ScratchTooSmall)?;
+    refuse_unless(page.len() <= MAX_PAGE, Refusal::InputTooLong)?;
+    refuse_unless(options.len() <= MAX_OPTIONS, Refusal::InputTooLong)?;
     check_options(options)?;
     check_page(page)
 }
@@ -57,30 +53,26 @@ fn check_due(due: Due) -> Result<(), Refusal>
 }
 
 // What is due, then 12 and 13.
+#[tactic(auto, unfolding(page::specs::Refusal::after))]
 fn check_outputs(w: Walk, templates_room: usize, page_room: usize) -> Result<(), Refusal>
     ensures { result ≡ verdict_of w templates_room page_room }
 {
     check_due(w.seen.due)?;
-    if templates_room < w.templates {
-        return Err(Refusal::TemplatesTooSmall);
-    }
-    if page_room < w.page {
-        return Err(Refusal::PageTooSmall);
-    }
-    Ok(())
+    refuse_unless(w.templates <= templates_room, Refusal::TemplatesTooSmall)?;
+    refuse_unless(w.page <= page_room, Refusal::PageTooSmall)
 }
 
 // Scratch is cleared but for 1.
 fn clear_scratch(r: Refusal, scratch: &mut [u8])
     ensures { scratch.new ≡ scratch_left (refused r) scratch.old }
 {
-    match r {
-        Refusal::ScratchTooSmall => {}
-        _ => scratch.fill(0),
+    if r != Refusal::ScratchTooSmall {
+        scratch.fill(0);
     }
 }
 
-// A refusal: its number, and zeros.
+// A refusal: its number, and zeros. Called where the inputs are refused and where the outputs are: one function for both would answer a Result
+// that speaks of every lent byte at `Err`.
 fn refuse(r: Refusal, scratch: &mut [u8], templates: &mut [u8], page: &mut [u8]) -> Answer
     ensures { Answers (refused r) scratch.old templates.old page.old result scratch.new templates.new page.new }
 {
@@ -95,7 +87,8 @@ fn refuse(r: Refusal, scratch: &mut [u8], templates: &mut [u8], page: &mut [u8])
     }
 }
 
-// Inputs that are fine.
+// Inputs that are fine, as one fact about them says; what the walks ask of them is one record, `Ready`. The five slices that C lends go on one by
+// one: of slices in a struct a caller knows no length any more behind a call.
 fn transform_checked(
     input: &[u8],
     options: &[u8],

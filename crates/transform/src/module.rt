@@ -1,19 +1,19 @@
 // visit_mut_module and inject_runtime: the items, where the templates go among them, and the import. No page is walked twice.
-ghost use Rattle.std.specs.Prelude.{◌≡◌, ◌+◌, ◌≤◌, ◌<◌, ◌^◌, false, [], ◌++◌, length, MatchOption};
+ghost use Rattle.std.specs.Prelude.{◌≡◌, ◌+◌, ◌≤◌, ◌<◌, ◌^◌, false, [], ◌++◌, length};
 ghost use Rattle.field.specs.Bytes.{Bytes, among};
 ghost use Rattle.field.specs.Row.{read};
-ghost use Rattle.page.specs.Tree.{texts_in, listed_in, pieces_in, module_items_in, page_in, options_in, source_in};
+ghost use Rattle.page.specs.Tree.{texts_in, listed_in, pieces_in, module_items_in, page_in, options_in};
 ghost use Rattle.spec.specs.Transform.{transform};
 ghost use Rattle.field.specs.Put.{put, Wrote};
-ghost use Rattle.decisions.specs.At.{opts};
+ghost use Rattle.decisions.specs.At.{opts, under};
 ghost use Rattle.decisions.specs.Index.{names_of};
 ghost use Rattle.walk.specs.See.{at, see, Low};
 ghost use Rattle.visits.specs.Visiting.{Room};
-ghost use Rattle.transform.specs.Run.{item_mid, module_mid, items_mid, has_statement, Splits, has_html, piece_html, started, import_bytes, sum_of, Headed, written_page, Ready};
+ghost use Rattle.transform.specs.Run.{item_mid, module_mid, items_mid, Splits, has_html, piece_html, started, import_bytes, sum_of, Headed, written_page, Ready};
 
 use crate::options::{names_in, room, source};
 use decisions::element::is_serializable;
-use decisions::index::index_names;
+use decisions::index::{INDEX_ROOM, index_names};
 use decisions::options::Options;
 use field::reader::{Fields, body};
 use field::writer::{put_byte, put_bytes, put_head};
@@ -22,8 +22,8 @@ use strings::due::Due;
 use visits::on_pieces;
 use walk::state::{Seen, Walk, at_page, begin, close, leaf};
 
-// What an index of the names of 02 or 03 takes.
-const INDEX_ROOM: usize = 11608;
+// Up to so many bytes a list is looked through as it stands: filling an index would take longer.
+const SHORT_LIST: usize = 32;
 
 // An item with that tag and pieces b.
 fn visit_item(
@@ -35,8 +35,8 @@ fn visit_item(
     page: &mut [u8],
     st: Walk,
 ) -> Walk
-    requires { Room scratch.old b.now (see (item_mid (opts options.now.skip.now options.now.props.now) tag (read b.now)) (at templates.old page.old st)) }
-    ensures { at templates.new page.new result ≡ see (item_mid (opts options.now.skip.now options.now.props.now) tag (read b.now)) (at templates.old page.old st) }
+    requires { Room scratch.old b.now (see (item_mid (under options.now opts) tag (read b.now)) (at templates.old page.old st)) }
+    ensures { at templates.new page.new result ≡ see (item_mid (under options.now opts) tag (read b.now)) (at templates.old page.old st) }
 {
     let p = st.page;
     let x = on_pieces(options, b, scratch, templates, page, begin(st));
@@ -52,33 +52,32 @@ fn visit_module(
     page: &mut [u8],
     st: Walk,
 ) -> Walk
-    requires { Room scratch.old s.now (see (module_mid (opts options.now.skip.now options.now.props.now) false (module_items_in (read s.now))) (at templates.old page.old st)) }
-    ensures { at templates.new page.new result ≡ see (module_mid (opts options.now.skip.now options.now.props.now) false (module_items_in (read s.now))) (at templates.old page.old st) }
+    requires { Room scratch.old s.now (see (module_mid (under options.now opts) false (module_items_in (read s.now))) (at templates.old page.old st)) }
+    ensures { at templates.new page.new result ≡ see (module_mid (under options.now opts) false (module_items_in (read s.now))) (at templates.old page.old st) }
 {
     let mut cur = st;
     for item in Fields(s) {
-        match item.tag {
-            0x10 | 0x11 | 0x12 => {
-                cur = visit_item(options, item.body, item.tag, scratch, templates, page, cur)
-            }
-            _ => cur = leaf(page, cur, 0x13, b""),
-        }
+        cur = match item.tag {
+            0x10..=0x12 => visit_item(options, item.body, item.tag, scratch, templates, page, cur),
+            _ => leaf(page, cur, 0x13, b""),
+        };
     }
     cur
 }
 
-// The items before the first 10 or 12, and that one with those behind it; nothing where there is none.
-fn split_items(s: &[u8]) -> Option<(&[u8], &[u8])>
-    ensures { MatchOption result (has_statement (module_items_in (read s.now)) ≡ false) (λ p. Splits s.now p.0.now p.1.now) }
+// The items before the first 10 or 12, and that one with those behind it; where there is none, no items, and all.
+fn split_items(s: &[u8]) -> (&[u8], &[u8])
+    ensures { Splits s.now result.0.now result.1.now }
 {
+    // counted: the loop's own iterator is past the item, and what was left before it would be kept in a variable just the same
     let mut at: usize = 0;
     for item in Fields(s) {
         match item.tag {
-            0x10 | 0x12 => return Some(s.split_at(at)),
+            0x10 | 0x12 => return s.split_at(at),
             _ => at += 3 + item.body.len(),
         }
     }
-    None
+    (&[], s)
 }
 
 // All items, with the place of the templates: before the first 10 or 12, or, where there is none, before all.
@@ -90,13 +89,10 @@ fn visit_items(
     page: &mut [u8],
     st: Walk,
 ) -> Walk
-    requires { Room scratch.old s.now (see (items_mid (opts options.now.skip.now options.now.props.now) (module_items_in (read s.now))) (at templates.old page.old st)) }
-    ensures { at templates.new page.new result ≡ see (items_mid (opts options.now.skip.now options.now.props.now) (module_items_in (read s.now))) (at templates.old page.old st) }
+    requires { Room scratch.old s.now (see (items_mid (under options.now opts) (module_items_in (read s.now))) (at templates.old page.old st)) }
+    ensures { at templates.new page.new result ≡ see (items_mid (under options.now opts) (module_items_in (read s.now))) (at templates.old page.old st) }
 {
-    let Some((before, rest)) = split_items(s) else {
-        let a = leaf(page, st, 0x83, b"");
-        return visit_module(options, s, scratch, templates, page, a);
-    };
+    let (before, rest) = split_items(s);
     let a = visit_module(options, before, scratch, templates, page, st);
     let b = leaf(page, a, 0x83, b"");
     visit_module(options, rest, scratch, templates, page, b)
@@ -107,29 +103,14 @@ fn visit_items(
 fn has_html(skip: &[u8], s: &[u8]) -> bool
     ensures { result ≡ has_html (opts skip.now []) (module_items_in (read s.now)) }
 {
-    for item in Fields(s) {
-        match item.tag {
-            0x10 | 0x11 | 0x12 => {
-                if has_html_piece(skip, item.body) {
-                    return true;
-                }
-            }
-            _ => {}
-        }
-    }
-    false
+    Fields(s).any(|item| matches!(item.tag, 0x10..=0x12) && has_html_piece(skip, item.body))
 }
 
 // Among the pieces themselves. Not one walk with the items': it would ask at each field which of the two it walks.
 fn has_html_piece(skip: &[u8], s: &[u8]) -> bool
     ensures { result ≡ piece_html (opts skip.now []) (pieces_in (read s.now)) }
 {
-    for piece in Fields(s) {
-        if piece.tag == 0x30 && is_serializable(skip, piece.body) {
-            return true;
-        }
-    }
-    false
+    Fields(s).any(|piece| piece.tag == 0x30 && is_serializable(skip, piece.body))
 }
 
 fn start(p: usize) -> Walk
@@ -159,11 +140,11 @@ fn helper_sum(w: Walk) -> u8
 }
 
 // 82: the source, `/jsx-runtime` and the sum.
-fn put_import(page: &mut [u8], options: &[u8], sum: u8) -> usize
-    requires { length (source_in (read options.now)) < 2 ^ 32 }
-    ensures { Wrote page.old 0 (import_bytes (source_in (read options.now)) sum) page.new result }
+fn put_import(page: &mut [u8], source: &[u8], sum: u8) -> usize
+    requires { length source.now < 2 ^ 32 }
+    ensures { Wrote page.old 0 (import_bytes source.now sum) page.new result }
 {
-    let a = put_bytes(page, 6, source(options));
+    let a = put_bytes(page, 6, source);
     let b = put_bytes(page, a, b"/jsx-runtime");
     put_head(page, 3, 0x81, b - 6);
     let c = put_byte(page, b, sum);
@@ -171,34 +152,35 @@ fn put_import(page: &mut [u8], options: &[u8], sum: u8) -> usize
     c
 }
 
-// How long the 82 is.
-fn import_len(options: &[u8]) -> usize
-    requires { length (source_in (read options.now)) < 2 ^ 32 }
-    ensures { result ≡ 19 + length (source_in (read options.now)) }
+// How long the 82 is: two heads, `/jsx-runtime` and the sum, and the source. That the source is short is the options': of any slice a place behind
+// it could not be reckoned with.
+fn import_len(source: &[u8]) -> usize
+    requires { length source.now < 2 ^ 32 }
+    ensures { result ≡ 19 + length source.now }
 {
-    19 + source(options).len()
+    19 + source.len()
 }
 
 // The 82 and the 83, where they turn out to be due: what is written makes room for them. Each byte moves once.
-fn put_heads(page: &mut [u8], options: &[u8], w: Walk, p: usize) -> Walk
-    requires { (p ≤ w.page) × ((w.page < 2 ^ 62) × (length (source_in (read options.now)) < 2 ^ 32)) }
-    ensures { (o a b : Bytes) → page.old ≡ put o 0 (a ++ b) → p ≡ length a → w.page ≡ length a + length b → Headed (source_in (read options.now)) w o a b page.new result }
+fn put_heads(page: &mut [u8], source: &[u8], w: Walk, p: usize) -> Walk
+    requires { (p ≤ w.page) × ((w.page < 2 ^ 62) × (length source.now < 2 ^ 32)) }
+    ensures { (o a b : Bytes) → page.old ≡ put o 0 (a ++ b) → p ≡ length a → w.page ≡ length a + length b → Headed source.now w o a b page.new result }
 {
     let sum = helper_sum(w);
     if 1 < w.later {
-        let n = import_len(options);
+        let n = import_len(source);
         move_up(page, p, w.page, n + 3);
         put_head(page, p + n, 0x83, 0);
         move_up(page, 0, p, n);
-        put_import(page, options, sum);
+        put_import(page, source, sum);
         return at_page(w, w.page + n + 3);
     }
     if sum == 0 {
         return w;
     }
-    let n = import_len(options);
+    let n = import_len(source);
     move_up(page, 0, w.page, n);
-    put_import(page, options, sum);
+    put_import(page, source, sum);
     at_page(w, w.page + n)
 }
 
@@ -217,10 +199,11 @@ pub fn write_page(
         skip: names_in(options, 0x02),
         props: names_in(options, 0x03),
     };
-    if names.skip.len() <= 32 && names.props.len() <= 32 {
-        return write_listed(input, options, &names, scratch, templates, page);
+    if names.skip.len() <= SHORT_LIST && names.props.len() <= SHORT_LIST {
+        write_listed(input, options, &names, scratch, templates, page)
+    } else {
+        write_indexed(input, options, &names, scratch, templates, page)
     }
-    write_indexed(input, options, &names, scratch, templates, page)
 }
 
 // By an index of each: where there are more than a few names, looking for one must not go through all of them.
@@ -262,17 +245,15 @@ fn write_listed(
     ensures { at templates.new page.new result ≡ written_page (options_in (read options.now)) (transform (options_in (read options.now)) (page_in (read input.now))) templates.old page.old }
 {
     let s = body(input);
+    let source = source(options);
     if has_html(names.skip, s) {
-        let first = start(import_len(options));
+        let first = start(import_len(source));
         let w = visit_items(names, s, scratch, templates, page, first);
-        put_import(page, options, helper_sum(w));
+        put_import(page, source, helper_sum(w));
         return w;
     }
-    let Some((before, rest)) = split_items(s) else {
-        let w = visit_module(names, s, scratch, templates, page, start(0));
-        return put_heads(page, options, w, 0);
-    };
+    let (before, rest) = split_items(s);
     let a = visit_module(names, before, scratch, templates, page, start(0));
     let w = visit_module(names, rest, scratch, templates, page, a);
-    put_heads(page, options, w, a.page)
+    put_heads(page, source, w, a.page)
 }

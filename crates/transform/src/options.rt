@@ -10,12 +10,9 @@ use field::reader::Fields;
 fn first_with(options: &[u8], tag: u8) -> Option<&[u8]>
     ensures { MatchOption result (LacksTag tag options.now) (λ b. HasTag tag options.now b.now) }
 {
-    for field in Fields(options) {
-        if field.tag == tag {
-            return Some(field.body);
-        }
-    }
-    None
+    Fields(options)
+        .find(|field| field.tag == tag)
+        .map(|field| field.body)
 }
 
 // The names in the first field with that tag, if it is a tag that holds fields.

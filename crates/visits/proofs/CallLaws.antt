@@ -25,7 +25,7 @@ use Rattle.spec.specs.Pass.{Done, Pass, pure, map, long_if, Mid, node, ◌+++◌
 use Rattle.spec.specs.Output.{leaf, null_node, gen_template}
 use Rattle.spec.specs.Merge.{Found, Element, merge, long_run, short_runs}
 use Rattle.spec.specs.Attributes as A
-use Rattle.spec.specs.Attributes.{is_component, first_upper, prop_of, props_of, key_of, key_from}
+use Rattle.spec.specs.Attributes.{is_component, first_upper, prop_of, props_of, key_of}
 use Rattle.spec.specs.Children.{found_of, entry_pass, found_pass, members_row, name_expr, call_node, to_call_expr, serialize_jsx, children_to_expr, children_to_string}
 use Rattle.spec.specs.Transform.{expr, value, attributes, children, element_of}
 use Rattle.decisions.specs.At.{opts, element_name, attributes_at, children_at, element_at}
@@ -37,10 +37,10 @@ use Rattle.walk.specs.declared.attribute.Gap.{Gap}
 use Rattle.walk.specs.declared.attribute.Gap.TheVariants as G
 use Rattle.walk.specs.declared.state.Walk.{Walk}
 use Rattle.walk.specs.See.{World, at, see, act, passed, to_page, begun, wrap, wrap_if, props_closed, Low}
-use Rattle.walk.specs.Plan.{Plan, prop_gap, plan_by, plan_front, plan_back, attr_plan, prop_plan, key_string, key_held}
+use Rattle.walk.specs.Plan.{Plan, prop_gap, plan_by, plan_front, plan_back, attr_plan, prop_plan}
 use Rattle.walk.proofs.SeeLaws.{Grows, grows_same, grows_then, see_grows, begun_grows, wrap_grows, low_back, low_is, see_none, see_node, see_page, see_state, see_templates_length, see_page_length, plain, lift, lift_world, lift_wrap, lift_wrap_if, lift_begun, lift_props_closed}
 use Rattle.walk.proofs.ActLaws.{see_append, act_grows, act_pure, act_map_pure, passed_see, passed_props_closed, call_named, call_props, children_begun, call_closed, act_call_none, act_call_some, act_to_call, is_none, template_stands, raised_stands, call_stands, array_stands}
-use Rattle.walk.proofs.GapLaws.{plan_mid, prop_plan_is, plan_front_same, plan_back_same, plan_held_same, key_is, key_string_same}
+use Rattle.walk.proofs.GapLaws.{plan_mid, prop_plan_is, plan_front_same, plan_back_same, plan_held_same}
 use Rattle.visits.specs.Visiting.{expr_at, found_out, is_found}
 use Rattle.visits.proofs.FieldLaws.{field_begin, field_inner, field_close, field_done}
 use Rattle.visits.proofs.PartLaws.{passed_plan, plan_is, front_at, back_at, front_page, back_grows}
@@ -278,18 +278,10 @@ name_plain (identifier n) = either (first_upper n)
 name_plain (member ns) = ap (λ (b : Bool). b && true) (members_plain ns)
 name_plain (namespaced n m) = refl
 
-pub key_plain : (v : A.Value) → plain (key_string v) ≡ true
-unfolding key_string
-key_plain A.absent = refl
-key_plain (A.string b) = refl
-key_plain A.empty = refl
-key_plain (A.container s m) = refl
-key_plain (A.tag r) = refl
-
 -- ---- the steps: what each function asks for, and what is left when it has answered
 
 -- what a function is asked for of page out alone
-see_low : (m : Mid) (o p : Bytes) (s : Walk) → Low (see m (at o p s)).st → Low (see m (at [] p s)).st
+pub see_low : (m : Mid) (o p : Bytes) (s : Walk) → Low (see m (at o p s)).st → Low (see m (at [] p s)).st
 see_low m o p s l = subst Low (see_state m o [] p p s) l
 
 front_low : (b : Bool) (o p : Bytes) (s : Walk) → Low (children_front b (at o p s)).st → Low (children_front b (at [] p s)).st
@@ -392,25 +384,7 @@ module _ (k : Call) (p q : ℕ) (w w' total : World) where
   unfolding found_left
   found_on h e g = ap (child_left k p q h) e ∙ g
 
--- the key: a string, or what is held in the attribute a
-module _ (skip props : Bytes) (p : ℕ) (m : Mid) (v : P.Value) (d : m ≡ key_from (value (opts skip props) v) S.none) (o s : Bytes) (x : Walk) (total : World) (g : key_left p m (at o s x) ≡ total) where
-  abbrev key_before : Mid
-  key_before = key_string (value (opts [] []) v)
-
-  key_split : m ≡ key_before +++ key_held (value (opts skip props) v)
-  key_split = d ∙ key_is (value (opts skip props) v) ∙ ap (λ (y : Mid). y +++ key_held (value (opts skip props) v)) (key_string_same (opts skip props) (opts [] []) v)
-
-  held_left : key_left p (key_held (value (opts skip props) v)) (see key_before (at o s x)) ≡ total
-  unfolding key_left
-  held_left =
-      ap (wrap 0x94 p) (sym (ap (λ (y : Mid). see y (at o s x)) key_split ∙ see_append key_before (key_held (value (opts skip props) v)) (at o s x))) ∙ g
-
-  pub key_room : Low total.st → Low (see (key_string (value (opts [] []) v)) (at [] s x)).st
-  key_room l = see_low key_before o s x (low_back (key_grows p (key_held (value (opts skip props) v)) (see key_before (at o s x))) (low_is held_left l))
-
-  pub key_on : (s' : Bytes) (r : Walk) → at [] s' r ≡ see (key_string (value (opts [] []) v)) (at [] s x) → key_left p (key_held (value (opts skip props) v)) (at o s' r) ≡ total
-  key_on s' r e = ap (key_left p (key_held (value (opts skip props) v))) (lift o s s' x r key_before (key_plain (value (opts [] []) v)) e) ∙ held_left
-
+-- the key
 module _ (p : ℕ) (m n : Mid) (e : n ≡ m) (w total : World) (g : key_left p m w ≡ total) where
   held_is : wrap 0x94 p (see n w) ≡ total
   unfolding key_left

@@ -1,9 +1,10 @@
 -- A jsx call step by step, over what its functions answer: at each step what is left of the call does, from here on, what the whole does from the
 -- start (`.._left`), and what the next function asks for (`.._asked`). Each law stands once; an answer of the code cites it with the answers
 -- that the code has so far.
--- Main statements: `bare_done`, `keyless_done`, `keyed_done`. Assumes nothing.
-use mathlib.Core.Path.{◌≡◌, refl, sym, ap, ◌∙◌}
-use Prim.Native.Nat.{◌+◌, ◌≤◌, ◌<◌, ◌^◌}
+-- Main statements: `bare_done`, `string_done`, `keyed_done`, `keyless_done`. Assumes nothing.
+use Rattle.std.proofs.Common.{Some}
+use mathlib.Core.Path.{◌≡◌, refl, sym, ap, ◌∙◌, subst}
+use Prim.Native.Nat.{ℕ, ◌+◌, ◌≤◌, ◌<◌, ◌^◌}
 use native.Mathlib.Omega.{arith}
 use mathlib.Core.Bool.{Bool, true, false, not}
 use mathlib.Core.List.{[]}
@@ -11,22 +12,30 @@ use lib.ListN.{length}
 use Rattle.field.specs.Bytes.{Bytes}
 use Rattle.field.specs.Row.{read}
 use Rattle.field.specs.Front.{behind_of}
-use Rattle.page.specs.Tree.{value_in}
 use Rattle.spec.specs.Pass.{Mid, none}
-use Rattle.spec.specs.Output.{null_node}
-use Rattle.spec.specs.Attributes.{is_component, props_of, key_of, key_from}
+use Rattle.spec.specs.Output.{null_node, string_node}
+use Rattle.spec.specs.Attributes.{is_component, props_of, key_of}
 use Rattle.spec.specs.Children.{name_expr, children_to_expr}
-use Rattle.spec.specs.Transform.{value}
-use Rattle.decisions.specs.At.{opts, element_name, element_at, attributes_at, children_at}
+use Rattle.page.specs.Page.{Options}
+use Rattle.decisions.specs.declared.attribute.Value.{Value}
+use Rattle.decisions.specs.At.{element_name, element_at, attributes_at, children_at}
 use Rattle.found.specs.Finds.{Finds}
 use Rattle.found.specs.declared.Kind.{Kind}
 use Rattle.walk.specs.declared.state.Walk.{Walk}
 use Rattle.walk.specs.See.{World, at, see, act, to_page, wrap, wrap_if, props_closed, Low}
-use Rattle.walk.specs.Plan.{key_string, key_held}
-use Rattle.walk.proofs.SeeLaws.{see_grows, see_none}
+use Rattle.walk.specs.Plan.{key_given, key_braces}
+use Rattle.walk.proofs.SeeLaws.{see_grows, see_none, lift}
 use Rattle.walk.proofs.ActLaws.{act_grows, is_none}
 use Rattle.visits.specs.Visiting.{is_found, found_out}
-use Rattle.visits.proofs.CallLaws.{stands_by, lacks_by, found_stands, Call, call_of, call_is, name_plain, key_left, props_left, child_left, found_left, children_left, attributes_left, named_left, name_left, call_left, children_front, grew, front_grew, front_past, child_grew, closed_grew, begin_room, name_room, props_begin_room, props_room, front_room, found_room, child_room, closed_room, begun_on, name_on, props_begun_on, front_on, child_on, closed_on, props_on, found_on, key_room, key_on, held_room, bare_lacks, bare_room, bare_on, call_low, call_done}
+use Rattle.visits.proofs.CallLaws.{stands_by, lacks_by, found_stands, Call, call_of, call_is, name_plain, key_left, props_left, child_left, found_left, children_left, attributes_left, named_left, name_left, call_left, children_front, grew, front_grew, front_past, child_grew, closed_grew, begin_room, name_room, props_begin_room, props_room, front_room, found_room, child_room, closed_room, begun_on, name_on, props_begun_on, front_on, child_on, closed_on, props_on, found_on, see_low, held_room, bare_lacks, bare_room, bare_on, call_low, call_done}
+
+-- what the value of the key gives, once it is known which it is
+module _ {v w : Value} (e : v ≡ w) where
+  pub key_as : (o : Options) {m : Mid} → m ≡ key_given o (Some v) → m ≡ key_given o (Some w)
+  key_as o g = g ∙ ap (λ (x : Value). key_given o (Some x)) e
+
+  pub braces_as : {n : ℕ} → length (key_braces (Some v)) ≤ n → length (key_braces (Some w)) ≤ n
+  braces_as {n} l = subst (λ (x : Value). length (key_braces (Some x)) ≤ n) e l
 
 -- b is the element, rest what lies behind its name; z is whether it is a component, s whether `children` stands
 module _ (skip props b o p : Bytes) (st : Walk) {rest : Bytes} (q : rest ≡ behind_of b) {z : Bool} (e : z ≡ is_component (element_name (read b))) where
@@ -137,31 +146,37 @@ module _ (skip props b o p : Bytes) (st : Walk) {rest : Bytes} (q : rest ≡ beh
                     closed_past : st.page + 3 ≤ y₈.page
                     closed_past = omega (arith, named_past, childed_past, closed_grew y₂.page _ _ y₇ _ e₈)
 
-                    -- there is no key
+                    -- m is the key
+                    module _ {m : Mid} (g : key_of (not z) (attributes_at skip props (read rest)) none ≡ m) where
+                      pub key_asked : Low whole.st → Low (see m (at o₆ p₈ y₈)).st
+                      key_asked l = held_room _ _ _ (sym g) _ _ props_close l
+
+                      module _ {o₁ p₁ : Bytes} {x₁ : Walk} (k₁ : at o₁ p₁ x₁ ≡ see m (at o₆ p₈ y₈)) where
+                        pub keyed_asked : Low whole.st → (st.page + 3 ≤ x₁.page) × Low x₁
+                        keyed_asked l = (omega (arith, closed_past, grew (see_grows _ _) k₁), call_low _ _ _ (sym g) _ _ props_close _ _ _ k₁ l)
+
+                        pub keyed_done : {p₀ : Bytes} {x₀ : Walk} → at [] p₀ x₀ ≡ wrap 0x94 st.page (at [] p₁ x₁) → at o₁ p₀ x₀ ≡ whole
+                        keyed_done k₀ = call_done _ _ _ (sym g) _ _ props_close _ _ _ k₁ _ _ k₀
+
+                    -- it is a string, of which the walk writes a leaf
+                    module _ {w : Bytes} (g : key_of (not z) (attributes_at skip props (read rest)) none ≡ string_node w) where
+                      pub string_asked : Low whole.st → Low (see (string_node w) (at [] p₈ y₈)).st
+                      string_asked l = see_low (string_node w) _ _ _ (key_asked g l)
+
+                      module _ {p₉ : Bytes} {y₉ : Walk} (e₉ : at [] p₉ y₉ ≡ see (string_node w) (at [] p₈ y₈)) where
+                        string_seen : at o₆ p₉ y₉ ≡ see (string_node w) (at o₆ p₈ y₈)
+                        string_seen = lift o₆ p₈ p₉ y₈ y₉ (string_node w) refl e₉
+
+                        pub string_closed : Low whole.st → (st.page + 3 ≤ y₉.page) × Low y₉
+                        string_closed = keyed_asked g string_seen
+
+                        pub string_done : {p₀ : Bytes} {x₀ : Walk} → at [] p₀ x₀ ≡ wrap 0x94 st.page (at [] p₉ y₉) → at o₆ p₀ x₀ ≡ whole
+                        string_done = keyed_done g string_seen
+
+                    -- there is none
                     module _ (g : key_of (not z) (attributes_at skip props (read rest)) none ≡ none) where
                       pub keyless_asked : Low whole.st → (st.page + 3 ≤ y₈.page) × Low y₈
-                      keyless_asked l = (closed_past, call_low _ _ _ (sym g) _ _ props_close _ _ _ (sym (see_none _)) l)
+                      keyless_asked = keyed_asked g (sym (see_none _))
 
                       pub keyless_done : {p₉ : Bytes} {y₉ : Walk} → at [] p₉ y₉ ≡ wrap 0x94 st.page (at [] p₈ y₈) → at o₆ p₉ y₉ ≡ whole
-                      keyless_done e₉ = call_done _ _ _ (sym g) _ _ props_close _ _ _ (sym (see_none _)) _ _ e₉
-
-                    -- a is the attribute that decides the key
-                    module _ (a : Bytes) (g : key_of (not z) (attributes_at skip props (read rest)) none ≡ key_from (value (opts skip props) (value_in (read a))) none) where
-                      pub key_asked : Low whole.st → Low (see (key_string (value (opts [] []) (value_in (read a)))) (at [] p₈ y₈)).st
-                      key_asked l = key_room skip props _ _ (value_in (read a)) g _ _ _ _ props_close l
-
-                      module _ {p₉ : Bytes} {y₉ : Walk} (e₉ : at [] p₉ y₉ ≡ see (key_string (value (opts [] []) (value_in (read a)))) (at [] p₈ y₈)) where
-                        key_begins : key_left st.page (key_held (value (opts skip props) (value_in (read a)))) (at o₆ p₉ y₉) ≡ whole
-                        key_begins = key_on skip props _ _ (value_in (read a)) g _ _ _ _ props_close _ _ e₉
-
-                        -- m is what is held in it
-                        module _ {m : Mid} (j : m ≡ key_held (value (opts skip props) (value_in (read a)))) where
-                          pub held_asked : Low whole.st → Low (see m (at o₆ p₉ y₉)).st
-                          held_asked l = held_room _ _ _ j _ _ key_begins l
-
-                          module _ {o₁ p₁ : Bytes} {x₁ : Walk} (k₁ : at o₁ p₁ x₁ ≡ see m (at o₆ p₉ y₉)) where
-                            pub keyed_asked : Low whole.st → (st.page + 3 ≤ x₁.page) × Low x₁
-                            keyed_asked l = (omega (arith, closed_past, grew (see_grows _ _) e₉, grew (see_grows _ _) k₁), call_low _ _ _ j _ _ key_begins _ _ _ k₁ l)
-
-                            pub keyed_done : {p₀ : Bytes} {x₀ : Walk} → at [] p₀ x₀ ≡ wrap 0x94 st.page (at [] p₁ x₁) → at o₁ p₀ x₀ ≡ whole
-                            keyed_done k₀ = call_done _ _ _ j _ _ key_begins _ _ _ k₁ _ _ k₀
+                      keyless_done = keyed_done g (sym (see_none _))

@@ -6,13 +6,11 @@ use mathlib.Core.Path.{◌≡◌, sym, ap, ◌∙◌, subst}
 use Prim.Native.Nat.{ℕ, ◌+◌, ◌≤◌, ◌<◌, ◌^◌}
 use native.Mathlib.Omega.{arith}
 use mathlib.Core.List.{[]}
-use mathlib.Core.Bool.{Bool, true, false, not, false≢true}
+use mathlib.Core.Bool.{Bool, true, false, false≢true}
 use lib.ListN.{length}
 use Rattle.std.specs.Prelude.{Option, Some, None}
-use Rattle.std.specs.Option.{is_some}
 use Rattle.field.specs.Bytes.{Bytes}
-use Rattle.field.specs.Row.{read, Ended}
-use Rattle.field.specs.Front.{tag_of_front, behind_of}
+use Rattle.field.specs.Front.{behind_of}
 use Rattle.field.specs.Fields.{IsFront, IsEnd, FieldAt}
 use Rattle.field.specs.declared.reader.Field.{Field}
 use Rattle.spec.specs.Pass.{Pass, Mid, ◌+++◌}
@@ -29,15 +27,6 @@ front_some {s} a e = subst (FieldAt s) e a
 
 pub front_none : {s : Bytes} {r : Option Field} → FieldAt s r → r ≡ None → IsEnd s s
 front_none {s} a e = subst (FieldAt s) e a
-
--- b is whether nothing does
-pub no_front : (s : Bytes) (r : Option Field) {b : Bool} → FieldAt s r → is_some r ≡ not b → b ≡ true → Ended (read s)
-no_front s None a e h = a.ended
-no_front s (Some f) a e h = absurd (false≢true (sym (e ∙ ap not h)))
-
-pub some_front : (s : Bytes) (r : Option Field) {b : Bool} → FieldAt s r → is_some r ≡ not b → b ≡ false → tag_of_front s ≡ 256 → ⊥
-some_front s None a e h z = absurd (false≢true (e ∙ ap not h))
-some_front s (Some f) a e h z = omega (arith, a.tag_is, a.tag_below, z)
 
 -- ---- what grows
 

@@ -36,7 +36,7 @@ use Rattle.found.specs.Finds.{part, kids, entries_at, found_at, template_pass, F
 use Rattle.found.specs.declared.Kind.{Kind}
 use Rattle.found.specs.declared.Kind.TheVariants as K
 use Rattle.walk.specs.declared.state.Walk.{Walk}
-use Rattle.walk.specs.See.{World, at, see, act, begun, numbered, wrap, begun_if, wrap_if, hole_mid, Low}
+use Rattle.walk.specs.See.{World, at, see, act, begun, numbered, wrap, begun_if, wrap_if, to_page, hole_mid, Low}
 use Rattle.walk.proofs.SeeLaws.{plain, low_is, see_node, see_state, lift}
 use Rattle.walk.proofs.ActLaws.{act_grows, act_long, act_gen_template, act_chars, act_gap, act_dynamic_append, act_no_entries, act_one_entry, act_still, act_nothing_found, act_one_found, act_array_found, elements_of, act_found_expr, act_spliced_expr}
 use Rattle.visits.specs.Visiting.{Place, expr_at, items_at, found_out, Given, Room, Spliced}
@@ -356,3 +356,21 @@ module _ {skip props s : Bytes} {f : Place} (g : Given skip props s f) {u : Byte
 
         pub empty_done : {p₃ : Bytes} {st₃ : Walk} → at [] p₃ st₃ ≡ wrap_if (not b) 0x76 st.page (at [] p st₁) → at t p₃ st₃ ≡ given_out skip props s b (at t p st)
         empty_done = array_done [] (found_as K.Empty k) n (sym (act_no_entries (at t p st₁)))
+
+-- ---- an array by cases, for what is spliced and what stands as a field
+
+module _ {b : Bool} where
+  pub spliced_begins : {st : Walk} → b ≡ true → at [] [] st ≡ begun_if (not b) (at [] [] st)
+  spliced_begins {st} e = sym (ap (λ (x : Bool). begun_if (not x) (at [] [] st)) e)
+
+  pub spliced_ends : (st : Walk) → b ≡ true → (g n : ℕ) (p : Bytes) → at [] p st ≡ wrap_if (not b) g n (at [] p st)
+  spliced_ends st e g n p = sym (ap (λ (x : Bool). wrap_if (not x) g n (at [] p st)) e)
+
+  pub apart_begins : (st : Walk) {st₁ : Walk} → b ≡ false → st₁ ≡ to_page (st.page + 3) st → at [] [] st₁ ≡ begun_if (not b) (at [] [] st)
+  apart_begins st e h = ap (at [] []) h ∙ sym (ap (λ (x : Bool). begun_if (not x) (at [] [] st)) e)
+
+  pub apart_closes : {A L : Type 0} → b ≡ false → (not b ≡ true → A) × L → A × L
+  apart_closes e h = (h.0 (ap not e), h.1)
+
+  pub apart_ends : (g n : ℕ) (v : World) {w : World} → b ≡ false → w ≡ wrap g n v → w ≡ wrap_if (not b) g n v
+  apart_ends g n v e h = h ∙ sym (ap (λ (x : Bool). wrap_if (not x) g n v) e)

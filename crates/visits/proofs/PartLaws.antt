@@ -27,13 +27,12 @@ use Rattle.spec.specs.Attributes.{Attribute, is_serializable}
 use Rattle.spec.specs.Children.{maybe_wrap, merged_parts, children_to_string, serialize_jsx, to_call_expr, element_to_string_vec}
 use Rattle.spec.specs.Transform.{value, element_of, attributes}
 use Rattle.decisions.specs.Index.{names_of}
-use Rattle.decisions.specs.At.{opts, element_name, behind_name, identifier_bytes, attributes_at, children_at, element_at, serializable}
+use Rattle.decisions.specs.At.{opts, element_name, behind_name, identifier_bytes, attributes_at, children_at, element_at, serializable, IsAttribute, NoAttribute}
 use Rattle.decisions.proofs.Laws.{element_serializable}
 use Rattle.decisions.proofs.Series.{tested}
 use Rattle.strings.specs.Carve.{child_parts, contained_parts}
 use Rattle.strings.proofs.MergeLaws.{direct, child_direct}
-use Rattle.strings.proofs.TreeLaws.{kids, attrs_at, attr_at, attrs_50, attrs_53, attrs_other, inner, parts_at, parts_60, parts_52, parts_30, parts_31, parts_none, parts_other, element_open}
-use Rattle.records.proofs.ReadLaws.{behind_shorter}
+use Rattle.strings.proofs.TreeLaws.{kids, attrs_at, attr_at, attrs_step, attrs_gone, inner, parts_at, parts_60, parts_52, parts_30, parts_31, parts_none, parts_other, element_open}
 use Rattle.walk.specs.declared.attribute.Gap.{Gap}
 use Rattle.walk.specs.declared.attribute.Gap.TheVariants as G
 use Rattle.walk.specs.declared.state.Walk.{Walk}
@@ -223,14 +222,6 @@ module _ (skip props b : Bytes) {z : Bool} (e : z ≡ serializable skip b) (w : 
     pub element_bare : {r : Bytes} → r ≡ behind_of b → length r ≡ 0 → w ≡ act (dynamic_exprs (element_at skip props b).to_string_vec) w
     element_bare {r} q n = bare r q n
 
--- what lies behind its name, or nothing
-pub inner_shorter : (b : Bytes) {i : Bytes} → i ≡ pick (is_void_element (identifier_bytes (element_name (read b)))) [] (behind_of b) → length i ≤ length b
-inner_shorter b {i} q = either (is_void_element (identifier_bytes (element_name (read b)))) q
-  where
-    either : (v : Bool) → i ≡ pick v [] (behind_of b) → length i ≤ length b
-    either true p = omega (arith, ap length p)
-    either false p = behind_shorter b p
-
 -- ---- a container
 
 container_is : (o : Options) (c : Contained) (w : World) → act (dynamic_exprs (contained_parts o c)) w ≡ wrap_if (gap_wraps c) 0x92 w.st.page (see (gap_held o c) (begun_if (gap_wraps c) w))
@@ -382,10 +373,10 @@ module _ (p : Plan) (w : World) where
       either true = grows_then (see_grows p.behind w) (wrap_grows p.tag q (see p.behind w))
       either false = grows_same w
 
--- ---- a turn over attributes: a is the fields of a 50, and u the gap that it leaves
+-- ---- a turn over attributes: a is the fields of a 50, u the gap that it leaves, and r the row behind it
 
-module _ (skip props s : Bytes) (n : ℕ) (e : n ≡ tag_of_front s) (w : World) {total : World} (g : act (dynamic_exprs (attrs_at skip props s)) w ≡ total) where
-  module _ (h : n ≡ 0x50) {a : Bytes} (p : a ≡ body_of s) {u : Gap} (k : u ≡ attr_gap (names_of props) (attr_name_in (read a)) (value_in (read a))) where
+module _ (skip props s : Bytes) (w : World) {total : World} (g : act (dynamic_exprs (attrs_at skip props s)) w ≡ total) where
+  module _ {a r : Bytes} (i : IsAttribute s a r) {u : Gap} (k : u ≡ attr_gap (names_of props) (attr_name_in (read a)) (value_in (read a))) where
     abbrev name : AttrName
     name = attr_name_in (read a)
 
@@ -402,7 +393,7 @@ module _ (skip props s : Bytes) (n : ℕ) (e : n ≡ tag_of_front s) (w : World)
         ∙ plan_is 0x91 (λ b. b) name v w u)
 
     attr_low : Low total.st → Low (plan_back plan w.st.page (see plan.held (plan_front plan w))).st
-    attr_low l = low_is attr_is (room parts parts_low (attr_at skip props a) (by parts (attrs_50 skip props s n e p refl h) g) l)
+    attr_low l = low_is attr_is (room parts parts_low (attr_at skip props a) (by parts (attrs_step skip props i) g) l)
 
     held_low : Low total.st → Low (see plan.held (plan_front plan w)).st
     held_low l = low_back (back_grows plan (see plan.held (plan_front plan w)) w.st.page) (attr_low l)
@@ -452,13 +443,9 @@ module _ (skip props s : Bytes) (n : ℕ) (e : n ≡ tag_of_front s) (w : World)
         pub back_room : Low total.st → Low (plan_back (plan_by 0x91 (λ b. b) u (attr_name_in (read a)) A.absent) w.st.page (at [] w₂.page w₂.st)).st
         back_room l = subst Low (sym (ap (λ (x : World). x.st) back_is)) (attr_low l)
 
-        pub attr_on : {r : Bytes} → r ≡ behind_of s → {p₃ : Bytes} {x₃ : Walk} → at [] p₃ x₃ ≡ plan_back (plan_by 0x91 (λ b. b) u (attr_name_in (read a)) A.absent) w.st.page (at [] w₂.page w₂.st) →
+        pub attr_on : {p₃ : Bytes} {x₃ : Walk} → at [] p₃ x₃ ≡ plan_back (plan_by 0x91 (λ b. b) u (attr_name_in (read a)) A.absent) w.st.page (at [] w₂.page w₂.st) →
             act (dynamic_exprs (attrs_at skip props r)) (at w₂.templates p₃ x₃) ≡ total
-        attr_on q f₃ = on parts (attr_at skip props a) (by parts (attrs_50 skip props s n e p q h) g) (lift_world w₂.templates f₃ ∙ back_is ∙ attr_is)
+        attr_on f₃ = on parts (attr_at skip props a) (by parts (attrs_step skip props i) g) (lift_world w₂.templates f₃ ∙ back_is ∙ attr_is)
 
-  -- a spread leaves none
-  pub attrs_past : n ≡ 0x53 → {r : Bytes} → r ≡ behind_of s → act (dynamic_exprs (attrs_at skip props r)) w ≡ total
-  attrs_past h q = by parts (attrs_53 skip props s n e q h) g
-
-  pub attrs_end : (n ≡ 0x50 → ⊥) → (n ≡ 0x53 → ⊥) → w ≡ total
-  attrs_end a b = finish parts (by parts (attrs_other skip props s n e a b) g)
+  pub attrs_end : {r : Bytes} → NoAttribute s r → w ≡ total
+  attrs_end n = finish parts (by parts (attrs_gone skip props n) g)

@@ -7,26 +7,27 @@ ghost use Rattle.spec.specs.Merge.{merge};
 ghost use Rattle.spec.specs.Output.{dynamic_exprs};
 ghost use Rattle.spec.specs.Attributes.{attrs_parts, props_of};
 ghost use Rattle.spec.specs.Children.{serialize_jsx, children_to_string, children_to_expr, entries, entries_pass};
-ghost use Rattle.decisions.specs.At.{opts, element_at, attributes_at, children_at, serializable};
+ghost use Rattle.decisions.specs.At.{opts, element_at, attributes_at, children_at, serializable, under};
 ghost use Rattle.walk.specs.See.{at, see, act};
 ghost use Rattle.visits.specs.Visiting.{expr_at, held_at, items_at, pieces_at, element_mid, fragment_mid, template_mid, found_mid, found_out, Given, Room};
 
 use crate::state::{elements, is_found, is_left, recorded, records_of, returned};
-use decisions::children::{Count, child_count, children_at};
-use decisions::element::{is_component, is_serializable};
+use decisions::attribute::{Attributes, Value};
+use decisions::children::{Children, children_of};
+use decisions::element::{inner_children, is_component, is_serializable};
 use decisions::options::Options;
 use field::reader::{Field, Fields, behind, body, field_at};
 use found::{Found, Kind, found_of};
 use records::{record_found, record_fragment, record_serialize};
 use strings::joins;
 use walk::attribute::{
-    attribute_front, attribute_gap, gap_back, gap_held, held_at, is_wrapped, key_at, key_front,
-    key_held, property_front, property_gap,
+    attribute_front, attribute_gap, gap_back, gap_held, held_at, is_wrapped, key_at,
+    property_front, property_gap,
 };
-use walk::call::{children_front, close_props, hole_leaf, inner_children, name_expr};
+use walk::call::{children_front, close_props, hole_leaf, name_expr};
 use walk::state::{
-    Walk, begin, begin_if, begin_template, close, close_if, flush, join_container, join_text, leaf,
-    leave, literal_leaf, text_leaf,
+    Walk, attr_string_leaf, begin, begin_if, begin_template, close, close_if, flush,
+    join_container, join_text, leaf, leave, literal_leaf, text_leaf,
 };
 
 // visit_mut_expr on the expression in front.
@@ -39,8 +40,8 @@ fn on_expr(
     page: &mut [u8],
     st: Walk,
 ) -> Walk
-    requires { Room scratch.old s.now (see (expr_at options.now.skip.now options.now.props.now s.now) (at templates.old page.old st)) }
-    ensures { at templates.new page.new result ≡ see (expr_at options.now.skip.now options.now.props.now s.now) (at templates.old page.old st) }
+    requires { Room scratch.old s.now (see (under options.now expr_at s.now) (at templates.old page.old st)) }
+    ensures { at templates.new page.new result ≡ see (under options.now expr_at s.now) (at templates.old page.old st) }
 {
     let p = st.page;
     match field_at(s) {
@@ -70,16 +71,17 @@ fn on_held(
     page: &mut [u8],
     st: Walk,
 ) -> Walk
-    requires { Room scratch.old c.now (see (held_at options.now.skip.now options.now.props.now c.now) (at templates.old page.old st)) }
-    ensures { at templates.new page.new result ≡ see (held_at options.now.skip.now options.now.props.now c.now) (at templates.old page.old st) }
+    requires { Room scratch.old c.now (see (under options.now held_at c.now) (at templates.old page.old st)) }
+    ensures { at templates.new page.new result ≡ see (under options.now held_at c.now) (at templates.old page.old st) }
 {
-    if field_at(c).is_none() {
-        return st;
+    match field_at(c) {
+        Some(_) => on_expr(options, c, scratch, templates, page, st),
+        None => st,
     }
-    on_expr(options, c, scratch, templates, page, st)
 }
 
-// An array's elements.
+// An array's elements. `left` is what stands from the field on, since an expression is visited where it stands: walk's leaf of a number takes it
+// with its head. A visit of a Field would be a second function beside `on_expr`, for this one call.
 #[cycle(visit)]
 fn on_items(
     options: &Options<'_>,
@@ -89,8 +91,8 @@ fn on_items(
     page: &mut [u8],
     st: Walk,
 ) -> Walk
-    requires { Room scratch.old s.now (see (items_at options.now.skip.now options.now.props.now s.now) (at templates.old page.old st)) }
-    ensures { at templates.new page.new result ≡ see (items_at options.now.skip.now options.now.props.now s.now) (at templates.old page.old st) }
+    requires { Room scratch.old s.now (see (under options.now items_at s.now) (at templates.old page.old st)) }
+    ensures { at templates.new page.new result ≡ see (under options.now items_at s.now) (at templates.old page.old st) }
 {
     let mut fields = Fields(s);
     let mut left = s;
@@ -121,8 +123,8 @@ pub fn on_pieces(
     page: &mut [u8],
     st: Walk,
 ) -> Walk
-    requires { Room scratch.old s.now (see (pieces_at options.now.skip.now options.now.props.now s.now) (at templates.old page.old st)) }
-    ensures { at templates.new page.new result ≡ see (pieces_at options.now.skip.now options.now.props.now s.now) (at templates.old page.old st) }
+    requires { Room scratch.old s.now (see (under options.now pieces_at s.now) (at templates.old page.old st)) }
+    ensures { at templates.new page.new result ≡ see (under options.now pieces_at s.now) (at templates.old page.old st) }
 {
     let mut cur = st;
     for field in Fields(s) {
@@ -147,8 +149,8 @@ fn on_jsx(
     page: &mut [u8],
     st: Walk,
 ) -> Walk
-    requires { Room scratch.old b.now (see (element_mid options.now.skip.now options.now.props.now b.now) (at templates.old page.old st)) }
-    ensures { at templates.new page.new result ≡ see (element_mid options.now.skip.now options.now.props.now b.now) (at templates.old page.old st) }
+    requires { Room scratch.old b.now (see (under options.now element_mid b.now) (at templates.old page.old st)) }
+    ensures { at templates.new page.new result ≡ see (under options.now element_mid b.now) (at templates.old page.old st) }
 {
     let first = st.first;
     let k = record_serialize(options, b, scratch, templates, records_of(st));
@@ -156,7 +158,8 @@ fn on_jsx(
     returned(w, first)
 }
 
-// A fragment's children as a template.
+// A fragment's children as a template. `to_found` has the same three calls for its template, of children that are merged twice: each states by
+// another definition what comes of them.
 #[cycle(visit)]
 fn on_template(
     options: &Options<'_>,
@@ -166,8 +169,8 @@ fn on_template(
     page: &mut [u8],
     st: Walk,
 ) -> Walk
-    requires { Room scratch.old s.now (see (template_mid options.now.skip.now options.now.props.now s.now) (at templates.old page.old st)) }
-    ensures { at templates.new page.new result ≡ see (template_mid options.now.skip.now options.now.props.now s.now) (at templates.old page.old st) }
+    requires { Room scratch.old s.now (see (under options.now template_mid s.now) (at templates.old page.old st)) }
+    ensures { at templates.new page.new result ≡ see (under options.now template_mid s.now) (at templates.old page.old st) }
 {
     let first = st.first;
     let p = st.page;
@@ -188,25 +191,21 @@ fn on_fragment(
     page: &mut [u8],
     st: Walk,
 ) -> Walk
-    requires { Room scratch.old s.now (see (fragment_mid options.now.skip.now options.now.props.now s.now) (at templates.old page.old st)) }
-    ensures { at templates.new page.new result ≡ see (fragment_mid options.now.skip.now options.now.props.now s.now) (at templates.old page.old st) }
+    requires { Room scratch.old s.now (see (under options.now fragment_mid s.now) (at templates.old page.old st)) }
+    ensures { at templates.new page.new result ≡ see (under options.now fragment_mid s.now) (at templates.old page.old st) }
 {
-    match child_count(s) {
-        Count::Zero => leaf(page, st, 0x73, b""),
-        Count::One => {
-            let a = children_at(s);
-            match field_at(a) {
-                Some(Field { tag: 0x30, body }) => {
-                    on_jsx(options, body, scratch, templates, page, st)
-                }
-                Some(Field { tag: 0x31, body }) => {
-                    on_found(options, body, scratch, templates, page, st)
-                }
-                Some(Field { tag: 0x61, .. }) => leave(page, st),
-                _ => on_template(options, s, scratch, templates, page, st),
-            }
+    match children_of(s) {
+        Children::Zero => leaf(page, st, 0x73, b""),
+        Children::One(Field { tag: 0x30, body }) => {
+            on_jsx(options, body, scratch, templates, page, st)
         }
-        Count::More => on_template(options, s, scratch, templates, page, st),
+        Children::One(Field { tag: 0x31, body }) => {
+            on_found(options, body, scratch, templates, page, st)
+        }
+        Children::One(Field { tag: 0x61, .. }) => leave(page, st),
+        // Two arms, as in records' `record_found`: an only child and several give it by laws of their own, and behind one arm the proof would part them.
+        Children::One(_) => on_template(options, s, scratch, templates, page, st),
+        Children::More => on_template(options, s, scratch, templates, page, st),
     }
 }
 
@@ -220,8 +219,8 @@ fn on_found(
     page: &mut [u8],
     st: Walk,
 ) -> Walk
-    requires { Room scratch.old s.now (see (found_mid options.now.skip.now options.now.props.now s.now) (at templates.old page.old st)) }
-    ensures { at templates.new page.new result ≡ see (found_mid options.now.skip.now options.now.props.now s.now) (at templates.old page.old st) }
+    requires { Room scratch.old s.now (see (under options.now found_mid s.now) (at templates.old page.old st)) }
+    ensures { at templates.new page.new result ≡ see (under options.now found_mid s.now) (at templates.old page.old st) }
 {
     let f = found_of(options.skip, s);
     if is_left(f, s) {
@@ -244,8 +243,8 @@ fn to_jsx(
     page: &mut [u8],
     st: Walk,
 ) -> Walk
-    requires { Room scratch.old b.now (act (serialize_jsx (element_at options.now.skip.now options.now.props.now b.now)) (at templates.old page.old st)) }
-    ensures { at templates.new page.new result ≡ act (serialize_jsx (element_at options.now.skip.now options.now.props.now b.now)) (at templates.old page.old st) }
+    requires { Room scratch.old b.now (act (serialize_jsx (under options.now element_at b.now)) (at templates.old page.old st)) }
+    ensures { at templates.new page.new result ≡ act (serialize_jsx (under options.now element_at b.now)) (at templates.old page.old st) }
 {
     if !is_serializable(options.skip, b) {
         return to_call(options, b, scratch, templates, page, st);
@@ -266,13 +265,14 @@ fn to_gaps(
     page: &mut [u8],
     st: Walk,
 ) -> Walk
-    requires { Room scratch.old b.now (act (dynamic_exprs (element_at options.now.skip.now options.now.props.now b.now).to_string_vec) (at templates.old page.old st)) }
-    ensures { at templates.new page.new result ≡ act (dynamic_exprs (element_at options.now.skip.now options.now.props.now b.now).to_string_vec) (at templates.old page.old st) }
+    requires { Room scratch.old b.now (act (dynamic_exprs (under options.now element_at b.now).to_string_vec) (at templates.old page.old st)) }
+    ensures { at templates.new page.new result ≡ act (dynamic_exprs (under options.now element_at b.now).to_string_vec) (at templates.old page.old st) }
 {
-    if !is_serializable(options.skip, b) {
-        return to_call(options, b, scratch, templates, page, st);
+    if is_serializable(options.skip, b) {
+        to_inner(options, b, scratch, templates, page, st)
+    } else {
+        to_call(options, b, scratch, templates, page, st)
     }
-    to_inner(options, b, scratch, templates, page, st)
 }
 
 // The gaps of HTML. With nothing behind its name it has none, so neither walk is begun, nor is this called.
@@ -287,8 +287,8 @@ fn to_inner(
     st: Walk,
 ) -> Walk
     requires html { serializable options.now.skip.now b.now ≡ true }
-    requires room { Room scratch.old b.now (act (dynamic_exprs (element_at options.now.skip.now options.now.props.now b.now).to_string_vec) (at templates.old page.old st)) }
-    ensures { at templates.new page.new result ≡ act (dynamic_exprs (element_at options.now.skip.now options.now.props.now b.now).to_string_vec) (at templates.old page.old st) }
+    requires room { Room scratch.old b.now (act (dynamic_exprs (under options.now element_at b.now).to_string_vec) (at templates.old page.old st)) }
+    ensures { at templates.new page.new result ≡ act (dynamic_exprs (under options.now element_at b.now).to_string_vec) (at templates.old page.old st) }
 {
     let rest = behind(b);
     if rest.is_empty() {
@@ -298,7 +298,8 @@ fn to_inner(
     to_parts(options, inner_children(b), scratch, templates, page, a)
 }
 
-// The gaps of attributes in an opening tag. Not one function with `to_props`: it would choose gap, front, tag and spread at each attribute.
+// The gaps of attributes in an opening tag. Not one function with `to_props`, where a spread is a property too: it would choose gap, front and tag
+// at each attribute.
 #[cycle(visit)]
 fn to_attrs(
     options: &Options<'_>,
@@ -308,28 +309,22 @@ fn to_attrs(
     page: &mut [u8],
     st: Walk,
 ) -> Walk
-    requires { Room scratch.old s.now (act (dynamic_exprs (attrs_parts (opts options.now.skip.now options.now.props.now) (attributes_at options.now.skip.now options.now.props.now (read s.now)))) (at templates.old page.old st)) }
-    ensures { at templates.new page.new result ≡ act (dynamic_exprs (attrs_parts (opts options.now.skip.now options.now.props.now) (attributes_at options.now.skip.now options.now.props.now (read s.now)))) (at templates.old page.old st) }
+    requires { Room scratch.old s.now (act (dynamic_exprs (attrs_parts (under options.now opts) (under options.now attributes_at (read s.now)))) (at templates.old page.old st)) }
+    ensures { at templates.new page.new result ≡ act (dynamic_exprs (attrs_parts (under options.now opts) (under options.now attributes_at (read s.now)))) (at templates.old page.old st) }
 {
     let mut cur = st;
-    for field in Fields(s) {
-        let a = field.body;
-        match field.tag {
-            0x50 => {
-                let gap = attribute_gap(options.props, a);
-                let p = cur.page;
-                let x = attribute_front(page, cur, a, gap);
-                let y = on_held(options, held_at(a, gap), scratch, templates, page, x);
-                cur = gap_back(page, y, p, 0x91, a, gap);
-            }
-            0x53 => {}
-            _ => return cur,
-        }
+    for a in Attributes(s) {
+        let gap = attribute_gap(options.props, a);
+        let p = cur.page;
+        let x = attribute_front(page, cur, a, gap);
+        let y = on_held(options, held_at(a, gap), scratch, templates, page, x);
+        cur = gap_back(page, y, p, 0x91, a, gap);
     }
     cur
 }
 
-// The gaps of children in a template.
+// The gaps of children in a template. Whether a container is wrapped is asked before it and behind it: as two cases the visit between would stand
+// twice, and so in `to_call` what the children give.
 #[cycle(visit)]
 fn to_parts(
     options: &Options<'_>,
@@ -339,8 +334,8 @@ fn to_parts(
     page: &mut [u8],
     st: Walk,
 ) -> Walk
-    requires { Room scratch.old s.now (act (dynamic_exprs (children_to_string false (children_at options.now.skip.now options.now.props.now (read s.now)))) (at templates.old page.old st)) }
-    ensures { at templates.new page.new result ≡ act (dynamic_exprs (children_to_string false (children_at options.now.skip.now options.now.props.now (read s.now)))) (at templates.old page.old st) }
+    requires { Room scratch.old s.now (act (dynamic_exprs (children_to_string false (under options.now children_at (read s.now)))) (at templates.old page.old st)) }
+    ensures { at templates.new page.new result ≡ act (dynamic_exprs (children_to_string false (under options.now children_at (read s.now)))) (at templates.old page.old st) }
 {
     let mut cur = st;
     for field in Fields(s) {
@@ -371,8 +366,8 @@ fn to_call(
     page: &mut [u8],
     st: Walk,
 ) -> Walk
-    requires { Room scratch.old b.now (act (element_at options.now.skip.now options.now.props.now b.now).to_call_expr (at templates.old page.old st)) }
-    ensures { at templates.new page.new result ≡ act (element_at options.now.skip.now options.now.props.now b.now).to_call_expr (at templates.old page.old st) }
+    requires { Room scratch.old b.now (act (under options.now element_at b.now).to_call_expr (at templates.old page.old st)) }
+    ensures { at templates.new page.new result ≡ act (under options.now element_at b.now).to_call_expr (at templates.old page.old st) }
 {
     let p = st.page;
     let norm = !is_component(b);
@@ -392,12 +387,11 @@ fn to_call(
     let z = to_found(options, rest, f, false, scratch, templates, page, y);
     let c = close_if(page, z, h, 0x96, stands);
     let d = close_props(page, c, q);
-    // Most calls have no key.
-    let Some(a) = key_at(rest, norm) else {
-        return close(page, d, p, 0x94);
+    let l = match key_at(rest, norm) {
+        Some(Value::String(text)) => attr_string_leaf(page, d, text),
+        Some(Value::Container(held)) => on_held(options, held, scratch, templates, page, d),
+        Some(Value::Tag(_)) | None => d,
     };
-    let k = key_front(page, d, a);
-    let l = on_held(options, key_held(a), scratch, templates, page, k);
     close(page, l, p, 0x94)
 }
 
@@ -412,8 +406,8 @@ fn to_props(
     page: &mut [u8],
     st: Walk,
 ) -> Walk
-    requires { Room scratch.old s.now (see (props_of norm (attributes_at options.now.skip.now options.now.props.now (read s.now))) (at templates.old page.old st)) }
-    ensures { at templates.new page.new result ≡ see (props_of norm (attributes_at options.now.skip.now options.now.props.now (read s.now))) (at templates.old page.old st) }
+    requires { Room scratch.old s.now (see (props_of norm (under options.now attributes_at (read s.now))) (at templates.old page.old st)) }
+    ensures { at templates.new page.new result ≡ see (props_of norm (under options.now attributes_at (read s.now))) (at templates.old page.old st) }
 {
     let mut cur = st;
     for field in Fields(s) {
@@ -448,8 +442,8 @@ fn to_found(
     page: &mut [u8],
     st: Walk,
 ) -> Walk
-    requires { (Given options.now.skip.now options.now.props.now s.now f) × Room scratch.old s.now (act (found_out splice (children_to_expr (children_at options.now.skip.now options.now.props.now (read s.now)))) (at templates.old page.old st)) }
-    ensures { at templates.new page.new result ≡ act (found_out splice (children_to_expr (children_at options.now.skip.now options.now.props.now (read s.now)))) (at templates.old page.old st) }
+    requires { (Given options.now.skip.now options.now.props.now s.now f) × Room scratch.old s.now (act (found_out splice (children_to_expr (under options.now children_at (read s.now)))) (at templates.old page.old st)) }
+    ensures { at templates.new page.new result ≡ act (found_out splice (children_to_expr (under options.now children_at (read s.now)))) (at templates.old page.old st) }
 {
     let u = f.part(s);
     let p = st.page;
@@ -467,20 +461,18 @@ fn to_found(
             Some(items) => on_items(options, items, scratch, templates, page, st),
             None => on_expr(options, u, scratch, templates, page, st),
         },
+        Kind::Many if splice => to_entries(options, u, scratch, templates, page, st),
         Kind::Many => {
-            let a = begin_if(st, !splice);
-            let c = to_entries(options, u, scratch, templates, page, a);
-            close_if(page, c, p, 0x76, !splice)
+            let c = to_entries(options, u, scratch, templates, page, begin(st));
+            close(page, c, p, 0x76)
         }
-        Kind::Empty => {
-            let a = begin_if(st, !splice);
-            close_if(page, a, p, 0x76, !splice)
-        }
+        Kind::Empty if splice => st,
+        Kind::Empty => close(page, begin(st), p, 0x76),
         Kind::Hole => hole_leaf(page, st, splice),
     }
 }
 
-// The entries of merged children.
+// The entries of merged children. What ends a run flushes it in its own arm: one arm for the three would match their tag again.
 #[cycle(visit)]
 fn to_entries(
     options: &Options<'_>,
@@ -490,11 +482,11 @@ fn to_entries(
     page: &mut [u8],
     st: Walk,
 ) -> Walk
-    requires { Room scratch.old s.now (act (entries_pass (entries (merge false false [] (children_at options.now.skip.now options.now.props.now (read s.now))))) (at templates.old page.old st)) }
-    ensures { at templates.new page.new result ≡ act (entries_pass (entries (merge false false [] (children_at options.now.skip.now options.now.props.now (read s.now))))) (at templates.old page.old st) }
+    requires { Room scratch.old s.now (act (entries_pass (entries (merge false false [] (under options.now children_at (read s.now))))) (at templates.old page.old st)) }
+    ensures { at templates.new page.new result ≡ act (entries_pass (entries (merge false false [] (under options.now children_at (read s.now))))) (at templates.old page.old st) }
 {
     let mut cur = st;
-    // The bytes of the string that stands open: a length, 0 where it is empty.
+    // The bytes of the string that stands open: a length, 0 where none does, since a run of no bytes writes nothing.
     let mut run: usize = 0;
     for field in Fields(s) {
         let b = field.body;

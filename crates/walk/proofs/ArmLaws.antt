@@ -1,7 +1,8 @@
 -- What an arm of the page walk's writers writes, by the tag, the test or the gap that it is for: literals, names, the `children` property, the
--- end of properties, both ends of what an attribute leaves. Main statements: `literal_bytes` and the like, `names_on`, `namespaced_done`,
--- `name_expr_41` and the like, `stands_is`, `props_is`, `front_done`, `front_room`, `back_plain` and the like. Assumes nothing.
+-- end of properties, both ends of what an attribute leaves. Main statements: `literal_bytes` and the like, `names_on`, `namespaced_wrote`,
+-- `name_expr_members` and the like, `stands_is`, `props_is`, `front_done`, `front_room`, `back_plain` and the like. Assumes nothing.
 use Rattle.std.specs.Prelude.{Option, Some, None}
+use Rattle.std.specs.Option.{unwrap_or}
 use mathlib.Core.Path.{◌≡◌, refl, sym, ap, ◌∙◌, subst}
 use mathlib.Core.Logic.{◌⊎◌, ⊎_elim}
 use mathlib.Core.Bool.{Bool, true, false, true≢false, false≢true}
@@ -22,7 +23,7 @@ use Rattle.field.proofs.PutLaws.{wrote_then}
 use Rattle.names.specs.Names.{AttrName, get_attr_name}
 use Rattle.page.specs.Number.{number_tag, minus_tag, number_in, number_bytes}
 use Rattle.page.specs.Tree.{boolean_in, texts_in, first_in, second_in, expr_in}
-use Rattle.page.specs.Page.{identifier}
+use Rattle.page.specs.Page.{Name, identifier, member, namespaced}
 use Rattle.page.specs.Encode.{boolean_byte}
 use Rattle.spec.specs.Pass.{Mid, none, node}
 use Rattle.spec.specs.Output.{leaf, string_node, true_node, null_node}
@@ -34,7 +35,7 @@ use Rattle.decisions.proofs.Series.{tested, texts_none, texts_40, texts_past, na
 use Rattle.walk.specs.declared.attribute.Gap.{Gap}
 use Rattle.walk.specs.declared.attribute.Gap.TheVariants as G
 use Rattle.walk.specs.declared.state.Walk.{Walk}
-use Rattle.walk.specs.See.{World, at, see, to_page, begun, wrap, props_closed, literal, namespaced_leaf, Low}
+use Rattle.walk.specs.See.{World, at, see, to_page, begun, wrap, props_closed, literal, Low}
 use Rattle.walk.specs.Plan.{string_of, attr_plan, prop_plan, plan_by, plan_front, plan_back}
 use Rattle.walk.proofs.SeeLaws.{see_none, see_grows}
 use Rattle.walk.proofs.LeafLaws.{low_world, low_seen, pick_true, pick_false, leaf_room, leaf_close, leaf_is, low_as, done_as, front_low, rest_is}
@@ -51,9 +52,9 @@ module _ (s : Bytes) {t : ℕ} {b r : Bytes} (f : IsFront s t b r) where
       under : {u : ℕ} → t ≡ u → leaf u (body_of s) ≡ leaf t b
       under k = λ i. leaf (sym k i) (sym f.body_is i)
 
-  pub literal_boolean : t ≡ 0x72 → {w : Bool} → w ≡ boolean_in b → {v : ℕ} → v ≡ bool_byte w → literal (expr_in (read s)) ≡ leaf t (v ∷ [])
+  pub literal_boolean : t ≡ 0x72 → {w : Bool} → w ≡ boolean_in b → {v : ℕ} → v ≡ bool_byte w → literal (expr_in (read s)) ≡ leaf 0x72 (v ∷ [])
   unfolding literal
-  literal_boolean k {w} e q = ap literal (expr_72 s t f.tag_is k) ∙ (λ i. leaf (sym k i) (boolean_byte (boolean_in (sym f.body_is i)) ∷ [])) ∙ ap (λ (x : Bool). leaf t (boolean_byte x ∷ [])) (sym e) ∙ ap (λ (x : ℕ). leaf t (x ∷ [])) (on w ∙ sym q)
+  literal_boolean k {w} e q = ap literal (expr_72 s t f.tag_is k) ∙ ap (λ (x : Bytes). leaf 0x72 (boolean_byte (boolean_in x) ∷ [])) (sym f.body_is) ∙ ap (λ (x : Bool). leaf 0x72 (boolean_byte x ∷ [])) (sym e) ∙ ap (λ (x : ℕ). leaf 0x72 (x ∷ [])) (on w ∙ sym q)
     where
       on : (x : Bool) → boolean_byte x ≡ bool_byte x
       on true = refl
@@ -88,6 +89,23 @@ pub literal_none : (s : Bytes) → Ended (read s) → literal (expr_in (read s))
 unfolding literal
 literal_none s e = ap literal (expr_none (read s) e)
 
+-- the field in front is read, and where none stands g, which is under a 73
+module _ (s : Bytes) (r : Option Field) (h : FieldAt s r) {f : Field} (g : Field) (z : g.tag ≡ 0x73) (e : f ≡ unwrap_or r g) where
+  pub front_is : (f.tag ≡ 0x73 → ⊥) → IsFront s f.tag f.body.now (behind_of s)
+  front_is n = on r h e
+    where
+      on : (r : Option Field) → FieldAt s r → f ≡ unwrap_or r g → IsFront s f.tag f.body.now (behind_of s)
+      on None h e = absurd (n (ap (λ (x : Field). x.tag) e ∙ z))
+      on (Some x) h e = subst (λ (y : Field). IsFront s y.tag y.body.now (behind_of s)) (sym e) h
+
+  pub literal_null : (f.tag ≡ 0x70 → ⊥) → (f.tag ≡ 0x71 → ⊥) → (f.tag ≡ 0x72 → ⊥) → (f.tag ≡ 0x74 → ⊥) → (f.tag ≡ 0x75 → ⊥) → (f.tag ≡ 0x7a → ⊥) → (f.tag ≡ 0x7b → ⊥) →
+      literal (expr_in (read s)) ≡ null_node
+  literal_null a b c d k l m = on r h e
+    where
+      on : (r : Option Field) → FieldAt s r → f ≡ unwrap_or r g → literal (expr_in (read s)) ≡ null_node
+      on None h e = literal_none s h.ended
+      on (Some x) h e = literal_other s (subst (λ (y : Field). IsFront s y.tag y.body.now (behind_of s)) (sym e) h) a b c d k l m
+
 -- ---- member names: the names that are left are seen, and all is done
 
 abbrev pub names_at : Bytes → Mid
@@ -115,60 +133,33 @@ module _ (s : Bytes) {t : ℕ} {b r : Bytes} (f : IsFront s t b r) (w : World) {
 
 -- ---- a namespaced name
 
-module _ (o : Bytes) (st : Walk) (c : Bytes) {x y : Bytes} (ex : x ≡ first_in (texts_in 0x40 (read c))) (ey : y ≡ second_in (texts_in 0x40 (read c))) where
-  namespaced_is : namespaced_leaf (read c) ≡ leaf 0x81 (x ++ (58 ∷ y))
-  namespaced_is = λ i. leaf 0x81 (sym ex i ++ (58 ∷ sym ey i))
+module _ (o : Bytes) (st : Walk) (x y : Bytes) where
+  pub namespaced_room : Low (see (leaf 0x81 (x ++ (58 ∷ y))) (at [] o st)).st → st.page + 3 + length x + 1 + length y < 2 ^ 63
+  namespaced_room l = omega (arith, leaf_room o st 0x81 (x ++ (58 ∷ y)) l, length-append x (58 ∷ y))
 
-  namespaced_low : Low (see (namespaced_leaf (read c)) (at [] o st)).st → Low (see (leaf 0x81 (x ++ (58 ∷ y))) (at [] o st)).st
-  namespaced_low l = low_as (at [] o st) namespaced_is l
-
-  pub namespaced_room : Low (see (namespaced_leaf (read c)) (at [] o st)).st → st.page + 3 + length x + 1 + length y < 2 ^ 63
-  namespaced_room l = omega (arith, leaf_room o st 0x81 (x ++ (58 ∷ y)) (namespaced_low l), length-append x (58 ∷ y))
-
-  module _ {o₁ o₂ o₃ : Bytes} {e₁ e₂ e₃ : ℕ} (u : Wrote o (st.page + 3) x o₁ e₁) (v : Wrote o₁ e₁ (58 ∷ []) o₂ e₂) (z : Wrote o₂ e₂ y o₃ e₃) {r : Walk} (q : r ≡ to_page e₃ st) where
-    namespaced_wrote : Wrote o (st.page + 3) (x ++ (58 ∷ y)) o₃ e₃
+  module _ {o₁ o₂ o₃ : Bytes} {e₁ e₂ e₃ : ℕ} (u : Wrote o (st.page + 3) x o₁ e₁) (v : Wrote o₁ e₁ (58 ∷ []) o₂ e₂) (z : Wrote o₂ e₂ y o₃ e₃) where
+    pub namespaced_wrote : Wrote o (st.page + 3) (x ++ (58 ∷ y)) o₃ e₃
     namespaced_wrote = wrote_then u (wrote_then v z)
 
-    pub namespaced_close : Low (see (namespaced_leaf (read c)) (at [] o st)).st → (st.page + 3 ≤ r.page) × Low r
-    namespaced_close l = leaf_close o st 0x81 (x ++ (58 ∷ y)) namespaced_wrote q (namespaced_low l)
+-- ---- the first argument of a call, by the name
 
-    pub namespaced_done : {w : World} → w ≡ wrap 0x81 st.page (at [] o₃ r) → w ≡ see (namespaced_leaf (read c)) (at [] o st)
-    namespaced_done g = done_as (at [] o st) namespaced_is (leaf_is o st 0x81 (x ++ (58 ∷ y)) namespaced_wrote q g)
+module _ {m : Name} where
+  module _ {n : Bytes} (e : identifier n ≡ m) {b : Bool} (u : b ≡ first_upper n) where
+    pub name_expr_upper : b ≡ true → name_expr m ≡ leaf 0x40 n
+    unfolding name_expr
+    name_expr_upper t = ap name_expr (sym e) ∙ pick_true (first_upper n) (leaf 0x40 n) (leaf 0x81 n) (sym u ∙ t)
 
--- ---- the first argument of a call, by the tag of the name
+    pub name_expr_small : b ≡ false → name_expr m ≡ leaf 0x81 n
+    unfolding name_expr
+    name_expr_small t = ap name_expr (sym e) ∙ pick_false (first_upper n) (leaf 0x40 n) (leaf 0x81 n) (sym u ∙ t)
 
--- what the code found in front, and where it found none
-pub front_is : {s : Bytes} {o : Option Field} {f : Field} → FieldAt s o → o ≡ Some f → IsFront s f.tag f.body.now (behind_of s)
-front_is {s} h e = subst (FieldAt s) e h
-
-pub front_none : {s : Bytes} {o : Option Field} → FieldAt s o → o ≡ None → IsEnd s s
-front_none {s} h e = subst (FieldAt s) e h
-
-module _ (s : Bytes) {t : ℕ} {c r : Bytes} (f : IsFront s t c r) where
-  pub name_expr_41 : t ≡ 0x41 → name_expr (element_name (read s)) ≡ node 0x41 [] (names_at c) none
+  pub name_expr_members : {ns : List Bytes} → member ns ≡ m → name_expr m ≡ node 0x41 [] (members_row ns) none
   unfolding name_expr
-  name_expr_41 k = ap name_expr (name_41 s t f.tag_is k) ∙ ap (λ (x : Bytes). node 0x41 [] (names_at x) none) (sym f.body_is)
+  name_expr_members e = ap name_expr (sym e)
 
-  pub name_expr_42 : t ≡ 0x42 → name_expr (element_name (read s)) ≡ namespaced_leaf (read c)
+  pub name_expr_pair : {n k : Bytes} → namespaced n k ≡ m → name_expr m ≡ leaf 0x81 (n ++ (58 ∷ k))
   unfolding name_expr
-  name_expr_42 k = ap name_expr (name_42 s t f.tag_is k) ∙ ap (λ (x : Bytes). namespaced_leaf (read x)) (sym f.body_is)
-
--- neither members nor a namespace: an identifier
-name_is_identifier : (s : Bytes) {t : ℕ} → t ≡ tag_of_front s → (t ≡ 0x41 → ⊥) → (t ≡ 0x42 → ⊥) → {n : Bytes} → n ≡ identifier_bytes (element_name (read s)) → element_name (read s) ≡ identifier n
-name_is_identifier s {t} e a b {n} q =
-    tested t 0x40
-    (λ k. name_40 s t e k ∙ ap identifier (sym (q ∙ ap identifier_bytes (name_40 s t e k))))
-    λ c. name_other s t e c a b ∙ ap identifier (sym (q ∙ ap identifier_bytes (name_other s t e c a b)))
-
--- an identifier is a component's where it begins with a capital
-pub name_expr_plain : (s : Bytes) {t : ℕ} → t ≡ tag_of_front s → (t ≡ 0x41 → ⊥) → (t ≡ 0x42 → ⊥) → {n : Bytes} → n ≡ identifier_bytes (element_name (read s)) →
-    {u : ℕ} → u ≡ pick (first_upper n) 0x40 0x81 → name_expr (element_name (read s)) ≡ leaf u n
-unfolding name_expr
-name_expr_plain s {t} e h k {n} q g = ap name_expr (name_is_identifier s e h k q) ∙ on (first_upper n) ∙ ap (λ (x : ℕ). leaf x n) (sym g)
-  where
-    on : (b : Bool) → pick b (leaf 0x40 n) (leaf 0x81 n) ≡ leaf (pick b 0x40 0x81) n
-    on true = refl
-    on false = refl
+  name_expr_pair e = ap name_expr (sym e)
 
 -- ---- the `children` property begins
 

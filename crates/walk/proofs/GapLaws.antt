@@ -1,5 +1,5 @@
--- What an attribute, a property, a key and a child in braces leave in page out, as the first pass gives it. Main statements:
--- `attr_parts_plan`, `prop_plan_is`, `key_is`, `contained_gap`; `plan_front_same`, `plan_back_same`: what stands around what is
+-- What an attribute, a property and a child in braces leave in page out, as the first pass gives it. Main statements:
+-- `attr_parts_plan`, `prop_plan_is`, `contained_gap`; `plan_front_same`, `plan_back_same`: what stands around what is
 -- held is the same whatever the options are. Assumes nothing.
 use mathlib.Core.Path.{◌≡◌, refl, sym, ap}
 use Prim.Native.Nat.{ℕ}
@@ -17,7 +17,7 @@ use Rattle.spec.specs.Output.{string_node, true_node, attr_node, choice_node, pr
 use Rattle.spec.specs.Merge as M
 use Rattle.spec.specs.Merge.{joined_text}
 use Rattle.spec.specs.Attributes as A
-use Rattle.spec.specs.Attributes.{serialize_attr, listed_attr, dynamic_attr, container_attr, plain_attr, attr_parts, prop_of, key_from}
+use Rattle.spec.specs.Attributes.{serialize_attr, listed_attr, dynamic_attr, container_attr, plain_attr, attr_parts, prop_of}
 use Rattle.spec.specs.Children.{maybe_wrap}
 use Rattle.spec.specs.Transform.{shape_of, value, expr}
 use Rattle.decisions.specs.Index.{names_of}
@@ -26,7 +26,7 @@ use Rattle.strings.specs.Carve.{child_parts, contained_parts}
 use Rattle.walk.specs.declared.attribute.Gap.{Gap}
 use Rattle.walk.specs.declared.attribute.Gap.TheVariants as G
 use Rattle.walk.specs.See.{World, see, begun}
-use Rattle.walk.specs.Plan.{Plan, dynamic_gap, shape_gap, listed_gap, plain_gap, attr_gap, prop_gap, string_of, held_of, plan_by, plan_front, plan_back, key_string, key_held, shape_leaves, shape_wraps, gap_wraps, gap_held}
+use Rattle.walk.specs.Plan.{Plan, dynamic_gap, shape_gap, listed_gap, plain_gap, attr_gap, prop_gap, string_of, held_of, plan_by, plan_front, plan_back, shape_leaves, shape_wraps, gap_wraps, gap_held}
 
 -- ---- the fields of a plan, as the first pass gives them
 
@@ -137,15 +137,6 @@ prop_plan_is o norm n (P.container_value e) = on (same (get_attr_name n norm) (a
     on false = ap (λ (m : Mid). prop_node (get_attr_name n norm) m) (sym (append_none (expr o e none)))
 prop_plan_is o norm n (P.tag_value t) = refl
 
--- the key
-pub key_is : (v : A.Value) → key_from v none ≡ key_string v +++ key_held v
-unfolding key_from key_string key_held ◌+++◌
-key_is A.absent = refl
-key_is (A.string b) = refl
-key_is A.empty = refl
-key_is (A.container s m) = refl
-key_is (A.tag r) = refl
-
 -- ---- what stands around what is held is the same whatever the options are
 
 pub string_same : (o p : Options) (x : P.Value) → string_of (value o x) ≡ string_of (value p x)
@@ -155,14 +146,6 @@ string_same o p (P.string_value b) = refl
 string_same o p P.empty_value = refl
 string_same o p (P.container_value e) = refl
 string_same o p (P.tag_value t) = refl
-
-pub key_string_same : (o p : Options) (x : P.Value) → key_string (value o x) ≡ key_string (value p x)
-unfolding key_string value
-key_string_same o p P.absent = refl
-key_string_same o p (P.string_value b) = refl
-key_string_same o p P.empty_value = refl
-key_string_same o p (P.container_value e) = refl
-key_string_same o p (P.tag_value t) = refl
 
 -- both ends, as the code writes them; the back does not look at the value
 pub plan_front_same : (o p : Options) (t : ℕ) (text : Bytes → Bytes) (g : Gap) (n : AttrName) (x : P.Value) (w : World) →

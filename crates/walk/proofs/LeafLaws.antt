@@ -57,14 +57,14 @@ module _ (o : Bytes) (st : Walk) (t : ℕ) (b : Bytes) where
   pub leaf_room : Low (see (leaf t b) (at [] o st)).st → st.page + 3 + length b < 2 ^ 63
   leaf_room l = let m = leaf_low l in omega (arith, m.low_page)
 
-  module _ {o₁ : Bytes} {e : ℕ} (u : Wrote o (st.page + 3) b o₁ e) {r : Walk} (q : r ≡ to_page e st) where
-    leaf_end : r ≡ to_page (st.page + 3 + length b) st
-    leaf_end = q ∙ ap (λ (n : ℕ). to_page n st) u.end_is
+  module _ {o₁ : Bytes} {e : ℕ} (u : Wrote o (st.page + 3) b o₁ e) where
+    leaf_end : to_page e st ≡ to_page (st.page + 3 + length b) st
+    leaf_end = ap (λ (n : ℕ). to_page n st) u.end_is
 
-    pub leaf_close : Low (see (leaf t b) (at [] o st)).st → (st.page + 3 ≤ r.page) × Low r
-    leaf_close l = (omega (arith, ap (λ (x : Walk). x.page) leaf_end), subst Low (sym leaf_end) (leaf_low l))
+    pub leaf_close : Low (see (leaf t b) (at [] o st)).st → (st.page + 3 ≤ e) × Low (to_page e st)
+    leaf_close l = (omega (arith, u.end_is), subst Low (sym leaf_end) (leaf_low l))
 
-    pub leaf_is : {w : World} → w ≡ wrap t st.page (at [] o₁ r) → w ≡ see (leaf t b) (at [] o st)
+    pub leaf_is : {w : World} → w ≡ wrap t st.page (at [] o₁ (to_page e st)) → w ≡ see (leaf t b) (at [] o st)
     leaf_is g = g ∙ (λ i. wrap t st.page (at [] (u.out_is i) (leaf_end i))) ∙ sym (see_leaf t b (at [] o st))
 
 -- the same by another name

@@ -1,9 +1,8 @@
--- What the code of src/attribute.rt learns. Main statements: `gap_shape`, `held_shape`, `wraps_shape` for a container by its shape;
--- `tag_held`, `braces_empty`, `braces_full` for an attribute by its value; `none_held`, `one_held` by the gap; `key_start`, `key_here`,
+-- What the code of src/attribute.rt learns. Main statements: `gap_shape`, `held_joined`, `wraps_shape` for a container by its shape;
+-- `braces_empty`, `braces_full`, `text_is`, `expr_is` for an attribute by its value; `none_held`, `one_held` by the gap; `key_here`,
 -- `key_answer` for the key. Assumes nothing.
-use Rattle.std.specs.Prelude.{is_some, MatchOption}
-use Rattle.std.proofs.Common.{Option, Some, None, Bor}
-use mathlib.Core.Logic.{◌⊎◌, ⊎_elim}
+use Rattle.std.specs.Option.{option_or}
+use Rattle.std.proofs.Common.{Option, Some, None}
 use mathlib.Core.Path.{◌≡◌, refl, sym, ap, ◌∙◌}
 use Prim.Native.Nat.{ℕ, ◌≤◌}
 use native.Mathlib.Omega.{arith}
@@ -12,33 +11,29 @@ use mathlib.Core.List.{[]}
 use lib.ListN.{length}
 use Rattle.field.specs.Bytes.{Bytes, ascii, pick, same}
 use Rattle.field.specs.Row.{read, Ended}
-use Rattle.field.specs.Front.{tag_of_front, body_of, behind_of}
-use Rattle.field.specs.Fields.{IsFront}
+use Rattle.field.specs.Front.{tag_of_front}
 use Rattle.field.proofs.RowLaws.{read_nil}
 use Rattle.names.specs.Names.{AttrName, get_attr_name, is_boolean_attr}
 use Rattle.page.specs.Page as P
 use Rattle.page.specs.Page.{Options}
-use Rattle.page.specs.Tree.{Contained, nothing_contained, contained, contained_value, contained_in, attr_name_in, value_in, element_in, fragment_in, expr_in}
+use Rattle.page.specs.Tree.{Contained, nothing_contained, contained, contained_value, contained_in, attributes_in, attr_name_in, value_in, expr_in}
 use Rattle.spec.specs.Pass.{Mid, none}
-use Rattle.spec.specs.Output.{string_node}
-use Rattle.text.specs.Text.{normalize_lit_str}
 use Rattle.spec.specs.Merge as M
 use Rattle.spec.specs.Attributes as A
 use Rattle.spec.specs.Attributes.{key_from, key_of}
 use Rattle.spec.specs.Transform.{shape_of, value, expr, attributes}
-use Rattle.decisions.specs.At.{opts, attributes_at, value_of, shape_of_contained}
+use Rattle.decisions.specs.At.{opts, attributes_at, shape_of_contained, Holds, written, IsAttribute, NoAttribute}
 use Rattle.decisions.specs.declared.attribute.Value.{Value}
 use Rattle.decisions.specs.declared.attribute.Value.TheVariants as V
 use Rattle.decisions.specs.declared.expr.Shape.{Shape}
 use Rattle.decisions.specs.declared.expr.Shape.TheVariants as Form
-use Rattle.decisions.proofs.Series.{tested, value_in_at, value_30, value_31, contained_none, contained_field, expr_30, expr_31, attributes_50, attributes_53, attributes_other}
-use Rattle.decisions.proofs.AttributeLaws.{value_is_51, value_is_52, value_is_absent}
+use Rattle.decisions.proofs.Series.{contained_none, contained_field}
+use Rattle.strings.specs.Carve.{is_some, is_joined}
+use Rattle.spec.specs.Merge.{joined_text}
 use Rattle.decisions.proofs.Laws.{ContainedAt, is_empty, is_text, is_number, is_boolean, is_null, is_literal, is_minus, is_other, contained_view}
 use Rattle.walk.specs.declared.attribute.Gap.{Gap}
 use Rattle.walk.specs.declared.attribute.Gap.TheVariants as G
-use Rattle.walk.specs.declared.attribute.Held.{Held}
-use Rattle.walk.specs.declared.attribute.Held.TheVariants as H
-use Rattle.walk.specs.Plan.{TagHeld, Holds, dynamic_gap, shape_gap, container_gap, plain_gap, prop_gap, string_of, key_string, key_held, held_of, plan_by, sets_key, contained_mid, shape_leaves, shape_wraps, gap_wraps, gap_held}
+use Rattle.walk.specs.Plan.{dynamic_gap, shape_gap, container_gap, plain_gap, prop_gap, string_of, held_of, plan_by, contained_mid, shape_leaves, shape_wraps, gap_wraps, gap_held, key_given, key_braces}
 
 -- ---- containers, by the shape that was found
 
@@ -51,16 +46,6 @@ gap_by n Form.Null = dynamic_gap n
 gap_by n Form.Literal = dynamic_gap n
 gap_by n Form.Minus = G.Nothing
 gap_by n Form.Other = dynamic_gap n
-
-abbrev pub leaves_by : Shape → Bool
-leaves_by Form.Empty = false
-leaves_by Form.String = false
-leaves_by Form.Number = false
-leaves_by (Form.Boolean b) = false
-leaves_by Form.Null = true
-leaves_by Form.Literal = true
-leaves_by Form.Minus = true
-leaves_by Form.Other = true
 
 abbrev pub wraps_by : Shape → Bool
 wraps_by Form.Empty = false
@@ -83,17 +68,6 @@ shaped_gap n is_literal = refl
 shaped_gap n is_minus = refl
 shaped_gap n (is_other {e} h) = ap (shape_gap n) h
 
-shaped_held : (o : Options) {c : Bytes} {x : Contained} {r : Shape} → ContainedAt c x r → gap_held o x ≡ pick (leaves_by r) (contained_mid o x) none
-unfolding gap_held contained_mid shape_leaves shape_of
-shaped_held o is_empty = refl
-shaped_held o is_text = refl
-shaped_held o is_number = refl
-shaped_held o is_boolean = refl
-shaped_held o is_null = refl
-shaped_held o is_literal = refl
-shaped_held o is_minus = refl
-shaped_held o (is_other {e} h) = ap (λ (s : M.Shape). pick (shape_leaves s) (expr o e none) none) h
-
 shaped_wraps : {c : Bytes} {x : Contained} {r : Shape} → ContainedAt c x r → gap_wraps x ≡ wraps_by r
 unfolding gap_wraps shape_wraps shape_of
 shaped_wraps is_empty = refl
@@ -109,11 +83,26 @@ module _ (c : Bytes) where
   pub gap_shape : (n : Bytes) → container_gap n (contained_in (read c)) ≡ gap_by n (shape_of_contained (contained_in (read c)))
   gap_shape n = shaped_gap n (contained_view c)
 
-  pub held_shape : (o : Options) → gap_held o (contained_in (read c)) ≡ pick (leaves_by (shape_of_contained (contained_in (read c)))) (contained_mid o (contained_in (read c))) none
-  held_shape o = shaped_held o (contained_view c)
-
   pub wraps_shape : gap_wraps (contained_in (read c)) ≡ wraps_by (shape_of_contained (contained_in (read c)))
   wraps_shape = shaped_wraps (contained_view c)
+
+-- what joins the text around it leaves no gap
+held_by : (o : Options) (x : Contained) → gap_held o x ≡ pick (is_joined x) none (contained_mid o x)
+unfolding gap_held contained_mid is_joined joined_text shape_leaves
+held_by o nothing_contained = refl
+held_by o (contained e) = on (shape_of e)
+  where
+    on : (s : M.Shape) → pick (shape_leaves s) (expr o e none) none ≡ pick (is_some (joined_text s)) none (expr o e none)
+    on (M.string_shape b) = refl
+    on (M.number_shape n) = refl
+    on (M.boolean_shape b) = refl
+    on M.null_shape = refl
+    on M.literal_shape = refl
+    on (M.minus_shape n) = refl
+    on M.other_shape = refl
+
+pub held_joined : (o : Options) (c : Bytes) → gap_held o (contained_in (read c)) ≡ pick (is_joined (contained_in (read c))) none (contained_mid o (contained_in (read c)))
+held_joined o c = held_by o (contained_in (read c))
 
 -- no bytes hold nothing
 pub nothing_held : (o : Options) → contained_mid o (contained_in (read [])) ≡ none
@@ -121,36 +110,6 @@ unfolding contained_mid contained_in
 nothing_held o = ap (λ r. contained_mid o (contained_in r)) read_nil
 
 -- ---- values, by what stands there
-
--- values of a kind
-abbrev kind_code : Option Value → ℕ
-kind_code None = 0
-kind_code (Some V.String) = 1
-kind_code (Some V.Container) = 2
-kind_code (Some V.Element) = 3
-kind_code (Some V.Fragment) = 3
-
--- a tag, which is an expression too
-pub tag_held : (a : Bytes) {g : Value} → value_of (value_in (read a)) ≡ Some g → (g ≡ V.Element) ⊎ (g ≡ V.Fragment) → TagHeld (value_in (read a)) (behind_of a)
-tag_held a e d =
-    let s = behind_of a in
-    let t = tag_of_front (behind_of a) in
-    let n : kind_code (value_of (value_in (read a))) ≡ 3 = ⊎_elim (λ q. ap kind_code (e ∙ ap Some q)) (λ q. ap kind_code (e ∙ ap Some q)) d in
-    tested t 0x51 (λ k. absurd (omega (arith, n, ap kind_code (value_is_51 a refl t refl k)))) λ n1.
-    tested t 0x52 (λ k. absurd (omega (arith, n, ap kind_code (value_is_52 a refl t refl k)))) λ n2.
-    tested t 0x30
-    (λ k. record {
-      tag = element_in (read (body_of s));
-      value_is = value_in_at a ∙ value_30 s t refl k;
-      expression_is = contained_field s t refl (λ z. omega (arith, k)) ∙ ap contained (expr_30 s t refl k);
-    }) λ n3.
-    tested t 0x31
-    (λ k. record {
-      tag = fragment_in (read (body_of s));
-      value_is = value_in_at a ∙ value_31 s t refl k;
-      expression_is = contained_field s t refl (λ z. omega (arith, k)) ∙ ap contained (expr_31 s t refl k);
-    }) λ n4.
-    absurd (omega (arith, n, ap kind_code (value_is_absent a refl t refl n1 n2 n3 n4)))
 
 -- braces, by whether a field stands in them
 pub braces_empty : (c : Bytes) → Ended (read c) → contained_value (contained_in (read c)) ≡ P.empty_value
@@ -175,35 +134,23 @@ unfolding contained_value
 contained_stands nothing_contained h = let z : ◌≡◌ {A = ℕ} 0 1 = cc in omega arith
 contained_stands (contained e) h = let z : ◌≡◌ {A = ℕ} 0 1 = cc in omega arith
 
-pub held_stands : (a : Bytes) (h : Held) → Holds a (Some h) → value_in (read a) ≡ P.absent → ⊥
-held_stands a (H.String b) e z = let y : P.string_value b.now ≡ P.absent = sym e ∙ z in let x : ◌≡◌ {A = ℕ} 0 1 = cc in omega arith
-held_stands a (H.Braces c) e z = contained_stands (contained_in (read c.now)) (sym e.0 ∙ z)
-held_stands a (H.Tag t) e z = let y : P.tag_value e.0.tag ≡ P.absent = sym e.0.value_is ∙ z in let x : ◌≡◌ {A = ℕ} 0 1 = cc in omega arith
+pub held_stands : (a : Bytes) (h : Value) → Holds a (Some h) → value_in (read a) ≡ P.absent → ⊥
+held_stands a (V.String b) e z = let y : P.string_value b.now ≡ P.absent = sym e ∙ z in let x : ◌≡◌ {A = ℕ} 0 1 = cc in omega arith
+held_stands a (V.Container c) e z = contained_stands (contained_in (read c.now)) (sym e.0 ∙ z)
+held_stands a (V.Tag t) e z = let y : P.tag_value e.0.tag ≡ P.absent = sym e.0.value_is ∙ z in let x : ◌≡◌ {A = ℕ} 0 1 = cc in omega arith
 
 -- what is asked of a value, by what is held
-abbrev pub text_by : Option Held → Bytes
+abbrev pub text_by : Option Value → Bytes
 text_by None = []
-text_by (Some (H.String b)) = b.now
-text_by (Some (H.Braces c)) = []
-text_by (Some (H.Tag t)) = []
+text_by (Some (V.String b)) = b.now
+text_by (Some (V.Container c)) = []
+text_by (Some (V.Tag t)) = []
 
-abbrev pub braces_by : Option Held → Bytes
-braces_by None = []
-braces_by (Some (H.String b)) = []
-braces_by (Some (H.Braces c)) = c.now
-braces_by (Some (H.Tag t)) = []
-
-abbrev pub expr_by : Option Held → Bytes
+abbrev pub expr_by : Option Value → Bytes
 expr_by None = []
-expr_by (Some (H.String b)) = []
-expr_by (Some (H.Braces c)) = c.now
-expr_by (Some (H.Tag t)) = t.now
-
-abbrev pub string_by : Option Held → Mid
-string_by None = none
-string_by (Some (H.String b)) = string_node (normalize_lit_str b.now)
-string_by (Some (H.Braces c)) = none
-string_by (Some (H.Tag t)) = none
+expr_by (Some (V.String b)) = []
+expr_by (Some (V.Container c)) = c.now
+expr_by (Some (V.Tag t)) = t.now
 
 module _ (o : Options) where
   contained_text : (x : Contained) → string_of (value o (contained_value x)) ≡ []
@@ -211,90 +158,42 @@ module _ (o : Options) where
   contained_text nothing_contained = refl
   contained_text (contained e) = refl
 
-  contained_string : (x : Contained) → key_string (value o (contained_value x)) ≡ none
-  unfolding key_string value contained_value
-  contained_string nothing_contained = refl
-  contained_string (contained e) = refl
-
   contained_held : (x : Contained) → held_of (value o (contained_value x)) ≡ contained_mid o x
   unfolding held_of value contained_value contained_mid
   contained_held nothing_contained = refl
   contained_held (contained e) = refl
 
-  contained_key : (x : Contained) → key_held (value o (contained_value x)) ≡ contained_mid o x
-  unfolding key_held value contained_value contained_mid
-  contained_key nothing_contained = refl
-  contained_key (contained e) = refl
+  contained_key : (x : Contained) (k : Mid) → key_from (value o (contained_value x)) k ≡ contained_mid o x
+  unfolding key_from value contained_value contained_mid
+  contained_key nothing_contained k = refl
+  contained_key (contained e) k = refl
 
-pub text_is : (a : Bytes) (h : Option Held) → Holds a h → (o : Options) → string_of (value o (value_in (read a))) ≡ text_by h
+pub text_is : (a : Bytes) (h : Option Value) → Holds a h → (o : Options) → string_of (value o (value_in (read a))) ≡ text_by h
 unfolding string_of value
 text_is a None e o = rw e
-text_is a (Some (H.String b)) e o = rw e
-text_is a (Some (H.Braces c)) e o = rw e.0 (contained_text o (contained_in (read c.now)))
-text_is a (Some (H.Tag t)) e o = rw e.0.value_is
+text_is a (Some (V.String b)) e o = rw e
+text_is a (Some (V.Container c)) e o = rw e.0 (contained_text o (contained_in (read c.now)))
+text_is a (Some (V.Tag t)) e o = rw e.0.value_is
 
-pub string_is : (a : Bytes) (h : Option Held) → Holds a h → (o : Options) → key_string (value o (value_in (read a))) ≡ string_by h
-unfolding key_string value
-string_is a None e o = rw e
-string_is a (Some (H.String b)) e o = rw e
-string_is a (Some (H.Braces c)) e o = rw e.0 (contained_string o (contained_in (read c.now)))
-string_is a (Some (H.Tag t)) e o = rw e.0.value_is
-
-expr_held : (o : Options) (a : Bytes) (h : Option Held) → Holds a h → contained_mid o (contained_in (read (expr_by h))) ≡ held_of (value o (value_in (read a)))
+expr_held : (o : Options) (a : Bytes) (h : Option Value) → Holds a h → contained_mid o (contained_in (read (expr_by h))) ≡ held_of (value o (value_in (read a)))
 unfolding held_of value contained_mid expr
 expr_held o a None e = nothing_held o ∙ sym (ap (λ (v : P.Value). held_of (value o v)) e)
-expr_held o a (Some (H.String b)) e = nothing_held o ∙ sym (ap (λ (v : P.Value). held_of (value o v)) e)
-expr_held o a (Some (H.Braces c)) e = sym (ap (λ (v : P.Value). held_of (value o v)) e.0 ∙ contained_held o (contained_in (read c.now)))
-expr_held o a (Some (H.Tag t)) e = ap (contained_mid o) e.0.expression_is ∙ sym (ap (λ (v : P.Value). held_of (value o v)) e.0.value_is)
+expr_held o a (Some (V.String b)) e = nothing_held o ∙ sym (ap (λ (v : P.Value). held_of (value o v)) e)
+expr_held o a (Some (V.Container c)) e = sym (ap (λ (v : P.Value). held_of (value o v)) e.0 ∙ contained_held o (contained_in (read c.now)))
+expr_held o a (Some (V.Tag t)) e = ap (contained_mid o) e.0.expression_is ∙ sym (ap (λ (v : P.Value). held_of (value o v)) e.0.value_is)
 
-expr_within : (a : Bytes) (h : Option Held) → Holds a h → length (expr_by h) ≤ length a
+expr_within : (a : Bytes) (h : Option Value) → Holds a h → length (expr_by h) ≤ length a
 expr_within a None e = omega arith
-expr_within a (Some (H.String b)) e = omega arith
-expr_within a (Some (H.Braces c)) e = e.1
-expr_within a (Some (H.Tag t)) e = e.1
+expr_within a (Some (V.String b)) e = omega arith
+expr_within a (Some (V.Container c)) e = e.1
+expr_within a (Some (V.Tag t)) e = e.1
 
-pub expr_is : (a : Bytes) (h : Option Held) → Holds a h → {b : Bytes} → b ≡ expr_by h →
+pub expr_is : (a : Bytes) (h : Option Value) → Holds a h → {b : Bytes} → b ≡ expr_by h →
     ((skip props : Bytes) → contained_mid (opts skip props) (contained_in (read b)) ≡ held_of (value (opts skip props) (value_in (read a)))) × (length b ≤ length a)
 expr_is a h e q =
     (λ skip props. ap (λ (x : Bytes). contained_mid (opts skip props) (contained_in (read x))) q ∙ expr_held (opts skip props) a h e, omega (arith, ap length q, expr_within a h e))
 
-braces_held : (o : Options) (a : Bytes) (h : Option Held) → Holds a h → contained_mid o (contained_in (read (braces_by h))) ≡ key_held (value o (value_in (read a)))
-unfolding key_held value
-braces_held o a None e = nothing_held o ∙ sym (ap (λ (v : P.Value). key_held (value o v)) e)
-braces_held o a (Some (H.String b)) e = nothing_held o ∙ sym (ap (λ (v : P.Value). key_held (value o v)) e)
-braces_held o a (Some (H.Braces c)) e = sym (ap (λ (v : P.Value). key_held (value o v)) e.0 ∙ contained_key o (contained_in (read c.now)))
-braces_held o a (Some (H.Tag t)) e = nothing_held o ∙ sym (ap (λ (v : P.Value). key_held (value o v)) e.0.value_is)
-
-braces_within : (a : Bytes) (h : Option Held) → Holds a h → length (braces_by h) ≤ length a
-braces_within a None e = omega arith
-braces_within a (Some (H.String b)) e = omega arith
-braces_within a (Some (H.Braces c)) e = e.1
-braces_within a (Some (H.Tag t)) e = omega arith
-
-pub braces_is : (a : Bytes) (h : Option Held) → Holds a h → {b : Bytes} → b ≡ braces_by h →
-    ((skip props : Bytes) → contained_mid (opts skip props) (contained_in (read b)) ≡ key_held (value (opts skip props) (value_in (read a)))) × (length b ≤ length a)
-braces_is a h e q =
-    (λ skip props. ap (λ (x : Bytes). contained_mid (opts skip props) (contained_in (read x))) q ∙ braces_held (opts skip props) a h e, omega (arith, ap length q, braces_within a h e))
-
--- a value that stands decides the key
-pub sets_some : (norm : Bool) (n : AttrName) (v : P.Value) → is_some (value_of v) ≡ true → sets_key norm n v ≡ same (get_attr_name n norm) (ascii "key")
-unfolding sets_key value_of
-sets_some norm n P.absent h = absurd (false≢true h)
-sets_some norm n (P.string_value b) h = refl
-sets_some norm n P.empty_value h = refl
-sets_some norm n (P.container_value x) h = refl
-sets_some norm n (P.tag_value t) h = refl
-
-pub sets_none : (norm : Bool) (n : AttrName) (v : P.Value) → is_some (value_of v) ≡ false → sets_key norm n v ≡ false
-unfolding sets_key value_of
-sets_none norm n P.absent h = refl
-sets_none norm n (P.string_value b) h = absurd (true≢false h)
-sets_none norm n P.empty_value h = absurd (true≢false h)
-sets_none norm n (P.container_value x) h = absurd (true≢false h)
-sets_none norm n (P.tag_value (P.element m as' cs)) h = absurd (true≢false h)
-sets_none norm n (P.tag_value (P.fragment cs)) h = absurd (true≢false h)
-
--- and a key is no property
+-- a key is no property
 pub key_nothing : (norm : Bool) (n : AttrName) (v : P.Value) → (v ≡ P.absent → ⊥) → same (get_attr_name n norm) (ascii "key") ≡ true → G.Nothing ≡ prop_gap norm n v
 unfolding prop_gap
 key_nothing norm n P.absent e h = absurd (e refl)
@@ -333,89 +232,72 @@ module _ (t : ℕ) (text : Bytes → Bytes) (n : AttrName) (v : A.Value) where
 
 -- ---- the key: the last attribute that reads `key` and has a value
 
-key_step : (o : Options) (norm : Bool) (n : AttrName) (v : P.Value) (k : Mid) →
-    pick (same (get_attr_name n norm) (ascii "key")) (key_from (value o v) k) k ≡ pick (sets_key norm n v) (key_from (value o v) none) k
-unfolding key_from value sets_key
-key_step o norm n P.absent k = on (same (get_attr_name n norm) (ascii "key"))
-  where
-    on : (b : Bool) → pick b k k ≡ k
-    on true = refl
-    on false = refl
-key_step o norm n (P.string_value b) k = refl
-key_step o norm n P.empty_value k = refl
-key_step o norm n (P.container_value e) k = refl
-key_step o norm n (P.tag_value t) k = refl
+-- a value decides it, where one stands
+key_step : (o : Options) (a : Bytes) (h : Option Value) → Holds a h → (key : Option Value) → key_from (value o (value_in (read a))) (key_given o key) ≡ key_given o (option_or h key)
+unfolding key_from value
+key_step o a None e key = ap (λ (v : P.Value). key_from (value o v) (key_given o key)) e
+key_step o a (Some (V.String b)) e key = ap (λ (v : P.Value). key_from (value o v) (key_given o key)) e
+key_step o a (Some (V.Container c)) e key =
+    ap (λ (v : P.Value). key_from (value o v) (key_given o key)) e.0 ∙ contained_key o (contained_in (read c.now)) (key_given o key)
+key_step o a (Some (V.Tag t)) e key = ap (λ (v : P.Value). key_from (value o v) (key_given o key)) e.0.value_is
+
+key_room : (a : Bytes) (h : Option Value) → Holds a h → {n : ℕ} → length a ≤ n → (key : Option Value) → length (key_braces key) ≤ n → length (key_braces (option_or h key)) ≤ n
+key_room a None e l key q = q
+key_room a (Some (V.String b)) e l key q = omega arith
+key_room a (Some (V.Container c)) e l key q = omega (arith, e.1)
+key_room a (Some (V.Tag t)) e l key q = omega arith
 
 -- the key after the attributes in s, from k on
 module _ (skip props : Bytes) (norm : Bool) where
   abbrev pub key_in : Bytes → Mid → Mid
   key_in s k = key_of norm (attributes_at skip props (read s)) k
 
-  abbrev pub key_by : Bytes → Mid
-  key_by a = key_from (value (opts skip props) (value_in (read a))) none
+  key_written : (as' : P.Attributes) (k : Mid) → key_of norm (attributes (opts skip props) (written as')) k ≡ key_of norm (attributes (opts skip props) as') k
+  unfolding key_of attributes written
+  key_written P.no_attributes k = refl
+  key_written (P.attribute n v as') k = key_written as' (pick (same (get_attr_name n norm) (ascii "key")) (key_from (value (opts skip props) v) k) k)
+  key_written (P.spread_attribute e as') k = key_written as' k
 
-  abbrev pub key_found : Option (Bor Bytes) → Mid
-  key_found None = none
-  key_found (Some a) = key_by a.now
-
-  module _ (s : Bytes) {t : ℕ} {b r : Bytes} (f : IsFront s t b r) (k : Mid) where
-    module _ (c : t ≡ 0x50) {y : Bool} (ye : y ≡ sets_key norm (attr_name_in (read b)) (value_in (read b))) where
-      key_50 : key_in s k ≡ key_in r (pick y (key_by b) k)
-      unfolding key_of attributes
-      key_50 =
-          ap (λ (x : P.Attributes). key_of norm (attributes (opts skip props) x) k) (attributes_50 s t f.tag_is c)
-          ∙ ap (λ (x : Bytes). key_in (behind_of s) (pick (same (get_attr_name (attr_name_in (read x)) norm) (ascii "key")) (key_from (value (opts skip props) (value_in (read x))) k) k)) (sym f.body_is)
-          ∙ ap (key_in (behind_of s)) (key_step (opts skip props) norm (attr_name_in (read b)) (value_in (read b)) k ∙ ap (λ (x : Bool). pick x (key_by b) k) (sym ye))
-          ∙ ap (λ (x : Bytes). key_in x (pick y (key_by b) k)) (sym f.behind_is)
-
-      pub key_set : y ≡ true → key_in r (key_by b) ≡ key_in s k
-      key_set h = sym (key_50 ∙ ap (λ (x : Bool). key_in r (pick x (key_by b) k)) h)
-
-      pub key_kept : y ≡ false → key_in r k ≡ key_in s k
-      key_kept h = sym (key_50 ∙ ap (λ (x : Bool). key_in r (pick x (key_by b) k)) h)
-
-    pub key_past : t ≡ 0x53 → key_in r k ≡ key_in s k
-    unfolding key_of attributes
-    key_past c =
-        sym (ap (λ (x : P.Attributes). key_of norm (attributes (opts skip props) x) k) (attributes_53 s t f.tag_is c) ∙ ap (λ (x : Bytes). key_in x k) (sym f.behind_is))
-
-  pub key_ended : (s : Bytes) {t : ℕ} → t ≡ tag_of_front s → (t ≡ 0x50 → ⊥) → (t ≡ 0x53 → ⊥) → (k : Mid) → key_in s k ≡ k
+  -- behind an attribute
+  key_behind : {s a r : Bytes} → IsAttribute s a r → (k : Mid) →
+      key_in r (pick (same (get_attr_name (attr_name_in (read a)) norm) (ascii "key")) (key_from (value (opts skip props) (value_in (read a))) k) k) ≡ key_in s k
   unfolding key_of attributes
-  key_ended s {t} e a b k = ap (λ (x : P.Attributes). key_of norm (attributes (opts skip props) x) k) (attributes_other s t e a b)
+  key_behind {s} {a} {r} f k =
+      sym (
+      sym (key_written (attributes_in (read s)) k) ∙ ap (λ (x : P.Attributes). key_of norm (attributes (opts skip props) x) k) f.written_is
+      ∙ key_written (attributes_in (read r)) (pick (same (get_attr_name (attr_name_in (read a)) norm) (ascii "key")) (key_from (value (opts skip props) (value_in (read a))) k) k))
+
+  key_ended : {s r : Bytes} → NoAttribute s r → (k : Mid) → key_in s k ≡ k
+  unfolding key_of attributes
+  key_ended {s} f k = sym (key_written (attributes_in (read s)) k) ∙ ap (λ (x : P.Attributes). key_of norm (attributes (opts skip props) x) k) f.none_written
 
 -- t is left of s, and the last key before it was found
-pub record Keying (norm : Bool) (s t : Bytes) (key : Option (Bor Bytes)) : Type 0 where
-  pub same_key : (skip props : Bytes) → key_in skip props norm t (key_found skip props norm key) ≡ key_in skip props norm s none
+pub record Keying (norm : Bool) (s t : Bytes) (key : Option Value) : Type 0 where
+  pub same_key : (skip props : Bytes) → key_in skip props norm t (key_given (opts skip props) key) ≡ key_in skip props norm s none
   pub left : length t ≤ length s
-  pub inside : MatchOption key (Unit {0}) (λ a. length a.now ≤ length s)
+  pub inside : length (key_braces key) ≤ length s
 
-module _ (norm : Bool) (s t : Bytes) (key : Option (Bor Bytes)) (i : Keying norm s t key) where
-  module _ {u : ℕ} {b r : Bytes} (f : IsFront t u b r) where
-    passed : ((skip props : Bytes) (k : Mid) → key_in skip props norm r k ≡ key_in skip props norm t k) → Keying norm s r key
-    passed h =
-        record { same_key = λ skip props. h skip props (key_found skip props norm key) ∙ i.same_key skip props; left = omega (arith, i.left, f.sizes); inside = i.inside }
+module _ (norm : Bool) (s t : Bytes) (key : Option Value) (i : Keying norm s t key) where
+  module _ (a : Bytes) {r : Bytes} (f : IsAttribute t a r) {y : Bool} (e : y ≡ same (get_attr_name (attr_name_in (read a)) norm) (ascii "key")) where
+    on_key : (skip props : Bytes) (x : Bool) → y ≡ x →
+        key_in skip props norm r (pick x (key_from (value (opts skip props) (value_in (read a))) (key_given (opts skip props) key)) (key_given (opts skip props) key))
+        ≡ key_in skip props norm s none
+    on_key skip props x z =
+        ap
+        (λ (b : Bool). key_in skip props norm r (pick b (key_from (value (opts skip props) (value_in (read a))) (key_given (opts skip props) key)) (key_given (opts skip props) key)))
+        (sym z ∙ e)
+        ∙ key_behind skip props norm f (key_given (opts skip props) key) ∙ i.same_key skip props
 
-    pub spread_passed : u ≡ 0x53 → Keying norm s r key
-    spread_passed h = passed λ skip props k. key_past skip props norm t f k h
+    pub other_passed : y ≡ false → Keying norm s r key
+    other_passed z = record { same_key = λ skip props. on_key skip props false z; left = omega (arith, i.left, f.sizes); inside = i.inside }
 
-    module _ (h : u ≡ 0x50) {y : Bool} (e : y ≡ sets_key norm (attr_name_in (read b)) (value_in (read b))) where
-      pub other_passed : y ≡ false → Keying norm s r key
-      other_passed z = passed λ skip props k. key_kept skip props norm t f k h e z
-
-      pub key_here : y ≡ true → {a : Bor Bytes} → a.now ≡ b → Keying norm s r (Some a)
-      key_here z {a} q =
-          record {
-            same_key = λ skip props. ap (λ (x : Bytes). key_in skip props norm r (key_by skip props norm x)) q ∙ key_set skip props norm t f (key_found skip props norm key) h e z ∙ i.same_key skip props;
-            left = omega (arith, i.left, f.sizes);
-            inside = omega (arith, i.left, f.sizes, ap length q);
-          }
+    pub key_here : y ≡ true → (h : Option Value) → Holds a h → Keying norm s r (option_or h key)
+    key_here z h k = record {
+      same_key = λ skip props. ap (key_in skip props norm r) (sym (key_step (opts skip props) a h k key)) ∙ on_key skip props true z;
+      left = omega (arith, i.left, f.sizes);
+      inside = key_room a h k (omega (arith, i.left, f.sizes)) key i.inside;
+    }
 
   -- no attribute is left
-  pub key_answer : {u : ℕ} → u ≡ tag_of_front t → (u ≡ 0x50 → ⊥) → (u ≡ 0x53 → ⊥) →
-      MatchOption key ((skip props : Bytes) → key_in skip props norm s none ≡ none) (λ a. ((skip props : Bytes) → key_in skip props norm s none ≡ key_by skip props norm a.now) × (length a.now ≤ length s))
-  key_answer e x y = on key (λ skip props. sym (i.same_key skip props) ∙ key_ended skip props norm t e x y (key_found skip props norm key)) i.inside
-    where
-      on : (k : Option (Bor Bytes)) → ((skip props : Bytes) → key_in skip props norm s none ≡ key_found skip props norm k) → MatchOption k (Unit {0}) (λ a. length a.now ≤ length s) →
-          MatchOption k ((skip props : Bytes) → key_in skip props norm s none ≡ none) (λ a. ((skip props : Bytes) → key_in skip props norm s none ≡ key_by skip props norm a.now) × (length a.now ≤ length s))
-      on None g n = g
-      on (Some a) g n = (g, n)
+  pub key_answer : {r : Bytes} → NoAttribute t r → ((skip props : Bytes) → key_in skip props norm s none ≡ key_given (opts skip props) key) × (length (key_braces key) ≤ length s)
+  key_answer n = (λ skip props. sym (i.same_key skip props) ∙ key_ended skip props norm n (key_given (opts skip props) key), i.inside)

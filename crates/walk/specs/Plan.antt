@@ -14,26 +14,11 @@ use Rattle.spec.specs.Merge.{Shape, string_shape, number_shape, boolean_shape, n
 use Rattle.spec.specs.Attributes as A
 use Rattle.spec.specs.Transform.{expr, shape_of, value}
 use Rattle.decisions.specs.At.{opts}
-use Rattle.walk.specs.declared.attribute.Held.{Held}
-use Rattle.walk.specs.declared.attribute.Held.TheVariants as H
+use Rattle.decisions.specs.declared.attribute.Value.{Value}
+use Rattle.decisions.specs.declared.attribute.Value.TheVariants as V
 use Rattle.walk.specs.declared.attribute.Gap.{Gap}
 use Rattle.walk.specs.declared.attribute.Gap.TheVariants as G
 use Rattle.walk.specs.See.{World, see, begun, wrap}
-
--- ---- an attribute's value, by its fields
-
--- a tag, which is an expression too
-pub record TagHeld (v : P.Value) (t : Bytes) : Type 0 where
-  pub tag : P.Tag
-  pub value_is : v ≡ P.tag_value tag
-  pub expression_is : contained_in (read t) ≡ contained (P.tag_expr tag)
-
--- the value and its bytes, which lie in the attribute's
-abbrev pub Holds : Bytes → Option Held → Type 0
-Holds a None = value_in (read a) ≡ P.absent
-Holds a (Some (H.String b)) = value_in (read a) ≡ P.string_value b.now
-Holds a (Some (H.Braces c)) = (value_in (read a) ≡ contained_value (contained_in (read c.now))) × (length c.now ≤ length a)
-Holds a (Some (H.Tag t)) = TagHeld (value_in (read a)) t.now × (length t.now ≤ length a)
 
 -- ---- what an attribute leaves
 
@@ -126,30 +111,6 @@ plan_front p w = pick p.stands (see p.front (begun w)) w
 abbrev pub plan_back : Plan → ℕ → World → World
 plan_back p q w = pick p.stands (wrap p.tag q (see p.behind w)) w
 
--- ---- the key that an attribute gives: a string, or what is held in braces
-
-unfoldable pub key_string : A.Value → Mid
-key_string A.absent = none
-key_string (A.string b) = string_node (normalize_lit_str b)
-key_string A.empty = none
-key_string (A.container s m) = none
-key_string (A.tag r) = none
-
-unfoldable pub key_held : A.Value → Mid
-key_held A.absent = none
-key_held (A.string b) = none
-key_held A.empty = none
-key_held (A.container s m) = m
-key_held (A.tag r) = none
-
--- a value that is absent sets none
-unfoldable pub sets_key : Bool → AttrName → P.Value → Bool
-sets_key norm n P.absent = false
-sets_key norm n (P.string_value b) = same (get_attr_name n norm) (ascii "key")
-sets_key norm n P.empty_value = same (get_attr_name n norm) (ascii "key")
-sets_key norm n (P.container_value e) = same (get_attr_name n norm) (ascii "key")
-sets_key norm n (P.tag_value t) = same (get_attr_name n norm) (ascii "key")
-
 -- ---- an expression in braces
 
 -- what is held, in front of nothing
@@ -183,3 +144,17 @@ gap_wraps (contained e) = shape_wraps (shape_of e)
 unfoldable pub gap_held : Options → Contained → Mid
 gap_held o nothing_contained = none
 gap_held o (contained e) = pick (shape_leaves (shape_of e)) (expr o e none) none
+
+-- ---- the key, by the value that decides it: a string, what is held in braces, or nothing
+
+abbrev pub key_given : Options → Option Value → Mid
+key_given o None = none
+key_given o (Some (V.String b)) = string_node (normalize_lit_str b.now)
+key_given o (Some (V.Container c)) = contained_mid o (contained_in (read c.now))
+key_given o (Some (V.Tag t)) = none
+
+abbrev pub key_braces : Option Value → Bytes
+key_braces None = []
+key_braces (Some (V.String b)) = []
+key_braces (Some (V.Container c)) = c.now
+key_braces (Some (V.Tag t)) = []

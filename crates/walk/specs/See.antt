@@ -142,10 +142,6 @@ literal (P.array_literal is) = null_node
 literal (P.other_expr ps) = null_node
 literal (P.tag_expr t) = null_node
 
--- a namespaced name by the fields of its 42
-abbrev pub namespaced_leaf : Row → Mid
-namespaced_leaf r = leaf 0x81 (first_in (texts_in 0x40 r) ++ (58 ∷ second_in (texts_in 0x40 r)))
-
 -- an array of a hole, or the hole alone
 abbrev pub hole_mid : Bool → Mid
 hole_mid true = leaf 0x78 []

@@ -1,6 +1,6 @@
 // An attribute in an opening tag, and as a property of a call: what stands before the expression that it holds, and what stands behind.
 // An attribute is given by the fields of its 50.
-ghost use Rattle.std.specs.Prelude.{◌≡◌, ◌+◌, ◌≤◌, ◌<◌, ◌^◌, length, true, false, [], MatchOption};
+ghost use Rattle.std.specs.Prelude.{◌≡◌, ◌+◌, ◌≤◌, ◌<◌, ◌^◌, length, true, false, []};
 ghost use Rattle.field.specs.Bytes.{Bytes};
 ghost use Rattle.field.specs.Row.{read};
 ghost use Rattle.field.specs.Put.{Wrote};
@@ -9,33 +9,21 @@ ghost use Rattle.page.specs.Tree.{attr_name_in, value_in, contained_in};
 ghost use Rattle.spec.specs.Pass.{none, node};
 ghost use Rattle.spec.specs.Output as O;
 ghost use Rattle.spec.specs.Attributes as A;
-ghost use Rattle.spec.specs.Attributes.{key_of, key_from};
+ghost use Rattle.spec.specs.Attributes.{key_of};
 ghost use Rattle.spec.specs.Transform.{value};
 ghost use Rattle.decisions.specs.Index.{names_of};
 ghost use Rattle.decisions.specs.At.{opts, attributes_at};
 ghost use Rattle.walk.specs.See.{at, see, begun, Low};
 ghost use Rattle.walk.specs.Plan as Plan;
-ghost use Rattle.walk.specs.Plan.{Holds, dynamic_gap, container_gap, listed_gap, plain_gap, attr_gap, prop_gap, attr_plan, prop_plan, plan_by, plan_front, plan_back, held_of, contained_mid, gap_wraps, gap_held, key_string, key_held};
+ghost use Rattle.walk.specs.Plan.{dynamic_gap, container_gap, listed_gap, plain_gap, attr_gap, prop_gap, attr_plan, prop_plan, plan_by, plan_front, plan_back, held_of, contained_mid, gap_wraps, gap_held, key_given, key_braces};
 
-use crate::state::{Walk, at_page, attr_string_leaf, begin, close, leaf};
+use crate::state::{Walk, attr_string_leaf, begin, close, close_leaf, leaf};
 use decisions::attribute::{
-    AttrName, Value, attr_name_at, is_boolean, is_key, is_listed, is_ref, value_at,
+    Attributes, Value, is_boolean, is_key, is_listed, is_ref, put_name, value_at,
 };
 use decisions::expr::{Shape, shape_at};
-use field::reader::{Fields, behind, body, field_at};
-use names::{get_attr_name, normalize_namespaced};
-
-// The name, normalised or as it is written.
-#[tactic(auto, unfolding(names::specs::Names::get_attr_name))]
-fn put_name(out: &mut [u8], at: usize, a: &[u8], norm: bool) -> usize
-    requires { at + length (get_attr_name (attr_name_in (read a.now)) norm) < 2 ^ 63 }
-    ensures { Wrote out.old at (get_attr_name (attr_name_in (read a.now)) norm) out.new result }
-{
-    match attr_name_at(a) {
-        AttrName::Ident(n) => get_attr_name(out, at, n, norm),
-        AttrName::Namespaced(ns, n) => normalize_namespaced(out, at, ns, n),
-    }
-}
+use field::reader::field_at;
+use strings::joins;
 
 // An 81 with the attribute's name.
 #[tactic(auto, using(crate::proofs::LeafLaws::leaf_room, crate::proofs::LeafLaws::leaf_is))]
@@ -43,9 +31,8 @@ fn name_leaf(page: &mut [u8], st: Walk, a: &[u8], norm: bool) -> Walk
     requires { Low (see (O.leaf 0x81 (get_attr_name (attr_name_in (read a.now)) norm)) (at [] page.old st)).st }
     ensures { at [] page.new result ≡ see (O.leaf 0x81 (get_attr_name (attr_name_in (read a.now)) norm)) (at [] page.old st) }
 {
-    let p = st.page;
-    let e = put_name(page, p + 3, a, norm);
-    close(page, at_page(st, e), p, 0x81)
+    let e = put_name(page, st.page + 3, a, norm);
+    close_leaf(page, st, e, 0x81)
 }
 
 // A field begins with the name.
@@ -58,6 +45,7 @@ fn begin_named(page: &mut [u8], st: Walk, a: &[u8], norm: bool) -> Walk
 }
 
 // The name, and a leaf.
+#[inline(always)]
 #[tactic(auto, using(crate::proofs::LeafLaws::front_low, crate::proofs::LeafLaws::rest_low, crate::proofs::LeafLaws::rest_is))]
 fn begin_leaf(page: &mut [u8], st: Walk, a: &[u8], norm: bool, tag: u8, b: &[u8]) -> Walk
     requires { Low (see (node 0x81 (get_attr_name (attr_name_in (read a.now)) norm) none (O.leaf tag b.now)) (begun (at [] page.old st))).st }
@@ -67,31 +55,8 @@ fn begin_leaf(page: &mut [u8], st: Walk, a: &[u8], norm: bool, tag: u8, b: &[u8]
     leaf(page, x, tag, b)
 }
 
-// A value with its bytes.
-#[derive(Clone, Copy)]
-enum Held<'a> {
-    // a string's text
-    String(&'a [u8]),
-    // what stands in braces
-    Braces(&'a [u8]),
-    // an element or a fragment, in front
-    Tag(&'a [u8]),
-}
-
-// None where nothing follows the name.
-#[inline(always)]
-fn held_in(a: &[u8]) -> Option<Held<'_>>
-    ensures { Holds a.now result }
-{
-    let v = behind(a);
-    match value_at(a)? {
-        Value::String => Some(Held::String(body(v))),
-        Value::Container => Some(Held::Braces(body(v))),
-        Value::Element | Value::Fragment => Some(Held::Tag(v)),
-    }
-}
-
-// What an attribute leaves as a field of its own, in an opening tag or as a property. A name is normalised, or as it is written.
+// What an attribute leaves as a field of its own, in an opening tag or as a property. A name is normalised, or as it is written. It holds
+// no part of the page, so `string_at` and `value_held` read the value again: `attr_gap` and `prop_gap`, which it answers, are told of the tree.
 #[derive(Clone, Copy)]
 pub enum Gap {
     // none: it is written into the static string, or ignored
@@ -125,31 +90,24 @@ fn container_gap<'a>(a: &'a [u8], c: &'a [u8]) -> Gap
 {
     match shape_at(c) {
         Shape::Empty | Shape::String | Shape::Number | Shape::Minus => Gap::Nothing,
-        Shape::Boolean(_) => {
-            if is_boolean(a) {
-                Gap::Nothing
-            } else {
-                Gap::Attr(true)
-            }
-        }
+        Shape::Boolean(_) if is_boolean(a) => Gap::Nothing,
+        Shape::Boolean(_) => Gap::Attr(true),
         Shape::Null | Shape::Literal | Shape::Other => dynamic_gap(a),
     }
 }
 
+// 01 has an attribute without a value take its own way, by let .. else, here and in the next two.
 #[tactic(auto, using(crate::proofs::ReadLaws::braces_empty, crate::proofs::ReadLaws::braces_full), unfolding(crate::specs::Plan::listed_gap))]
 fn listed_gap(a: &[u8]) -> Gap
     ensures { result ≡ listed_gap (value_in (read a.now)) }
 {
-    let Some(held) = held_in(a) else {
+    let Some(value) = value_at(a) else {
         return Gap::True(false);
     };
-    match held {
-        Held::String(_) => Gap::String(false),
-        Held::Braces(c) => match field_at(c) {
-            Some(_) => Gap::Attr(false),
-            None => Gap::Null,
-        },
-        Held::Tag(_) => Gap::Attr(false),
+    match value {
+        Value::String(_) => Gap::String(false),
+        Value::Container(c) if field_at(c).is_none() => Gap::Null,
+        Value::Container(_) | Value::Tag(_) => Gap::Attr(false),
     }
 }
 
@@ -157,23 +115,17 @@ fn listed_gap(a: &[u8]) -> Gap
 fn plain_gap(a: &[u8]) -> Gap
     ensures { result ≡ plain_gap (get_attr_name (attr_name_in (read a.now)) true) (value_in (read a.now)) }
 {
-    let Some(held) = held_in(a) else {
+    let Some(value) = value_at(a) else {
         return if is_boolean(a) {
             Gap::Nothing
         } else {
             Gap::True(true)
         };
     };
-    match held {
-        Held::String(_) => {
-            if is_key(a, true) || is_ref(a) {
-                Gap::String(true)
-            } else {
-                Gap::Nothing
-            }
-        }
-        Held::Braces(c) => container_gap(a, c),
-        Held::Tag(_) => Gap::Nothing,
+    match value {
+        Value::String(_) if is_key(a, true) || is_ref(a) => Gap::String(true),
+        Value::Container(c) => container_gap(a, c),
+        Value::String(_) | Value::Tag(_) => Gap::Nothing,
     }
 }
 
@@ -194,19 +146,14 @@ pub fn attribute_gap<'a>(props: &'a [u8], a: &'a [u8]) -> Gap
 pub fn property_gap(a: &[u8], norm: bool) -> Gap
     ensures { result ≡ prop_gap norm (attr_name_in (read a.now)) (value_in (read a.now)) }
 {
-    let Some(held) = held_in(a) else {
+    let Some(value) = value_at(a) else {
         return Gap::True(norm);
     };
-    if is_key(a, norm) {
-        return Gap::Nothing;
-    }
-    match held {
-        Held::String(_) => Gap::String(norm),
-        Held::Braces(c) => match field_at(c) {
-            Some(_) => Gap::Attr(norm),
-            None => Gap::Nothing,
-        },
-        Held::Tag(_) => Gap::Nothing,
+    match value {
+        _ if is_key(a, norm) => Gap::Nothing,
+        Value::String(_) => Gap::String(norm),
+        Value::Container(c) if field_at(c).is_some() => Gap::Attr(norm),
+        Value::Container(_) | Value::Tag(_) => Gap::Nothing,
     }
 }
 
@@ -232,31 +179,28 @@ pub fn property_front(page: &mut [u8], st: Walk, a: &[u8], gap: Gap) -> Walk
     requires { Low (plan_front (prop_plan [] [] gap a.now) (at [] page.old st)).st }
     ensures { at [] page.new result ≡ plan_front (prop_plan [] [] gap a.now) (at [] page.old st) }
 {
-    match gap {
+    if let Gap::String(norm) = gap {
         // in an opening tag it stands as it is
-        Gap::String(norm) => {
-            let x = begin_named(page, st, a, norm);
-            attr_string_leaf(page, x, string_at(a))
-        }
-        Gap::Nothing | Gap::True(_) | Gap::Null | Gap::Attr(_) | Gap::Choice => {
-            attribute_front(page, st, a, gap)
-        }
+        let x = begin_named(page, st, a, norm);
+        attr_string_leaf(page, x, string_at(a))
+    } else {
+        attribute_front(page, st, a, gap)
     }
 }
 
-// The text of a string.
+// The text of a string. This and `value_held` each answer what one definition says of the value, and share the match alone.
 #[tactic(auto, using(crate::proofs::ReadLaws::text_is))]
 fn string_at(a: &[u8]) -> &[u8]
     ensures { (skip props : Bytes) → result.now ≡ Plan.string_of (value (opts skip props) (value_in (read a.now))) }
 {
-    match held_in(a) {
-        Some(Held::String(b)) => b,
-        Some(Held::Braces(_) | Held::Tag(_)) | None => &[],
+    match value_at(a) {
+        Some(Value::String(b)) => b,
+        Some(Value::Container(_) | Value::Tag(_)) | None => &[],
     }
 }
 
 // The expression, or no bytes where the gap holds none. Who visits it asks of what stands in any braces whether it is something, so an Option
-// would ask that twice.
+// would ask that twice; `gap_held` answers no bytes for the same reason.
 pub fn held_at(a: &[u8], gap: Gap) -> &[u8]
     ensures { ((skip props : Bytes) → contained_mid (opts skip props) (contained_in (read result.now)) ≡ (attr_plan skip props gap a.now).held) × (length result.now ≤ length a.now) }
 {
@@ -269,13 +213,14 @@ pub fn held_at(a: &[u8], gap: Gap) -> &[u8]
 fn value_held(a: &[u8]) -> &[u8]
     ensures { ((skip props : Bytes) → contained_mid (opts skip props) (contained_in (read result.now)) ≡ held_of (value (opts skip props) (value_in (read a.now)))) × (length result.now ≤ length a.now) }
 {
-    match held_in(a) {
-        Some(Held::Braces(c) | Held::Tag(c)) => c,
-        Some(Held::String(_)) | None => &[],
+    match value_at(a) {
+        Some(Value::Container(c) | Value::Tag(c)) => c,
+        Some(Value::String(_)) | None => &[],
     }
 }
 
 // All that stands behind it, and the head of the field at p with that tag.
+#[inline(always)]
 pub fn gap_back(page: &mut [u8], st: Walk, p: usize, tag: u8, a: &[u8], gap: Gap) -> Walk
     requires { ((plan_by tag (λ b. b) gap (attr_name_in (read a.now)) A.absent).stands ≡ true → p + 3 ≤ st.page) × Low (plan_back (plan_by tag (λ b. b) gap (attr_name_in (read a.now)) A.absent) p (at [] page.old st)).st }
     ensures { at [] page.new result ≡ plan_back (plan_by tag (λ b. b) gap (attr_name_in (read a.now)) A.absent) p (at [] page.old st) }
@@ -290,53 +235,17 @@ pub fn gap_back(page: &mut [u8], st: Walk, p: usize, tag: u8, a: &[u8], gap: Gap
     }
 }
 
-// The attribute that decides the key: the last that reads `key` and has a value.
-pub fn key_at(s: &[u8], norm: bool) -> Option<&[u8]>
-    ensures { MatchOption result ((skip props : Bytes) → key_of norm (attributes_at skip props (read s.now)) none ≡ none) (λ a. ((skip props : Bytes) → key_of norm (attributes_at skip props (read s.now)) none ≡ key_from (value (opts skip props) (value_in (read a.now))) none) × (length a.now ≤ length s.now)) }
+// What decides the key: the value of the last attribute that reads `key` and has one.
+pub fn key_at(s: &[u8], norm: bool) -> Option<Value<'_>>
+    ensures { ((skip props : Bytes) → key_of norm (attributes_at skip props (read s.now)) none ≡ key_given (opts skip props) result) × (length (key_braces result) ≤ length s.now) }
 {
     let mut key = None;
-    for field in Fields(s) {
-        match field.tag {
-            0x50 => {
-                if sets_key(field.body, norm) {
-                    key = Some(field.body);
-                }
-            }
-            0x53 => {}
-            _ => return key,
+    for a in Attributes(s) {
+        if is_key(a, norm) {
+            key = value_at(a).or(key);
         }
     }
     key
-}
-
-// Whether it reads `key` and has a value.
-#[tactic(auto, using(crate::proofs::ReadLaws::sets_some, crate::proofs::ReadLaws::sets_none))]
-fn sets_key(a: &[u8], norm: bool) -> bool
-    ensures { result ≡ Plan.sets_key norm (attr_name_in (read a.now)) (value_in (read a.now)) }
-{
-    value_at(a).is_some() && is_key(a, norm)
-}
-
-// The key, where it is a string.
-#[tactic(auto, using(crate::proofs::ReadLaws::string_is, crate::proofs::SeeLaws::see_none))]
-pub fn key_front(page: &mut [u8], st: Walk, a: &[u8]) -> Walk
-    requires { Low (see (key_string (value (opts [] []) (value_in (read a.now)))) (at [] page.old st)).st }
-    ensures { at [] page.new result ≡ see (key_string (value (opts [] []) (value_in (read a.now)))) (at [] page.old st) }
-{
-    match held_in(a) {
-        Some(Held::String(b)) => attr_string_leaf(page, st, b),
-        Some(Held::Braces(_) | Held::Tag(_)) | None => st,
-    }
-}
-
-// The expression, where it holds one.
-pub fn key_held(a: &[u8]) -> &[u8]
-    ensures { ((skip props : Bytes) → contained_mid (opts skip props) (contained_in (read result.now)) ≡ Plan.key_held (value (opts skip props) (value_in (read a.now)))) × (length result.now ≤ length a.now) }
-{
-    match held_in(a) {
-        Some(Held::Braces(c)) => c,
-        Some(Held::String(_) | Held::Tag(_)) | None => &[],
-    }
 }
 
 // A child in a template: whether its expression is wrapped with jsxEscape.
@@ -344,24 +253,13 @@ pub fn key_held(a: &[u8]) -> &[u8]
 pub fn is_wrapped(c: &[u8]) -> bool
     ensures { result ≡ gap_wraps (contained_in (read c.now)) }
 {
-    match shape_at(c) {
-        Shape::Minus | Shape::Other => true,
-        Shape::Empty
-        | Shape::String
-        | Shape::Number
-        | Shape::Boolean(_)
-        | Shape::Null
-        | Shape::Literal => false,
-    }
+    matches!(shape_at(c), Shape::Minus | Shape::Other)
 }
 
 // And the expression, where a gap is left.
-#[tactic(auto, using(crate::proofs::ReadLaws::held_shape, crate::proofs::ReadLaws::nothing_held))]
+#[tactic(auto, using(crate::proofs::ReadLaws::held_joined, crate::proofs::ReadLaws::nothing_held))]
 pub fn gap_held(c: &[u8]) -> &[u8]
     ensures { ((skip props : Bytes) → contained_mid (opts skip props) (contained_in (read result.now)) ≡ Plan.gap_held (opts skip props) (contained_in (read c.now))) × (length result.now ≤ length c.now) }
 {
-    match shape_at(c) {
-        Shape::Empty | Shape::String | Shape::Number | Shape::Boolean(_) => &[],
-        Shape::Null | Shape::Literal | Shape::Minus | Shape::Other => c,
-    }
+    if joins(c) { &[] } else { c }
 }

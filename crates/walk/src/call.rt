@@ -1,21 +1,17 @@
 // The parts of a jsx call.
-ghost use Rattle.std.specs.Prelude.{◌≡◌, ◌+◌, ◌≤◌, []};
+ghost use Rattle.std.specs.Prelude.{◌≡◌, ◌+◌, ◌≤◌, ◌∷◌, ◌++◌, []};
 ghost use Rattle.field.specs.Bytes.{ascii, pick};
 ghost use Rattle.field.specs.Row.{read};
 ghost use Rattle.page.specs.Tree.{texts_in};
 ghost use Rattle.spec.specs.Output as O;
 ghost use Rattle.spec.specs.Children.{members_row, name_expr};
-ghost use Rattle.field.specs.Front.{behind_of};
-ghost use Rattle.names.specs.Names.{is_void_element};
-ghost use Rattle.decisions.specs.At.{element_name, identifier_bytes};
-ghost use Rattle.walk.specs.See.{at, see, begun, props_closed, namespaced_leaf, hole_mid, Low};
+ghost use Rattle.decisions.specs.At.{element_name};
+ghost use Rattle.walk.specs.See.{at, see, begun, props_closed, hole_mid, Low};
 
-use crate::state::{Walk, at_page, begin, close, leaf};
-use decisions::attribute::two_names;
-use decisions::element::{identifier, is_upper};
-use field::reader::{Field, Fields, behind, field_at};
+use crate::state::{Walk, at_page, begin, close, close_leaf, leaf};
+use decisions::element::{ElementName, element_name_at, is_upper};
+use field::reader::Fields;
 use field::writer::{put_byte, put_bytes};
-use names::is_void_element;
 
 fn member_names(page: &mut [u8], st: Walk, s: &[u8]) -> Walk
     requires { Low (see (members_row (texts_in 0x40 (read s.now))) (at [] page.old st)).st }
@@ -31,16 +27,14 @@ fn member_names(page: &mut [u8], st: Walk, s: &[u8]) -> Walk
 }
 
 // A namespaced name.
-fn namespaced_leaf(page: &mut [u8], st: Walk, c: &[u8]) -> Walk
-    requires { Low (see (namespaced_leaf (read c.now)) (at [] page.old st)).st }
-    ensures { at [] page.new result ≡ see (namespaced_leaf (read c.now)) (at [] page.old st) }
+fn namespaced_leaf(page: &mut [u8], st: Walk, ns: &[u8], n: &[u8]) -> Walk
+    requires { Low (see (O.leaf 0x81 (ns.now ++ (58 ∷ n.now))) (at [] page.old st)).st }
+    ensures { at [] page.new result ≡ see (O.leaf 0x81 (ns.now ++ (58 ∷ n.now))) (at [] page.old st) }
 {
-    let p = st.page;
-    let (ns, n) = two_names(c);
-    let x = put_bytes(page, p + 3, ns);
+    let x = put_bytes(page, st.page + 3, ns);
     let y = put_byte(page, x, b':');
     let z = put_bytes(page, y, n);
-    close(page, at_page(st, z), p, 0x81)
+    close_leaf(page, st, z, 0x81)
 }
 
 // The first argument of a jsx call.
@@ -48,17 +42,15 @@ pub fn name_expr(page: &mut [u8], st: Walk, b: &[u8]) -> Walk
     requires { Low (see (name_expr (element_name (read b.now))) (at [] page.old st)).st }
     ensures { at [] page.new result ≡ see (name_expr (element_name (read b.now))) (at [] page.old st) }
 {
-    match field_at(b) {
-        Some(Field { tag: 0x41, body }) => {
+    match element_name_at(b) {
+        ElementName::Identifier(n) if is_upper(n) => leaf(page, st, 0x40, n),
+        ElementName::Identifier(n) => leaf(page, st, 0x81, n),
+        ElementName::Member(names) => {
             let p = st.page;
-            let a = member_names(page, begin(st), body);
+            let a = member_names(page, begin(st), names);
             close(page, a, p, 0x41)
         }
-        Some(Field { tag: 0x42, body }) => namespaced_leaf(page, st, body),
-        _ => {
-            let n = identifier(b);
-            leaf(page, st, if is_upper(n) { 0x40 } else { 0x81 }, n)
-        }
+        ElementName::Namespaced(ns, n) => namespaced_leaf(page, st, ns, n),
     }
 }
 
@@ -80,12 +72,13 @@ pub fn close_props(page: &mut [u8], st: Walk, q: usize) -> Walk
     ensures { at [] page.new result ≡ props_closed q (at [] page.old st) }
 {
     if st.page == q + 3 {
-        return leaf(page, at_page(st, q), 0x73, b"");
+        leaf(page, at_page(st, q), 0x73, b"")
+    } else {
+        close(page, st, q, 0x95)
     }
-    close(page, st, q, 0x95)
 }
 
-// A hole in an array: the array around it, where it is not spliced.
+// A hole in an array: the array around it, where it is not spliced. By a flag, as `hole_mid` has it.
 pub fn hole_leaf(page: &mut [u8], st: Walk, splice: bool) -> Walk
     requires { Low (see (hole_mid splice) (at [] page.old st)).st }
     ensures { at [] page.new result ≡ see (hole_mid splice) (at [] page.old st) }
@@ -96,15 +89,4 @@ pub fn hole_leaf(page: &mut [u8], st: Walk, splice: bool) -> Walk
     let p = st.page;
     let x = leaf(page, begin(st), 0x78, b"");
     close(page, x, p, 0x76)
-}
-
-// The children that an element in a template has: a void element's are not looked at.
-pub fn inner_children(b: &[u8]) -> &[u8]
-    ensures { result.now ≡ pick (is_void_element (identifier_bytes (element_name (read b.now)))) [] (behind_of b.now) }
-{
-    if is_void_element(identifier(b)) {
-        &[]
-    } else {
-        behind(b)
-    }
 }

@@ -1,15 +1,25 @@
 -- Looking for the one source piece of a 79. Main statements: `passed_over`, `piece_in`, `no_79`, `no_piece`, `no_source`, `not_alone`, `alone`. Assumes nothing.
-use Prim.Native.Nat.{ℕ}
+use Prim.Native.Nat.{ℕ, ◌≤◌}
 use mathlib.Core.Path.{◌≡◌, refl, sym, ◌∙◌, ap, ap₂}
 use mathlib.Core.Bool.{Bool, true, false, ◌||◌}
 use native.Mathlib.Omega.{arith}
 use lib.Dec.{eqb}
 use lib.ListN.{take, drop}
-use borrow.Author.Tests.{eqb-true, eq-eqb, ne_eqb}
+use borrow.Author.Tests.{eqb-true, eqb-false, eq-eqb, ne_eqb}
 use Rattle.field.specs.Bytes.{Bytes}
 use Rattle.field.specs.Row.{Row, end, loose, field, Inside, only_bytes, fields_after, counted, counted_front, inside, opened, read, Ended}
 use Rattle.field.specs.Front.{body_of, behind_of}
-use Rattle.field.specs.Fields.{IsFront}
+use Rattle.field.specs.Fields.{IsFront, GivesField}
+use Rattle.field.specs.declared.reader.Field.{Field}
+use Rattle.field.specs.declared.reader.Fields.{Fields}
+use Rattle.std.specs.Iterator.{Yields, FindsItem}
+use Rattle.std.specs.List.{FoldsTo}
+use Rattle.std.specs.Fn.{CalledAt}
+use Rattle.std.specs.Prelude.{Option, Some}
+use Rattle.std.specs.Borrow.{Bor}
+use denote.Param.Members.{Mut}
+use mathlib.Core.List.{List, [], ◌∷◌}
+use lib.ListN.{length}
 use Rattle.field.proofs.FrontLaws.{read_at, leaf_at, nest_at}
 use Rattle.page.specs.Page.{Pieces, no_pieces, source_piece, tag_piece}
 use Rattle.page.specs.Tree.{choose, pieces_in, element_in, fragment_in}
@@ -17,7 +27,7 @@ use Rattle.sums.specs.Machine.{sum_of}
 use Rattle.sums.specs.Value.{Worked}
 use Rattle.std.specs.Prelude.{None}
 use Rattle.worked.specs.Worked.{pieces_sum}
-use Rattle.worked.specs.Row.{field_sum, is_piece, piece_before, IsPiece}
+use Rattle.worked.specs.Row.{field_sum, is_piece, piece_before, IsPiece, NextPiece}
 use Rattle.worked.proofs.Tests.{chosen, passed, or_false, or_true}
 
 -- ---- what is no piece is passed over
@@ -63,6 +73,19 @@ module _ {s : Bytes} {t : ℕ} {w r : Bytes} (g : IsFront s t w r) where
       (λ a. before (λ b ps. tag_piece (element_in (read b)) ps) (ap pieces_in (nest_at s t g.tag_is 0x30 (eqb-true t 0x30 a) tt refl)) ∙ rw (n, a)) λ m e₂.
       before (λ b ps. tag_piece (fragment_in (read b)) ps) (ap pieces_in (nest_at s t g.tag_is 0x31 (eqb-true t 0x31 e₂) tt refl)) ∙ rw (n, m)
 
+-- the fields that a search passes over
+passed_by : {F : Type 0} {R : F → Field → F → Type 0} → ((p : F) (x : Field) (q : F) → R p x q → is_piece x.tag ≡ false) → (xs : List Field) (s t : Fields) (p q : F) → Yields GivesField s xs t → FoldsTo R p xs q →
+    (pieces_in (read s.0.now) ≡ pieces_in (read t.0.now)) × (length t.0.now ≤ length s.0.now)
+passed_by k [] s t p q y f = (ap (λ (z : Fields). pieces_in (read z.0.now)) y, omega (arith, ap (λ (z : Fields). length z.0.now) y))
+passed_by k (x ∷ xs) s t p q (j, g, y) (h, r, f) = let i = passed_by k xs j t h q y f in (passed_over g (k p x h r) ∙ i.0, omega (arith, g.sizes, i.1))
+
+-- the first that it doesn't pass over
+pub next_is : {F : Type 0} {g : Mut F (Bor Field × Unit {0}) Bool} (s u : Fields) (f : F) (r : Option Field) → FindsItem GivesField g s f r u → ((p : F) (x : Field) (b : Bool) (q : F) → CalledAt g p x b q → b ≡ is_piece x.tag) → NextPiece s.0.now r u.0.now
+next_is s u f None (xs, j, (t, y, e), h, z) k = (passed_by (λ p x q c. sym (k p x false q c)) xs s t f j y h).0 ∙ none_in _ e.ended
+next_is s u f (Some x) (xs, j, (t, y, e), h, (l, z)) k =
+    let i = passed_by (λ p x q c. sym (k p x false q c)) xs s t f j y h in
+    record { pieces_are = i.0 ∙ piece_in e (sym (k j x true l z)); body_within = omega (arith, e.sizes, i.1) }
+
 -- ---- the answers of the code
 
 pub no_79 : (t : ℕ) (i : Row) → (t ≡ 0x79 → ⊥) → None ≡ field_sum t i
@@ -106,3 +129,11 @@ module _ (t : ℕ) (w : Bytes) (e : t ≡ 0x79) where
       pub alone : pieces_in (read r) ≡ no_pieces → {x : Worked} → x ≡ sum_of b → x ≡ field_sum t (read w)
       unfolding pieces_sum
       alone k {x} s = s ∙ sym (split ∙ ap (λ (y : Pieces). pieces_sum (source_piece b y)) k)
+
+    -- another piece comes behind it
+    pub two_pieces : {v : ℕ} {c q : Bytes} → IsPiece r v c q → None ≡ field_sum t (read w)
+    two_pieces k = on (eqb u 0x20) refl
+      where
+        on : (x : Bool) → eqb u 0x20 ≡ x → None ≡ field_sum t (read w)
+        on true i = not_alone (eqb-true u 0x20 i) k
+        on false i = no_source (eqb-false u 0x20 i)

@@ -1,7 +1,7 @@
 -- What the code leaves in the lent buffer. Main statements: `number_written`; of a field `leaf_written`, `plus_written`, `minus_written`,
 -- `nest_written`; of a row `left_start`, `left_on`, `left_end`. Assumes nothing.
 use Prim.Native.Nat.{ℕ, ◌+◌, ◌-◌, ◌*◌, ◌≤◌}
-use mathlib.Core.Path.{◌≡◌, refl, sym, ◌∙◌, ap, ap₂}
+use mathlib.Core.Path.{◌≡◌, refl, sym, ◌∙◌, ap, ap₂, subst}
 use mathlib.Core.Bool.{Bool, true, false}
 use mathlib.Core.List.{[], ◌++◌}
 use native.Mathlib.Omega.{arith}
@@ -11,7 +11,9 @@ use Rattle.field.specs.Number.{big_endian}
 use Rattle.field.specs.Row.{field_bytes, read, next, Ended}
 use Rattle.field.specs.Fields.{IsFront}
 use Rattle.field.specs.Put.{put, Wrote, head}
-use Rattle.field.proofs.FrontLaws.{next_at}
+use Rattle.field.proofs.FrontLaws.{next_at, parts_at}
+use Rattle.field.proofs.Reading.{AllParts}
+use Rattle.field.specs.Front.{body_of, behind_of}
 use Rattle.field.proofs.PutLaws.{put_put, wrote_is, wrote_field, wrote_behind}
 use Rattle.page.specs.Number.{whole, number_bytes}
 use Rattle.sums.specs.Value.{Worked}
@@ -21,9 +23,9 @@ use Rattle.worked.specs.Row.{holds, field_sum, worked_bytes, worked_field}
 use Rattle.worked.proofs.Fields.{worked_front, worked_none, worked_leaf, worked_nest, worked_plus, worked_minus}
 use Rattle.worked.proofs.Sizes.{field_room}
 
-pub number_written : {o o₁ o₂ : Bytes} {n n₁ n₂ : ℕ} (t k : ℕ) → Wrote o n (head t 8) o₁ n₁ → Wrote o₁ n₁ (big_endian 8 k []) o₂ n₂ → Wrote o n (field_bytes t (number_bytes (whole k))) o₂ n₂
-unfolding number_bytes big_endian
-number_written t k a b = wrote_field t a b
+pub number_written : {o o₁ : Bytes} {n n₁ : ℕ} (t k : ℕ) → Wrote o n (field_bytes t (big_endian 8 k [])) o₁ n₁ → Wrote o n (field_bytes t (number_bytes (whole k))) o₁ n₁
+unfolding number_bytes
+number_written t k w = w
 
 -- ---- the loop: what is left, written from here on, gives what the whole gives from the start
 pub record Left (s o : Bytes) (at : ℕ) (t out : Bytes) (a : ℕ) : Type 0 where
@@ -31,13 +33,20 @@ pub record Left (s o : Bytes) (at : ℕ) (t out : Bytes) (a : ℕ) : Type 0 wher
   pub place : a + length (worked_bytes t) ≡ at + length (worked_bytes s)
   pub room : a + 2 * length t ≤ at + 2 * length s
   pub short : length t ≤ length s
+  pub all : AllBytes t
 
-pub left_start : (s o : Bytes) (at : ℕ) → Left s o at s o at
-left_start s o at = record { rest = refl; place = refl; room = omega arith; short = omega arith }
+pub left_start : (s o : Bytes) (at : ℕ) → AllBytes s → Left s o at s o at
+left_start s o at a = record { rest = refl; place = refl; room = omega arith; short = omega arith; all = a }
 
 module _ {t : Bytes} {u : ℕ} {w r : Bytes} (g : IsFront t u w r) where
   front_is : worked_bytes t ≡ worked_field u w ++ worked_bytes r
   front_is = worked_front t u w r (next_at t u g.tag_is (λ z. omega (arith, z, g.tag_below)) ∙ ap₂ (λ (x y : Bytes). next u x y) (sym g.body_is) (sym g.behind_is))
+
+  parts : AllBytes t → AllParts t u (body_of t) (behind_of t)
+  parts = parts_at t u g.tag_is (λ z. omega (arith, z, g.tag_below))
+
+  pub body_all : AllBytes t → AllBytes w
+  body_all a = subst AllBytes (sym g.body_is) (parts a).body_all
 
   pub left_on : {s o out out₂ : Bytes} {at a a₂ : ℕ} → Left s o at t out a → Wrote out a (worked_field u w) out₂ a₂ → Left s o at r out₂ a₂
   left_on {s} {o} {out} {out₂} {at} {a} {a₂} l v =
@@ -48,6 +57,7 @@ module _ {t : Bytes} {u : ℕ} {w r : Bytes} (g : IsFront t u w r) where
         place = omega (arith, v.end_is, k, l.place);
         room = omega (arith, v.end_is, field_room u w, g.sizes, l.room);
         short = omega (arith, g.sizes, l.short);
+        all = subst AllBytes (sym g.behind_is) (parts l.all).behind_all;
       }
 
 pub left_end : {t : Bytes} → Ended (read t) → {s o out out₂ : Bytes} {at a a₂ : ℕ} → Left s o at t out a → Wrote out a t out₂ a₂ → Wrote o at (worked_bytes s) out₂ a₂
@@ -60,8 +70,8 @@ left_end {t} h {s} {o} {out} {out₂} {at} {a} {a₂} l u =
 
 -- ---- one field
 module _ (t : ℕ) (w : Bytes) {o o₁ : Bytes} {n n₁ : ℕ} {b : Bool} (q : b ≡ holds t) where
-  pub leaf_written : b ≡ false → {o₂ : Bytes} {n₂ : ℕ} → AllBytes w → Wrote o n (head t (length w)) o₁ n₁ → Wrote o₁ n₁ w o₂ n₂ → Wrote o n (worked_field t w) o₂ n₂
-  leaf_written e a u v = wrote_is (worked_leaf t w (sym q ∙ e) a) (wrote_field t u v)
+  pub leaf_written : b ≡ false → AllBytes w → Wrote o n (field_bytes t w) o₁ n₁ → Wrote o n (worked_field t w) o₁ n₁
+  leaf_written e a u = wrote_is (worked_leaf t w (sym q ∙ e) a) u
 
   module _ (e : b ≡ true) {x : Worked} (p : x ≡ field_sum t (read w)) where
     pub plus_written : {k : ℕ} → x ≡ Some (W.Plus k) → Wrote o n (field_bytes 0x71 (number_bytes (whole k))) o₁ n₁ → Wrote o n (worked_field t w) o₁ n₁

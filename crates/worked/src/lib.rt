@@ -4,14 +4,13 @@
 #![tactic(auto)]
 
 ghost use Rattle.std.specs.Prelude.{◌≡◌, true, ◌+◌, ◌*◌, ◌≤◌, ◌<◌, ◌^◌, length};
+ghost use Rattle.field.specs.Bytes.{AllBytes};
 ghost use Rattle.field.specs.Row.{read};
 ghost use Rattle.field.specs.Put.{Wrote};
-ghost use Rattle.field.specs.Row.{field_bytes};
-ghost use Rattle.page.specs.Number.{whole, number_bytes};
 ghost use Rattle.worked.specs.Row.{holds, field_sum, worked_bytes, worked_field, is_piece, NextPiece};
 
 use field::reader::{Field, Fields};
-use field::writer::{put_bytes, put_eight, put_head};
+use field::writer::{put_bytes, put_field, put_head, put_number_field};
 use sums::reader::{ROOM, sum_in};
 use sums::value::Sum;
 
@@ -38,58 +37,40 @@ fn is_piece(tag: u8) -> bool
 fn next_piece<'a>(fields: &mut Fields<'a>) -> Option<Field<'a>>
     ensures { NextPiece fields.old.0.now result fields.new.0.now }
 {
-    while let Some(field) = fields.next() {
-        if is_piece(field.tag) {
-            return Some(field);
-        }
-    }
-    None
+    fields.find(|field| is_piece(field.tag))
 }
 
-// What a field comes to, by its tag and body: a number only where it is a 79 of one source piece that is a sum.
-fn sum_of_field(tag: u8, w: &[u8], words: &mut [u64; ROOM]) -> Option<Sum>
-    requires { (length w.now ≤ 32768) × (length words.old ≡ 16384) }
-    ensures { (result ≡ field_sum tag (read w.now)) × (length words.new ≡ 16384) }
+// What a field comes to: a number only where it is a 79 of one source piece that is a sum. The clauses' 32,768 is the length of a page, for which
+// `sum_in` has room.
+fn sum_of_field(field: Field<'_>, words: &mut [u64; ROOM]) -> Option<Sum>
+    requires { length field.body.now ≤ 32768 }
+    ensures { result ≡ field_sum field.entry.tag (read field.entry.body.now) }
 {
-    if tag != 0x79 {
+    if field.tag != 0x79 {
         return None;
     }
-    let mut pieces = Fields(w);
-    let first = next_piece(&mut pieces)?;
-    if first.tag != 0x20 {
-        return None;
-    }
-    match next_piece(&mut pieces) {
-        Some(_) => None,
-        None => sum_in(first.body, words),
+    let mut pieces = Fields(field.body);
+    match (next_piece(&mut pieces), next_piece(&mut pieces)) {
+        (Some(Field { tag: 0x20, body }), None) => sum_in(body, words),
+        _ => None,
     }
 }
 
-// A field with a number of eight bytes.
-fn put_number(out: &mut [u8], at: usize, tag: u8, n: u64) -> usize
-    requires { at + 11 < 2 ^ 64 }
-    ensures { Wrote out.old at (field_bytes tag (number_bytes (whole n))) out.new result }
-{
-    let a = put_head(out, at, tag, 8);
-    put_eight(out, a, n as usize)
-}
-
-// One field, by its tag and body. The head of a field that holds others is written behind them, when its length is known.
+// One field. The head of a field that holds others is written behind them, when its length is known.
 #[cycle(work)]
-fn work_field(tag: u8, w: &[u8], words: &mut [u64; ROOM], out: &mut [u8], at: usize) -> usize
-    requires { (length w.now ≤ 32768) × (length words.old ≡ 16384) × (at + 2 * (3 + length w.now) < 2 ^ 63) }
-    ensures { Wrote out.old at (worked_field tag w.now) out.new result × (length words.new ≡ 16384) }
+fn work_field(field: Field<'_>, words: &mut [u64; ROOM], out: &mut [u8], at: usize) -> usize
+    requires { (length field.body.now ≤ 32768) × AllBytes field.body.now × (at + 2 * (3 + length field.body.now) < 2 ^ 63) }
+    ensures { Wrote out.old at (worked_field field.entry.tag field.entry.body.now) out.new result }
 {
-    if !may_hold(tag) {
-        let a = put_head(out, at, tag, w.len());
-        return put_bytes(out, a, w);
+    if !may_hold(field.tag) {
+        return put_field(out, at, field.tag, field.body);
     }
-    match sum_of_field(tag, w, words) {
-        Some(Sum::Plus(n)) => put_number(out, at, 0x71, n),
-        Some(Sum::Minus(n)) => put_number(out, at, 0x75, n),
+    match sum_of_field(field, words) {
+        Some(Sum::Plus(n)) => put_number_field(out, at, 0x71, n),
+        Some(Sum::Minus(n)) => put_number_field(out, at, 0x75, n),
         None => {
-            let e = work_fields(w, words, out, at + 3);
-            put_head(out, at, tag, e - (at + 3));
+            let e = work_fields(field.body, words, out, at + 3);
+            put_head(out, at, field.tag, e - (at + 3));
             e
         }
     }
@@ -98,13 +79,13 @@ fn work_field(tag: u8, w: &[u8], words: &mut [u64; ROOM], out: &mut [u8], at: us
 // A row of fields, and what stands behind the last.
 #[cycle(work)]
 fn work_fields(s: &[u8], words: &mut [u64; ROOM], out: &mut [u8], at: usize) -> usize
-    requires { (length s.now ≤ 32768) × (length words.old ≡ 16384) × (at + 2 * length s.now < 2 ^ 63) }
-    ensures { Wrote out.old at (worked_bytes s.now) out.new result × (length words.new ≡ 16384) }
+    requires { (length s.now ≤ 32768) × (at + 2 * length s.now < 2 ^ 63) }
+    ensures { Wrote out.old at (worked_bytes s.now) out.new result }
 {
     let mut fields = Fields(s);
     let mut a = at;
     while let Some(field) = fields.next() {
-        a = work_field(field.tag, field.body, words, out, a);
+        a = work_field(field, words, out, a);
     }
     put_bytes(out, a, fields.0)
 }

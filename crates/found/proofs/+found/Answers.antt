@@ -40,8 +40,8 @@ taken_up t c =
     let a = c.loop-field.invariant.tail in
     step_apart _ _ _ _ _ c.loop-field.invariant f
     (elim c.match-field.branch [
-      | entries_of-in-82+in-Apart w ↦ adds_expr _ _ _ a f w.in-82.is w.in-Apart.ensures w.x-is
-      | entries_of-in-48 w ↦ adds_element _ _ _ a f w.in-48.is w.x-is
+      | entries_of-in-82+in-Apart w ↦ adds_expr _ _ _ a f w.in-82.is w.in-Apart.ensures (w.x-is ∙ w.place.ensures)
+      | entries_of-in-48 w ↦ adds_element _ _ _ a f w.in-48.is (w.x-is ∙ w.place-x.ensures)
       | entries_of-in-49 w ↦ adds_fragment _ _ _ a f w.in-49.is _ w.found_of.ensures _ w.spliced.ensures (w.x-is ∙ w.inside-x.ensures)
     ]) c.with_run.ensures c.then-cur.ensures
 
@@ -75,16 +75,16 @@ pub found_of-returns-in_default : goal.found_of-returns-in_default
 found_of-returns-in_default t c = found_none _ _ _ c.children_at-a.ensures.first c.in_default.ensures.steps.ended c.nowhere.ensures
 
 pub found_of-returns-in-96 : goal.found_of-returns-in-96
-found_of-returns-in-96 t c = found_60 _ _ (only t (goal.at.found_of-returns-in-96 t c).Then-is_empty) c.in-96.is
+found_of-returns-in-96 t c = found_60 _ _ (only t (goal.at.found_of-returns-in-96 t c).Then-is_empty) c.in-96.is c.place.ensures
 
 pub found_of-returns-in-Some-field_at : goal.found_of-returns-in-Some-field_at
-found_of-returns-in-Some-field_at t c = found_52 _ _ (only t (goal.at.found_of-returns-in-Some-field_at t c).Then-is_empty) c.in-82.is (λ z. not_none c.in-Some-field_at.ensures (c.in-Some-field_at.ensures.tag_is ∙ z))
+found_of-returns-in-Some-field_at t c = found_52 _ _ (only t (goal.at.found_of-returns-in-Some-field_at t c).Then-is_empty) c.in-82.is (λ z. not_none c.in-Some-field_at.ensures (c.in-Some-field_at.ensures.tag_is ∙ z)) c.place-in-Some-field_at.ensures
 
 pub found_of-returns-in-None : goal.found_of-returns-in-None
 found_of-returns-in-None t c = found_empty _ _ (only t (goal.at.found_of-returns-in-None t c).Then-is_empty) c.in-82.is c.in-None.ensures.ended c.nowhere-in-None.ensures
 
 pub found_of-returns-in-48 : goal.found_of-returns-in-48
-found_of-returns-in-48 t c = found_30 _ _ (only t (goal.at.found_of-returns-in-48 t c).Then-is_empty) c.in-48.is
+found_of-returns-in-48 t c = found_30 _ _ (only t (goal.at.found_of-returns-in-48 t c).Then-is_empty) c.in-48.is c.place-in-48.ensures
 
 pub found_of-returns-in-49 : goal.found_of-returns-in-49
 found_of-returns-in-49 t c = found_31 _ _ (only t (goal.at.found_of-returns-in-49 t c).Then-is_empty) c.in-49.is _ c.found_of.ensures c.inside.ensures
@@ -93,10 +93,10 @@ pub found_of-returns-in_default-tag : goal.found_of-returns-in_default-tag
 found_of-returns-in_default-tag t c = found_61 _ _ (only t (goal.at.found_of-returns-in_default-tag t c).Then-is_empty) (grind arith) (grind arith) (grind arith) (grind arith) c.nowhere-in_default-tag.ensures
 
 pub found_of-returns-then-becomes_template : goal.found_of-returns-then-becomes_template
-found_of-returns-then-becomes_template t c = found_template _ _ (more t (goal.at.found_of-returns-then-becomes_template t c).Else-is_empty) c.becomes_template.ensures c.if-becomes_template.true c.whole.ensures
+found_of-returns-then-becomes_template t c = found_template _ _ (more t (goal.at.found_of-returns-then-becomes_template t c).Else-is_empty) c.becomes_template.ensures c.if-becomes_template.true c.place-then-becomes_template.ensures
 
 pub found_of-returns-then-has : goal.found_of-returns-then-has
-found_of-returns-then-has t c = found_several _ _ (more t (goal.at.found_of-returns-then-has t c).Else-is_empty) c.becomes_template.ensures c.if-becomes_template.false (c.has.ensures c.if-has.true) c.whole-then-has.ensures
+found_of-returns-then-has t c = found_several _ _ (more t (goal.at.found_of-returns-then-has t c).Else-is_empty) c.becomes_template.ensures c.if-becomes_template.false (c.has.ensures c.if-has.true) c.place-then-has.ensures
 
 pub found_of-returns : goal.found_of-returns
 found_of-returns t c = found_many _ _ (more t (goal.at.found_of-returns t c).Else-is_empty) c.becomes_template.ensures c.if-becomes_template.false _ c.entries_of.ensures _ c.flattened.ensures

@@ -10,7 +10,7 @@ pub returns-in-Zero : goal.returns-in-Zero
 returns-in-Zero c = splice_none _ _ c.requires c.in-Expr.is c.part.ensures c.in-Some-eq118.ensures (omega arith) c.in-Zero.ensures c.nowhere-in-Zero.ensures
 
 pub returns-in-One : goal.returns-in-One
-returns-in-One c = splice_one _ _ c.requires c.in-Expr.is c.part.ensures c.in-Some-eq118.ensures (omega arith) c.in-One.ensures
+returns-in-One c = splice_one _ _ c.requires c.in-Expr.is c.part.ensures c.in-Some-eq118.ensures (omega arith) c.in-One.ensures c.place.ensures
 
 pub returns-in-More : goal.returns-in-More
 returns-in-More c = splice_more _ _ c.requires c.in-Expr.is c.part.ensures c.in-Some-eq118.ensures (omega arith) c.in-More.ensures c.nowhere-in-More.ensures

@@ -6,7 +6,7 @@ use borrow.Author.Rules.{rules}
 use borrow.Author.Tests.{eqb-true}
 use Rattle.records.specs.Keep.{at, Low}
 use Rattle.records.proofs.KeepLaws.{keep_low, inner_low, outer_low, outer_is}
-use Rattle.records.proofs.ReadLaws.{behind_shorter, serialize_call, serialize_template, inner_call, inner_void, inner_kids, inner_none, found_0, only_30, only_31, only_other, found_2, found_merged}
+use Rattle.records.proofs.ReadLaws.{behind_shorter, serialize_call, serialize_template, inner_call, inner_is, inner_shorter, inner_none, found_0, only_30, only_31, only_other, found_2, found_merged}
 use Rattle.records.proofs.WalkLaws.{parts_start, parts_end, parts_past, part_falls, element_room, element_on, kids_room, kids_on, entries_start, entries_end, entries_past, entry_falls, serialize_room, serialize_on, found_room, found_on}
 use Rattle.records.proofs.+record.Goals as goal
 
@@ -61,69 +61,75 @@ record_element-record_found-requires t c = let l = behind_shorter _ c.behind-res
   record {
     desk = c.requires.desk;
     short = omega (arith, l, c.requires.short);
-    low = subst Low (inner_call _ _ _ c.behind-rest.ensures c.is_serializable.ensures c.if-not-is_serializable.true _) c.requires.low;
+    low = subst Low (inner_call _ _ _ c.behind-rest.ensures c.is_serializable.ensures c.if-is_serializable.false _) c.requires.low;
   },
 )
 
-pub record_element-returns-then-not-is_serializable : goal.record_element-returns-then-not-is_serializable
-record_element-returns-then-not-is_serializable t c = c.record_found.ensures ∙ sym (inner_call _ _ _ c.behind-rest.ensures c.is_serializable.ensures c.if-not-is_serializable.true _)
+pub record_element-returns-else-is_serializable : goal.record_element-returns-else-is_serializable
+record_element-returns-else-is_serializable t c = c.record_found.ensures ∙ sym (inner_call _ _ _ c.behind-rest.ensures c.is_serializable.ensures c.if-is_serializable.false _)
 
-pub record_inner-returns-then-is_void_element : goal.record_inner-returns-then-is_void_element
-record_inner-returns-then-is_void_element t c = sym (inner_void _ _ _ refl refl c.requires.0 _ c.identifier.ensures c.is_void_element.ensures c.if-is_void_element.true)
-
-pub record_inner-record_parts-requires : goal.record_inner-record_parts-requires
-record_inner-record_parts-requires t c = let l = behind_shorter _ c.behind.ensures in (
+pub record_element-record_parts-requires : goal.record_element-record_parts-requires
+record_element-record_parts-requires t c = let l = inner_shorter _ c.inner_children.ensures in (
   omega (arith, l, c.decreases),
   record {
-    desk = c.requires.1.desk;
-    short = omega (arith, l, c.requires.1.short);
-    low = subst Low (inner_kids _ _ _ c.behind.ensures refl c.requires.0 _ c.identifier.ensures c.is_void_element.ensures c.if-is_void_element.false) c.requires.1.low;
+    desk = c.requires.desk;
+    short = omega (arith, l, c.requires.short);
+    low = subst Low (inner_is _ _ _ refl c.is_serializable.ensures c.if-is_serializable.true _ c.inner_children.ensures) c.requires.low;
   },
 )
 
-pub record_inner-returns : goal.record_inner-returns
-record_inner-returns t c = c.record_parts.ensures ∙ sym (inner_kids _ _ _ c.behind.ensures refl c.requires.0 _ c.identifier.ensures c.is_void_element.ensures c.if-is_void_element.false)
+pub record_element-returns-then-is_serializable : goal.record_element-returns-then-is_serializable
+record_element-returns-then-is_serializable t c = c.record_parts.ensures ∙ sym (inner_is _ _ _ refl c.is_serializable.ensures c.if-is_serializable.true _ c.inner_children.ensures)
 
 pub record_found-returns-in-Zero : goal.record_found-returns-in-Zero
-record_found-returns-in-Zero t c = sym (found_0 _ _ _ c.child_count.ensures _ c.in-Zero.is)
+record_found-returns-in-Zero t c = sym (found_0 _ _ _ (sym c.in-Zero.ensures.count) _ refl)
 
 pub record_found-record_serialize-requires : goal.record_found-record_serialize-requires
-record_found-record_serialize-requires t c = let f = c.in-Some-eq48.ensures in
-    (omega (arith, f.sizes, c.children_at.ensures.within, c.decreases), record { desk = c.requires.desk; short = omega (arith, f.sizes, c.children_at.ensures.within, c.requires.short); low = subst Low (only_30 _ _ _ c.child_count.ensures _ c.in-One.is c.children_at.ensures.first f (omega arith)) c.requires.low })
+record_found-record_serialize-requires t c = let o = c.in-One-eq48.ensures.only in (
+  omega (arith, o.front.sizes, o.within, c.decreases),
+  record {
+    desk = c.requires.desk;
+    short = omega (arith, o.front.sizes, o.within, c.requires.short);
+    low = subst Low (only_30 _ _ _ (sym c.in-One-eq48.ensures.count) _ refl o.first o.front (omega arith)) c.requires.low;
+  },
+)
 
-pub record_found-returns-in-Some-eq48 : goal.record_found-returns-in-Some-eq48
-record_found-returns-in-Some-eq48 t c = c.record_serialize.ensures ∙ sym (only_30 _ _ _ c.child_count.ensures _ c.in-One.is c.children_at.ensures.first c.in-Some-eq48.ensures (omega arith))
+pub record_found-returns-in-One-eq48 : goal.record_found-returns-in-One-eq48
+record_found-returns-in-One-eq48 t c = let o = c.in-One-eq48.ensures.only in c.record_serialize.ensures ∙ sym (only_30 _ _ _ (sym c.in-One-eq48.ensures.count) _ refl o.first o.front (omega arith))
 
 pub record_found-record_found-requires : goal.record_found-record_found-requires
-record_found-record_found-requires t c = let f = c.in-Some-eq49.ensures in
-    (omega (arith, f.sizes, c.children_at.ensures.within, c.decreases), record { desk = c.requires.desk; short = omega (arith, f.sizes, c.children_at.ensures.within, c.requires.short); low = subst Low (only_31 _ _ _ c.child_count.ensures _ c.in-One.is c.children_at.ensures.first f (omega arith)) c.requires.low })
+record_found-record_found-requires t c = let o = c.in-One-eq49.ensures.only in (
+  omega (arith, o.front.sizes, o.within, c.decreases),
+  record {
+    desk = c.requires.desk;
+    short = omega (arith, o.front.sizes, o.within, c.requires.short);
+    low = subst Low (only_31 _ _ _ (sym c.in-One-eq49.ensures.count) _ refl o.first o.front (omega arith)) c.requires.low;
+  },
+)
 
-pub record_found-returns-in-Some-eq49 : goal.record_found-returns-in-Some-eq49
-record_found-returns-in-Some-eq49 t c = c.record_found.ensures ∙ sym (only_31 _ _ _ c.child_count.ensures _ c.in-One.is c.children_at.ensures.first c.in-Some-eq49.ensures (omega arith))
+pub record_found-returns-in-One-eq49 : goal.record_found-returns-in-One-eq49
+record_found-returns-in-One-eq49 t c = let o = c.in-One-eq49.ensures.only in c.record_found.ensures ∙ sym (only_31 _ _ _ (sym c.in-One-eq49.ensures.count) _ refl o.first o.front (omega arith))
 
-pub record_found-returns-in_default : goal.record_found-returns-in_default
-record_found-returns-in_default t c = let f = rw c.in_default.is at c.field_at.ensures in sym (only_other _ _ _ c.child_count.ensures _ c.in-One.is c.children_at.ensures.first _ f.tag_is (search rules) (search rules))
-
-pub record_found-returns-in_default-2 : goal.record_found-returns-in_default-2
-record_found-returns-in_default-2 t c = let f = rw c.in_default.is at c.field_at.ensures in sym (only_other _ _ _ c.child_count.ensures _ c.in-One.is c.children_at.ensures.first _ f.no_tag (λ z. omega (arith, z)) (λ z. omega (arith, z)))
+pub record_found-returns-in-One : goal.record_found-returns-in-One
+record_found-returns-in-One t c = let o = c.in-One.ensures.only in sym (only_other _ _ _ (sym c.in-One.ensures.count) _ refl o.first _ o.front.tag_is (search rules) (search rules))
 
 pub record_found-taken-requires : goal.record_found-taken-requires
 record_found-taken-requires t c = (keep_low _ (at c.args.out.now c.args.st) c.requires.low).low_next
 
 pub record_found-record_parts-inner-requires : goal.record_found-record_parts-inner-requires
-record_found-record_parts-inner-requires t c = (omega (arith, c.decreases), record { desk = c.requires.desk; short = c.requires.short; low = inner_low _ _ _ _ _ (found_merged _ _ _ c.child_count.ensures _ c.in-More.is c.becomes_template.ensures c.if-becomes_template.true) c.taken.ensures c.requires.low })
+record_found-record_parts-inner-requires t c = (omega (arith, c.decreases), record { desk = c.requires.desk; short = c.requires.short; low = inner_low _ _ _ _ _ (found_merged _ _ _ (sym c.in-More.ensures.count) _ refl c.becomes_template.ensures c.if-becomes_template.true) c.taken.ensures c.requires.low })
 
 pub record_found-write_merged-requires : goal.record_found-write_merged-requires
-record_found-write_merged-requires t c = record { desk = omega (arith, c.requires.desk, c.record_parts-inner.auto.scratch); short = c.requires.short; low = outer_low _ _ _ _ _ (found_merged _ _ _ c.child_count.ensures _ c.in-More.is c.becomes_template.ensures c.if-becomes_template.true) c.taken.ensures c.record_parts-inner.ensures c.requires.low }
+record_found-write_merged-requires t c = record { desk = omega (arith, c.requires.desk, c.record_parts-inner.auto.scratch); short = c.requires.short; low = outer_low _ _ _ _ _ (found_merged _ _ _ (sym c.in-More.ensures.count) _ refl c.becomes_template.ensures c.if-becomes_template.true) c.taken.ensures c.record_parts-inner.ensures c.requires.low }
 
 pub record_found-returns-then-becomes_template : goal.record_found-returns-then-becomes_template
-record_found-returns-then-becomes_template t c = outer_is _ _ _ _ _ (found_merged _ _ _ c.child_count.ensures _ c.in-More.is c.becomes_template.ensures c.if-becomes_template.true) c.taken.ensures c.record_parts-inner.ensures c.write_merged.ensures
+record_found-returns-then-becomes_template t c = outer_is _ _ _ _ _ (found_merged _ _ _ (sym c.in-More.ensures.count) _ refl c.becomes_template.ensures c.if-becomes_template.true) c.taken.ensures c.record_parts-inner.ensures c.write_merged.ensures
 
 pub record_found-record_entries-requires : goal.record_found-record_entries-requires
-record_found-record_entries-requires t c = (omega (arith, c.decreases), record { desk = c.requires.desk; short = c.requires.short; low = subst Low (found_2 _ _ _ c.child_count.ensures _ c.in-More.is c.becomes_template.ensures c.if-becomes_template.false) c.requires.low })
+record_found-record_entries-requires t c = (omega (arith, c.decreases), record { desk = c.requires.desk; short = c.requires.short; low = subst Low (found_2 _ _ _ (sym c.in-More.ensures.count) _ refl c.becomes_template.ensures c.if-becomes_template.false) c.requires.low })
 
 pub record_found-returns-else-becomes_template : goal.record_found-returns-else-becomes_template
-record_found-returns-else-becomes_template t c = c.record_entries.ensures ∙ sym (found_2 _ _ _ c.child_count.ensures _ c.in-More.is c.becomes_template.ensures c.if-becomes_template.false)
+record_found-returns-else-becomes_template t c = c.record_entries.ensures ∙ sym (found_2 _ _ _ (sym c.in-More.ensures.count) _ refl c.becomes_template.ensures c.if-becomes_template.false)
 
 pub record_serialize-record_found-requires : goal.record_serialize-record_found-requires
 record_serialize-record_found-requires t c = let l = behind_shorter _ c.behind.ensures in (
@@ -141,21 +147,19 @@ record_serialize-returns-then-not-is_serializable t c = c.record_found.ensures �
 pub record_serialize-taken-requires : goal.record_serialize-taken-requires
 record_serialize-taken-requires t c = (keep_low _ (at c.args.out.now c.args.st) c.requires.low).low_next
 
-pub record_serialize-record_inner-inner-requires : goal.record_serialize-record_inner-inner-requires
-record_serialize-record_inner-inner-requires t c = (
-  omega (arith, c.decreases),
-  (
-    sym c.is_serializable.ensures ∙ c.if-not-is_serializable.false,
-    record {
-      desk = c.requires.desk;
-      short = c.requires.short;
-      low = inner_low _ _ _ _ _ (serialize_template _ _ _ refl c.is_serializable.ensures c.if-not-is_serializable.false _) c.taken.ensures c.requires.low;
-    },
-  ),
+pub record_serialize-record_parts-inner-requires : goal.record_serialize-record_parts-inner-requires
+record_serialize-record_parts-inner-requires t c = let l = inner_shorter _ c.inner_children.ensures in (
+  omega (arith, l, c.decreases),
+  record {
+    desk = c.requires.desk;
+    short = omega (arith, l, c.requires.short);
+    low = subst Low (inner_is _ _ _ refl c.is_serializable.ensures c.if-not-is_serializable.false _ c.inner_children.ensures)
+        (inner_low _ _ _ _ _ (serialize_template _ _ _ refl c.is_serializable.ensures c.if-not-is_serializable.false _) c.taken.ensures c.requires.low);
+  },
 )
 
 pub record_serialize-write_element-requires : goal.record_serialize-write_element-requires
-record_serialize-write_element-requires t c = (sym c.is_serializable.ensures ∙ c.if-not-is_serializable.false, outer_low _ _ _ _ _ (serialize_template _ _ _ refl c.is_serializable.ensures c.if-not-is_serializable.false _) c.taken.ensures c.record_inner-inner.ensures c.requires.low)
+record_serialize-write_element-requires t c = (sym c.is_serializable.ensures ∙ c.if-not-is_serializable.false, outer_low _ _ _ _ _ (serialize_template _ _ _ refl c.is_serializable.ensures c.if-not-is_serializable.false _) c.taken.ensures (c.record_parts-inner.ensures ∙ sym (inner_is _ _ _ refl c.is_serializable.ensures c.if-not-is_serializable.false _ c.inner_children.ensures)) c.requires.low)
 
 pub record_serialize-returns : goal.record_serialize-returns
-record_serialize-returns t c = outer_is _ _ _ _ _ (serialize_template _ _ _ refl c.is_serializable.ensures c.if-not-is_serializable.false _) c.taken.ensures c.record_inner-inner.ensures c.write_element.ensures
+record_serialize-returns t c = outer_is _ _ _ _ _ (serialize_template _ _ _ refl c.is_serializable.ensures c.if-not-is_serializable.false _) c.taken.ensures (c.record_parts-inner.ensures ∙ sym (inner_is _ _ _ refl c.is_serializable.ensures c.if-not-is_serializable.false _ c.inner_children.ensures)) c.write_element.ensures

@@ -13,9 +13,6 @@ decreases-record_entries l = 8 * length l.s.now
 abbrev pub decreases-record_found : goal.decreases-record_found
 decreases-record_found l = 8 * length l.s.now + 1
 
-abbrev pub decreases-record_inner : goal.decreases-record_inner
-decreases-record_inner l = 8 * length l.b.now + 1
-
 abbrev pub decreases-record_parts : goal.decreases-record_parts
 decreases-record_parts l = 8 * length l.s.now
 

@@ -9,14 +9,14 @@ use Rattle.renumber.specs.Step.{numbered}
 use Rattle.renumber.proofs.Renumbering.{numbered_not, numbered_call, four_left}
 use Rattle.renumber.proofs.put_number.Goals as goal
 
-pub returns-then-tag-ne144 : goal.returns-then-tag-ne144
-returns-then-tag-ne144 c = wrote_is (sym (numbered_not _ _ _ c.if-tag-ne144.true)) (wrote_none _ _)
+pub returns-in_default : goal.returns-in_default
+returns-in_default c = wrote_is (sym (numbered_not _ _ _ (λ z. omega (arith, z)))) (wrote_none _ _)
 
 pub put_two-requires : goal.put_two-requires
-put_two-requires c = let a = c.args in let e : length (numbered a.width a.tag a.number) ≡ 2 = ap length (numbered_call a.width a.tag a.number 2 c.if-tag-ne144.false c.if-width-eq2.true) ∙ length_big_endian 2 a.number [] in
+put_two-requires c = let a = c.args in let e : length (numbered a.width a.tag a.number) ≡ 2 = ap length (numbered_call a.width a.tag a.number 2 (omega arith) (omega arith)) ∙ length_big_endian 2 a.number [] in
     omega (arith, c.requires.0)
 
 pub put_four-requires : goal.put_four-requires
-put_four-requires c = let a = c.args in let four = four_left c.requires.1 c.if-width-eq2.false in
-    let e : length (numbered a.width a.tag a.number) ≡ 4 = ap length (numbered_call a.width a.tag a.number 4 c.if-tag-ne144.false four) ∙ length_big_endian 4 a.number [] in
+put_four-requires c = let a = c.args in let four = four_left c.requires.1 (λ z. omega (arith, z)) in
+    let e : length (numbered a.width a.tag a.number) ≡ 4 = ap length (numbered_call a.width a.tag a.number 4 (omega arith) four) ∙ length_big_endian 4 a.number [] in
     omega (arith, c.requires.0)

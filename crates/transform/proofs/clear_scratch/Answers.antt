@@ -1,10 +1,17 @@
 -- `clear_scratch` meets its contract: by the refusal. Assumes nothing.
-use Rattle.transform.proofs.ExportLaws.{cleared_not, cleared_all}
-use borrow.Enum.Refused.{opened}
+use mathlib.Core.Path.{sym, ap, ◌∙◌}
+use mathlib.Core.Bool.{Bool}
+use Rattle.field.specs.Bytes.{pick}
+use Rattle.spec.specs.Answer.{zeros}
+use Rattle.transform.proofs.ExportLaws.{cleared}
 use Rattle.transform.proofs.clear_scratch.Goals as goal
 
-pub returns-in-ScratchTooSmall : goal.returns-in-ScratchTooSmall
-returns-in-ScratchTooSmall c = cleared_not _ c.in-ScratchTooSmall.is
+pub returns-then-ne : goal.returns-then-ne
+returns-then-ne c =
+    let b = c.args.scratch.now in
+    c.fill.ensures.after (λ y e. e) ∙ sym (ap (λ (x : Bool). pick x (zeros b) b) c.if-ne.true) ∙ cleared b c.args.r c.ne.result c.ne.ensures
 
-pub returns-in_default : goal.returns-in_default
-returns-in_default c = cleared_all _ _ (opened c.in_default.in_default-own.keys2) (c.fill.ensures.after (λ y e. e))
+pub returns-else-ne : goal.returns-else-ne
+returns-else-ne c =
+    let b = c.args.scratch.now in
+    sym (ap (λ (x : Bool). pick x (zeros b) b) c.if-ne.false) ∙ cleared b c.args.r c.ne.result c.ne.ensures

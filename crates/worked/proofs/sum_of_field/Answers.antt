@@ -1,22 +1,19 @@
 -- `worked::sum_of_field` meets its contract. Assumes nothing.
 use native.Mathlib.Omega.{arith}
-use Rattle.worked.proofs.Pieces.{no_79, no_piece, no_source, not_alone, alone}
+use Rattle.worked.proofs.Pieces.{no_79, no_piece, no_source, two_pieces, alone}
 use Rattle.worked.proofs.sum_of_field.Goals as goal
 
-pub returns-then-tag-ne121 : goal.returns-then-tag-ne121
-returns-then-tag-ne121 c = (no_79 _ _ c.if-tag-ne121.true, c.requires.1)
+pub returns-then-field-ne121 : goal.returns-then-field-ne121
+returns-then-field-ne121 c = no_79 _ _ c.if-field-ne121.true
 
-pub returns-in_err-first : goal.returns-in_err-first
-returns-in_err-first c = (rw c.from_residual.ensures (no_piece _ _ c.if-tag-ne121.false c.in_err-first.ensures), c.requires.1)
+pub returns-in-Some-eq32-None : goal.returns-in-Some-eq32-None
+returns-in-Some-eq32-None c = let h = c.in-Some-eq32-None in alone _ _ c.if-field-ne121.false h.ensures (omega arith) h.ensures' c.sum_in.ensures
 
-pub returns-then-first-ne32 : goal.returns-then-first-ne32
-returns-then-first-ne32 c = (no_source _ _ c.if-tag-ne121.false c.in_ok-first.ensures c.if-first-ne32.true, c.requires.1)
+pub returns-in_default : goal.returns-in_default
+returns-in_default c = two_pieces _ _ c.if-field-ne121.false c.in_default.ensures c.in_default.ensures'
 
-pub returns-in-Some : goal.returns-in-Some
-returns-in-Some c = (not_alone _ _ c.if-tag-ne121.false c.in_ok-first.ensures c.if-first-ne32.false c.in-Some.ensures, c.requires.1)
+pub returns-in_default-2 : goal.returns-in_default-2
+returns-in_default-2 c = no_source _ _ c.if-field-ne121.false c.in_default.ensures (λ z. omega arith)
 
-pub sum_in-requires : goal.sum_in-requires
-sum_in-requires c = (omega (arith, c.requires.0, c.in_ok-first.ensures.body_within), c.requires.1)
-
-pub returns-in-None : goal.returns-in-None
-returns-in-None c = (alone _ _ c.if-tag-ne121.false c.in_ok-first.ensures c.if-first-ne32.false c.in-None.ensures c.sum_in.ensures.0, c.sum_in.ensures.1)
+pub returns-in_default-3 : goal.returns-in_default-3
+returns-in_default-3 c = no_piece _ _ c.if-field-ne121.false c.in_default.ensures

@@ -1,12 +1,8 @@
 -- `templates::raise_record` meets its contract: the five writes make the record. Assumes nothing.
-use mathlib.Core.Path.{sym}
+use mathlib.Core.Path.{◌∙◌}
 use native.Mathlib.Omega.{arith}
-use lib.Seq.{length-take-le}
-use Rattle.convert.proofs.TemplateLaws.{raise_room, raise_stops, raise_wrote, head_end, number_end, marks_end}
+use Rattle.convert.proofs.TemplateLaws.{two_first, raise_room, raise_stops, raise_wrote, head_end, number_end, marks_end}
 use Rattle.convert.proofs.templates.raise_record.Goals as goal
-
-pub slice_bounds-number_in-end : goal.slice_bounds-number_in-end
-slice_bounds-number_in-end c = sym (length-take-le 2 c.args.w.now c.requires.0)
 
 pub overflow_add-len : goal.overflow_add-len
 overflow_add-len c = omega (arith, raise_room c.args.w.now c.args.at c.requires.1 c.count_gaps-gaps.ensures)
@@ -33,4 +29,4 @@ pub returns-in_err-d : goal.returns-in_err-d
 returns-in_err-d c = rw c.from_residual.ensures (raise_stops c.args.w.now c.count_gaps-gaps.ensures c.in_err-d.ensures)
 
 pub returns : goal.returns
-returns c = raise_wrote c.args.w.now c.number_in-number.ensures c.count_gaps-gaps.ensures c.put_head-a.ensures c.put_four-b.ensures c.put_two-c.ensures c.in_ok-d.ensures c.put_bytes-e.ensures
+returns c = raise_wrote c.args.w.now (two_first _ c.requires.0 (c.from-number.ensures ∙ c.from_be_bytes.ensures)) c.count_gaps-gaps.ensures c.put_head-a.ensures c.put_four-b.ensures c.put_two-c.ensures c.in_ok-d.ensures c.put_bytes-e.ensures

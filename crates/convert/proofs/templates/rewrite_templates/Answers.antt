@@ -18,6 +18,3 @@ loop-record-preserved c = let f = c.in-Some.ensures.steps in keeps_on c.loop-rec
 
 pub returns : goal.returns
 returns c = keeps_end c.loop-record.invariant c.in-None.ensures.steps.ended
-
-pub shape_of-out : goal.shape_of-out
-shape_of-out c = c.loop-record.invariant.same_size

@@ -7,8 +7,8 @@ use Rattle.decisions.specs.Index.{names_of}
 use Rattle.decisions.proofs.IndexLaws.{listed_empty}
 use Rattle.decisions.proofs.attribute.is_listed.Goals as goal
 
-pub returns-then-is_empty : goal.returns-then-is_empty
-returns-then-is_empty c = sym (listed_empty _ _ (grind arith))
+pub returns-else-not-is_empty : goal.returns-else-not-is_empty
+returns-else-not-is_empty c = rw c.if-not-is_empty.false (sym (listed_empty _ _ (grind arith)))
 
 pub returns-in-Ident : goal.returns-in-Ident
 unfolding get_attr_name

@@ -1,60 +1,48 @@
--- `field::writer::copy_blocks` meets its contract. The loop's invariant: the first i bytes are written. The last block is written over
--- their end. Assumes nothing.
+-- `field::writer::copy_blocks` meets its contract: what the blocks so far have written is as it is in `from`, and the last one ends with it.
+-- Assumes nothing.
 use native.Mathlib.Omega.{arith}
-use mathlib.Core.Path.{◌≡◌, sym, ap, ◌∙◌}
+use mathlib.Core.Path.{◌≡◌, refl, sym, ap, ◌∙◌}
 use Prim.Native.Nat.{ℕ, ◌+◌, ◌-◌, ◌≤◌}
-use mathlib.Core.List.{◌++◌}
-use lib.ListN.{length, take, drop}
-use lib.Seq.{take-add, take-take, drop_at, length-take-le}
+use mathlib.Core.List.{◌++◌, [], append-nil}
+use lib.ListN.{length, take, drop, length-drop, drop_of_length-le, take-append-drop}
+use lib.Seq.{take-add, take-take, take_all, length-take-le}
+use borrow.Rule.Slice.PartMut.{put_mid}
+use Rattle.std.proofs.lemmas.Slice.{take-put_mid}
 use Rattle.field.specs.Bytes.{Bytes}
-use Rattle.field.specs.Put.{put}
-use Rattle.field.proofs.PutLaws.{length_put, put_nil, put_put, put_over}
 use Rattle.field.proofs.writer.copy_blocks.Goals as goal
-use Rattle.field.proofs.writer.copy_blocks.Goals.{After-copy_block-2, else-loop-i-test, then-loop-i-test+else-i-end-i-gt16}
+use Rattle.field.proofs.writer.copy_blocks.Goals.{After-copy_block-2, else-loop-i-test, then-loop-i-test+else-last-i-gt16}
 
-module _ {o₁ o₂ : Bytes} (o : Bytes) (at : ℕ) (s : Bytes) (i : ℕ) (done : o₁ ≡ put o at (take i s)) where
-  -- a block behind what is written
-  block_more : i ≤ length s → o₂ ≡ put o₁ (at + i) (take 16 (drop i s)) → o₂ ≡ put o at (take (i + 16) s)
-  block_more h e =
-      let l : length (take i s) ≡ i = length-take-le i s h in
-      e ∙ rw (done, take-add i 16 s) (rw l at (put_put o at (take i s) (take 16 (drop i s))))
+-- a block of k bytes behind the first i
+block_more : {w : Bytes} (to from : Bytes) (i k n : ℕ) → length to ≡ length from → n ≡ i + k → n ≤ length from → take i to ≡ take i from → w ≡ take k (drop i from) → take n (put_mid i k to w) ≡ take n from
+block_more {w} to from i k n l q h done e =
+    let m : length w ≡ k = ap length e ∙ length-take-le k (drop i from) (omega (arith, length-drop i from)) in
+    take-put_mid i k to w n (omega (arith, m)) (omega (arith, l)) ∙ rw (done, e) (sym (take-add i k from)) ∙ ap {B = Bytes} (λ j. take j from) (sym q)
 
-  -- the last block, which may begin in front of that
-  block_last : (n : ℕ) → n ≤ length s → 16 ≤ n → i ≤ n → n - i ≤ 16 → o₂ ≡ put o₁ (at + (n - 16)) (take 16 (drop (n - 16) s)) → o₂ ≡ put o at (take n s)
-  block_last n h l a b e =
-      let m = n - 16 in
-      let sum : m + 16 ≡ n = omega arith in
-      let front : length (take m s) ≡ m = length-take-le m s (omega arith) in
-      let cut : take n s ≡ take m s ++ take 16 (drop m s) = ap {B = Bytes} (λ k. take k s) (sym sum) ∙ take-add m 16 s in
-      let block : drop m (take n s) ≡ take 16 (drop m s) = rw cut (drop_at (take m s) (take 16 (drop m s)) m front) in
-      let begun : o₁ ≡ put o at (take i (take n s)) = done ∙ rw (take-take i n s a) in
-      e ∙ rw (begun, ← block) (put_over o at m i (take n s) (omega arith))
+-- of a front, a front
+less : (to from : Bytes) (i j : ℕ) → i ≤ j → take j to ≡ take j from → take i to ≡ take i from
+less to from i j h e = sym (take-take i j to h) ∙ ap {B = Bytes} (take i) e ∙ take-take i j from h
 
-pub loop-i-init : goal.loop-i-init
-loop-i-init c = (omega arith, sym (put_nil _ _))
-
-pub copy_block-requires : goal.copy_block-requires
-copy_block-requires c = let e = ap length c.loop-i.invariant.1 ∙ length_put _ _ _ in (omega (arith, e), omega arith)
+-- the block that ends with all of it
+ending : {w : Bytes} (to from : Bytes) (i k m : ℕ) → length to ≡ length from → i ≤ length from → k ≡ length to - i → m ≡ length from - i → take i to ≡ take i from → w ≡ take m (drop i from) → put_mid i k to w ≡ from
+ending {w} to from i k m l h p q done e =
+    let rest : w ≡ drop i from = e ∙ take_all m (drop i from) (omega (arith, length-drop i from)) in
+    let none : drop k (drop i to) ≡ [] = drop_of_length-le (drop i to) {i = k} (omega (arith, length-drop i to)) in
+    rw (done, rest, none) (ap (λ r. take i from ++ r) (append-nil (drop i from)) ∙ take-append-drop i from)
 
 pub loop-i-preserved : goal.loop-i-preserved
-loop-i-preserved c = let args = c.args in (omega arith, block_more args.out.now args.at args.s.now c.loop-i.i c.loop-i.invariant.1 (omega arith) c.copy_block.ensures)
+loop-i-preserved c = let i = c.loop-i.i in block_more _ _ i (i + 16 - i) (i + 16) (omega (arith, c.loop-i.auto.to)) (omega arith) (omega arith) c.loop-i.invariant c.copy_block.ensures
 
-pub copy_block-requires-2 : goal.copy_block-requires-2
-copy_block-requires-2 c = let e = ap length c.loop-i.invariant.1 ∙ length_put _ _ _ in (omega (arith, e), omega arith)
-
-written : (c : After-copy_block-2) → c.copy_block-2.new.out ≡ put c.args.out.now c.args.at (take c.args.n c.args.s.now)
-written c =
-    let args = c.args in
-    let o = args.out.now in
-    let n = args.n in
+begun : (c : After-copy_block-2) → take (length c.args.from.now - 16) c.loop-i-test.to ≡ take (length c.args.from.now - 16) c.args.from.now
+begun c =
+    let from = c.args.from.now in
+    let last = length from - 16 in
+    let i = c.loop-i.i in
     elim c.loop-i-test.branch [
-      | else-loop-i-test w ↦ block_last o args.at args.s.now c.loop-i.i (w.out-is ∙ c.loop-i.invariant.1) n (omega arith) (omega arith) (omega arith) (omega (arith, w.loop-i-test)) c.copy_block-2.ensures
-      | then-loop-i-test+else-i-end-i-gt16 w ↦ block_last o args.at args.s.now (c.loop-i.i + 16)
-          (w.out-is ∙ block_more o args.at args.s.now c.loop-i.i c.loop-i.invariant.1 (omega arith) w.copy_block.ensures) n (omega arith) (omega arith) (omega (arith, w.loop-i-test.true)) (omega arith) c.copy_block-2.ensures
+      | else-loop-i-test w ↦ less _ from last i (omega (arith, w.loop-i-test)) (rw w.to-is c.loop-i.invariant)
+      | then-loop-i-test+else-last-i-gt16 w ↦ less _ from last (i + 16) (omega arith) (rw w.to-is (block_more _ from i (i + 16 - i) (i + 16) (omega (arith, c.loop-i.auto.to)) (omega arith) (omega (arith, w.loop-i-test.true)) c.loop-i.invariant w.copy_block.ensures))
     ]
 
-pub shape_of-out : goal.shape_of-out
-shape_of-out c = ap length (written (goal.at.shape_of-out c).After-copy_block-2) ∙ length_put _ _ _
-
 pub returns : goal.returns
-returns c = written (goal.at.returns c).After-copy_block-2
+returns c = let from = c.args.from.now in let to = c.loop-i-test.to in let last = length from - 16 in
+    let l : length to ≡ length from = omega (arith, c.loop-i-test.auto.to, c.loop-i.auto.to) in
+    ending to from last (length to - last) (length from - last) l (omega arith) refl refl (begun (goal.at.returns c).After-copy_block-2) c.copy_block-2.ensures

@@ -15,7 +15,7 @@ bounds-out-at-then-at-out-2 c = simp length-set (omega arith)
 
 pub returns-then-at-out : goal.returns-then-at-out
 unfolding big_endian
-returns-then-at-out c = let args = c.args in record { out_is = store_three args.out.now args.at args.tag (args.len / 256 % 256) (args.len % 256) c.if-at-out.true; end_is = refl }
+returns-then-at-out c = let args = c.args in rw c.two_bytes.ensures (record { out_is = store_three args.out.now args.at args.tag (args.len / 256 % 256) (args.len % 256) c.if-at-out.true; end_is = refl })
 
 pub returns : goal.returns
 unfolding big_endian

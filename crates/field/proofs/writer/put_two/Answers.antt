@@ -12,8 +12,8 @@ bounds-out-at-then-at-out c = simp length-set (omega arith)
 
 pub returns-then-at-out : goal.returns-then-at-out
 unfolding big_endian
-returns-then-at-out c = let args = c.args in record { out_is = store_two args.out.now args.at (args.n / 256 % 256) (args.n % 256) c.if-at-out.true; end_is = refl }
+returns-then-at-out c = let args = c.args in rw c.two_bytes.ensures (record { out_is = store_two args.out.now args.at (args.n / 256 % 256) (args.n % 256) c.if-at-out.true; end_is = refl })
 
 pub returns : goal.returns
 unfolding big_endian
-returns c = wrote_then c.put_byte-a.ensures c.put_byte.ensures
+returns c = rw c.two_bytes.ensures at (wrote_then c.put_byte-a.ensures c.put_byte.ensures)

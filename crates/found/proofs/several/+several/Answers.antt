@@ -1,36 +1,26 @@
 -- The invariant: what was passed surely has so many entries, and those of the fragment that is looked into last.
-use Rattle.std.specs.Prelude.{Option, MatchOption}
 use mathlib.Core.Path.{refl, sym, ◌∙◌}
-use Prim.Native.Nat.{ℕ, ◌+◌, ◌<◌}
+use Prim.Native.Nat.{ℕ, ◌+◌}
 use native.Mathlib.Omega.{arith}
-use lib.ListN.{length}
-use Rattle.std.proofs.Common.{Bor}
-use Rattle.field.specs.Bytes.{Bytes}
-use Rattle.found.proofs.FoundLaws.{Only}
-use Rattle.field.specs.Fields.{IsFront}
-use Rattle.found.proofs.OneLaws.{gives_plain, gives_52, gives_31, gives_template, gives_many}
+use Rattle.found.proofs.OneLaws.{only_here, gives_from, gives_plain, gives_52, gives_31, gives_template, gives_many}
 use Rattle.found.proofs.SeveralLaws.{Seen, bytes_of, going_start, counted_on, seen_enough, heavy_shorter, heavy_last, other_seen, blank_seen, run_seen, text_seen, joined_seen, more_longer, more_seen, expr_unsure, expr_seen, element_seen, fragment_heavy, fragment_unsure, fragment_seen}
 use Rattle.found.proofs.several.+several.Goals as goal
-use Rattle.found.proofs.several.+several.Goals.{gives-After-children_at, has-Joined-field, has-in-96+else-run+else-is_blank, has-in-82+in-Something+else-run-2, has-in-82+in-Apart+else-n-eq1, has-else-n-eq1-via-then-n-eq1+else-not-stays, has-else-n-eq1-via-else-n-eq1, has-in-48, has-in-49+else-s-b+else-not-gives, has-then-run-via-then-run, has-then-run-via-else-run+then-is_blank}
-
--- the field in front of the only child
-only : (t : ℕ) (c : gives-After-children_at t) {u : ℕ} {b r : Bytes} → IsFront c.children_at.result.now u b r → Only c.args.s.now c.children_at.result.now u b
-only t c {r = r} f = record { rest = r; one = c.in-One.ensures; first = c.children_at.ensures.first; place = c.children_at.ensures.place; front = f }
+use Rattle.found.proofs.several.+several.Goals.{has-Joined-field, has-in-96+else-run+else-is_blank, has-in-82+in-Something+else-run-2, has-in-82+in-Apart+else-n-eq1, has-else-n-eq1-via-then-n-eq1+else-not-stays, has-else-n-eq1-via-else-n-eq1, has-in-48, has-in-49+else-s-b+else-not-gives, has-then-run-via-then-run, has-then-run-via-else-run+then-is_blank}
 
 pub gives-returns-in-96 : goal.gives-returns-in-96
-gives-returns-in-96 t c = λ h. gives_plain _ _ (only t (goal.at.gives-returns-in-96 t c).After-children_at c.in-Some.ensures) c.in-96.is
+gives-returns-in-96 t c = let o = c.in-One.ensures.only in λ h. gives_from o _ (gives_plain _ _ (only_here o (sym c.in-One.ensures.count)) c.in-96.is)
 
 pub gives-returns-in-82 : goal.gives-returns-in-82
-gives-returns-in-82 t c = λ h. gives_52 _ _ (only t (goal.at.gives-returns-in-82 t c).After-children_at c.in-Some.ensures) c.in-82.is (c.stays.ensures.stands h) (c.stays.ensures.kept h)
+gives-returns-in-82 t c = let o = c.in-One.ensures.only in λ h. gives_from o _ (gives_52 _ _ (only_here o (sym c.in-One.ensures.count)) c.in-82.is (c.stays.ensures.stands h) (c.stays.ensures.kept h))
 
 pub gives-returns-in-49 : goal.gives-returns-in-49
-gives-returns-in-49 t c = λ h. gives_31 _ _ (only t (goal.at.gives-returns-in-49 t c).After-children_at c.in-Some.ensures) c.in-49.is (c.gives.ensures h)
+gives-returns-in-49 t c = let o = c.in-One.ensures.only in λ h. gives_from o _ (gives_31 _ _ (only_here o (sym c.in-One.ensures.count)) c.in-49.is (c.gives.ensures h))
 
 pub gives-returns-then-becomes_template : goal.gives-returns-then-becomes_template
-gives-returns-then-becomes_template t c = gives_template _ _ c.in-More.ensures c.becomes_template.ensures
+gives-returns-then-becomes_template t c = gives_template _ _ (sym c.in-More.ensures.count) c.becomes_template.ensures
 
 pub gives-returns-else-becomes_template : goal.gives-returns-else-becomes_template
-gives-returns-else-becomes_template t c = λ h. gives_many _ _ c.in-More.ensures c.becomes_template.ensures c.if-becomes_template.false (c.has.ensures h)
+gives-returns-else-becomes_template t c = λ h. gives_many _ _ (sym c.in-More.ensures.count) c.becomes_template.ensures c.if-becomes_template.false (c.has.ensures h)
 
 pub has-loop-field-init : goal.has-loop-field-init
 has-loop-field-init t c = rw c.into_iter-field-iterator.ensures.into_iter_gives (going_start _ _ _ c.requires)

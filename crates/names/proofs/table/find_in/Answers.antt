@@ -1,20 +1,13 @@
 -- `find_in` meets its contract. The outer invariant: what is left of the row decides. The inner one: what is left of the two names
 -- decides whether they are the same.
-use mathlib.Core.Path.{refl, sym, ◌∙◌}
+use mathlib.Core.Path.{sym, ◌∙◌}
 use Prim.Native.Nat.{◌+◌}
 use native.Mathlib.Omega.{arith}
 use lib.ListN.{length, take, drop}
-use borrow.Author.Rules.{rules}
 use Rattle.names.specs.Table.{read_as}
 use Rattle.names.proofs.CompareLaws.{same_on, same_off, same_end, length_read_as, letter_at}
 use Rattle.names.proofs.RowLaws.{length_entry, entry_letter, row_found, row_passed, row_ended}
 use Rattle.names.proofs.table.find_in.Goals as goal
-
-pub names-init : goal.names-init
-names-init c = (search rules, (refl, refl))
-
-pub loop-i-init : goal.loop-i-init
-loop-i-init c = (search rules, (c.names.invariant.1.0, refl))
 
 -- the letter of the row and the letter of the name, as the inner loop's test has them
 pub loop-i-preserved : goal.loop-i-preserved

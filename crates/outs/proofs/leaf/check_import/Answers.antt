@@ -1,18 +1,18 @@
 -- `outs::leaf::check_import` meets its contract: each answer by the law of what was found. Assumes nothing.
 use mathlib.Core.Path.{◌∙◌}
-use Rattle.page.proofs.Steps.{handed}
-use Rattle.outs.proofs.NoField.{missing_import}
-use Rattle.outs.proofs.LeafLaws.{import_other, import_bad, import_sum}
+use native.Mathlib.Omega.{arith}
+use Rattle.page.proofs.Steps.{exit_at, last_at}
+use Rattle.outs.proofs.LeafLaws.{import_other, import_text, import_missing}
 use Rattle.outs.proofs.leaf.check_import.Goals as goal
 
-pub returns-in_default : goal.returns-in_default
-returns-in_default c = missing_import _ c.read_header.ensures.0 c.in_default.is c.check_missing.ensures
+pub returns-in_err-check_text-in-Some-eq129 : goal.returns-in_err-check_text-in-Some-eq129
+returns-in_err-check_text-in-Some-eq129 c = exit_at (import_text c.in-Some-eq129.ensures.steps (omega arith)) c.check_text.ensures c.in_err-check_text-in-Some-eq129.was c.from_residual.ensures
 
-pub returns-then-h : goal.returns-then-h
-returns-then-h c = import_other _ c.read_header.ensures.0 c.in-Some.is c.if-h.true
+pub returns-in_ok-check_text-in-Some-eq129 : goal.returns-in_ok-check_text-in-Some-eq129
+returns-in_ok-check_text-in-Some-eq129 c = last_at (import_text c.in-Some-eq129.ensures.steps (omega arith)) c.check_text.ensures c.in_ok-check_text-in-Some-eq129.was c.check_sum.ensures
 
-pub returns-in_err-check_text : goal.returns-in_err-check_text
-returns-in_err-check_text c = handed c.from_residual.ensures ∙ import_bad _ c.read_header.ensures.0 c.in-Some.is c.if-h.false c.check_text.ensures c.in_err-check_text.was
+pub returns-in-Some : goal.returns-in-Some
+returns-in-Some c = import_other c.in-Some.ensures.steps (λ z. omega (arith, z))
 
-pub returns : goal.returns
-returns c = import_sum _ c.read_header.ensures.0 c.in-Some.is c.if-h.false c.check_text.ensures c.in_ok-check_text.was c.check_sum.ensures
+pub returns-in-None : goal.returns-in-None
+returns-in-None c = c.check_missing.ensures ∙ import_missing c.in-None.ensures.steps

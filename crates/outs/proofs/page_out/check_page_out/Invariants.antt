@@ -8,7 +8,7 @@ use Rattle.outs.proofs.Checks.{checks}
 use Rattle.outs.proofs.page_out.check_page_out.Given as goal
 
 abbrev pub invariant-loop-e : goal.invariant-loop-e
-invariant-loop-e l = Going (checks l.width) l.s l.stack l.height l.at l.end l.expect Fine (check_page_out l.width l.s) × (length l.stack ≡ 21846)
+invariant-loop-e l = Going (checks l.width) l.s l.stack.frames l.stack.height l.at l.end l.expect Fine (check_page_out l.width l.s) × (length l.stack.frames ≡ 21846)
 
 abbrev pub decreases-loop-e : goal.decreases-loop-e
-decreases-loop-e l = length l.s - l.at + l.height
+decreases-loop-e l = length l.s - l.at + l.stack.height

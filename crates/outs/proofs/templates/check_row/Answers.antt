@@ -1,20 +1,14 @@
 -- `outs::templates::check_row` meets its contract: what is left of the row is checked as the whole. Assumes nothing.
-use mathlib.Core.Path.{refl, ap, ◌∙◌}
-use Rattle.std.specs.Prelude.{Ok}
-use Rattle.field.specs.Row.{read}
-use Rattle.outs.proofs.TemplateLaws.{handed_on, rest_is, rowwise_goes, goes_on, ends, stops}
+use mathlib.Core.Path.{sym, ◌∙◌}
+use Rattle.page.proofs.Steps.{next_at, on_at, exit_at}
+use Rattle.outs.proofs.TemplateLaws.{row_next}
 use Rattle.outs.proofs.templates.check_row.Goals as goal
 
-pub loop-end-init : goal.loop-end-init
-loop-end-init g c = refl
+pub loop-field-preserved : goal.loop-field-preserved
+loop-field-preserved g c = c.loop-field.invariant ∙ on_at (next_at (row_next c.requires c.in-Some.ensures.steps c.TAG.ensures) c.refuse_unless.ensures c.in_ok-refuse_unless.was) c.check.ensures c.in_ok-check.was
 
-pub returns-in_err-end : goal.returns-in_err-end
-returns-in_err-end g c = handed_on c.from_residual.ensures ∙ stops (rowwise_goes c.requires _ c.loop-end.invariant) c.pass.ensures.gives c.in_err-end.was
+pub returns-in_err-refuse_unless : goal.returns-in_err-refuse_unless
+returns-in_err-refuse_unless g c = exit_at (row_next c.requires c.in-Some.ensures.steps c.TAG.ensures) c.refuse_unless.ensures c.in_err-refuse_unless.was c.from_residual.ensures ∙ sym c.loop-field.invariant
 
-pub loop-end-preserved : goal.loop-end-preserved
-loop-end-preserved g c =
-    goes_on (rowwise_goes c.requires _ c.loop-end.invariant) c.pass.ensures.gives (c.in_ok-end.was ∙ ap Ok c.in-Some.is)
-    ∙ ap (λ b. g.F.Sort.rows (read b)) (rest_is c.loop-end.t.now c.in-Some.end)
-
-pub returns : goal.returns
-returns g c = ends (rowwise_goes c.requires _ c.loop-end.invariant) c.pass.ensures.gives (c.in_ok-end.was ∙ ap Ok c.in_default.is)
+pub returns-in_err-check : goal.returns-in_err-check
+returns-in_err-check g c = exit_at (next_at (row_next c.requires c.in-Some.ensures.steps c.TAG.ensures) c.refuse_unless.ensures c.in_ok-refuse_unless.was) c.check.ensures c.in_err-check.was c.from_residual-in_err-check.ensures ∙ sym c.loop-field.invariant

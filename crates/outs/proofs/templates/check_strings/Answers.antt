@@ -2,26 +2,22 @@
 use Prim.Native.Nat.{◌-◌}
 use mathlib.Core.Path.{ap, ◌∙◌}
 use native.Mathlib.Omega.{arith}
-use Rattle.std.specs.Prelude.{Ok}
-use Rattle.field.specs.Row.{read}
-use Rattle.page.proofs.Steps.{handed}
-use Rattle.outs.specs.Templates.{check_strings}
-use Rattle.outs.proofs.TemplateLaws.{rest_is, one_more, one_less, strings_start, strings_end, goes_on, ends, stops}
+use Rattle.page.proofs.Steps.{exit_at, on_at}
+use Rattle.outs.proofs.TemplateLaws.{string_next, string_other, string_missing, one_less, strings_end}
 use Rattle.outs.proofs.templates.check_strings.Goals as goal
 
-pub loop-init : goal.loop-init
-loop-init c = strings_start _ _
+pub returns-in_err-check_text-in-Some-eq129 : goal.returns-in_err-check_text-in-Some-eq129
+returns-in_err-check_text-in-Some-eq129 c = exit_at (string_next (c.args.count - c.loop.counter) c.in-Some-eq129.ensures.steps (omega arith) c.loop.invariant (omega arith)) c.check_text.ensures c.in_err-check_text-in-Some-eq129.was c.from_residual.ensures
 
-pub returns-in_err-end : goal.returns-in_err-end
-returns-in_err-end c = handed c.from_residual.ensures ∙ stops (one_more (c.args.count - c.loop.counter) _ (omega arith) c.loop.invariant) c.pass.ensures.gives c.in_err-end.was
+pub returns-in-Some : goal.returns-in-Some
+returns-in-Some c = string_other (c.args.count - c.loop.counter) c.in-Some.ensures.steps (omega arith) c.loop.invariant (λ z. omega (arith, z))
 
-pub returns-in_default : goal.returns-in_default
-returns-in_default c = ends (one_more (c.args.count - c.loop.counter) _ (omega arith) c.loop.invariant) c.pass.ensures.gives (c.in_ok-end.was ∙ ap Ok c.in_default.is)
+pub returns-in-None : goal.returns-in-None
+returns-in-None c = c.check_missing.ensures ∙ string_missing (c.args.count - c.loop.counter) c.in-None.ensures.steps (omega arith) c.loop.invariant
 
 pub loop-preserved : goal.loop-preserved
 loop-preserved c =
-    goes_on (one_more (c.args.count - c.loop.counter) _ (omega arith) c.loop.invariant) c.pass.ensures.gives (c.in_ok-end.was ∙ ap Ok c.in-Some.is)
-    ∙ ap (λ b. check_strings (c.args.count - c.loop.counter - 1) (read b)) (rest_is c.loop.t.now c.in-Some.end)
+    on_at (string_next (c.args.count - c.loop.counter) c.in-Some-eq129.ensures.steps (omega arith) c.loop.invariant (omega arith)) c.check_text.ensures c.in_ok-check_text-in-Some-eq129.was
     ∙ one_less c.args.count c.loop.counter _
 
 pub returns : goal.returns

@@ -2,7 +2,7 @@
 use mathlib.Core.Path.{refl, ◌∙◌, sym, ap}
 use native.Mathlib.Omega.{arith}
 use Rattle.page.proofs.Steps.{rests, exit_at, refused_at, last_at, next_at, on_at}
-use Rattle.page.proofs.CheckLaws.{attribute_name, attribute_other, attribute_end, container_empty, container_expr, expr_step, expr_end, expr_text, expr_72, expr_73, expr_number, expr_76, expr_79, expr_tag, items_step, items_end, item_77, item_78, item_expr, nodes_child, nodes_50, nodes_53, nodes_end, child_60, child_52, child_61, child_tag, pieces_step, pieces_end, piece_20, piece_tag, element_then, behind_short, tag_30, tag_31, tag_other, value_step, value_end, value_51, value_52, value_tag}
+use Rattle.page.proofs.CheckLaws.{attribute_name, attribute_other, attribute_end, container_empty, container_expr, expr_step, expr_end, expr_text, expr_72, expr_73, expr_number, expr_other, expr_76, expr_79, expr_tag, items_step, items_end, item_77, item_78, item_expr, nodes_child, nodes_50, nodes_53, nodes_end, child_60, child_52, child_61, child_tag, pieces_step, pieces_end, piece_20, piece_tag, element_then, behind_short, tag_30, tag_31, tag_other, value_step, value_end, value_51, value_52, value_tag}
 use borrow.Author.Tests.{eqb-true, eqb-false}
 use Rattle.page.proofs.element.+check.Goals as goal
 use Rattle.page.proofs.element.+check.Goals.{check_nodes-in_default-tag-via-in-80+else-first, check_nodes-in_default-tag-via-in-83+else-first-2, check_nodes-in_default-tag-via-in_default-1, check_tag-in-48+in_ok-check_depth-in-48+in_ok-check_element_name-in-48, check_tag-in-49+in_ok-check_depth-in-49, check_value-in-81+in_ok-check_depth-in-81+in_ok-check_text-in-81, check_value-in-82+in_ok-check_depth-in-82+in_ok-check_container-in-82, check_value-in_default-tag+in_ok-check_tag-in_default-tag}
@@ -70,14 +70,23 @@ check_expr_field-returns-in_err-check_depth-in-115 t c = exit_at (expr_73 _ _ c.
 pub check_expr_field-returns-in_ok-check_depth-in-115 : goal.check_expr_field-returns-in_ok-check_depth-in-115
 check_expr_field-returns-in_ok-check_depth-in-115 t c = last_at (expr_73 _ _ c.in-115.is) c.check_depth-in-115.ensures.gives c.in_ok-check_depth-in-115.was c.check_empty.ensures
 
-pub check_expr_field-returns-in_err-refuse_unless-in_default : goal.check_expr_field-returns-in_err-refuse_unless-in_default
-check_expr_field-returns-in_err-refuse_unless-in_default t c = exit_at (expr_number _ _ (λ z. grind (arith, z)) (λ z. grind (arith, z)) (λ z. omega (arith, z)) (λ z. omega (arith, z)) (λ z. omega (arith, z)) (λ z. omega (arith, z)) (λ z. omega (arith, z)) (λ z. omega (arith, z))) (rw (← c.is_number.ensures) c.refuse_unless.ensures) c.in_err-refuse_unless-in_default.was c.from_residual-in_err-refuse_unless-in_default.ensures
+pub check_expr_field-returns-in_err-check_depth-in-113 : goal.check_expr_field-returns-in_err-check_depth-in-113
+check_expr_field-returns-in_err-check_depth-in-113 t c = exit_at (expr_number _ _ (λ w x y z. grind (arith, w, x, y, z))) c.check_depth-in-113.ensures.gives c.in_err-check_depth-in-113.was c.from_residual-in_err-check_depth-in-113.ensures
 
-pub check_expr_field-returns-in_err-check_depth-in_default : goal.check_expr_field-returns-in_err-check_depth-in_default
-check_expr_field-returns-in_err-check_depth-in_default t c = exit_at (next_at (expr_number _ _ (λ z. grind (arith, z)) (λ z. grind (arith, z)) (λ z. omega (arith, z)) (λ z. omega (arith, z)) (λ z. omega (arith, z)) (λ z. omega (arith, z)) (λ z. omega (arith, z)) (λ z. omega (arith, z))) (rw (← c.is_number.ensures) c.refuse_unless.ensures) c.in_ok-refuse_unless-in_default.was) c.check_depth-in_default.ensures.gives c.in_err-check_depth-in_default.was c.from_residual-in_err-check_depth-in_default.ensures
+pub check_expr_field-returns-in_ok-check_depth-in-113 : goal.check_expr_field-returns-in_ok-check_depth-in-113
+check_expr_field-returns-in_ok-check_depth-in-113 t c = last_at (expr_number _ _ (λ w x y z. grind (arith, w, x, y, z))) c.check_depth-in-113.ensures.gives c.in_ok-check_depth-in-113.was (rw c.from.ensures at c.check_number.ensures)
 
-pub check_expr_field-returns-in_ok-check_depth-in_default : goal.check_expr_field-returns-in_ok-check_depth-in_default
-check_expr_field-returns-in_ok-check_depth-in_default t c = last_at (next_at (expr_number _ _ (λ z. grind (arith, z)) (λ z. grind (arith, z)) (λ z. omega (arith, z)) (λ z. omega (arith, z)) (λ z. omega (arith, z)) (λ z. omega (arith, z)) (λ z. omega (arith, z)) (λ z. omega (arith, z))) (rw (← c.is_number.ensures) c.refuse_unless.ensures) c.in_ok-refuse_unless-in_default.was) c.check_depth-in_default.ensures.gives c.in_ok-check_depth-in_default.was (rw c.from.ensures at c.check_number.ensures)
+pub check_expr_field-returns-in_default : goal.check_expr_field-returns-in_default
+check_expr_field-returns-in_default t c =
+    expr_other _ _ (λ z. omega (arith, z)) (λ z. omega (arith, z)) (λ z. omega (arith, z)) (λ z. omega (arith, z)) (λ z. omega (arith, z)) (λ z. omega (arith, z)) (λ z. omega (arith, z)) (λ z. omega (arith, z)) (λ z. omega (arith, z)) (λ z. omega (arith, z)) (λ z. omega (arith, z)) (λ z. omega (arith, z))
+
+pub check_expr_field-returns-in_default-2 : goal.check_expr_field-returns-in_default-2
+check_expr_field-returns-in_default-2 t c =
+    expr_other _ _ (λ z. grind (arith, z)) (λ z. grind (arith, z)) (λ z. grind (arith, z)) (λ z. grind (arith, z)) (λ z. grind (arith, z)) (λ z. grind (arith, z)) (λ z. grind (arith, z)) (λ z. grind (arith, z)) (λ z. grind (arith, z)) (λ z. grind (arith, z)) (λ z. grind (arith, z)) (λ z. grind (arith, z))
+
+pub check_expr_field-returns-in_default-3 : goal.check_expr_field-returns-in_default-3
+check_expr_field-returns-in_default-3 t c =
+    expr_other _ _ (λ z. omega (arith, z)) (λ z. omega (arith, z)) (λ z. omega (arith, z)) (λ z. omega (arith, z)) (λ z. omega (arith, z)) (λ z. omega (arith, z)) (λ z. omega (arith, z)) (λ z. omega (arith, z)) (λ z. omega (arith, z)) (λ z. omega (arith, z)) (λ z. omega (arith, z)) (λ z. omega (arith, z))
 
 pub check_items-returns-in_err-check_depth-in-119 : goal.check_items-returns-in_err-check_depth-in-119
 check_items-returns-in_err-check_depth-in-119 t c = exit_at (items_step _ c.in-Some.ensures.steps) (refused_at (item_77 _ _ (omega arith)) c.check_depth.ensures.gives c.in_err-check_depth-in-119.was) refl c.from_residual.ensures ∙ sym c.loop-field.invariant.1

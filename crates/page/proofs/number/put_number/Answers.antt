@@ -18,5 +18,5 @@ pub put_decimal-requires : goal.put_decimal-requires
 put_decimal-requires c = let e = whole_text c.args.tag c.args.s.now c.if-has_places.ensures c.number_in-n.ensures in
     omega (arith, c.requires, ap (λ (x : Bytes). length x) e)
 
-pub returns : goal.returns
-returns c = wrote_is (whole_text _ _ c.if-has_places.ensures c.number_in-n.ensures) c.put_decimal.ensures
+pub returns-else-has_places : goal.returns-else-has_places
+returns-else-has_places c = wrote_is (whole_text _ _ c.if-has_places.ensures c.number_in-n.ensures) c.put_decimal.ensures

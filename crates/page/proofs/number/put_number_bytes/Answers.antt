@@ -12,5 +12,5 @@ put_byte-requires c = omega (arith, c.requires, c.put_eight-e.ensures.end_is, le
 pub returns-then-has_places : goal.returns-then-has_places
 returns-then-has_places c = wrote_is (scaled_body _ _ c.if-has_places.ensures c.number_in.ensures c.places_in.ensures (omega arith)) (wrote_then c.put_eight-e.ensures c.put_byte.ensures)
 
-pub returns : goal.returns
-returns c = wrote_is (whole_body _ _ c.if-has_places.ensures c.number_in.ensures) c.put_eight-e.ensures
+pub returns-else-has_places : goal.returns-else-has_places
+returns-else-has_places c = wrote_is (whole_body _ _ c.if-has_places.ensures c.number_in.ensures) c.put_eight-e.ensures

@@ -1,14 +1,10 @@
 -- `printing::front::counted_len` meets its contract: the count is read where the definition reads it. Assumes nothing.
-use mathlib.Core.Path.{ap, ◌∙◌}
-use Prim.Native.Nat.{ℕ, ◌+◌}
-use lib.ListN.{length}
-use Rattle.printing.specs.Front.{at_most}
-use Rattle.printing.proofs.FrontLaws.{counted_short, counted_is, min_is}
+use native.Mathlib.Omega.{arith}
+use lib.ListN.{length, length-drop}
+use Rattle.field.specs.Row.{counted_front}
+use Rattle.printing.proofs.FrontLaws.{counted_is, min_is}
 use Rattle.printing.proofs.front.counted_len.Goals as goal
 
-pub returns-then-n-lt6 : goal.returns-then-n-lt6
-returns-then-n-lt6 c = counted_short c.args.b.now c.if-n-lt6.true
-
-pub returns : goal.returns
-returns c = let b = c.args.b.now in
-    c.min.ensures ∙ min_is _ _ ∙ ap (λ (k : ℕ). at_most k (length b)) (ap (λ (k : ℕ). 6 + k) (c.from-count.ensures ∙ c.from_be_bytes.ensures) ∙ counted_is b c.if-n-lt6.false)
+pub returns-in-len6-up : goal.returns-in-len6-up
+returns-in-len6-up c = let b = c.args.b.now in
+    omega (arith, min_is (length b) (counted_front 4 b), counted_is b c.in-len6-up.len_at_least, c.min.ensures, c.from.ensures, c.from_be_bytes.ensures, length-drop 6 b)

@@ -6,30 +6,21 @@ use Rattle.printing.proofs.LineLaws.{templates_on, templates_turn, templates_end
 use Rattle.printing.proofs.RoomLaws.{left_begin, left_on, left_done}
 use Rattle.printing.proofs.lines.print_templates.Goals as goal
 
-pub loop-template-init : goal.loop-template-init
-loop-template-init c = rw c.into_iter-template-iterator.ensures.into_iter_gives (left_begin _ _ _ c.requires)
-
-pub put_bytes-b-requires : goal.put_bytes-b-requires
-put_bytes-b-requires c = omega (arith, templates_turn c.in-Some.ensures.steps refl refl c.loop-template.invariant)
-
 pub put_template_name-c-requires : goal.put_template_name-c-requires
-put_template_name-c-requires c = omega (arith, c.put_bytes-b.ensures.end_is, templates_turn c.in-Some.ensures.steps c.front.ensures refl c.loop-template.invariant)
+put_template_name-c-requires c = omega (arith, c.put_bytes-b.ensures.end_is, templates_turn c.in-Some.ensures.steps c.parts.ensures.front refl c.loop-template.invariant)
 
 pub put_bytes-d-requires : goal.put_bytes-d-requires
-put_bytes-d-requires c = omega (arith, c.put_bytes-b.ensures.end_is, c.put_template_name-c.ensures.end_is, templates_turn c.in-Some.ensures.steps c.front.ensures refl c.loop-template.invariant)
+put_bytes-d-requires c = omega (arith, c.put_bytes-b.ensures.end_is, c.put_template_name-c.ensures.end_is, templates_turn c.in-Some.ensures.steps c.parts.ensures.front refl c.loop-template.invariant)
 
 pub print_parted-e-requires : goal.print_parted-e-requires
-print_parted-e-requires c = omega (arith, c.put_bytes-b.ensures.end_is, c.put_template_name-c.ensures.end_is, c.put_bytes-d.ensures.end_is, templates_turn c.in-Some.ensures.steps c.front.ensures c.inner.ensures c.loop-template.invariant)
+print_parted-e-requires c = omega (arith, c.put_bytes-b.ensures.end_is, c.put_template_name-c.ensures.end_is, c.put_bytes-d.ensures.end_is, templates_turn c.in-Some.ensures.steps c.parts.ensures.front c.parts.ensures.inner c.loop-template.invariant)
 
 pub put_bytes-a-requires : goal.put_bytes-a-requires
 put_bytes-a-requires c =
-    omega (arith, c.put_bytes-b.ensures.end_is, c.put_template_name-c.ensures.end_is, c.put_bytes-d.ensures.end_is, c.print_parted-e.ensures.end_is, templates_turn c.in-Some.ensures.steps c.front.ensures c.inner.ensures c.loop-template.invariant)
+    omega (arith, c.put_bytes-b.ensures.end_is, c.put_template_name-c.ensures.end_is, c.put_bytes-d.ensures.end_is, c.print_parted-e.ensures.end_is, templates_turn c.in-Some.ensures.steps c.parts.ensures.front c.parts.ensures.inner c.loop-template.invariant)
 
 pub loop-template-preserved : goal.loop-template-preserved
-loop-template-preserved c = left_on c.loop-template.invariant (templates_on c.in-Some.ensures.steps c.front.ensures c.inner.ensures) (wrote_then c.put_bytes-b.ensures (wrote_then c.put_template_name-c.ensures (wrote_then c.put_bytes-d.ensures (wrote_then c.print_parted-e.ensures c.put_bytes-a.ensures))))
-
-pub shape_of-out : goal.shape_of-out
-shape_of-out c = wrote_length (left_done c.loop-template.invariant (templates_end _ c.in-None.ensures.steps.ended))
+loop-template-preserved c = left_on c.loop-template.invariant (templates_on c.in-Some.ensures.steps c.parts.ensures.front c.parts.ensures.inner) (wrote_then c.put_bytes-b.ensures (wrote_then c.put_template_name-c.ensures (wrote_then c.put_bytes-d.ensures (wrote_then c.print_parted-e.ensures c.put_bytes-a.ensures))))
 
 pub returns : goal.returns
 returns c = left_done c.loop-template.invariant (templates_end _ c.in-None.ensures.steps.ended)

@@ -13,26 +13,14 @@ use Rattle.printing.proofs.name.put_pointed.Goals as goal
 pub returns-in_default : goal.returns-in_default
 returns-in_default c = wrote_is (sym (pointed_end _ c.in_default.ensures.steps.ended)) (wrote_none _ _)
 
-pub put_bytes-a-requires : goal.put_bytes-a-requires
-put_bytes-a-requires c = omega (arith, room_first c.args.at c.front.result.now _ (room_is _ (pointed_on c.in-Some.ensures.steps c.front.ensures) c.requires))
-
 pub loop-name-init : goal.loop-name-init
-loop-name-init c = rw c.into_iter-name-iterator.ensures.into_iter_gives (left_begin _ _ _ (room_next _ c.put_bytes-a.ensures (room_is _ (pointed_on c.in-Some.ensures.steps c.front.ensures) c.requires)))
-
-pub put_byte-b-requires : goal.put_byte-b-requires
-put_byte-b-requires c = let f = c.in-Some-name.ensures.steps in omega (arith, left_room c.loop-name.invariant (46 ∷ front_in c.in-Some-name.name.tag c.in-Some-name.name.body.now) _ (pointed_more_on f refl))
-
-pub put_bytes-a-requires-in-loop-name : goal.put_bytes-a-requires-in-loop-name
-put_bytes-a-requires-in-loop-name c = omega (arith, c.put_byte-b.ensures.end_is, left_room c.loop-name.invariant (46 ∷ c.front-in-loop-name.result.now) _ (pointed_more_on c.in-Some-name.ensures.steps c.front-in-loop-name.ensures))
+loop-name-init c = rw c.into_iter-name-iterator.ensures.into_iter_gives (left_begin _ _ _ (room_next _ c.put_bytes-a.ensures (room_is _ (pointed_on c.in-Some.ensures.steps c.parts.ensures.front) c.requires)))
 
 pub loop-name-preserved : goal.loop-name-preserved
-loop-name-preserved c = left_on c.loop-name.invariant (pointed_more_on c.in-Some-name.ensures.steps c.front-in-loop-name.ensures) (wrote_then c.put_byte-b.ensures c.put_bytes-a-in-loop-name.ensures)
-
-pub shape_of-out : goal.shape_of-out
-shape_of-out c = wrote_length (left_done c.loop-name.invariant (pointed_more_end _ c.in-None.ensures.steps.ended)) ∙ wrote_length c.put_bytes-a.ensures
+loop-name-preserved c = left_on c.loop-name.invariant (pointed_more_on c.in-Some-name.ensures.steps c.parts-in-loop-name.ensures.front) (wrote_then c.put_byte-b.ensures c.put_bytes-a-in-loop-name.ensures)
 
 pub returns : goal.returns
 returns c =
     let w = left_done c.loop-name.invariant (pointed_more_end _ c.in-None.ensures.steps.ended) in
     let v = wrote_is (ap (λ names. pointed_more (read names.0.now)) c.into_iter-name-iterator.ensures.into_iter_gives) w in
-    wrote_is (sym (pointed_on c.in-Some.ensures.steps c.front.ensures)) (wrote_then c.put_bytes-a.ensures v)
+    wrote_is (sym (pointed_on c.in-Some.ensures.steps c.parts.ensures.front)) (wrote_then c.put_bytes-a.ensures v)

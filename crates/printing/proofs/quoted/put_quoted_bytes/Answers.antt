@@ -21,9 +21,3 @@ put_quoted_byte-a-requires c = let args = c.args in let s = args.s.now in
 
 pub loop-c-preserved : goal.loop-c-preserved
 loop-c-preserved c = let args = c.args in wrote_more c.loop-c.invariant (quoted_more args.s.now c.loop-c.c-index (omega arith)) c.put_quoted_byte-a.ensures
-
-pub shape_of-out : goal.shape_of-out
-shape_of-out c = wrote_length c.loop-c.invariant
-
-pub returns : goal.returns
-returns c = let args = c.args in wrote_is (ap {B = Bytes} quoted_bytes (take_all c.loop-c.c-index args.s.now (omega arith))) c.loop-c.invariant

@@ -10,4 +10,4 @@ pub put_field-e-requires : goal.put_field-e-requires
 put_field-e-requires c = omega (arith, c.put_head-a.ensures.end_is, length_head 0x79 (3 + length c.args.s.now), c.requires.1)
 
 pub returns : goal.returns
-returns c = held_other _ c.requires.0 c.put_head-a.ensures c.put_field-e.ensures
+returns c = rw c.leaf.ensures (held_other _ c.requires.0 c.put_head-a.ensures c.put_field-e.ensures)

@@ -17,4 +17,4 @@ pub returns : goal.returns
 unfolding decimal_tag
 returns c =
     let t : c.if-minus.tag ≡ decimal_tag c.args.minus = elim c.if-minus.branch [ then-minus w ↦ rw (w.tag-is, w.if-minus.true) | else-minus w ↦ rw (w.tag-is, w.if-minus.false) ] in
-    held_decimal _ _ _ _ t c.put_head-a.ensures c.put_eight-b.ensures c.put_byte-e.ensures
+    rw c.leaf.ensures (held_decimal _ _ _ _ t c.put_head-a.ensures c.put_eight-b.ensures c.put_byte-e.ensures)

@@ -3,12 +3,14 @@ use native.Mathlib.Omega.{arith}
 use Rattle.std.proofs.lemmas.List.{take_rest}
 use Rattle.read_tag.proofs.DigitLaws.{number_none, number_zero, number_whole, number_other, number_broken, number_decimal}
 use Rattle.read_tag.proofs.known.read_number.Goals as goal
+use Rattle.read_tag.proofs.known.read_number.Goals.{then-whole-eq0-via-then-whole-eq0, then-whole-eq0-via-else-whole-eq0+then-s-whole}
 
 pub returns-then-whole-eq0 : goal.returns-then-whole-eq0
-returns-then-whole-eq0 c = number_none _ _ c.read_digits-whole.ensures c.if-whole-eq0.true
-
-pub returns-then-s-whole : goal.returns-then-s-whole
-returns-then-s-whole c = number_zero _ _ c.read_digits-whole.ensures c.if-s-whole.true
+returns-then-whole-eq0 c =
+    elim c.then-whole-eq0.branch [
+      | then-whole-eq0-via-then-whole-eq0 w ↦ number_none _ _ c.read_digits-whole.ensures w.if-whole-eq0.true
+      | then-whole-eq0-via-else-whole-eq0+then-s-whole w ↦ number_zero _ _ c.read_digits-whole.ensures w.if-s-whole.true
+    ]
 
 pub returns-in-empty : goal.returns-in-empty
 returns-in-empty c = number_whole _ _ c.read_digits-whole.ensures c.if-whole-eq0.false c.if-s-whole.false _ (take_rest c.args.s.now _) c.in-empty.len_below

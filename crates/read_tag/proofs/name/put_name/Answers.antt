@@ -1,26 +1,19 @@
 -- `read_tag::name::put_name` meets its contract. Assumes nothing.
-use native.Mathlib.Omega.{arith}
 use mathlib.Core.Path.{refl}
 use Rattle.field.proofs.PutLaws.{wrote_is, wrote_behind}
 use Rattle.read_tag.specs.Names.{PartsPut, NamePut}
-use Rattle.read_tag.proofs.IdentLaws.{ident_name, ident_room}
-use Rattle.read_tag.proofs.NameWalkLaws.{name_inside, parts_end}
+use Rattle.read_tag.proofs.IdentLaws.{ident_name}
+use Rattle.read_tag.proofs.NameWalkLaws.{parts_end}
 use Rattle.read_tag.proofs.NameFieldLaws.{name_many}
 use Rattle.read_tag.proofs.name.put_name.Goals as goal
-
-pub put_field-requires : goal.put_field-requires
-put_field-requires c = let pre = c.requires in omega (arith, ident_room _ _ _ _ _ pre.0 pre.2 pre.3 c.trim_end.ensures.within)
 
 pub returns-then-tag-eq64 : goal.returns-then-tag-eq64
 unfolding NamePut
 returns-then-tag-eq64 c n u f g = let pre = c.requires in wrote_is (ident_name _ _ _ _ _ n pre.1 pre.2 u f g c.if-tag-eq64.true c.trim_end.ensures.value) c.put_field.ensures
 
-pub put_parts-o-requires : goal.put_parts-o-requires
-put_parts-o-requires c = let pre = c.requires in (pre.0, omega (arith, pre.3, name_inside _ _ pre.0))
-
 pub overflow_sub-o : goal.overflow_sub-o
 overflow_sub-o c = parts_end _ _ _ _ _ _ c.put_parts-o.ensures c.requires.0
 
-pub returns : goal.returns
+pub returns-else-tag-eq64 : goal.returns-else-tag-eq64
 unfolding PartsPut NamePut
-returns c n u f g = wrote_is (name_many n _ f g c.if-tag-eq64.false) (wrote_behind _ refl (c.put_parts-o.ensures n _ u) c.put_head.ensures)
+returns-else-tag-eq64 c n u f g = wrote_is (name_many n _ f g c.if-tag-eq64.false) (wrote_behind _ refl (c.put_parts-o.ensures n _ u) c.put_head.ensures)

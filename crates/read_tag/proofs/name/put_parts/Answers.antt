@@ -1,18 +1,11 @@
 -- `read_tag::name::put_parts` meets its contract. Assumes nothing.
-use native.Mathlib.Omega.{arith}
 use mathlib.Core.Path.{◌∙◌}
 use Rattle.read_tag.proofs.NameLaws.{parts_start, step_in}
-use Rattle.read_tag.proofs.NameWalkLaws.{PuttingOn, putting_first, parts_out, part_room, putting_step}
+use Rattle.read_tag.proofs.NameWalkLaws.{PuttingOn, putting_first, parts_out, putting_step}
 use Rattle.read_tag.proofs.name.put_parts.Goals as goal
 
 pub loop-part-init : goal.loop-part-init
 loop-part-init c = parts_start _ (λ k. PuttingOn c.args.text.now c.args.i c.args.out.now c.args.at k c.args.out.now c.args.at) c.into_iter-part-iterator.ensures.into_iter_gives c.parts_at-part-items.ensures (putting_first _ _ _ _ c.requires.0)
-
-pub put_field-o-requires : goal.put_field-o-requires
-put_field-o-requires c =
-    let u = c.loop-part.invariant in
-    let h = part_room _ _ _ _ c.requires.0 _ _ _ _ _ u.1 (step_in _ _ _ _ u.0 c.in-Some.ensures.steps.1) in
-    omega (arith, h, c.requires.1)
 
 pub loop-part-preserved : goal.loop-part-preserved
 loop-part-preserved c =

@@ -1,20 +1,13 @@
 -- `read_tag::name::scan_parts` meets its contract. Assumes nothing.
-use native.Mathlib.Omega.{arith}
 use mathlib.Core.Bool.{true, not}
 use mathlib.Core.Path.{◌∙◌, ap}
 use Rattle.grammar.specs.Syntax.{no_hyphen}
 use Rattle.read_tag.proofs.RunLaws.{any_some}
-use Rattle.read_tag.proofs.NameLaws.{NamingOn, parts_start, step_in, naming_first, naming_room, naming_step, naming_misfit, naming_found, naming_broken, naming_out}
+use Rattle.read_tag.proofs.NameLaws.{NamingOn, parts_start, step_in, naming_first, naming_step, naming_misfit, naming_found, naming_broken, naming_out}
 use Rattle.read_tag.proofs.name.scan_parts.Goals as goal
 
 pub loop-part-init : goal.loop-part-init
 loop-part-init c = parts_start _ (λ k. NamingOn c.args.text.now c.args.i k 0 true true true) c.into_iter-part-iterator.ensures.into_iter_gives c.parts_at-part-items.ensures (naming_first _ _ c.requires.0 c.requires.1)
-
-pub overflow_add-parts : goal.overflow_add-parts
-overflow_add-parts c =
-    let u = c.loop-part.invariant in
-    let h = naming_room _ _ _ _ _ _ _ _ _ u.1 (step_in _ _ _ _ u.0 c.in-Some.ensures.steps.1) in
-    omega (arith, h.0)
 
 pub returns-then-not-is_letter : goal.returns-then-not-is_letter
 returns-then-not-is_letter c =

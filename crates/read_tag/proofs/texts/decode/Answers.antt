@@ -1,56 +1,31 @@
 -- `read_tag::texts::decode` meets its contract. Assumes nothing.
 use native.Mathlib.Omega.{arith}
 use borrow.Author.Rules.{rules}
-use Rattle.field.proofs.PutLaws.{wrote_length}
+use mathlib.Core.Path.{sym, ◌∙◌}
 use Rattle.read_tag.proofs.TextLaws.{decoding_none, decoding_plain, entity_further, decoding_entity, decoding_barred, decoding_ends, decoding_out}
 use Rattle.read_tag.proofs.texts.decode.Goals as goal
-use Rattle.read_tag.proofs.texts.decode.Goals.{then-text-e-via-then-text-e, then-text-e-via-else-text-e+then-text-e-ne38}
 
-pub loop-x-init : goal.loop-x-init
-loop-x-init c = decoding_none _ _ _ _ _ (search rules)
+pub loop-entity-init : goal.loop-entity-init
+loop-entity-init c = decoding_none _ _ _ _ _ (search rules)
 
-pub plain_end-e-requires : goal.plain_end-e-requires
-plain_end-e-requires c = c.loop-x.invariant.inside
+pub returns-in_default : goal.returns-in_default
+returns-in_default c =
+    let u = decoding_plain _ _ _ _ _ c.loop-entity.invariant c.plain_end-e.ensures c.put_bytes-b.ensures in
+    let h = rw c.in_default.is at c.get.ensures.lookup in
+    decoding_ends _ _ _ _ _ u c.plain_end-e.ensures h.3.0 (λ z. c.in_default.field-0-test.1 (let p = h.3.1 0 ∙ z in search (rules, p)))
 
-pub slice_bounds-put_bytes-count : goal.slice_bounds-put_bytes-count
-slice_bounds-put_bytes-count c = c.plain_end-e.ensures.after
-
-pub slice_bounds-put_bytes-start : goal.slice_bounds-put_bytes-start
-slice_bounds-put_bytes-start c = omega (arith, c.plain_end-e.ensures.after, c.plain_end-e.ensures.inside)
-
-pub slice_bounds-put_bytes-end : goal.slice_bounds-put_bytes-end
-slice_bounds-put_bytes-end c = omega (arith, c.plain_end-e.ensures.after, c.plain_end-e.ensures.inside)
-
-pub put_bytes-b-requires : goal.put_bytes-b-requires
-put_bytes-b-requires c = omega (arith, c.loop-x.invariant.wrote.end_is, c.loop-x.invariant.short, c.plain_end-e.ensures.after, c.plain_end-e.ensures.inside, c.requires.1)
-
-pub shape_of-out-then-text-e : goal.shape_of-out-then-text-e
-shape_of-out-then-text-e c = wrote_length (decoding_plain _ _ _ _ _ c.loop-x.invariant c.plain_end-e.ensures c.put_bytes-b.ensures).wrote
-
-pub returns-then-text-e : goal.returns-then-text-e
-returns-then-text-e c =
-    let u = decoding_plain _ _ _ _ _ c.loop-x.invariant c.plain_end-e.ensures c.put_bytes-b.ensures in
-    elim c.then-text-e.branch [
-      | then-text-e-via-then-text-e w ↦ decoding_out _ _ _ _ _ u w.if-text-e.true
-      | then-text-e-via-else-text-e+then-text-e-ne38 w ↦ decoding_ends _ _ _ _ _ u c.plain_end-e.ensures w.if-text-e.false w.if-text-e-ne38.true
-    ]
-
-pub read_entity-requires : goal.read_entity-requires
-read_entity-requires c = omega (arith, c.if-text-e.false)
-
-pub shape_of-out-in_err-entity : goal.shape_of-out-in_err-entity
-shape_of-out-in_err-entity c = wrote_length (decoding_plain _ _ _ _ _ c.loop-x.invariant c.plain_end-e.ensures c.put_bytes-b.ensures).wrote
+pub returns-in_default-2 : goal.returns-in_default-2
+returns-in_default-2 c =
+    let u = decoding_plain _ _ _ _ _ c.loop-entity.invariant c.plain_end-e.ensures c.put_bytes-b.ensures in
+    let h = rw c.in_default.is at c.get.ensures.lookup in
+    decoding_out _ _ _ _ _ u h.3
 
 pub returns-in_err-entity : goal.returns-in_err-entity
-returns-in_err-entity c = rw c.from_residual.ensures (decoding_barred _ _ _ _ _ (decoding_plain _ _ _ _ _ c.loop-x.invariant c.plain_end-e.ensures c.put_bytes-b.ensures) c.if-text-e.false c.if-text-e-ne38.false _ c.read_entity.ensures c.in_err-entity.was)
+returns-in_err-entity c = rw c.from_residual.ensures (decoding_barred _ _ _ _ _ (decoding_plain _ _ _ _ _ c.loop-entity.invariant c.plain_end-e.ensures c.put_bytes-b.ensures) c.in-Some-eq38.ensures.lookup.3.0 (sym (c.in-Some-eq38.ensures.lookup.3.1 0) ∙ c.in-Some-eq38.field-0-test) _ c.read_entity.ensures c.in_err-entity.was)
 
-pub put_byte-a-requires : goal.put_byte-a-requires
-put_byte-a-requires c = let u = decoding_plain _ _ _ _ _ c.loop-x.invariant c.plain_end-e.ensures c.put_bytes-b.ensures in
-    omega (arith, u.wrote.end_is, u.short, u.inside, c.requires.1)
-
-pub loop-x-smaller : goal.loop-x-smaller
-loop-x-smaller c = let f = entity_further _ _ _ c.read_entity.ensures c.in_ok-entity.was in
+pub loop-entity-smaller : goal.loop-entity-smaller
+loop-entity-smaller c = let f = entity_further _ _ _ c.read_entity.ensures c.in_ok-entity.was in
     omega (arith, f.0, f.1, c.plain_end-e.ensures.after)
 
-pub loop-x-preserved : goal.loop-x-preserved
-loop-x-preserved c = decoding_entity _ _ _ _ _ (decoding_plain _ _ _ _ _ c.loop-x.invariant c.plain_end-e.ensures c.put_bytes-b.ensures) c.if-text-e.false c.if-text-e-ne38.false _ c.read_entity.ensures c.in_ok-entity.was c.put_byte-a.ensures
+pub loop-entity-preserved : goal.loop-entity-preserved
+loop-entity-preserved c = decoding_entity _ _ _ _ _ (decoding_plain _ _ _ _ _ c.loop-entity.invariant c.plain_end-e.ensures c.put_bytes-b.ensures) c.in-Some-eq38.ensures.lookup.3.0 (sym (c.in-Some-eq38.ensures.lookup.3.1 0) ∙ c.in-Some-eq38.field-0-test) _ c.read_entity.ensures c.in_ok-entity.was c.put_byte-a.ensures

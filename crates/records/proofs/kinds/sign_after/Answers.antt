@@ -1,32 +1,32 @@
--- `sign_after` meets its contract: no sign stands from i on. Assumes nothing.
-use mathlib.Core.Path.{◌≡◌, sym, ap, ◌∙◌}
-use Prim.Native.Nat.{ℕ, ◌+◌, ◌-◌}
-use native.Mathlib.Omega.{arith}
-use native.Mathlib.Nat.{le_refl}
-use lib.ListN.{length, take, drop, length-drop}
+-- `sign_after` meets its contract: by the last sign, and the text behind it. Assumes nothing.
+use Rattle.std.proofs.Common.{ℕ, ◌≡◌, ◌+◌, ◌-◌, suc, drop, length, T, arith, ap, sym, refl, ◌∙◌, subst, take}
+use borrow.Author.Rules.{rules}
+use lib.ListN.{length-drop}
 use lib.Seq.{take_all}
 use Rattle.field.specs.Bytes.{Bytes}
-use Rattle.records.specs.Kinds.{sign_of, sign_after}
-use Rattle.records.proofs.KindLaws.{at_close, at_open, more_free, free_end}
+use Rattle.spec.specs.Words.{free}
+use Rattle.records.specs.Kinds.{sign_after}
+use Rattle.records.proofs.KindLaws.{at_close, at_open, no_sign, free_behind}
 use Rattle.records.proofs.kinds.sign_after.Goals as goal
 
--- what the code cuts off behind i
-behind_it : (s : Bytes) (i : ℕ) → take (length s - i) (drop i s) ≡ drop i s
-behind_it s i = take_all (length s - i) (drop i s) (omega (arith, length-drop i s))
+pub behind_sign-requires-in-None : goal.behind_sign-requires-in-None
+behind_sign-requires-in-None c = no_sign c.args.s.now (search rules)
 
-pub loop-i-init : goal.loop-i-init
-loop-i-init c = (le_refl _, free_end c.args.s.now)
+-- what the code cuts off behind the last sign
+behind_it : (s : Bytes) (i : ℕ) → take (length s - (i + 1)) (drop (i + 1) s) ≡ drop (suc i) s
+behind_it s i = let e : i + 1 ≡ suc i = omega arith in ap (λ (k : ℕ). take (length s - k) (drop k s)) e ∙ take_all (length s - suc i) (drop (suc i) s) (omega (arith, length-drop (suc i) s))
 
--- neither sign comes behind `>`
-pub loop-i-preserved-then-s-i-gt62 : goal.loop-i-preserved-then-s-i-gt62
-loop-i-preserved-then-s-i-gt62 c = let a = c.args in (omega arith, more_free (sign_of a.q) a.s.now c.loop-i.i (c.loop-i.i - 1) (omega arith) c.loop-i.invariant.0 c.loop-i.invariant.1 (λ e. omega (arith, c.if-s-i-gt62.true)) (λ e. omega (arith, c.if-s-i-gt62.true)))
+pub behind_sign-requires : goal.behind_sign-requires
+behind_sign-requires c = subst (λ (x : Bytes). T (free x)) (sym (behind_it c.args.s.now c.in-Some.last)) (free_behind c.args.s.now c.in-Some.last (search rules))
 
-pub returns-then-s-i-eq62 : goal.returns-then-s-i-eq62
-returns-then-s-i-eq62 c = let a = c.args in at_close (sign_of a.q) a.s.now c.loop-i.i (c.loop-i.i - 1) (omega arith) c.loop-i.invariant.0 c.loop-i.invariant.1 c.if-s-i-eq62.true
+pub returns-in-Some : goal.returns-in-Some
+returns-in-Some c =
+    let s = c.args.s.now in
+    let i = c.in-Some.last in
+    at_open _ s (suc i) i refl (search rules) (free_behind s i (search rules)) c.if-s-last-eq60.true (c.behind_sign.ensures ∙ ap (sign_after 2) (behind_it s i))
 
-pub returns-then-s-i-eq60 : goal.returns-then-s-i-eq60
-returns-then-s-i-eq60 c = let a = c.args in let s = a.s.now in let e : c.loop-i.i ≡ c.loop-i.i - 1 + 1 = omega arith in
-    at_open (sign_of a.q) s c.loop-i.i (c.loop-i.i - 1) (omega arith) c.loop-i.invariant.0 c.loop-i.invariant.1 c.if-s-i-eq60.true (c.behind_sign.ensures ∙ ap (sign_after 2) (behind_it s (c.loop-i.i - 1 + 1) ∙ ap (λ (x : ℕ). drop x s) (sym e)))
-
-pub loop-i-preserved : goal.loop-i-preserved
-loop-i-preserved c = let a = c.args in (omega arith, more_free (sign_of a.q) a.s.now c.loop-i.i (c.loop-i.i - 1) (omega arith) c.loop-i.invariant.0 c.loop-i.invariant.1 c.if-s-i-eq62.false c.if-s-i-eq60.false)
+pub returns-in-Some-2 : goal.returns-in-Some-2
+returns-in-Some-2 c =
+    let s = c.args.s.now in
+    let i = c.in-Some.last in
+    at_close _ s (suc i) i refl (search rules) (free_behind s i (search rules)) (search rules)

@@ -43,10 +43,10 @@ pub children_strings-loop-field-preserved : goal.children_strings-loop-field-pre
 children_strings-loop-field-preserved t c = other_on c.loop-field.invariant c.in-Some.ensures.steps (λ z. omega (arith, z)) (λ z. omega (arith, z)) (λ z. omega (arith, z)) (λ z. omega (arith, z))
 
 pub element_strings-cut-requires : goal.element_strings-cut-requires
-element_strings-cut-requires t c = gap_room _ _ _ _ c.is_serializable.ensures c.if-not-is_serializable.true c.requires
+element_strings-cut-requires t c = gap_room _ _ _ _ c.is_serializable.ensures c.if-is_serializable.false c.requires
 
-pub element_strings-returns-then-not-is_serializable : goal.element_strings-returns-then-not-is_serializable
-element_strings-returns-then-not-is_serializable t c = gap_end _ _ _ _ c.is_serializable.ensures c.if-not-is_serializable.true c.cut.ensures
+pub element_strings-returns-else-is_serializable : goal.element_strings-returns-else-is_serializable
+element_strings-returns-else-is_serializable t c = gap_end _ _ _ _ c.is_serializable.ensures c.if-is_serializable.false c.cut.ensures
 
 pub tag_strings-open_tag-p-requires : goal.tag_strings-open_tag-p-requires
 tag_strings-open_tag-p-requires t c = (c.void_kind-kind.ensures, open_room _ _ _ _ refl c.requires.0 c.identifier-n.ensures c.behind-rest.ensures c.requires.1)
@@ -66,5 +66,5 @@ tag_strings-children_strings-d-requires t c = (omega (arith, behind_le _ c.behin
 pub tag_strings-put_close-requires : goal.tag_strings-put_close-requires
 tag_strings-put_close-requires t c = close_room _ _ _ _ refl c.requires.0 c.identifier-n.ensures c.behind-rest.ensures c.open_tag-p.ensures c.attributes_strings-a.ensures c.put_chars-c.ensures refl (not_void_by_kind _ c.void_kind-kind.ensures (search rules)) c.children_strings-d.ensures c.requires.1
 
-pub tag_strings-returns : goal.tag_strings-returns
-tag_strings-returns t c = close_end _ _ _ _ refl c.requires.0 c.identifier-n.ensures c.behind-rest.ensures c.open_tag-p.ensures c.attributes_strings-a.ensures c.put_chars-c.ensures refl (not_void_by_kind _ c.void_kind-kind.ensures (search rules)) c.children_strings-d.ensures c.put_close.ensures
+pub tag_strings-returns-in-Some-InSmallLetters : goal.tag_strings-returns-in-Some-InSmallLetters
+tag_strings-returns-in-Some-InSmallLetters t c = close_end _ _ _ _ refl c.requires.0 c.identifier-n.ensures c.behind-rest.ensures c.open_tag-p.ensures c.attributes_strings-a.ensures c.put_chars-c.ensures refl (not_void_by_kind _ c.void_kind-kind.ensures (search rules)) c.children_strings-d.ensures c.put_close.ensures

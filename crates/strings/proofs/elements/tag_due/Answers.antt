@@ -10,8 +10,8 @@ returns-then-repeats c n k = let a = c.args in repeated_due a.due n a.rest.now c
 pub returns-in-Some-InSmallLetters : goal.returns-in-Some-InSmallLetters
 returns-in-Some-InSmallLetters c n k = let a = c.args in mixed_due a.due n a.rest.now c.repeats.ensures c.if-repeats.false refl (lowered_by_kind n k (search rules)) c.graver-in-Some-InSmallLetters.ensures
 
-pub returns-else-repeats : goal.returns-else-repeats
-returns-else-repeats c n k = let a = c.args in no_due a.due n a.rest.now c.repeats.ensures c.if-repeats.false refl (not_lowered_by_kind n k (search rules))
+pub returns-in-Some-AsWritten : goal.returns-in-Some-AsWritten
+returns-in-Some-AsWritten c n k = let a = c.args in no_due a.due n a.rest.now c.repeats.ensures c.if-repeats.false refl (not_lowered_by_kind n k (search rules))
 
-pub returns-else-repeats-2 : goal.returns-else-repeats-2
-returns-else-repeats-2 c n k = let a = c.args in no_due a.due n a.rest.now c.repeats.ensures c.if-repeats.false refl (not_lowered_by_kind n k (search rules))
+pub returns-in-Some-AsWritten-2 : goal.returns-in-Some-AsWritten-2
+returns-in-Some-AsWritten-2 c n k = let a = c.args in no_due a.due n a.rest.now c.repeats.ensures c.if-repeats.false refl (not_lowered_by_kind n k (search rules))

@@ -11,6 +11,6 @@ pub returns-then-x-eq0 : goal.returns-then-x-eq0
 unfolding mixed_product choose
 returns-then-x-eq0 c = rw c.if-x-eq0.true refl
 
-pub returns : goal.returns
+pub returns-else-x-eq0 : goal.returns-else-x-eq0
 unfolding mixed_product choose
-returns c = rw (ne_eqb c.args.x 0 c.if-x-eq0.false) (c.down.ensures ∙ ap downward c.saturating_mul.ensures ∙ down_capped _)
+returns-else-x-eq0 c = rw (ne_eqb c.args.x 0 c.if-x-eq0.false) (c.bounded.ensures ∙ ap downward c.saturating_mul.ensures ∙ down_capped _)

@@ -1,29 +1,7 @@
 -- `sums::value::subtract` meets its contract. Assumes nothing.
-use mathlib.Core.Path.{sym, ◌∙◌, ap, ap₂}
-use mathlib.Core.Logic.{inl, inr}
-use Rattle.std.specs.Prelude.{Some}
-use Rattle.sums.specs.Value.{upward, downward, taken}
-use Rattle.sums.proofs.Steps.{up_capped, down_capped, none_taken}
+use mathlib.Core.Path.{◌∙◌}
+use Rattle.sums.proofs.Steps.{taken_as}
 use Rattle.sums.proofs.value.subtract.Goals as goal
 
-pub returns-in_err-a : goal.returns-in_err-a
-returns-in_err-a c = c.from_residual.ensures ∙ none_taken _ _ (inl c.in_err-a.was)
-
-pub returns-in_err-y : goal.returns-in_err-y
-returns-in_err-y c = c.from_residual-in_err-y.ensures ∙ none_taken _ _ (inr c.in_err-y.was)
-
-pub returns-in-Plus-Plus : goal.returns-in-Plus-Plus
-unfolding taken
-returns-in-Plus-Plus c = c.difference.ensures ∙ sym (ap₂ taken (c.in_ok-a.was ∙ ap Some c.in-Plus-Plus.is-0) (c.in_ok-y.was ∙ ap Some c.in-Plus-Plus.is-1))
-
-pub returns-in-Plus-Minus : goal.returns-in-Plus-Minus
-unfolding taken
-returns-in-Plus-Minus c = c.up.ensures ∙ ap upward c.saturating_add.ensures ∙ up_capped _ ∙ sym (ap₂ taken (c.in_ok-a.was ∙ ap Some c.in-Plus-Minus.is-0) (c.in_ok-y.was ∙ ap Some c.in-Plus-Minus.is-1))
-
-pub returns-in-Minus-Plus : goal.returns-in-Minus-Plus
-unfolding taken
-returns-in-Minus-Plus c = c.down.ensures ∙ ap downward c.saturating_add-in-Minus-Plus.ensures ∙ down_capped _ ∙ sym (ap₂ taken (c.in_ok-a.was ∙ ap Some c.in-Minus-Plus.is-0) (c.in_ok-y.was ∙ ap Some c.in-Minus-Plus.is-1))
-
-pub returns-in-Minus-Minus : goal.returns-in-Minus-Minus
-unfolding taken
-returns-in-Minus-Minus c = c.difference-in-Minus-Minus.ensures ∙ sym (ap₂ taken (c.in_ok-a.was ∙ ap Some c.in-Minus-Minus.is-0) (c.in_ok-y.was ∙ ap Some c.in-Minus-Minus.is-1))
+pub returns : goal.returns
+returns c = c.add.ensures ∙ taken_as _ _ _ c.map.ensures.cases

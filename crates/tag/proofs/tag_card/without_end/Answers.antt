@@ -1,10 +1,9 @@
 -- A line feed at the very end is dropped.
-use Rattle.std.proofs.Common.{◌∙◌}
-use Rattle.tag.proofs.TagCardLaws.{end_dropped, other_kept}
+use Rattle.std.proofs.Common.{ap, ◌∙◌}
+use denote.Ref.{Bor}
+use Rattle.field.specs.Bytes.{Bytes}
+use Rattle.tag.proofs.TagCardLaws.{end_taken}
 use Rattle.tag.proofs.tag_card.without_end.Goals as goal
 
-pub returns-in-Some : goal.returns-in-Some
-returns-in-Some c = c.in-Some.ensures.cases.1 ∙ end_dropped _ c.in-Some.ensures.cases.0
-
-pub returns-in-None : goal.returns-in-None
-returns-in-None c = other_kept _ c.in-None.ensures.cases
+pub returns : goal.returns
+returns c = ap (λ (b : Bor Bytes). b.now) c.unwrap_or.ensures ∙ end_taken c.args.s _ c.strip_suffix.ensures.cases

@@ -1,9 +1,11 @@
 -- `tag_pass::braces::known` meets its contract. Assumes nothing.
 use native.Mathlib.Omega.{arith}
 use Rattle.field.specs.Number.{big_endian}
-use mathlib.Core.Path.{refl}
+use mathlib.Core.Path.{refl, ap}
+use mathlib.Core.Bool.{◌&&◌}
 use Rattle.tag_pass.proofs.FrameLaws.{kind_depth_small}
 use Rattle.tag_pass.proofs.BracesLaws.{known_none, known_some, held_deep, known_bound}
+use Rattle.tag_pass.specs.declared.state.Reading.{Reading}
 use Rattle.tag_pass.proofs.braces.known.Goals as goal
 
 pub put_known-requires : goal.put_known-requires
@@ -23,7 +25,7 @@ pub overflow_add-d-3 : goal.overflow_add-d-3
 overflow_add-d-3 c = omega (arith, c.requires.0.deep, c.depth.ensures, kind_depth_small c.args.kind, held_deep _ _ _ _ _ c.in_ok-held.ensures)
 
 pub end_braces-requires : goal.end_braces-requires
-end_braces-requires c = known_bound _ _ _ _ c.requires.0 c.requires.1 c.requires.2 c.put_head-a.ensures c.in_ok-held.ensures c.wrote-w.ensures
+end_braces-requires c = known_bound _ _ _ _ c.requires.0 c.requires.1 c.requires.2 c.put_head-a.ensures c.in_ok-held.ensures (ap (λ (x : Reading). record x { numbers = c.args.st.numbers && c.in_ok-held.held.fits }) c.wrote.ensures)
 
 pub returns : goal.returns
-returns c = known_some _ c.requires.1 c.requires.2 c.requires.0.grown c.put_head-a.ensures c.tag.ensures c.in_ok-held.ensures c.depth.ensures refl c.wrote-w.ensures c.end_braces.ensures.0
+returns c = known_some _ c.requires.1 c.requires.2 c.requires.0.grown c.put_head-a.ensures c.tag.ensures c.in_ok-held.ensures c.depth.ensures refl (ap (λ (x : Reading). record x { numbers = c.args.st.numbers && c.in_ok-held.held.fits }) c.wrote.ensures) c.end_braces.ensures.0

@@ -1,11 +1,10 @@
 -- `text::decimal::put_decimal` meets its contract. The loop's invariant: the digits still to come, in front of those from i on, are the
 -- number's, and the buffer has a place for each. Assumes nothing.
 use native.Mathlib.Omega.{arith}
-use mathlib.Core.Path.{refl, ap, ◌∙◌, subst}
-use lib.ListN.{length, length-set}
+use mathlib.Core.Path.{refl, subst}
 use Rattle.field.specs.Bytes.{Bytes}
 use Rattle.field.specs.Put.{Wrote}
-use Rattle.field.proofs.PutLaws.{wrote_is, wrote_length}
+use Rattle.field.proofs.PutLaws.{wrote_is}
 use Rattle.text.specs.Decimal.{decimal}
 use Rattle.text.proofs.DecimalLaws.{filling_start, filled, filling_more}
 use Rattle.text.proofs.decimal.put_decimal.Goals as goal
@@ -13,40 +12,9 @@ use Rattle.text.proofs.decimal.put_decimal.Goals as goal
 pub loop-m-init : goal.loop-m-init
 loop-m-init c = (filling_start _ _ refl (omega arith), refl)
 
-pub overflow_sub-i : goal.overflow_sub-i
-overflow_sub-i c = omega arith
-
-pub overflow_cast-buf : goal.overflow_cast-buf
-overflow_cast-buf c = omega arith
-
-pub overflow_add-buf : goal.overflow_add-buf
-overflow_add-buf c = omega arith
-
-pub bounds-buf-i : goal.bounds-buf-i
-bounds-buf-i c = omega arith
-
-pub slice_bounds-put_bytes-count : goal.slice_bounds-put_bytes-count
-slice_bounds-put_bytes-count c = omega arith
-
-pub slice_bounds-put_bytes-start : goal.slice_bounds-put_bytes-start
-slice_bounds-put_bytes-start c = omega arith
-
-pub slice_bounds-put_bytes-end : goal.slice_bounds-put_bytes-end
-slice_bounds-put_bytes-end c = simp length-set (omega arith)
-
-pub put_bytes-requires : goal.put_bytes-requires
-put_bytes-requires c = let args = c.args in let e = filled args.n c.loop-m.buf c.loop-m.i c.loop-m.m c.loop-m.invariant.0 c.if-m-eq0.true in
-    omega (arith, ap (λ (t : Bytes). length t) e)
-
-pub shape_of-out-then-m-eq0 : goal.shape_of-out-then-m-eq0
-shape_of-out-then-m-eq0 c = wrote_length c.put_bytes.ensures ∙ ap (λ (t : Bytes). length t) c.loop-m.invariant.1
-
 pub returns-then-m-eq0 : goal.returns-then-m-eq0
 returns-then-m-eq0 c = let args = c.args in let e = filled args.n c.loop-m.buf c.loop-m.i c.loop-m.m c.loop-m.invariant.0 c.if-m-eq0.true in
     subst (λ (o : Bytes). Wrote o args.at (decimal args.n) c.put_bytes.new.out c.put_bytes.result) c.loop-m.invariant.1 (wrote_is e c.put_bytes.ensures)
-
-pub loop-m-smaller : goal.loop-m-smaller
-loop-m-smaller c = omega arith
 
 pub loop-m-preserved : goal.loop-m-preserved
 loop-m-preserved c = let args = c.args in (filling_more args.n c.loop-m.buf c.loop-m.i c.loop-m.m c.loop-m.invariant.0 c.if-m-eq0.false, c.loop-m.invariant.1)

@@ -1,9 +1,6 @@
-use Prim.Native.Nat.{◌-◌}
+use Prim.Native.Nat.{◌-◌, ◌≤◌}
 use Rattle.text.proofs.PlacesLaws.{Placing}
 use Rattle.text.proofs.decimal.put_pointed.Given as goal
 
 abbrev pub invariant-loop-i : goal.invariant-loop-i
-invariant-loop-i l = Placing l.n l.places l.buf l.i l.whole (l.i - l.first)
-
-abbrev pub decreases-loop-i : goal.decreases-loop-i
-decreases-loop-i l = l.i
+invariant-loop-i l = (l.first ≤ l.i) × Placing l.n l.places l.buf l.i l.whole (l.i - l.first)

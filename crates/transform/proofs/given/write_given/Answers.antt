@@ -10,5 +10,5 @@ returns-then-works_sums c = written_given _ _ c.works_sums.ensures true c.if-wor
 pub write_page-requires : goal.write_page-requires
 write_page-requires c = (ready_page _ _ _ c.requires).0
 
-pub returns : goal.returns
-returns c = written_given _ _ c.works_sums.ensures false c.if-works_sums.false _ _ (written_plain _ _ refl _ _ c.write_page.ensures)
+pub returns-else-works_sums : goal.returns-else-works_sums
+returns-else-works_sums c = written_given _ _ c.works_sums.ensures false c.if-works_sums.false _ _ (written_plain _ _ refl _ _ c.write_page.ensures)

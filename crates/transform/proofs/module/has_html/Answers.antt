@@ -1,20 +1,18 @@
--- `has_html` meets its contract: one stands among the items where it stands among those left. Assumes nothing.
-use mathlib.Core.Path.{◌∙◌}
-use native.Mathlib.Omega.{arith}
-use Rattle.transform.proofs.ExportLaws.{html_none, html_here, html_on, html_past}
+-- `has_html` meets its contract, as `any` runs. Assumes nothing.
+use borrow.Author.Rules.{rules}
+use borrow.Author.Tests.{tests}
+use mathlib.Core.Bool.{◌&&◌}
+use mathlib.Core.List.{[]}
+use lib.Dec.{leb}
+use Rattle.field.specs.Row.{read}
+use Rattle.page.specs.Tree.{pieces_in, module_items_in}
+use Rattle.decisions.specs.At.{opts}
+use Rattle.decisions.proofs.AnyLaws.{any_field}
+use Rattle.transform.specs.Run.{has_html, piece_html}
+use Rattle.transform.proofs.ExportLaws.{html_none, html_front}
 use Rattle.transform.proofs.module.has_html.Goals as goal
 
 pub returns : goal.returns
-returns c = html_none _ _ c.in-None.ensures.steps.ended ∙ c.loop-item.invariant
-
-pub returns-then-has_html_piece : goal.returns-then-has_html_piece
-returns-then-has_html_piece c = let f = c.in-Some.ensures.steps in html_here _ _ _ f.tag_is f.body_is c.has_html_piece.ensures (omega arith) (omega arith) c.if-has_html_piece.true ∙ c.loop-item.invariant
-
-pub loop-item-preserved-then-item-lt19 : goal.loop-item-preserved-then-item-lt19
-loop-item-preserved-then-item-lt19 c = let f = c.in-Some.ensures.steps in html_on _ _ _ f.tag_is f.body_is c.has_html_piece.ensures (omega arith) (omega arith) c.if-has_html_piece.false f.behind_is ∙ c.loop-item.invariant
-
-pub loop-item-preserved : goal.loop-item-preserved
-loop-item-preserved c = let f = c.in-Some.ensures.steps in html_past _ _ _ f.tag_is (λ z. omega (arith, f.tag_below, z)) (λ z. omega arith) (λ z. omega arith) (λ z. omega arith) f.behind_is ∙ c.loop-item.invariant
-
-pub loop-item-preserved-then-item-lt16 : goal.loop-item-preserved-then-item-lt16
-loop-item-preserved-then-item-lt16 c = let f = c.in-Some.ensures.steps in html_past _ _ _ f.tag_is (λ z. omega (arith, f.tag_below, z)) (λ z. omega arith) (λ z. omega arith) (λ z. omega arith) f.behind_is ∙ c.loop-item.invariant
+returns c =
+    let k = c.args.skip.now in
+    any_field (λ s. has_html (opts k []) (module_items_in (read s))) (λ f. (leb 0x10 f.tag && leb f.tag 0x12) && piece_html (opts k []) (pieces_in (read f.body.now))) (html_none k) (html_front k) _ _ (λ f b q h. search (rules, tests)) (record { 0 = c.args.s }) c.any.new.self c.any.result c.any.ensures.ran

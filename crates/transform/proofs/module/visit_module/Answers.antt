@@ -11,8 +11,8 @@ pub visit_item-cur-requires : goal.visit_item-cur-requires
 visit_item-cur-requires c = let f = c.in-Some.ensures.steps in let i = c.loop-item.invariant in
     room_part _ _ _ _ c.requires c.loop-item.auto.scratch (omega (arith, f.sizes, i.0)) (item_room _ _ _ _ f.tag_is _ _ _ i.1 (omega arith) (omega arith) f.body_is c.requires.low)
 
-pub loop-item-preserved-then-item-lt19 : goal.loop-item-preserved-then-item-lt19
-loop-item-preserved-then-item-lt19 c = let f = c.in-Some.ensures.steps in let i = c.loop-item.invariant in
+pub loop-item-preserved-in-16-to-18 : goal.loop-item-preserved-in-16-to-18
+loop-item-preserved-in-16-to-18 c = let f = c.in-Some.ensures.steps in let i = c.loop-item.invariant in
     (omega (arith, f.sizes, i.0), item_on _ _ _ _ f.tag_is _ _ _ i.1 (omega arith) (omega arith) f.body_is f.behind_is c.visit_item-cur.ensures)
 
 pub leaf-cur-requires : goal.leaf-cur-requires

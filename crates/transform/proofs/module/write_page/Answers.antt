@@ -7,7 +7,7 @@ use Rattle.transform.proofs.module.write_page.Goals as goal
 
 pub write_listed-requires : goal.write_listed-requires
 unfolding inside
-write_listed-requires c = record { ready = c.requires; props_value = (by_series _ c.if-names-le32.true (c.names_in.ensures.0 refl), by_series _ c.if-names-le32-2.true (c.names_in-2.ensures.0 refl)) }
+write_listed-requires c = record { ready = c.requires; props_value = (by_series _ c.if-names-le-SHORT_LIST.true (c.names_in.ensures.0 refl), by_series _ c.if-names-le-SHORT_LIST-2.true (c.names_in-2.ensures.0 refl)) }
 
 pub write_indexed-requires : goal.write_indexed-requires
 unfolding inside

@@ -1,16 +1,11 @@
--- `first_with` meets its contract: what is passed over has other tags. Assumes nothing.
-use native.Mathlib.Omega.{arith}
-use Rattle.transform.proofs.OptionLaws.{past_none, past_next, lacks, has}
+-- `first_with` meets its contract, as `find` runs: what is passed over has other tags. Assumes nothing.
+use mathlib.Core.Path.{refl}
+use borrow.Author.Rules.{rules}
+use borrow.Author.Tests.{tests}
+use Rattle.transform.proofs.OptionLaws.{first_found, body_found}
 use Rattle.transform.proofs.options.first_with.Goals as goal
 
-pub loop-field-init : goal.loop-field-init
-loop-field-init c = rw c.into_iter-field-iterator.ensures.into_iter_gives (past_none _ _)
-
-pub returns-then-field-tag : goal.returns-then-field-tag
-returns-then-field-tag c = let f = c.in-Some.ensures.steps in has _ _ _ c.loop-field.invariant _ f.tag_is (λ z. omega (arith, f.tag_below, z)) c.if-field-tag.true f.body_is
-
-pub loop-field-preserved : goal.loop-field-preserved
-loop-field-preserved c = let f = c.in-Some.ensures.steps in past_next _ _ _ c.loop-field.invariant _ f.tag_is (λ z. omega (arith, f.tag_below, z)) c.if-field-tag.false f.behind_is
-
 pub returns : goal.returns
-returns c = lacks _ _ _ c.loop-field.invariant c.in-None.ensures.steps.ended
+returns c =
+    let f = first_found c.args.tag c.args.options.now _ _ (λ x b q k. search (rules, tests)) (record { 0 = c.args.options }) c.find.new.self c.find.result refl c.find.ensures.ran in
+    body_found (λ x y q. search rules) _ _ _ _ f c.map.ensures.cases

@@ -2,27 +2,25 @@
 use mathlib.Core.Path.{refl, ap, ◌∙◌, sym}
 use mathlib.Core.Logic.{⊎_elim}
 use native.Mathlib.Omega.{arith}
-use Rattle.field.proofs.FrontLaws.{body_less, behind_less}
-use Rattle.visits.proofs.FieldLaws.{front_some, front_none, no_front, some_front, room_part, room_is, kept_since, act_kept}
+use Rattle.visits.proofs.FieldLaws.{front_some, front_none, room_part, room_is}
 use Rattle.visits.proofs.ExprLaws.{expr_literal, see_element, see_fragment, array_begin, array_inner, array_close, array_done, source_begin, source_inner, source_close, source_done, literal_room, literal_done, held_nothing, held_expr, spread_begin, spread_inner, spread_close, spread_on, hole_room, hole_on, item_room, item_on, items_end, piece_room, piece_on, piece_element_room, piece_element_on, piece_fragment_room, piece_fragment_on, pieces_past, pieces_end}
-use Rattle.spec.specs.Pass.{none, raw}
 use Rattle.walk.specs.See.{at}
 use Rattle.walk.proofs.SeeLaws.{low_is, lift_numbered, lift_wrap, lift_begun_if, lift_wrap_if}
-use Rattle.visits.proofs.VisitLaws.{found_raw, left_room, left_done, found_left, found_recorded, found_paged, found_done, null_room, null_done, fragment_null, fragment_several, fragment_element, fragment_fragment, fragment_spread, fragment_only, element_recorded, element_paged, element_done, template_recorded, template_start, template_parts, template_end, template_visited}
-use Rattle.visits.specs.Visiting.{fragment_mid}
+use Rattle.visits.proofs.VisitLaws.{left_room, left_done, found_left, found_recorded, found_paged, found_done, null_room, null_done, fragment_null, fragment_several, fragment_element, fragment_fragment, fragment_spread, fragment_only, element_recorded, element_paged, element_done, template_recorded, template_start, template_parts, template_end, template_visited}
 use native.Mathlib.Nat.{le_refl}
-use Rattle.visits.proofs.PartLaws.{templates_kept, page_kept, front_room, held_room, back_page, back_room, attr_on, attrs_past, attrs_end, element_call, element_bare, inner_shorter, attrs_room, inner_room, inner_done, jsx_template, jsx_call, template_room, template_inside, template_page, template_low, template_done, parts_direct, parts_room, container_room, container_page, container_low, container_on, element_room as to_parts_element_room, element_on as to_parts_element_on, fragment_room as to_parts_fragment_room, fragment_on as to_parts_fragment_on, parts_past, parts_end}
+use Rattle.visits.proofs.PartLaws.{front_room, held_room, back_page, back_room, attr_on, attrs_end, element_call, element_bare, attrs_room, inner_room, inner_done, jsx_template, jsx_call, template_room, template_inside, template_page, template_low, template_done, parts_direct, parts_room, container_room, container_page, container_low, container_on, element_room as to_parts_element_room, element_on as to_parts_element_on, fragment_room as to_parts_fragment_room, fragment_on as to_parts_fragment_on, parts_past, parts_end}
 use mathlib.Core.Bool.{false}
 use lib.ListN.{length}
 use Rattle.strings.proofs.FrontSizes.{behind_le}
-use Rattle.visits.proofs.CallLaws.{seen_templates, seen_page, prop_front_room, prop_held_room, prop_back_page, prop_back_room, prop_on, spread_begin as to_props_spread_begin, spread_inner as to_props_spread_inner, spread_close as to_props_spread_close, spread_on as to_props_spread_on, props_end}
-use Rattle.visits.proofs.CallSteps.{begin_asked, name_asked, bare_asked, bare_close_asked, bare_done, props_begin_asked, props_asked, front_asked, found_asked, child_asked, closed_asked, keyless_asked, keyless_done, key_asked, held_asked, keyed_asked, keyed_done}
+use Rattle.visits.proofs.CallLaws.{prop_front_room, prop_held_room, prop_back_page, prop_back_room, prop_on, spread_begin as to_props_spread_begin, spread_inner as to_props_spread_inner, spread_close as to_props_spread_close, spread_on as to_props_spread_on, props_end}
+use Rattle.visits.proofs.CallSteps.{begin_asked, name_asked, bare_asked, bare_close_asked, bare_done, props_begin_asked, props_asked, front_asked, found_asked, child_asked, closed_asked, key_as, braces_as, key_asked, keyed_asked, keyed_done, string_asked, string_closed, string_done, keyless_asked, keyless_done}
 use Rattle.visits.proofs.EntryLaws.{entering_start, text_room, text_on, joined_room, joined_on, expr_run, expr_room, expr_on, element_run, element_room, element_on, fragment_run, fragment_room, fragment_on, other_on, last_run, entering_end}
-use Rattle.visits.proofs.FoundLaws.{found_short, element_short, items_short, nothing_done, item_done, text_room as to_found_text_room, text_done, hole_room as to_found_hole_room, hole_done, element_room as to_found_element_room, element_done as to_found_element_done, run_room, run_done, expr_room as to_found_expr_room, expr_done, items_room, items_done, merged_begin, merged_room, merged_end, merged_done, many_begin, many_room, many_end, many_done, empty_begin, empty_end, empty_done}
-use Rattle.records.proofs.ReadLaws.{behind_shorter}
+use Rattle.visits.proofs.FoundLaws.{found_short, element_short, items_short, nothing_done, item_done, text_room as to_found_text_room, text_done, hole_room as to_found_hole_room, hole_done, element_room as to_found_element_room, element_done as to_found_element_done, run_room, run_done, expr_room as to_found_expr_room, expr_done, items_room, items_done, merged_begin, merged_room, merged_end, merged_done, many_begin, many_room, many_end, many_done, spliced_begins, spliced_ends, apart_begins, apart_closes, apart_ends, empty_begin, empty_end, empty_done}
+use Rattle.records.proofs.ReadLaws.{behind_shorter, inner_shorter}
 use borrow.Author.Tests.{eqb-true}
 use Rattle.visits.proofs.calls.+visit.Goals as goal
-use Rattle.visits.proofs.calls.+visit.Goals.{on_expr-in_default-via-in-Some+in_default, on_expr-in_default-via-in_default, on_fragment-in_default-via-in-Some+in_default, on_fragment-in_default-via-in_default}
+use Rattle.visits.proofs.calls.+visit.Goals.{to_call-in-Some-String, to_call-in-Some-Container, to_call-in-Some-Tag, to_call-in-Some-Tag-2}
+use Rattle.visits.proofs.calls.+visit.Goals.{on_expr-in_default-via-in-Some+in_default, on_expr-in_default-via-in_default}
 
 pub on_expr-begin-requires : goal.on_expr-begin-requires
 on_expr-begin-requires t c = array_begin _ _ _ _ c.in-Some-eq118.ensures.tag_is c.in-Some-eq118.ensures.body_is (omega arith) _ _ _ c.requires.low
@@ -96,63 +94,63 @@ pub on_found-returns : goal.on_found-returns
 on_found-returns t c = found_done _ _ _ _ (record { within = c.found_of-f.ensures.0; finds = c.found_of-f.ensures.1 c.args.options.now.props.now }) (sym c.is_left.ensures ∙ c.if-is_left.false) _ _ _ c.records_of.ensures c.record_found-k.ensures c.recorded-a.ensures c.to_found-w.ensures c.returned.ensures
 
 pub on_fragment-leaf-requires : goal.on_fragment-leaf-requires
-on_fragment-leaf-requires t c = null_room _ _ _ _ (fragment_null _ _ _ _ c.child_count.ensures c.in-Zero.is) c.requires.low
+on_fragment-leaf-requires t c = null_room _ _ _ _ (fragment_null _ _ _ _ (sym c.in-Zero.ensures.count) refl) c.requires.low
 
 pub on_fragment-on_jsx-requires : goal.on_fragment-on_jsx-requires
-on_fragment-on_jsx-requires t c = let l = c.in-Some-eq48.ensures.sizes in (
-  omega (arith, c.decreases, l, c.children_at-a.ensures.within),
+on_fragment-on_jsx-requires t c = let o = c.in-One-eq48.ensures.only in (
+  omega (arith, c.decreases, o.front.sizes, o.within),
   record {
     desk = c.requires.desk;
-    short = omega (arith, c.requires.short, l, c.children_at-a.ensures.within);
-    low = low_is (sym (fragment_element _ _ _ _ c.child_count.ensures c.in-One.is c.children_at-a.ensures.first c.in-Some-eq48.ensures.tag_is c.in-Some-eq48.ensures.body_is (omega arith))) c.requires.low;
+    short = omega (arith, c.requires.short, o.front.sizes, o.within);
+    low = low_is (sym (fragment_element _ _ _ _ (sym c.in-One-eq48.ensures.count) refl c.in-One-eq48.ensures.only.first c.in-One-eq48.ensures.only.front.tag_is c.in-One-eq48.ensures.only.front.body_is (omega arith))) c.requires.low;
   },
 )
 
 pub on_fragment-on_found-requires : goal.on_fragment-on_found-requires
-on_fragment-on_found-requires t c = let l = c.in-Some-eq49.ensures.sizes in (
-  omega (arith, c.decreases, l, c.children_at-a.ensures.within),
+on_fragment-on_found-requires t c = let o = c.in-One-eq49.ensures.only in (
+  omega (arith, c.decreases, o.front.sizes, o.within),
   record {
     desk = c.requires.desk;
-    short = omega (arith, c.requires.short, l, c.children_at-a.ensures.within);
-    low = low_is (sym (fragment_fragment _ _ _ _ c.child_count.ensures c.in-One.is c.children_at-a.ensures.first c.in-Some-eq49.ensures.tag_is c.in-Some-eq49.ensures.body_is (omega arith))) c.requires.low;
+    short = omega (arith, c.requires.short, o.front.sizes, o.within);
+    low = low_is (sym (fragment_fragment _ _ _ _ (sym c.in-One-eq49.ensures.count) refl c.in-One-eq49.ensures.only.first c.in-One-eq49.ensures.only.front.tag_is c.in-One-eq49.ensures.only.front.body_is (omega arith))) c.requires.low;
   },
 )
 
 pub on_fragment-leave-requires : goal.on_fragment-leave-requires
-on_fragment-leave-requires t c = left_room _ _ _ _ (fragment_spread _ _ _ _ c.child_count.ensures c.in-One.is c.children_at-a.ensures.first c.in-Some-eq97.ensures.tag_is c.in-Some-eq97.ensures.body_is (omega arith)) c.requires.low
+on_fragment-leave-requires t c = left_room _ _ _ _ (fragment_spread _ _ _ _ (sym c.in-One-eq97.ensures.count) refl c.in-One-eq97.ensures.only.first c.in-One-eq97.ensures.only.front.tag_is c.in-One-eq97.ensures.only.front.body_is (omega arith)) c.requires.low
 
 pub on_fragment-on_template-requires : goal.on_fragment-on_template-requires
-on_fragment-on_template-requires t c = (omega (arith, c.decreases), record { desk = c.requires.desk; short = c.requires.short; low = low_is (sym (elim c.in_default.branch [ on_fragment-in_default-via-in-Some+in_default w ↦ let f = front_some c.field_at.ensures w.in_default.is in fragment_only _ _ _ _ c.child_count.ensures c.in-One.is c.children_at-a.ensures.first f.tag_is f.body_is (λ z. grind arith) (λ z. grind arith) (λ z. grind arith) | on_fragment-in_default-via-in_default w ↦ let f = front_none c.field_at.ensures w.in_default.is in fragment_only _ _ _ _ c.child_count.ensures c.in-One.is c.children_at-a.ensures.first f.no_tag refl (λ z. omega arith) (λ z. omega arith) (λ z. omega arith) ])) c.requires.low })
+on_fragment-on_template-requires t c = (omega (arith, c.decreases), record { desk = c.requires.desk; short = c.requires.short; low = low_is (sym (let o = c.in-One.ensures.only in fragment_only _ _ _ _ (sym c.in-One.ensures.count) refl o.first o.front.tag_is o.front.body_is (λ z. grind arith) (λ z. grind arith) (λ z. grind arith))) c.requires.low })
 
 pub on_fragment-on_template-requires-in-More : goal.on_fragment-on_template-requires-in-More
-on_fragment-on_template-requires-in-More t c = (omega (arith, c.decreases), record { desk = c.requires.desk; short = c.requires.short; low = low_is (sym (fragment_several _ _ _ _ c.child_count.ensures c.in-More.is)) c.requires.low })
+on_fragment-on_template-requires-in-More t c = (omega (arith, c.decreases), record { desk = c.requires.desk; short = c.requires.short; low = low_is (sym (fragment_several _ _ _ _ (sym c.in-More.ensures.count) refl)) c.requires.low })
 
 pub on_fragment-returns-in-Zero : goal.on_fragment-returns-in-Zero
-on_fragment-returns-in-Zero t c = null_done _ _ _ _ (fragment_null _ _ _ _ c.child_count.ensures c.in-Zero.is) _ _ c.leaf.ensures
+on_fragment-returns-in-Zero t c = null_done _ _ _ _ (fragment_null _ _ _ _ (sym c.in-Zero.ensures.count) refl) _ _ c.leaf.ensures
 
-pub on_fragment-returns-in-Some-eq48 : goal.on_fragment-returns-in-Some-eq48
-on_fragment-returns-in-Some-eq48 t c = c.on_jsx.ensures ∙ sym (fragment_element _ _ _ _ c.child_count.ensures c.in-One.is c.children_at-a.ensures.first c.in-Some-eq48.ensures.tag_is c.in-Some-eq48.ensures.body_is (omega arith))
+pub on_fragment-returns-in-One-eq48 : goal.on_fragment-returns-in-One-eq48
+on_fragment-returns-in-One-eq48 t c = c.on_jsx.ensures ∙ sym (fragment_element _ _ _ _ (sym c.in-One-eq48.ensures.count) refl c.in-One-eq48.ensures.only.first c.in-One-eq48.ensures.only.front.tag_is c.in-One-eq48.ensures.only.front.body_is (omega arith))
 
-pub on_fragment-returns-in-Some-eq49 : goal.on_fragment-returns-in-Some-eq49
-on_fragment-returns-in-Some-eq49 t c = c.on_found.ensures ∙ sym (fragment_fragment _ _ _ _ c.child_count.ensures c.in-One.is c.children_at-a.ensures.first c.in-Some-eq49.ensures.tag_is c.in-Some-eq49.ensures.body_is (omega arith))
+pub on_fragment-returns-in-One-eq49 : goal.on_fragment-returns-in-One-eq49
+on_fragment-returns-in-One-eq49 t c = c.on_found.ensures ∙ sym (fragment_fragment _ _ _ _ (sym c.in-One-eq49.ensures.count) refl c.in-One-eq49.ensures.only.first c.in-One-eq49.ensures.only.front.tag_is c.in-One-eq49.ensures.only.front.body_is (omega arith))
 
-pub on_fragment-returns-in-Some-eq97 : goal.on_fragment-returns-in-Some-eq97
-on_fragment-returns-in-Some-eq97 t c = left_done _ _ _ _ (fragment_spread _ _ _ _ c.child_count.ensures c.in-One.is c.children_at-a.ensures.first c.in-Some-eq97.ensures.tag_is c.in-Some-eq97.ensures.body_is (omega arith)) _ _ c.leave.ensures
+pub on_fragment-returns-in-One-eq97 : goal.on_fragment-returns-in-One-eq97
+on_fragment-returns-in-One-eq97 t c = left_done _ _ _ _ (fragment_spread _ _ _ _ (sym c.in-One-eq97.ensures.count) refl c.in-One-eq97.ensures.only.first c.in-One-eq97.ensures.only.front.tag_is c.in-One-eq97.ensures.only.front.body_is (omega arith)) _ _ c.leave.ensures
 
-pub on_fragment-returns-in_default : goal.on_fragment-returns-in_default
-on_fragment-returns-in_default t c = c.on_template.ensures ∙ sym (elim c.in_default.branch [ on_fragment-in_default-via-in-Some+in_default w ↦ let f = front_some c.field_at.ensures w.in_default.is in fragment_only _ _ _ _ c.child_count.ensures c.in-One.is c.children_at-a.ensures.first f.tag_is f.body_is (λ z. grind arith) (λ z. grind arith) (λ z. grind arith) | on_fragment-in_default-via-in_default w ↦ let f = front_none c.field_at.ensures w.in_default.is in fragment_only _ _ _ _ c.child_count.ensures c.in-One.is c.children_at-a.ensures.first f.no_tag refl (λ z. omega arith) (λ z. omega arith) (λ z. omega arith) ])
+pub on_fragment-returns-in-One : goal.on_fragment-returns-in-One
+on_fragment-returns-in-One t c = c.on_template.ensures ∙ sym (let o = c.in-One.ensures.only in fragment_only _ _ _ _ (sym c.in-One.ensures.count) refl o.first o.front.tag_is o.front.body_is (λ z. grind arith) (λ z. grind arith) (λ z. grind arith))
 
 pub on_fragment-returns-in-More : goal.on_fragment-returns-in-More
-on_fragment-returns-in-More t c = c.on_template-in-More.ensures ∙ sym (fragment_several _ _ _ _ c.child_count.ensures c.in-More.is)
+on_fragment-returns-in-More t c = c.on_template-in-More.ensures ∙ sym (fragment_several _ _ _ _ (sym c.in-More.ensures.count) refl)
 
-pub on_held-returns-then-is_none : goal.on_held-returns-then-is_none
-on_held-returns-then-is_none t c = held_nothing _ _ _ _ (no_front _ _ c.field_at.ensures c.is_none.ensures c.if-is_none.true)
+pub on_held-returns-in-None : goal.on_held-returns-in-None
+on_held-returns-in-None t c = held_nothing _ _ _ _ c.in-None.ensures.ended
 
 pub on_held-on_expr-requires : goal.on_held-on_expr-requires
-on_held-on_expr-requires t c = (omega (arith, c.decreases), room_is _ _ _ _ c.requires refl (le_refl _) (held_expr _ _ _ _ _ refl (some_front _ _ c.field_at.ensures c.is_none.ensures c.if-is_none.false)))
+on_held-on_expr-requires t c = let f = c.in-Some.ensures in (omega (arith, c.decreases), room_is _ _ _ _ c.requires refl (le_refl _) (held_expr _ _ _ _ _ refl (λ z. omega (arith, f.tag_is, f.tag_below, z))))
 
-pub on_held-returns : goal.on_held-returns
-on_held-returns t c = c.on_expr.ensures ∙ held_expr _ _ _ _ _ refl (some_front _ _ c.field_at.ensures c.is_none.ensures c.if-is_none.false)
+pub on_held-returns-in-Some : goal.on_held-returns-in-Some
+on_held-returns-in-Some t c = let f = c.in-Some.ensures in c.on_expr.ensures ∙ held_expr _ _ _ _ _ refl (λ z. omega (arith, f.tag_is, f.tag_below, z))
 
 pub on_items-begin-requires : goal.on_items-begin-requires
 on_items-begin-requires t c = spread_begin _ _ _ _ c.in-Some.ensures.steps.tag_is _ _ _ c.loop-field.invariant.1.1 c.in-119.is c.in-Some.ensures.steps.body_is c.requires.low
@@ -254,30 +252,29 @@ pub on_template-returns : goal.on_template-returns
 on_template-returns t c = template_visited _ _ _ _ _ _ c.records_of.ensures c.record_fragment-k.ensures c.recorded.ensures c.begin_template-a.ensures c.to_parts-c.ensures c.close-d.ensures c.returned.ensures
 
 pub to_attrs-attribute_front-x-requires : goal.to_attrs-attribute_front-x-requires
-to_attrs-attribute_front-x-requires t c = let w = at c.loop-field.templates c.loop-field.page c.loop-field.cur in
-    front_room _ _ _ _ c.in-Some.ensures.steps.tag_is w c.loop-field.invariant.1 c.in-80.is c.in-Some.ensures.steps.body_is c.attribute_gap-gap.ensures c.requires.low
+to_attrs-attribute_front-x-requires t c = let w = at c.loop-a.templates c.loop-a.page c.loop-a.cur in let i = c.loop-a.invariant in let f = c.in-Some.ensures.steps in
+    front_room _ _ _ w i.1 f c.attribute_gap-gap.ensures c.requires.low
 
 pub to_attrs-on_held-y-requires : goal.to_attrs-on_held-y-requires
-to_attrs-on_held-y-requires t c = let w = at c.loop-field.templates c.loop-field.page c.loop-field.cur in
-    let b = c.in-Some.ensures.steps.sizes in
-    (omega (arith, c.held_at.ensures.1, b, c.loop-field.invariant.0, c.decreases), record { desk = omega (arith, c.loop-field.auto.scratch, c.requires.desk); short = omega (arith, c.held_at.ensures.1, b, c.loop-field.invariant.0, c.requires.short); low = held_room _ _ _ _ c.in-Some.ensures.steps.tag_is w c.loop-field.invariant.1 c.in-80.is c.in-Some.ensures.steps.body_is c.attribute_gap-gap.ensures c.attribute_front-x.ensures (c.held_at.ensures.0 c.args.options.now.skip.now c.args.options.now.props.now) c.requires.low })
+to_attrs-on_held-y-requires t c = let w = at c.loop-a.templates c.loop-a.page c.loop-a.cur in let i = c.loop-a.invariant in let f = c.in-Some.ensures.steps in (
+  omega (arith, c.held_at.ensures.1, f.sizes, i.0, c.decreases),
+  record {
+    desk = omega (arith, c.loop-a.auto.scratch, c.requires.desk);
+    short = omega (arith, c.held_at.ensures.1, f.sizes, i.0, c.requires.short);
+    low = held_room _ _ _ w i.1 f c.attribute_gap-gap.ensures c.attribute_front-x.ensures (c.held_at.ensures.0 c.args.options.now.skip.now c.args.options.now.props.now) c.requires.low;
+  },
+)
 
 pub to_attrs-gap_back-cur-requires : goal.to_attrs-gap_back-cur-requires
-to_attrs-gap_back-cur-requires t c = let w = at c.loop-field.templates c.loop-field.page c.loop-field.cur in
-    (back_page _ _ _ _ c.in-Some.ensures.steps.tag_is w c.loop-field.invariant.1 c.in-80.is c.in-Some.ensures.steps.body_is c.attribute_gap-gap.ensures c.attribute_front-x.ensures (c.held_at.ensures.0 c.args.options.now.skip.now c.args.options.now.props.now) c.on_held-y.ensures, back_room _ _ _ _ c.in-Some.ensures.steps.tag_is w c.loop-field.invariant.1 c.in-80.is c.in-Some.ensures.steps.body_is c.attribute_gap-gap.ensures c.attribute_front-x.ensures (c.held_at.ensures.0 c.args.options.now.skip.now c.args.options.now.props.now) c.on_held-y.ensures c.requires.low)
+to_attrs-gap_back-cur-requires t c = let w = at c.loop-a.templates c.loop-a.page c.loop-a.cur in let i = c.loop-a.invariant in let f = c.in-Some.ensures.steps in
+    (back_page _ _ _ w i.1 f c.attribute_gap-gap.ensures c.attribute_front-x.ensures (c.held_at.ensures.0 c.args.options.now.skip.now c.args.options.now.props.now) c.on_held-y.ensures, back_room _ _ _ w i.1 f c.attribute_gap-gap.ensures c.attribute_front-x.ensures (c.held_at.ensures.0 c.args.options.now.skip.now c.args.options.now.props.now) c.on_held-y.ensures c.requires.low)
 
-pub to_attrs-loop-field-preserved-in-80 : goal.to_attrs-loop-field-preserved-in-80
-to_attrs-loop-field-preserved-in-80 t c = let w = at c.loop-field.templates c.loop-field.page c.loop-field.cur in
-    (omega (arith, c.in-Some.ensures.steps.sizes, c.loop-field.invariant.0), attr_on _ _ _ _ c.in-Some.ensures.steps.tag_is w c.loop-field.invariant.1 c.in-80.is c.in-Some.ensures.steps.body_is c.attribute_gap-gap.ensures c.attribute_front-x.ensures (c.held_at.ensures.0 c.args.options.now.skip.now c.args.options.now.props.now) c.on_held-y.ensures c.in-Some.ensures.steps.behind_is c.gap_back-cur.ensures)
-
-pub to_attrs-loop-field-preserved : goal.to_attrs-loop-field-preserved
-to_attrs-loop-field-preserved t c = (omega (arith, c.in-Some.ensures.steps.sizes, c.loop-field.invariant.0), attrs_past _ _ _ _ c.in-Some.ensures.steps.tag_is _ c.loop-field.invariant.1 c.in-83.is c.in-Some.ensures.steps.behind_is)
-
-pub to_attrs-returns-in_default : goal.to_attrs-returns-in_default
-to_attrs-returns-in_default t c = attrs_end _ _ _ _ c.in-Some.ensures.steps.tag_is _ c.loop-field.invariant.1 (λ z. omega arith) (λ z. omega arith)
+pub to_attrs-loop-a-preserved : goal.to_attrs-loop-a-preserved
+to_attrs-loop-a-preserved t c = let w = at c.loop-a.templates c.loop-a.page c.loop-a.cur in let i = c.loop-a.invariant in let f = c.in-Some.ensures.steps in
+    (omega (arith, f.sizes, i.0), attr_on _ _ _ w i.1 f c.attribute_gap-gap.ensures c.attribute_front-x.ensures (c.held_at.ensures.0 c.args.options.now.skip.now c.args.options.now.props.now) c.on_held-y.ensures c.gap_back-cur.ensures)
 
 pub to_attrs-returns : goal.to_attrs-returns
-to_attrs-returns t c = attrs_end _ _ _ _ c.in-None.ensures.steps.no_tag _ c.loop-field.invariant.1 (λ z. omega arith) (λ z. omega arith)
+to_attrs-returns t c = attrs_end _ _ _ _ c.loop-a.invariant.1 c.in-None.ensures.steps
 
 pub to_entries-join_text-run-requires : goal.to_entries-join_text-run-requires
 to_entries-join_text-run-requires t c = text_room _ _ _ c.loop-field.invariant.1 _ c.in-Some.ensures.steps.tag_is c.in-Some.ensures.steps.body_is c.in-96.is c.requires.low
@@ -365,20 +362,23 @@ to_found-returns-in-Some t c = items_done c.requires.0 c.part-u.ensures _ _ _ _ 
 pub to_found-on_expr-requires : goal.to_found-on_expr-requires
 to_found-on_expr-requires t c = (omega (arith, found_short c.requires.0 c.part-u.ensures, c.decreases), to_found_expr_room c.requires.0 c.part-u.ensures _ _ _ _ c.in-Expr.is c.in-None.ensures c.requires.1)
 
-pub to_found-begin_if-a-requires : goal.to_found-begin_if-a-requires
-to_found-begin_if-a-requires t c = many_begin c.requires.0 c.part-u.ensures _ _ _ _ c.in-Many.is c.requires.1.low
+pub to_found-to_entries-requires-in-Many : goal.to_found-to_entries-requires-in-Many
+to_found-to_entries-requires-in-Many t c = (omega (arith, found_short c.requires.0 c.part-u.ensures, c.decreases), many_room c.requires.0 c.part-u.ensures _ _ _ _ c.in-Many.is (spliced_begins c.if-splice.true) c.requires.1)
+
+pub to_found-begin-requires : goal.to_found-begin-requires
+to_found-begin-requires t c = many_begin c.requires.0 c.part-u.ensures _ _ _ _ c.in-Many.is c.requires.1.low
 
 pub to_found-to_entries-c-requires : goal.to_found-to_entries-c-requires
-to_found-to_entries-c-requires t c = (omega (arith, found_short c.requires.0 c.part-u.ensures, c.decreases), many_room c.requires.0 c.part-u.ensures _ _ _ _ c.in-Many.is c.begin_if-a.ensures c.requires.1)
+to_found-to_entries-c-requires t c = (omega (arith, found_short c.requires.0 c.part-u.ensures, c.decreases), many_room c.requires.0 c.part-u.ensures _ _ _ _ c.in-Many.is (apart_begins _ c.if-splice.false c.begin.ensures) c.requires.1)
 
-pub to_found-close_if-requires : goal.to_found-close_if-requires
-to_found-close_if-requires t c = many_end c.requires.0 c.part-u.ensures _ _ _ _ c.in-Many.is c.begin_if-a.ensures c.to_entries-c.ensures c.requires.1.low
+pub to_found-close-requires-in-Many-2 : goal.to_found-close-requires-in-Many-2
+to_found-close-requires-in-Many-2 t c = apart_closes c.if-splice.false (many_end c.requires.0 c.part-u.ensures _ _ _ _ c.in-Many.is (apart_begins _ c.if-splice.false c.begin.ensures) c.to_entries-c.ensures c.requires.1.low)
 
-pub to_found-begin_if-a-requires-in-Empty : goal.to_found-begin_if-a-requires-in-Empty
-to_found-begin_if-a-requires-in-Empty t c = empty_begin c.requires.0 c.part-u.ensures _ _ _ _ c.in-Empty.is c.requires.1.low
+pub to_found-begin-requires-in-Empty-2 : goal.to_found-begin-requires-in-Empty-2
+to_found-begin-requires-in-Empty-2 t c = empty_begin c.requires.0 c.part-u.ensures _ _ _ _ c.in-Empty.is c.requires.1.low
 
-pub to_found-close_if-requires-in-Empty : goal.to_found-close_if-requires-in-Empty
-to_found-close_if-requires-in-Empty t c = empty_end c.requires.0 c.part-u.ensures _ _ _ _ c.in-Empty.is c.begin_if-a-in-Empty.ensures c.requires.1.low
+pub to_found-close-requires-in-Empty-2 : goal.to_found-close-requires-in-Empty-2
+to_found-close-requires-in-Empty-2 t c = apart_closes c.if-splice-2.false (empty_end c.requires.0 c.part-u.ensures _ _ _ _ c.in-Empty.is (apart_begins _ c.if-splice-2.false c.begin-in-Empty-2.ensures) c.requires.1.low)
 
 pub to_found-hole_leaf-requires : goal.to_found-hole_leaf-requires
 to_found-hole_leaf-requires t c = to_found_hole_room c.requires.0 c.part-u.ensures _ _ _ _ c.in-Hole.is c.requires.1.low
@@ -402,19 +402,25 @@ pub to_found-returns-in-None : goal.to_found-returns-in-None
 to_found-returns-in-None t c = expr_done c.requires.0 c.part-u.ensures _ _ _ _ c.in-Expr.is c.in-None.ensures c.on_expr.ensures
 
 pub to_found-returns-in-Many : goal.to_found-returns-in-Many
-to_found-returns-in-Many t c = many_done c.requires.0 c.part-u.ensures _ _ _ _ c.in-Many.is c.begin_if-a.ensures c.to_entries-c.ensures c.close_if.ensures
+to_found-returns-in-Many t c = many_done c.requires.0 c.part-u.ensures _ _ _ _ c.in-Many.is (spliced_begins c.if-splice.true) c.to_entries-in-Many.ensures (spliced_ends _ c.if-splice.true 0x76 _ _)
+
+pub to_found-returns-in-Many-2 : goal.to_found-returns-in-Many-2
+to_found-returns-in-Many-2 t c = many_done c.requires.0 c.part-u.ensures _ _ _ _ c.in-Many.is (apart_begins _ c.if-splice.false c.begin.ensures) c.to_entries-c.ensures (apart_ends _ _ _ c.if-splice.false c.close-in-Many-2.ensures)
 
 pub to_found-returns-in-Empty : goal.to_found-returns-in-Empty
-to_found-returns-in-Empty t c = empty_done c.requires.0 c.part-u.ensures _ _ _ _ c.in-Empty.is c.begin_if-a-in-Empty.ensures c.close_if-in-Empty.ensures
+to_found-returns-in-Empty t c = empty_done c.requires.0 c.part-u.ensures _ _ _ _ c.in-Empty.is (spliced_begins c.if-splice-2.true) (spliced_ends _ c.if-splice-2.true 0x76 _ _)
+
+pub to_found-returns-in-Empty-2 : goal.to_found-returns-in-Empty-2
+to_found-returns-in-Empty-2 t c = empty_done c.requires.0 c.part-u.ensures _ _ _ _ c.in-Empty.is (apart_begins _ c.if-splice-2.false c.begin-in-Empty-2.ensures) (apart_ends _ _ _ c.if-splice-2.false c.close-in-Empty-2.ensures)
 
 pub to_found-returns-in-Hole : goal.to_found-returns-in-Hole
 to_found-returns-in-Hole t c = hole_done c.requires.0 c.part-u.ensures _ _ _ _ c.in-Hole.is c.hole_leaf.ensures
 
 pub to_gaps-to_call-requires : goal.to_gaps-to_call-requires
-to_gaps-to_call-requires t c = (omega (arith, c.decreases), record { desk = c.requires.desk; short = c.requires.short; low = low_is (element_call _ _ _ c.is_serializable.ensures _ c.if-not-is_serializable.true) c.requires.low })
+to_gaps-to_call-requires t c = (omega (arith, c.decreases), record { desk = c.requires.desk; short = c.requires.short; low = low_is (element_call _ _ _ c.is_serializable.ensures _ c.if-is_serializable.false) c.requires.low })
 
-pub to_gaps-returns-then-not-is_serializable : goal.to_gaps-returns-then-not-is_serializable
-to_gaps-returns-then-not-is_serializable t c = c.to_call.ensures ∙ element_call _ _ _ c.is_serializable.ensures _ c.if-not-is_serializable.true
+pub to_gaps-returns-else-is_serializable : goal.to_gaps-returns-else-is_serializable
+to_gaps-returns-else-is_serializable t c = c.to_call.ensures ∙ element_call _ _ _ c.is_serializable.ensures _ c.if-is_serializable.false
 
 pub to_inner-returns-then-is_empty : goal.to_inner-returns-then-is_empty
 to_inner-returns-then-is_empty t c = element_bare _ _ _ refl _ c.requires.html c.behind-rest.ensures (eqb-true _ 0 (sym c.is_empty.ensures ∙ c.if-is_empty.true))
@@ -596,27 +602,31 @@ to_call-close_if-c-requires t c = child_asked _ _ _ _ _ _ c.behind-rest.ensures 
 pub to_call-close_props-d-requires : goal.to_call-close_props-d-requires
 to_call-close_props-d-requires t c = closed_asked _ _ _ _ _ _ c.behind-rest.ensures c.is_component-norm.ensures c.begin.ensures c.name_expr-n.ensures c.begin-2.ensures c.to_props-x.ensures c.found_of-f.result.kind _ (c.found_of-f.ensures.1 c.args.options.now.props.now) c.is_found-stands.ensures c.children_front-y.ensures c.to_found-z.ensures c.close_if-c.ensures c.requires.low
 
-pub to_call-close-requires-in_default : goal.to_call-close-requires-in_default
-to_call-close-requires-in_default t c = keyless_asked _ _ _ _ _ _ c.behind-rest.ensures c.is_component-norm.ensures c.begin.ensures c.name_expr-n.ensures c.begin-2.ensures c.to_props-x.ensures c.found_of-f.result.kind _ (c.found_of-f.ensures.1 c.args.options.now.props.now) c.is_found-stands.ensures c.children_front-y.ensures c.to_found-z.ensures c.close_if-c.ensures c.close_props-d.ensures (c.in_default.ensures c.args.options.now.skip.now c.args.options.now.props.now) c.requires.low
-
-pub to_call-returns-in_default : goal.to_call-returns-in_default
-to_call-returns-in_default t c = keyless_done _ _ _ _ _ _ c.behind-rest.ensures c.is_component-norm.ensures c.begin.ensures c.name_expr-n.ensures c.begin-2.ensures c.to_props-x.ensures c.found_of-f.result.kind _ (c.found_of-f.ensures.1 c.args.options.now.props.now) c.is_found-stands.ensures c.children_front-y.ensures c.to_found-z.ensures c.close_if-c.ensures c.close_props-d.ensures (c.in_default.ensures c.args.options.now.skip.now c.args.options.now.props.now) c.close-in_default.ensures
-
-pub to_call-key_front-k-requires : goal.to_call-key_front-k-requires
-to_call-key_front-k-requires t c = key_asked _ _ _ _ _ _ c.behind-rest.ensures c.is_component-norm.ensures c.begin.ensures c.name_expr-n.ensures c.begin-2.ensures c.to_props-x.ensures c.found_of-f.result.kind _ (c.found_of-f.ensures.1 c.args.options.now.props.now) c.is_found-stands.ensures c.children_front-y.ensures c.to_found-z.ensures c.close_if-c.ensures c.close_props-d.ensures c.in-Some.a.now (c.in-Some.ensures.0 c.args.options.now.skip.now c.args.options.now.props.now) c.requires.low
+pub to_call-attr_string_leaf-l-requires : goal.to_call-attr_string_leaf-l-requires
+to_call-attr_string_leaf-l-requires t c = string_asked _ _ _ _ _ _ c.behind-rest.ensures c.is_component-norm.ensures c.begin.ensures c.name_expr-n.ensures c.begin-2.ensures c.to_props-x.ensures c.found_of-f.result.kind _ (c.found_of-f.ensures.1 c.args.options.now.props.now) c.is_found-stands.ensures c.children_front-y.ensures c.to_found-z.ensures c.close_if-c.ensures c.close_props-d.ensures (key_as c.in-Some-String.field-0-is _ (c.in-Some-String.ensures.0 c.args.options.now.skip.now c.args.options.now.props.now)) c.requires.low
 
 pub to_call-on_held-l-requires : goal.to_call-on_held-l-requires
-to_call-on_held-l-requires t c = let n = behind_le c.args.b.now c.behind-rest.ensures in let h = c.key_held.ensures.1 in let d = c.in-Some.ensures.1 in (
-  omega (arith, h, d, n, c.decreases),
+to_call-on_held-l-requires t c = let n = behind_le c.args.b.now c.behind-rest.ensures in let h = braces_as c.in-Some-Container.field-0-is c.in-Some-Container.ensures.1 in (
+  omega (arith, h, n, c.decreases),
   record {
     desk = omega (arith, c.to_found-z.auto.scratch, c.to_props-x.auto.scratch, c.requires.desk);
-    short = omega (arith, h, d, n, c.requires.short);
-    low = held_asked _ _ _ _ _ _ c.behind-rest.ensures c.is_component-norm.ensures c.begin.ensures c.name_expr-n.ensures c.begin-2.ensures c.to_props-x.ensures c.found_of-f.result.kind _ (c.found_of-f.ensures.1 c.args.options.now.props.now) c.is_found-stands.ensures c.children_front-y.ensures c.to_found-z.ensures c.close_if-c.ensures c.close_props-d.ensures c.in-Some.a.now (c.in-Some.ensures.0 c.args.options.now.skip.now c.args.options.now.props.now) c.key_front-k.ensures (c.key_held.ensures.0 c.args.options.now.skip.now c.args.options.now.props.now) c.requires.low;
+    short = omega (arith, h, n, c.requires.short);
+    low = key_asked _ _ _ _ _ _ c.behind-rest.ensures c.is_component-norm.ensures c.begin.ensures c.name_expr-n.ensures c.begin-2.ensures c.to_props-x.ensures c.found_of-f.result.kind _ (c.found_of-f.ensures.1 c.args.options.now.props.now) c.is_found-stands.ensures c.children_front-y.ensures c.to_found-z.ensures c.close_if-c.ensures c.close_props-d.ensures (key_as c.in-Some-Container.field-0-is _ (c.in-Some-Container.ensures.0 c.args.options.now.skip.now c.args.options.now.props.now)) c.requires.low;
   },
 )
 
 pub to_call-close-requires-2 : goal.to_call-close-requires-2
-to_call-close-requires-2 t c = keyed_asked _ _ _ _ _ _ c.behind-rest.ensures c.is_component-norm.ensures c.begin.ensures c.name_expr-n.ensures c.begin-2.ensures c.to_props-x.ensures c.found_of-f.result.kind _ (c.found_of-f.ensures.1 c.args.options.now.props.now) c.is_found-stands.ensures c.children_front-y.ensures c.to_found-z.ensures c.close_if-c.ensures c.close_props-d.ensures c.in-Some.a.now (c.in-Some.ensures.0 c.args.options.now.skip.now c.args.options.now.props.now) c.key_front-k.ensures (c.key_held.ensures.0 c.args.options.now.skip.now c.args.options.now.props.now) c.on_held-l.ensures c.requires.low
+to_call-close-requires-2 t c = elim c.match-key_at.branch [
+  | to_call-in-Some-String w ↦ rw w.l-is (string_closed _ _ _ _ _ _ c.behind-rest.ensures c.is_component-norm.ensures c.begin.ensures c.name_expr-n.ensures c.begin-2.ensures c.to_props-x.ensures c.found_of-f.result.kind _ (c.found_of-f.ensures.1 c.args.options.now.props.now) c.is_found-stands.ensures c.children_front-y.ensures c.to_found-z.ensures c.close_if-c.ensures c.close_props-d.ensures (key_as w.in-Some-String.field-0-is _ (w.in-Some-String.ensures.0 c.args.options.now.skip.now c.args.options.now.props.now)) w.attr_string_leaf-l.ensures c.requires.low)
+  | to_call-in-Some-Container w ↦ rw w.l-is (keyed_asked _ _ _ _ _ _ c.behind-rest.ensures c.is_component-norm.ensures c.begin.ensures c.name_expr-n.ensures c.begin-2.ensures c.to_props-x.ensures c.found_of-f.result.kind _ (c.found_of-f.ensures.1 c.args.options.now.props.now) c.is_found-stands.ensures c.children_front-y.ensures c.to_found-z.ensures c.close_if-c.ensures c.close_props-d.ensures (key_as w.in-Some-Container.field-0-is _ (w.in-Some-Container.ensures.0 c.args.options.now.skip.now c.args.options.now.props.now)) w.on_held-l.ensures c.requires.low)
+  | to_call-in-Some-Tag w ↦ rw w.l-is (keyless_asked _ _ _ _ _ _ c.behind-rest.ensures c.is_component-norm.ensures c.begin.ensures c.name_expr-n.ensures c.begin-2.ensures c.to_props-x.ensures c.found_of-f.result.kind _ (c.found_of-f.ensures.1 c.args.options.now.props.now) c.is_found-stands.ensures c.children_front-y.ensures c.to_found-z.ensures c.close_if-c.ensures c.close_props-d.ensures (c.key_at.ensures.0 c.args.options.now.skip.now c.args.options.now.props.now ∙ (grind arith)) c.requires.low)
+  | to_call-in-Some-Tag-2 w ↦ rw w.l-is (keyless_asked _ _ _ _ _ _ c.behind-rest.ensures c.is_component-norm.ensures c.begin.ensures c.name_expr-n.ensures c.begin-2.ensures c.to_props-x.ensures c.found_of-f.result.kind _ (c.found_of-f.ensures.1 c.args.options.now.props.now) c.is_found-stands.ensures c.children_front-y.ensures c.to_found-z.ensures c.close_if-c.ensures c.close_props-d.ensures (c.key_at.ensures.0 c.args.options.now.skip.now c.args.options.now.props.now ∙ (grind arith)) c.requires.low)
+]
 
 pub to_call-returns : goal.to_call-returns
-to_call-returns t c = keyed_done _ _ _ _ _ _ c.behind-rest.ensures c.is_component-norm.ensures c.begin.ensures c.name_expr-n.ensures c.begin-2.ensures c.to_props-x.ensures c.found_of-f.result.kind _ (c.found_of-f.ensures.1 c.args.options.now.props.now) c.is_found-stands.ensures c.children_front-y.ensures c.to_found-z.ensures c.close_if-c.ensures c.close_props-d.ensures c.in-Some.a.now (c.in-Some.ensures.0 c.args.options.now.skip.now c.args.options.now.props.now) c.key_front-k.ensures (c.key_held.ensures.0 c.args.options.now.skip.now c.args.options.now.props.now) c.on_held-l.ensures c.close-2.ensures
+to_call-returns t c = elim c.match-key_at.branch [
+  | to_call-in-Some-String w ↦ rw w.templates-is (string_done _ _ _ _ _ _ c.behind-rest.ensures c.is_component-norm.ensures c.begin.ensures c.name_expr-n.ensures c.begin-2.ensures c.to_props-x.ensures c.found_of-f.result.kind _ (c.found_of-f.ensures.1 c.args.options.now.props.now) c.is_found-stands.ensures c.children_front-y.ensures c.to_found-z.ensures c.close_if-c.ensures c.close_props-d.ensures (key_as w.in-Some-String.field-0-is _ (w.in-Some-String.ensures.0 c.args.options.now.skip.now c.args.options.now.props.now)) w.attr_string_leaf-l.ensures (rw (w.l-is, w.page-is) at c.close-2.ensures))
+  | to_call-in-Some-Container w ↦ rw w.templates-is (keyed_done _ _ _ _ _ _ c.behind-rest.ensures c.is_component-norm.ensures c.begin.ensures c.name_expr-n.ensures c.begin-2.ensures c.to_props-x.ensures c.found_of-f.result.kind _ (c.found_of-f.ensures.1 c.args.options.now.props.now) c.is_found-stands.ensures c.children_front-y.ensures c.to_found-z.ensures c.close_if-c.ensures c.close_props-d.ensures (key_as w.in-Some-Container.field-0-is _ (w.in-Some-Container.ensures.0 c.args.options.now.skip.now c.args.options.now.props.now)) w.on_held-l.ensures (rw (w.l-is, w.page-is) at c.close-2.ensures))
+  | to_call-in-Some-Tag w ↦ rw w.templates-is (keyless_done _ _ _ _ _ _ c.behind-rest.ensures c.is_component-norm.ensures c.begin.ensures c.name_expr-n.ensures c.begin-2.ensures c.to_props-x.ensures c.found_of-f.result.kind _ (c.found_of-f.ensures.1 c.args.options.now.props.now) c.is_found-stands.ensures c.children_front-y.ensures c.to_found-z.ensures c.close_if-c.ensures c.close_props-d.ensures (c.key_at.ensures.0 c.args.options.now.skip.now c.args.options.now.props.now ∙ (grind arith)) (rw (w.l-is, w.page-is) at c.close-2.ensures))
+  | to_call-in-Some-Tag-2 w ↦ rw w.templates-is (keyless_done _ _ _ _ _ _ c.behind-rest.ensures c.is_component-norm.ensures c.begin.ensures c.name_expr-n.ensures c.begin-2.ensures c.to_props-x.ensures c.found_of-f.result.kind _ (c.found_of-f.ensures.1 c.args.options.now.props.now) c.is_found-stands.ensures c.children_front-y.ensures c.to_found-z.ensures c.close_if-c.ensures c.close_props-d.ensures (c.key_at.ensures.0 c.args.options.now.skip.now c.args.options.now.props.now ∙ (grind arith)) (rw (w.l-is, w.page-is) at c.close-2.ensures))
+]

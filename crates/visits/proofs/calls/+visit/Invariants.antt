@@ -72,8 +72,8 @@ invariant-on_items-loop-field l = (l.left ≡ l.fields.0.now) × ((length l.fiel
 abbrev pub invariant-on_pieces-loop-field : goal.invariant-on_pieces-loop-field
 invariant-on_pieces-loop-field l = (length l.field-iterator.0.now ≤ length l.s) × (see (pieces_at l.options.skip.now l.options.props.now l.field-iterator.0.now) (at l.templates l.page l.cur) ≡ see (pieces_at l.options.skip.now l.options.props.now l.s) (at l.initial.templates l.initial.page l.initial.cur))
 
-abbrev pub invariant-to_attrs-loop-field : goal.invariant-to_attrs-loop-field
-invariant-to_attrs-loop-field l = (length l.field-iterator.0.now ≤ length l.s) × (act (dynamic_exprs (attrs_at l.options.skip.now l.options.props.now l.field-iterator.0.now)) (at l.templates l.page l.cur) ≡ act (dynamic_exprs (attrs_at l.options.skip.now l.options.props.now l.s)) (at l.initial.templates l.initial.page l.initial.cur))
+abbrev pub invariant-to_attrs-loop-a : goal.invariant-to_attrs-loop-a
+invariant-to_attrs-loop-a l = (length l.a-iterator.0.now ≤ length l.s) × (act (dynamic_exprs (attrs_at l.options.skip.now l.options.props.now l.a-iterator.0.now)) (at l.templates l.page l.cur) ≡ act (dynamic_exprs (attrs_at l.options.skip.now l.options.props.now l.s)) (at l.initial.templates l.initial.page l.initial.cur))
 
 abbrev pub invariant-to_entries-loop-field : goal.invariant-to_entries-loop-field
 invariant-to_entries-loop-field l = (length l.field-iterator.0.now ≤ length l.s) × Entering l.options.skip.now l.options.props.now (act (entries_pass (entries (merge false false [] (children_at l.options.skip.now l.options.props.now (read l.s))))) (at l.initial.templates l.initial.page l.initial.cur)) l.templates l.page l.cur l.field-iterator.0.now l.run

@@ -20,5 +20,5 @@ returns-in-String c = text_done normalize_lit_str _ _ _ (c.string_at.ensures [] 
 pub attribute_front-requires : goal.attribute_front-requires
 attribute_front-requires c = let a = c.args in low_world (sym (fronts_agree a.a.now (at [] a.page.now a.st) a.gap (grind arith))) c.requires
 
-pub returns-in-Nothing : goal.returns-in-Nothing
-returns-in-Nothing c = let a = c.args in c.attribute_front.ensures ∙ fronts_agree a.a.now (at [] a.page.now a.st) a.gap (grind arith)
+pub returns-in_default : goal.returns-in_default
+returns-in_default c = let a = c.args in c.attribute_front.ensures ∙ fronts_agree a.a.now (at [] a.page.now a.st) a.gap (grind arith)

@@ -10,5 +10,5 @@ returns-then-st-q c = let a = c.args in props_null_is a.q a.page.now a.st c.if-s
 pub close-requires : goal.close-requires
 close-requires c = let a = c.args in (c.requires.0, props_low a.q a.page.now a.st c.if-st-q.false c.requires.1)
 
-pub returns : goal.returns
-returns c = let a = c.args in props_is a.q a.page.now a.st c.if-st-q.false c.close.ensures
+pub returns-else-st-q : goal.returns-else-st-q
+returns-else-st-q c = let a = c.args in props_is a.q a.page.now a.st c.if-st-q.false c.close.ensures
