@@ -8,7 +8,7 @@ use mathlib.Core.Bool.{Bool, true, false, ◌||◌}
 use mathlib.Core.List.{List, [], ◌∷◌}
 use Rattle.field.specs.Bytes.{Bytes}
 use Rattle.field.specs.Row.{read, Ended}
-use Rattle.field.specs.Fields.{GivesField, IsFront, IsEnd}
+use Rattle.field.specs.Fields.{GivesField, IsFront}
 use Rattle.field.specs.declared.reader.Field.{Field}
 use Rattle.field.specs.declared.reader.Fields.{Fields}
 

@@ -9,7 +9,7 @@ use Rattle.std.specs.List.{slice_range}
 use Rattle.std.specs.Slice.{IsGetRangeResult}
 use Rattle.std.proofs.lemmas.List.{get_or-take, get_or-drop, drop_min}
 use denote.Ref.{Bor}
-use mathlib.Core.Logic.{◌⊎◌, ⊎_elim}
+use mathlib.Core.Logic.{⊎_elim}
 use Prim.Native.Nat.{ℕ, zero, suc, min, ◌+◌, ◌-◌, ◌*◌, ◌%◌, ◌≤◌, ◌<◌}
 use native.Mathlib.Numerals.{add-one}
 use native.Mathlib.Omega.{arith}
@@ -19,7 +19,7 @@ use lib.ListN.{length, get_or, take, drop, length-drop, drop_of_length-le}
 use lib.Seq.{take_all, drop-cons}
 use borrow.Author.Tests.{ltb-true, ltb-false, eqb-true, eqb-false, lt-ltb, le-ltb, le-leb, lt-leb}
 use Rattle.field.specs.Bytes.{Bytes, ascii, pick, same, among}
-use Rattle.field.specs.Row.{next_of, read}
+use Rattle.field.specs.Row.{read}
 use Rattle.field.specs.Front.{body_of}
 use Rattle.field.proofs.FrontLaws.{read_empty}
 use Rattle.names.specs.Names.{small_letter, small_letters, normalize_dom_attr_name}

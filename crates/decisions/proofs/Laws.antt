@@ -1,7 +1,6 @@
 -- What the walks need of elements, values, shapes and children as they stand in bytes.
 -- Main statements: `child_element`, `raw_element`, `child_fragment`, `raw_fragment`, `element_serializable`, `becomes_is`; for what
 -- `shape_at` answers `string_contained` and the like. The readings by the tag in front are in `Series`. Assumes nothing.
-use Rattle.std.specs.Prelude.{Option, Some, None}
 use mathlib.Core.Path.{◌≡◌, refl, sym, ap, ap₂, ◌∙◌, subst}
 use mathlib.Core.Bool.{Bool, false, ◌&&◌, ◌||◌, not, and_assoc}
 use Prim.Native.Nat.{ℕ, ◌+◌}
@@ -11,13 +10,13 @@ use lib.Dec.{leb, eqb}
 use borrow.Author.Tests.{ne_eqb}
 use Rattle.field.specs.Bytes.{Bytes, ascii, pick, same, among, null?}
 use Rattle.field.specs.Row.{Row, end, loose, field, read}
-use Rattle.field.specs.Front.{tag_of_front, body_of, behind_of}
+use Rattle.field.specs.Front.{tag_of_front, body_of}
 use Rattle.names.specs.Names.{get_attr_name}
 use Rattle.text.specs.Text.{jsx_text_to_str}
 use Rattle.page.specs.Number.{number_in}
 use Rattle.page.specs.Page as P
 use Rattle.page.specs.Page.{Options, Name, identifier, member, namespaced, Expr, string_literal, number_literal, boolean_literal, null_literal, other_literal, minus_literal}
-use Rattle.page.specs.Tree.{choose, boolean_in, expr_by, Contained, nothing_contained, contained, contained_value, element_in, fragment_in, attributes_in, value_in, value_behind, children_in, contained_in, expr_in}
+use Rattle.page.specs.Tree.{choose, boolean_in, expr_by, Contained, nothing_contained, contained, element_in, fragment_in, attributes_in, children_in, contained_in, expr_in}
 use Rattle.spec.specs.Attributes.{first_upper, keeps_from_serializing, is_serializable}
 use Rattle.spec.specs.Merge as M
 use Rattle.spec.specs.Merge.{text_count, serializable_count, becomes_template}

@@ -2,32 +2,27 @@
 -- `names_50`, `repeats_more`, `keyed`; what the loops over attributes keep, `Passed`, `noted_more`. Assumes nothing.
 use Rattle.std.specs.Prelude.{Option, Some, None, option_map, MatchOption, IfSome}
 use Rattle.std.specs.Iterator.{YieldsFirst, YieldsThen}
-use Rattle.std.specs.List.{slice_get, list_any, AllZip}
-use Rattle.std.specs.Option.{is_some, unwrap_or, option_copied}
-use Rattle.std.proofs.lemmas.Grind.{get_or_default_zero}
+use Rattle.std.specs.List.{list_any, AllZip}
 use Rattle.std.proofs.lemmas.Iterator.{YieldsList}
 use Rattle.std.proofs.lemmas.Iterator.Consumers.{YieldsList-from_shown}
-use Rattle.std.proofs.lemmas.Option.{unwrap_or-slice_get}
 use denote.Ref.{Bor}
 use Rattle.std.specs.Char.{is_ascii_uppercase}
-use mathlib.Core.Path.{◌≡◌, refl, sym, ap, ap₂, subst, ◌∙◌}
+use mathlib.Core.Path.{◌≡◌, refl, sym, ap, subst, ◌∙◌}
 use mathlib.Core.Bool.{Bool, true, false, ◌&&◌, ◌||◌, not, and-false, and-eq-true_iff, or-false, false≢true}
-use Prim.Native.Nat.{ℕ, suc, ◌+◌, ◌-◌, ◌*◌, ◌/◌, ◌%◌, ◌≤◌, ◌<◌, ◌^◌}
+use Prim.Native.Nat.{ℕ, suc, ◌+◌, ◌-◌, ◌*◌, ◌%◌, ◌≤◌, ◌<◌, ◌^◌}
 use native.Mathlib.Nat.{mod-lt, mul-le-mul_right}
-use native.Mathlib.Numerals.{add-one}
 use native.Mathlib.Omega.{arith}
-use mathlib.Core.List.{List, [], ◌∷◌, ◌++◌, append-nil, append_assoc, cons≢nil}
+use mathlib.Core.List.{List, [], ◌∷◌, ◌++◌, append-nil, append_assoc}
 use lib.Dec.{eqb, leb, ltb}
-use lib.ListN.{length, length-append, length-set, get_or-append, length-replicate, replicate, get_or, set, take, drop, drop_of_length-le, take-append-drop}
-use lib.Seq.{take_at, get_or-append_seam, get_or-set_same, get_or-set_other}
-use borrow.Author.Tests.{eqb-true, eqb-false, leb-true, ltb-true, ltb-false, eq-eqb, ne_eqb, lt-ltb, le-ltb}
+use lib.ListN.{length, get_or, set, take, drop}
+use lib.Seq.{take_at, get_or-set_same, get_or-set_other}
+use borrow.Author.Tests.{eqb-true, eqb-false, leb-true, eq-eqb, ne_eqb, le-ltb}
 use Rattle.field.specs.Bytes.{Bytes, ascii, pick, same, among}
 use Rattle.field.specs.Row.{read, Ended}
-use Rattle.field.specs.Fields.{GivesField, Steps, IsFront, IsEnd}
+use Rattle.field.specs.Fields.{GivesField, Steps, IsFront}
 use Rattle.field.specs.declared.reader.Field.{Field}
 use Rattle.field.specs.declared.reader.Fields.{Fields}
 use Rattle.field.specs.Front.{tag_of_front, body_of, behind_of}
-use Rattle.field.proofs.FrontLaws.{behind_less}
 use Rattle.page.specs.Page as P
 use Rattle.decisions.specs.declared.attribute.Attributes.{Attributes}
 use Rattle.decisions.specs.At.{written, IsAttribute, NoAttribute, GivesAttribute}

@@ -94,6 +94,7 @@ pub fn is_component(b: &[u8]) -> bool
 }
 
 // The fields in which a template looks for the element's children: a void element's are not looked at.
+#[inline(always)]
 pub fn inner_children(b: &[u8]) -> &[u8]
     ensures { result.now ≡ pick (is_void_element (identifier_bytes (element_name (read b.now)))) [] (behind_of b.now) }
 {

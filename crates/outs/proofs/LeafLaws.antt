@@ -1,12 +1,9 @@
 -- What the tests of the code say of an import. Main statements: `import_other`, `import_text`, `import_missing`. Assumes nothing.
 use mathlib.Core.Path.{◌≡◌, refl, sym, ap, ◌∙◌, subst}
-use mathlib.Core.Bool.{Bool, true, false, ◌&&◌}
-use Prim.Native.Nat.{ℕ, ◌≤◌}
+use Prim.Native.Nat.{ℕ}
 use native.Mathlib.Omega.{arith}
-use mathlib.Core.List.{[], ◌∷◌}
-use lib.Dec.{eqb, leb}
-use lib.ListN.{length, get_or}
-use borrow.Author.Tests.{eq-eqb, ne_eqb, le-leb, leb-true}
+use lib.Dec.{eqb}
+use borrow.Author.Tests.{eq-eqb, ne_eqb}
 use Rattle.field.specs.Bytes.{Bytes}
 use Rattle.field.specs.Row.{Inside, only_bytes, fields_after, counted, inside, Next, nothing, no_field, next, next_of, opened, built, read, Ended}
 use Rattle.field.specs.Fields.{IsFront, IsEnd}
@@ -14,7 +11,7 @@ use Rattle.field.proofs.FrontLaws.{next_at}
 use Rattle.field.proofs.RowLaws.{read_step}
 use Rattle.page.specs.Check.{check_text}
 use Rattle.page.specs.CheckField.{check_missing}
-use Rattle.page.specs.Refusal.{Verdict, Fine, Refused, after, unless}
+use Rattle.page.specs.Refusal.{Refused, after, unless}
 use Rattle.page.specs.declared.Refusal.TheVariants as R
 use Rattle.page.proofs.Steps.{Then}
 use Rattle.outs.specs.PageOut.{check_sum, check_import}

@@ -1,11 +1,10 @@
 -- What a header at the front of a body's rest says of `good`. Main statements: `handed_on`, `held_front`, `held_none`, `ended`, `torn`, `unallowed`,
 -- `short_front`, `opens`, `leaf_bad`, `leaf_ends`. Assumes nothing.
-use mathlib.Core.Path.{◌≡◌, refl, sym, ap, ap₂, ◌∙◌, subst}
-use mathlib.Core.Logic.{◌⊎◌, inl, inr}
+use mathlib.Core.Path.{◌≡◌, refl, sym, ap, ◌∙◌}
 use mathlib.Core.Bool.{Bool, true, false}
 use Prim.Native.Nat.{ℕ, ◌+◌, ◌-◌, ◌≤◌, ◌<◌}
 use native.Mathlib.Omega.{arith}
-use lib.Dec.{T, eqb}
+use lib.Dec.{eqb}
 use lib.ListN.{length, take, drop, length-take}
 use lib.Seq.{drop-drop, length-take-le}
 use borrow.Author.Tests.{eq-eqb, ne_eqb, eqb-true, eqb-false}
@@ -26,27 +25,11 @@ use Rattle.outs.specs.Held.{nests, held, read_out}
 use Rattle.outs.specs.PageOut.{allowed, left, closed, within, front_right, check_leaf, good}
 use Rattle.outs.specs.Step.{LeafIs, OpenIs}
 use Rattle.outs.specs.declared.Expect.{Expect}
-use Rattle.outs.specs.declared.Expect.TheVariants as E
 
 -- ---- what a `?` hands on
 
 pub handed_on : {A : Type 0} {x : Result A Refusal} {n : Refusal} → IsErr x × IsErrAnd x (λ (m : Refusal). m ≡ n) → x ≡ Err n
 handed_on h = let p = err_from_is_err_and _ h.1 in p.1 ∙ ap Err p.2
-
--- what one test says
-pub refused_by : {b : Bool} {m n : Refusal} {r : Verdict} → r ≡ unless b m → r ≡ Refused n → (b ≡ false) × (m ≡ n)
-refused_by {b} {m} {n} e f = on b (sym e ∙ f)
-  where
-    on : (x : Bool) → unless x m ≡ Refused n → (x ≡ false) × (m ≡ n)
-    on true k = absurd (let z : ◌≡◌ {A = ℕ} 0 1 = cc in omega arith)
-    on false k = (refl, cc)
-
-pub fine_by : {b : Bool} (m : Refusal) {r : Verdict} → r ≡ unless b m → r ≡ Fine → b ≡ true
-fine_by {b} m e f = on b (sym e ∙ f)
-  where
-    on : (x : Bool) → unless x m ≡ Fine → x ≡ true
-    on true k = refl
-    on false k = absurd (let z : ◌≡◌ {A = ℕ} 0 1 = cc in omega arith)
 
 -- ---- what stands before the fields of a body
 

@@ -11,7 +11,7 @@ use lib.Dec.{eqb, leb}
 use lib.ListN.{length, take, drop, get_or, length-take, length-drop}
 use lib.Seq.{drop-cons, drop-drop, take_all, take-take, length-take-le}
 use borrow.Author.Tests.{eq-eqb, ne_eqb, le-leb, lt-leb, eqb-true, eqb-false}
-use Rattle.field.specs.Bytes.{Bytes, pick}
+use Rattle.field.specs.Bytes.{Bytes}
 use Rattle.field.specs.Number.{number_from, number_of}
 use Rattle.field.specs.Row.{Row, end, loose, field, Inside, only_bytes, fields_after, counted, counted_front, inside, Next, nothing, no_field, next, next_of, opened, built, read}
 use Rattle.field.specs.Fields.{IsFront, IsEnd}
@@ -21,7 +21,6 @@ use Rattle.field.proofs.RowLaws.{read_step, next_nothing}
 use Rattle.page.specs.Check.{check_text, check_end, check_nothing_after}
 use Rattle.page.specs.CheckField.{check_missing}
 use Rattle.page.specs.Refusal.{Verdict, Fine, Refused, after, unless}
-use Rattle.page.specs.declared.Refusal.{Refusal}
 use Rattle.page.specs.declared.Refusal.TheVariants as R
 use Rattle.page.proofs.Steps.{Then, front, inner, row_at, ended, tested}
 use Rattle.loops.proofs.Parts.{drop_take}

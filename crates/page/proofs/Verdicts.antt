@@ -1,7 +1,7 @@
 -- What it takes for checks in a row to find nothing, and what is known once they did. One law for each combinator, either way.
--- Main statements: `after_fine`, `fine_after`, `header_fine`, `fine_header`.
+-- Main statements: `after_fine`, `fine_after`, `header_fine`, `fine_header`, `refused_by`, `fine_by`.
 -- Assumes nothing.
-use mathlib.Core.Path.{◌≡◌, refl, ap, ◌∙◌}
+use mathlib.Core.Path.{◌≡◌, refl, sym, ap, ◌∙◌}
 use mathlib.Core.Bool.{Bool, true, false, ◌&&◌, ◌||◌}
 use Prim.Native.Nat.{ℕ}
 use native.Mathlib.Omega.{arith}
@@ -26,6 +26,21 @@ after_fine (Refused n) w e = refused n e
 pub unless_fine : (b : Bool) (n : Refusal) → unless b n ≡ Fine → T b
 unless_fine true n e = tt
 unless_fine false n e = refused n e
+
+-- what one test says behind a `?`
+pub fine_by : {b : Bool} {v : Verdict} (n : Refusal) → v ≡ unless b n → v ≡ Fine → b ≡ true
+fine_by {b} n u i = on b (sym u ∙ i)
+  where
+    on : (c : Bool) → unless c n ≡ Fine → c ≡ true
+    on true q = refl
+    on false q = refused n q
+
+pub refused_by : {b : Bool} {v : Verdict} {n e : Refusal} → v ≡ unless b n → v ≡ Refused e → (b ≡ false) × (n ≡ e)
+refused_by {b} {v} {n} {e} u i = on b (sym u ∙ i)
+  where
+    on : (c : Bool) → unless c n ≡ Refused e → (c ≡ false) × (n ≡ e)
+    on true q = refused e (sym q)
+    on false q = (refl, cc)
 
 pub header_fine : (ok : Bool) (d : ℕ) → check_header ok d ≡ Fine → T ok × Deep d
 unfolding check_header

@@ -10,7 +10,7 @@ use mathlib.Core.List.{[], ◌∷◌}
 use lib.Dec.{leb}
 use lib.ListN.{length, take, drop, get_or, length-drop, drop_of_length-le}
 use lib.Seq.{take_all, take-length, drop-length}
-use borrow.Author.Tests.{leb-true, leb-false, lt-leb}
+use borrow.Author.Tests.{leb-true, leb-false}
 use Rattle.field.specs.Bytes.{Bytes, pick}
 use Rattle.field.specs.Number.{number_from}
 use Rattle.field.specs.Row.{Row, end, loose, field, Inside, only_bytes, fields_after, counted, counted_front, inside, Next, nothing, no_field, next, next_of, opened, built, read, Ended}

@@ -62,6 +62,7 @@ fn put_gaps(out: &mut [u8], place: usize, end: usize, gaps: usize)
 
 // The open string is closed as strings' `cut` does it, which asks room for a next one: here none comes. What both share is a head and what is due
 // behind it, a call each.
+#[inline(always)]
 fn closed(out: &mut [u8], n: usize, st: Records, open: Open) -> Records
     requires { (st.place + 9 ≤ C.end «open») × C.Low (C.at out.old «open») }
     ensures { at out.new result ≡ end_at n st «open».gaps (C.close (C.at out.old «open»)) }

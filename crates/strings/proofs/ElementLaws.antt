@@ -3,20 +3,16 @@
 -- Assumes nothing.
 use mathlib.Core.Path.{◌≡◌, sym, ap, ◌∙◌, subst}
 use Prim.Native.Nat.{ℕ, ◌+◌, ◌*◌, ◌≤◌, ◌<◌}
-use native.Mathlib.Numerals.{add-one}
 use native.Mathlib.Omega.{arith}
 use mathlib.Core.Bool.{Bool, true, false, ◌&&◌}
 use mathlib.Core.List.{List, [], ◌∷◌, ◌++◌}
 use lib.Dec.{eqb}
-use lib.ListN.{length, get_or, take}
-use lib.Seq.{take-suc}
+use lib.ListN.{length}
 use Rattle.field.specs.Bytes.{Bytes, pick}
 use Rattle.field.specs.Row.{read, Ended}
 use Rattle.field.specs.Front.{behind_of}
 use Rattle.field.specs.Fields.{IsFront}
-use Rattle.field.specs.Put.{Wrote}
 use Rattle.field.proofs.Actions.{by, on, finish, room}
-use Rattle.field.proofs.PutLaws.{wrote_then, wrote_is}
 use Rattle.text.specs.Text.{jsx_text_to_str}
 use Rattle.names.specs.Names.{is_void_element}
 use Rattle.page.specs.Tree.{children_in, contained_in}

@@ -14,8 +14,7 @@ use Rattle.field.specs.Put.{put}
 use Rattle.field.proofs.PutLaws.{length_field_bytes}
 use Rattle.utf8.specs.Utf8.{utf8}
 use Rattle.page.specs.Page as P
-use Rattle.page.specs.Refusal.{Verdict, unless, refusal_number}
-use Rattle.page.proofs.Verdicts.{refused}
+use Rattle.page.specs.Refusal.{refusal_number}
 use Rattle.page.specs.declared.Refusal.{Refusal}
 use Rattle.page.specs.declared.Refusal.TheVariants as F
 use Rattle.page.specs.Encode.{name_row, tag_row, attributes_row, children_row}
@@ -187,21 +186,6 @@ given_to : {A E : Type 0} {o : Option A} {n e : E} → o ≡ None → Err e ≡ 
 given_to {A} {E} {o} {n} {e} b a =
     let h : Err e ≡ Err n = a ∙ ap (λ (x : Option A). ok_or x n) b in
     cc
-
--- the exit of a `?` behind a test
-pub refused_by : {b : Bool} {v : Verdict} {n e : Refusal} → v ≡ unless b n → v ≡ Err e → (b ≡ false) × (e ≡ n)
-refused_by {b} {v} {n} {e} u i = on b (sym u ∙ i)
-  where
-    on : (c : Bool) → unless c n ≡ Err e → (c ≡ false) × (e ≡ n)
-    on true q = absurd (refused e (sym q))
-    on false q = (refl, cc)
-
-pub fine_by : {b : Bool} {v : Verdict} (n : Refusal) → v ≡ unless b n → v ≡ Ok tt → b ≡ true
-fine_by {b} n u i = on b (sym u ∙ i)
-  where
-    on : (c : Bool) → unless c n ≡ Ok tt → c ≡ true
-    on true q = refl
-    on false q = absurd (refused n q)
 
 pub handed : {r : Result ℕ Unread} {e : Refusal} → IsErrAnd r (λ v. v ≡ U.Refused e) → r ≡ Err (U.Refused e)
 handed {r = Ok x} h = absurd h

@@ -51,7 +51,7 @@ impl From<Refusal> for Unread {
 const MAX_FIELD: usize = 3 + MAX_BODY;
 
 // The bytes that were written. The fields of a tag are in its own field, so that a body is too long exactly where the tag's is.
-#[tactic(auto, using(crate::proofs::AnswerLaws::refused_by, crate::proofs::AnswerLaws::fine_by, crate::proofs::AnswerLaws::handed), unfolding(crate::specs::Answers::checked, crate::specs::Answers::refused_if))]
+#[tactic(auto, using(page::proofs::Verdicts::refused_by, page::proofs::Verdicts::fine_by, crate::proofs::AnswerLaws::handed), unfolding(crate::specs::Answers::checked, crate::specs::Answers::refused_if))]
 fn check(st: Reading, room: usize) -> Result<usize, Unread>
     ensures { result ≡ checked st room }
 {

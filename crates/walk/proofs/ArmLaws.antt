@@ -15,14 +15,14 @@ use borrow.Author.Tests.{eq-eqb, ne_eqb}
 use Rattle.field.specs.Bytes.{Bytes, pick}
 use Rattle.field.specs.Row.{read, Ended}
 use Rattle.field.specs.Front.{tag_of_front, body_of, behind_of}
-use Rattle.field.specs.Fields.{IsFront, IsEnd, FieldAt}
+use Rattle.field.specs.Fields.{IsFront, FieldAt}
 use Rattle.field.specs.declared.reader.Field.{Field}
 use mir.Val.{bool_byte}
 use Rattle.field.specs.Put.{Wrote}
 use Rattle.field.proofs.PutLaws.{wrote_then}
 use Rattle.names.specs.Names.{AttrName, get_attr_name}
 use Rattle.page.specs.Number.{number_tag, minus_tag, number_in, number_bytes}
-use Rattle.page.specs.Tree.{boolean_in, texts_in, first_in, second_in, expr_in}
+use Rattle.page.specs.Tree.{boolean_in, texts_in, expr_in}
 use Rattle.page.specs.Page.{Name, identifier, member, namespaced}
 use Rattle.page.specs.Encode.{boolean_byte}
 use Rattle.spec.specs.Pass.{Mid, none, node}
@@ -30,15 +30,15 @@ use Rattle.spec.specs.Output.{leaf, string_node, true_node, null_node}
 use Rattle.spec.specs.Attributes as A
 use Rattle.spec.specs.Attributes.{first_upper}
 use Rattle.spec.specs.Children.{members_row, name_expr}
-use Rattle.decisions.specs.At.{element_name, identifier_bytes, number_at}
-use Rattle.decisions.proofs.Series.{tested, texts_none, texts_40, texts_past, name_40, name_41, name_42, name_other, expr_none, expr_70, expr_71, expr_72, expr_74, expr_75, expr_76, expr_79, expr_7a, expr_7b, expr_30, expr_31, expr_other}
+use Rattle.decisions.specs.At.{number_at}
+use Rattle.decisions.proofs.Series.{tested, texts_none, texts_40, texts_past, expr_none, expr_70, expr_71, expr_72, expr_74, expr_75, expr_76, expr_79, expr_7a, expr_7b, expr_30, expr_31, expr_other}
 use Rattle.walk.specs.declared.attribute.Gap.{Gap}
 use Rattle.walk.specs.declared.attribute.Gap.TheVariants as G
 use Rattle.walk.specs.declared.state.Walk.{Walk}
 use Rattle.walk.specs.See.{World, at, see, to_page, begun, wrap, props_closed, literal, Low}
 use Rattle.walk.specs.Plan.{string_of, attr_plan, prop_plan, plan_by, plan_front, plan_back}
 use Rattle.walk.proofs.SeeLaws.{see_none, see_grows}
-use Rattle.walk.proofs.LeafLaws.{low_world, low_seen, pick_true, pick_false, leaf_room, leaf_close, leaf_is, low_as, done_as, front_low, rest_is}
+use Rattle.walk.proofs.LeafLaws.{low_world, low_seen, pick_true, pick_false, leaf_room, low_as, done_as, front_low, rest_is}
 
 -- ---- an expression in which no tag stands, by its tag
 

@@ -1,13 +1,13 @@
 -- What stands in page out for an attribute in an opening tag, and for a property of a call: a field with a front, an expression that is held
 -- in the page and visited, and what is written behind it. Assumes nothing: these are definitions.
-use Rattle.std.specs.Prelude.{ℕ, Bool, true, false, ◌||◌, List, [], ◌≡◌, ◌≤◌, length, Option, Some, None}
+use Rattle.std.specs.Prelude.{ℕ, Bool, true, false, ◌||◌, List, [], Option, Some, None}
 use Rattle.field.specs.Bytes.{Bytes, ascii, pick, same, among}
 use Rattle.field.specs.Row.{read}
 use Rattle.names.specs.Names.{AttrName, get_attr_name, is_boolean_attr}
 use Rattle.text.specs.Text.{normalize_lit_str}
 use Rattle.page.specs.Page as P
 use Rattle.page.specs.Page.{Options}
-use Rattle.page.specs.Tree.{attr_name_in, value_in, Contained, nothing_contained, contained, contained_value, contained_in}
+use Rattle.page.specs.Tree.{attr_name_in, value_in, Contained, nothing_contained, contained, contained_in}
 use Rattle.spec.specs.Pass.{Mid, none, node, raw}
 use Rattle.spec.specs.Output.{leaf, string_node, true_node, null_node}
 use Rattle.spec.specs.Merge.{Shape, string_shape, number_shape, boolean_shape, null_shape, literal_shape, minus_shape, other_shape}

@@ -1,12 +1,11 @@
 -- The page walk: both outs with the places in them, and what both passes do to them. Assumes nothing: these are definitions.
-use Rattle.std.specs.Prelude.{ℕ, ◌+◌, ◌-◌, ◌<◌, ◌^◌, Bool, true, false, ◌||◌, [], ◌∷◌, ◌++◌, eqb, ltb, length}
+use Rattle.std.specs.Prelude.{ℕ, ◌+◌, ◌-◌, ◌<◌, ◌^◌, Bool, true, false, ◌||◌, [], ◌∷◌, eqb, ltb, length}
 use Rattle.field.specs.Bytes.{Bytes, pick}
 use Rattle.field.specs.Number.{big_endian}
 use Rattle.field.specs.Row.{Row, bytes, long_body}
 use Rattle.field.specs.Put.{put, head}
 use Rattle.page.specs.Page as P
 use Rattle.page.specs.Number.{number_tag, minus_tag, number_bytes}
-use Rattle.page.specs.Tree.{texts_in, first_in, second_in}
 use Rattle.page.specs.Encode.{boolean_byte}
 use Rattle.spec.specs.Pass.{Done, Pass, Mid, none, node}
 use Rattle.spec.specs.Output.{leaf, null_node}

@@ -10,7 +10,7 @@ use Rattle.outs.specs.Held.{read_out}
 use Rattle.outs.specs.PageOut.{check_page_out}
 use Rattle.outs.specs.Templates.{check_templates}
 use Rattle.outs.specs.Renumber.{Renumbers}
-use Rattle.outs.proofs.StepLaws.{refused_by, fine_by}
+use Rattle.page.proofs.Verdicts.{refused_by, fine_by}
 use Rattle.field.specs.Row.{read}
 use Rattle.std.specs.Result.{result_ok}
 use Rattle.convert.specs.Convert.{refused}

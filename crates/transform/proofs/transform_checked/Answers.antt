@@ -1,9 +1,6 @@
 -- `transform_checked` meets its contract: the verdict is that of the outputs, and a refusal clears what was written. Assumes nothing.
-use Rattle.transform.proofs.AnswerLaws.{later_one, refused_outputs, accepted_outputs}
+use Rattle.transform.proofs.AnswerLaws.{refused_outputs, accepted_outputs}
 use Rattle.transform.proofs.transform_checked.Goals as goal
-
-pub overflow_sub-result : goal.overflow_sub-result
-overflow_sub-result c = later_one _ _ c.args.scratch.now _ _ c.requires c.write_given-w.ensures
 
 pub returns-in-Err : goal.returns-in-Err
 returns-in-Err c = refused_outputs _ _ _ _ _ c.requires c.write_given-w.ensures c.write_given-w.auto.templates c.write_given-w.auto.page c.check_outputs.ensures c.in-Err.is c.write_given-w.auto.scratch c.refuse.ensures

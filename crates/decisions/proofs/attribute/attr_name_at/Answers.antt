@@ -1,8 +1,8 @@
-use mathlib.Core.Path.{◌≡◌, sym, ap, ◌∙◌, subst}
+use mathlib.Core.Path.{sym, ap, ◌∙◌, subst}
 use native.Mathlib.Omega.{arith}
 use Rattle.field.specs.Fields.{FieldAt, IsFront, IsEnd}
 use Rattle.field.specs.Front.{behind_of}
-use Rattle.names.specs.Names.{ident, namespaced}
+use Rattle.names.specs.Names.{ident}
 use Rattle.decisions.proofs.Series.{attr_name_40, attr_name_42, attr_name_other}
 use Rattle.decisions.proofs.attribute.attr_name_at.Goals as goal
 use Rattle.decisions.proofs.attribute.attr_name_at.Goals.{in_default-via-in-Some+in_default, in_default-via-in_default}

@@ -1,5 +1,4 @@
 use borrow.Author.Rules.{rules}
-use Rattle.field.specs.Bytes.{ascii, same}
 use Rattle.decisions.proofs.AttributeLaws.{asked_inner_html}
 use Rattle.decisions.proofs.attribute.is_inner_html.Goals as goal
 

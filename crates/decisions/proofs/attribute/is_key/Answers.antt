@@ -1,8 +1,5 @@
 use mathlib.Core.Bool.{true, false}
-use mathlib.Core.Path.{ap, sym, ◌∙◌}
 use borrow.Author.Rules.{rules}
-use Rattle.field.specs.Bytes.{ascii, same}
-use Rattle.names.specs.Names.{get_attr_name}
 use Rattle.decisions.proofs.AttributeLaws.{asked_key}
 use Rattle.decisions.proofs.attribute.is_key.Goals as goal
 

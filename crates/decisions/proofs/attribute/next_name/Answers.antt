@@ -1,6 +1,5 @@
 use borrow.Author.Rules.{rules}
 use borrow.Author.Tests.{tests}
-use lib.Dec.{eqb}
 use Rattle.decisions.proofs.AttributeLaws.{first_40, second_40, first_none, second_none}
 use Rattle.decisions.proofs.attribute.next_name.Goals as goal
 

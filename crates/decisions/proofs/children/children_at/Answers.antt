@@ -1,11 +1,8 @@
 -- The invariant: what is left holds the same children, and stands at the end of the whole.
 use mathlib.Core.Path.{refl, sym, ◌∙◌}
 use native.Mathlib.Omega.{arith}
-use Rattle.decisions.proofs.ChildrenLaws.{first_child, no_child, passed_by, stands_behind}
+use Rattle.decisions.proofs.ChildrenLaws.{no_child, passed_by, stands_behind}
 use Rattle.decisions.proofs.children.children_at.Goals as goal
-
-pub returns-then-is_child-clause-first : goal.returns-then-is_child-clause-first
-returns-then-is_child-clause-first c = let f = c.in-Some.ensures.steps in let i = c.loop-field.invariant in rw i.0 (first_child _ _ i.1 _ f.tag_is (sym c.is_child.ensures ∙ c.if-is_child.true) (λ z. omega (arith, f.tag_below, z)))
 
 pub loop-field-preserved : goal.loop-field-preserved
 loop-field-preserved c =

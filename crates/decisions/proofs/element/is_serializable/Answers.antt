@@ -1,5 +1,4 @@
-use mathlib.Core.Path.{sym, ◌∙◌}
-use mathlib.Core.Bool.{not}
+use mathlib.Core.Path.{◌∙◌}
 use native.Mathlib.Omega.{arith}
 use Rattle.decisions.proofs.ElementLaws.{serializable_upper, serializable_kept, serializable_rest, never_serializable}
 use Rattle.decisions.proofs.element.is_serializable.Goals as goal

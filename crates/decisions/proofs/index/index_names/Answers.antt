@@ -1,21 +1,13 @@
 -- The invariant: the entries and what is left of the series have its names, and a name's place is where what is left of it begins.
-use mathlib.Core.Path.{◌≡◌, refl, sym, ap, ◌∙◌, subst}
-use Prim.Native.Nat.{ℕ, ◌-◌}
+use mathlib.Core.Path.{ap, ◌∙◌}
 use native.Mathlib.Omega.{arith}
-use lib.ListN.{length}
-use Rattle.decisions.specs.Index.{hash, linked}
-use Rattle.decisions.proofs.BuildLaws.{built_none, built_more, built_past, built_all, few}
+use Rattle.decisions.specs.Index.{hash}
+use Rattle.decisions.proofs.BuildLaws.{built_none, built_more, built_past, built_all}
 use Rattle.decisions.proofs.index.index_names.Goals as goal
 use Rattle.decisions.proofs.index.index_names.Goals.{then-field-eq32, else-field-eq32}
 
 pub loop-field-init : goal.loop-field-init
 loop-field-init c = rw c.into_iter-field-iterator.ensures.into_iter_gives (built_none c.args.list.now c.args.out.now c.requires.0 c.requires.1.0 c.requires.1.1 c.put_bytes.ensures.out_is, omega arith)
-
-pub link-requires : goal.link-requires
-link-requires c =
-    let f = c.in-Some.ensures.steps in
-    let i = c.loop-field.invariant in
-    (c.hash_on.ensures.1, (few _ _ _ _ i.0 _ f.tag_is (λ z. omega (arith, f.tag_below, z)), omega (arith, i.0.short, i.1)))
 
 pub loop-field-preserved : goal.loop-field-preserved
 loop-field-preserved c =

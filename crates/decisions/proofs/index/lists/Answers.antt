@@ -1,5 +1,5 @@
 -- Nothing stands among no names.
-use mathlib.Core.Path.{sym, ◌∙◌}
+use mathlib.Core.Path.{sym}
 use native.Mathlib.Omega.{arith}
 use Rattle.decisions.proofs.IndexLaws.{listed_empty}
 use Rattle.decisions.proofs.index.lists.Goals as goal

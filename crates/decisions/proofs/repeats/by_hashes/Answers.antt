@@ -1,8 +1,8 @@
 -- The invariant: no two of the names that were passed are one, and each is noted under both halves of its hash.
-use mathlib.Core.Path.{◌≡◌, refl, sym, ap, ◌∙◌, subst}
+use mathlib.Core.Path.{◌≡◌, sym, ap, ◌∙◌, subst}
 use Prim.Native.Nat.{◌/◌, ◌%◌}
-use mathlib.Core.Bool.{Bool, true, false}
-use mathlib.Core.List.{List, map, [], ◌∷◌, ◌++◌}
+use mathlib.Core.Bool.{false}
+use mathlib.Core.List.{List, map, [], ◌∷◌}
 use native.Mathlib.Omega.{arith}
 use lib.ListN.{length, length-append}
 use Rattle.std.proofs.lemmas.List.{map-append, length-map}

@@ -1,9 +1,9 @@
 -- By the letters of a name, where they tell.
-use mathlib.Core.Path.{◌≡◌, sym, ap, ◌∙◌}
+use mathlib.Core.Path.{sym, ap, ◌∙◌}
 use native.Mathlib.Omega.{arith}
 use Prim.Native.Nat.{ℕ}
 use lib.ListN.{get_or}
-use Rattle.decisions.specs.Repeats.{last_letter, letter_key, key_by}
+use Rattle.decisions.specs.Repeats.{key_by}
 use Rattle.decisions.proofs.RepeatLaws.{keyed, last_of_one, key_of_one, key_of_more}
 use Rattle.decisions.proofs.repeats.key_of.Goals as goal
 use Rattle.decisions.proofs.repeats.key_of.Goals.{in-len1, in-len2-up}

@@ -1,12 +1,12 @@
 -- The invariant: no two of the names that were passed are one, and each is noted under its key.
-use mathlib.Core.Path.{◌≡◌, refl, sym, ap, ◌∙◌}
-use mathlib.Core.Bool.{true, false≢true}
-use mathlib.Core.List.{map, [], ◌∷◌, ◌++◌}
+use mathlib.Core.Path.{refl, sym}
+use mathlib.Core.Bool.{false≢true}
+use mathlib.Core.List.{[], ◌∷◌}
 use native.Mathlib.Omega.{arith}
 use Rattle.field.specs.Bytes.{among}
-use lib.ListN.{length, length-set}
+use lib.ListN.{length-set}
 use Rattle.std.proofs.lemmas.List.{map-append}
-use Rattle.decisions.specs.Repeats.{name_in, names_in, letter_key}
+use Rattle.decisions.specs.Repeats.{name_in, letter_key}
 use Rattle.decisions.proofs.RepeatLaws.{passed_none, passed_one, passed_all, names_step, names_gone, noted_more, not_noted}
 use Rattle.decisions.proofs.repeats.may_repeat.Goals as goal
 

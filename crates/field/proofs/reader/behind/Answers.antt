@@ -1,12 +1,5 @@
-use native.Mathlib.Omega.{arith}
-use Rattle.field.proofs.HeaderLaws.{within_field, behind_is, nothing_behind}
+use Rattle.field.proofs.HeaderLaws.{behind_is, nothing_behind}
 use Rattle.field.proofs.reader.behind.Goals as goal
-
-pub slice_bounds-result-count : goal.slice_bounds-result-count
-slice_bounds-result-count c = omega (arith, within_field c.read_header.ensures.1 c.in-Some.is)
-
-pub slice_bounds-result-start : goal.slice_bounds-result-start
-slice_bounds-result-start c = omega (arith, within_field c.read_header.ensures.1 c.in-Some.is)
 
 pub returns-in-Some : goal.returns-in-Some
 returns-in-Some c = behind_is _ c.read_header.ensures.0 c.in-Some.is

@@ -1,17 +1,9 @@
 -- Where all bytes fit they are stored one by one; else they are clipped. Assumes nothing.
 use mathlib.Core.Path.{refl}
 use Prim.Native.Nat.{◌/◌, ◌%◌}
-use native.Mathlib.Omega.{arith}
-use lib.ListN.{length-set}
 use Rattle.field.specs.Number.{big_endian}
 use Rattle.field.proofs.PutLaws.{wrote_then, store_three}
 use Rattle.field.proofs.writer.put_head.Goals as goal
-
-pub bounds-out-at-then-at-out : goal.bounds-out-at-then-at-out
-bounds-out-at-then-at-out c = simp length-set (omega arith)
-
-pub bounds-out-at-then-at-out-2 : goal.bounds-out-at-then-at-out-2
-bounds-out-at-then-at-out-2 c = simp length-set (omega arith)
 
 pub returns-then-at-out : goal.returns-then-at-out
 unfolding big_endian

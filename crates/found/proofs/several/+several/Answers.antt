@@ -3,7 +3,7 @@ use mathlib.Core.Path.{refl, sym, ◌∙◌}
 use Prim.Native.Nat.{ℕ, ◌+◌}
 use native.Mathlib.Omega.{arith}
 use Rattle.found.proofs.OneLaws.{only_here, gives_from, gives_plain, gives_52, gives_31, gives_template, gives_many}
-use Rattle.found.proofs.SeveralLaws.{Seen, bytes_of, going_start, counted_on, seen_enough, heavy_shorter, heavy_last, other_seen, blank_seen, run_seen, text_seen, joined_seen, more_longer, more_seen, expr_unsure, expr_seen, element_seen, fragment_heavy, fragment_unsure, fragment_seen}
+use Rattle.found.proofs.SeveralLaws.{Seen, bytes_of, going_start, counted_on, seen_enough, heavy_last, other_seen, blank_seen, run_seen, text_seen, joined_seen, more_longer, more_seen, expr_unsure, expr_seen, element_seen, fragment_heavy, fragment_unsure, fragment_seen}
 use Rattle.found.proofs.several.+several.Goals as goal
 use Rattle.found.proofs.several.+several.Goals.{has-Joined-field, has-in-96+else-run+else-is_blank, has-in-82+in-Something+else-run-2, has-in-82+in-Apart+else-n-eq1, has-else-n-eq1-via-then-n-eq1+else-not-stays, has-else-n-eq1-via-else-n-eq1, has-in-48, has-in-49+else-s-b+else-not-gives, has-then-run-via-then-run, has-then-run-via-else-run+then-is_blank}
 
@@ -52,9 +52,6 @@ has-loop-field-preserved-then-not-gives t c = fragment_unsure _ _ _ _ _ _ _ c.lo
 pub has-loop-field-preserved-in_default : goal.has-loop-field-preserved-in_default
 has-loop-field-preserved-in_default t c = other_seen _ _ _ _ _ _ _ c.loop-field.invariant c.in-Some.ensures.steps (grind arith) (grind arith) (grind arith) (grind arith)
 
-pub has-overflow_add-sure : goal.has-overflow_add-sure
-has-overflow_add-sure t c = omega (arith, c.loop-field.invariant.fewer)
-
 -- the field in front surely adds an entry
 one_more : (t : ℕ) (c : has-Joined-field t) → Seen c.args.n c.args.skip.now c.args.s.now c.next.new.self.0.now (bytes_of c.loop-field.heavy) c.match-field.run (c.loop-field.sure + 1)
 one_more t c =
@@ -78,12 +75,6 @@ has-returns-then-sure-n t c = λ h. seen_enough _ _ _ _ _ _ _ (one_more t (goal.
 
 pub has-loop-field-preserved : goal.has-loop-field-preserved
 has-loop-field-preserved t c = counted_on _ _ _ _ _ _ _ c.loop-field.invariant c.in-Some.ensures.steps (one_more t (goal.at.has-loop-field-preserved t c).Joined-field) c.if-sure-n.false
-
-pub has-overflow_add-sure-in-Some-heavy : goal.has-overflow_add-sure-in-Some-heavy
-has-overflow_add-sure-in-Some-heavy t c = omega (arith, c.loop-field.invariant.fewer)
-
-pub has-gives-requires-then-sure-n-2 : goal.has-gives-requires-then-sure-n-2
-has-gives-requires-then-sure-n-2 t c = (omega (arith, c.decreases, heavy_shorter _ _ _ _ _ _ c.loop-field.invariant c.in-Some-heavy.is), tt)
 
 pub has-returns-then-sure-n-2 : goal.has-returns-then-sure-n-2
 has-returns-then-sure-n-2 t c = λ h. heavy_last _ _ _ _ _ _ c.loop-field.invariant c.in-Some-heavy.is c.in-None.ensures.steps.ended c.if-sure-n-2.true (c.gives-then-sure-n-2.ensures h)

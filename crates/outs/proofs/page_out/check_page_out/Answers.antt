@@ -5,7 +5,7 @@ use lib.ListN.{length-set}
 use lib.Seq.{get_or-set_same}
 use Rattle.std.specs.Prelude.{Ok}
 use Rattle.page.proofs.Steps.{handed}
-use Rattle.loops.proofs.Turns.{set_below, high}
+use Rattle.loops.proofs.Turns.{set_below}
 use Rattle.outs.proofs.Checks.{none, begins, refuses, passes, opens_up, closes, finishes}
 use Rattle.outs.proofs.page_out.check_page_out.Goals as goal
 
@@ -22,12 +22,6 @@ pub loop-e-preserved-in-Open : goal.loop-e-preserved-in-Open
 loop-e-preserved-in-Open c = let p = c.loop-e.invariant.0 in let o = opens_up c.args.width p c.step.ensures (c.in_ok-e.was ∙ ap Ok c.in-Open.is) in
     rw (c.push.ensures.frames, c.push.ensures.height)
     (o.4 _ (get_or-set_same c.loop-e.stack.frames c.loop-e.stack.height _ none (omega (arith, c.loop-e.invariant.1, o.2))) (set_below c.loop-e.stack.frames c.loop-e.stack.height _ none), simp length-set c.loop-e.invariant.1)
-
-pub push-requires : goal.push-requires
-push-requires c = (omega arith, (opens_up c.args.width c.loop-e.invariant.0 c.step.ensures (c.in_ok-e.was ∙ ap Ok c.in-Open.is)).2)
-
-pub pop-requires : goal.pop-requires
-pop-requires c = (omega arith, high c.loop-e.invariant.0)
 
 pub returns-in_default : goal.returns-in_default
 returns-in_default c = finishes c.args.width c.loop-e.invariant.0 c.step.ensures (c.in_ok-e.was ∙ ap Ok c.in-End.is) (rw c.in_default.is at c.pop.ensures.top).0

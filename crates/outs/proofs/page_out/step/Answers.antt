@@ -7,7 +7,8 @@ use Rattle.page.specs.declared.Refusal.TheVariants as R
 use Rattle.loops.proofs.Headers.{header_short}
 use Rattle.outs.specs.Step.{Stepped}
 use Rattle.outs.proofs.NoField.{ended_there, torn_there}
-use Rattle.outs.proofs.StepLaws.{handed_on, refused_by, fine_by, ended, torn, unallowed, short_front, opens, leaf_bad, leaf_ends}
+use Rattle.page.proofs.Verdicts.{refused_by, fine_by}
+use Rattle.outs.proofs.StepLaws.{handed_on, ended, torn, unallowed, short_front, opens, leaf_bad, leaf_ends}
 use Rattle.outs.proofs.page_out.step.Goals as goal
 
 pub returns-in_err-check_nothing_after : goal.returns-in_err-check_nothing_after

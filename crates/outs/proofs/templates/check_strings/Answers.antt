@@ -1,6 +1,6 @@
 -- `outs::templates::check_strings` meets its contract: the strings in front are passed, and so many are still to come. Assumes nothing.
 use Prim.Native.Nat.{◌-◌}
-use mathlib.Core.Path.{ap, ◌∙◌}
+use mathlib.Core.Path.{◌∙◌}
 use native.Mathlib.Omega.{arith}
 use Rattle.page.proofs.Steps.{exit_at, on_at}
 use Rattle.outs.proofs.TemplateLaws.{string_next, string_other, string_missing, one_less, strings_end}

@@ -3,14 +3,13 @@ use borrow.Author.Rules.{rules}
 use lib.ListN.{length, length-append}
 use Rattle.printing.specs.Front.{front_of}
 use mathlib.Core.Path.{refl, sym, ap, ◌∙◌}
-use native.Mathlib.Nat.{le_refl}
 use native.Mathlib.Omega.{arith}
 use Rattle.field.specs.Row.{read}
-use Rattle.field.proofs.PutLaws.{wrote_length, wrote_then, wrote_is, wrote_none}
+use Rattle.field.proofs.PutLaws.{wrote_then, wrote_is, wrote_none}
 use Rattle.printing.specs.Card.{first_text, quoted, text_by, prop_name}
-use Rattle.printing.proofs.RoomLaws.{left_begin, left_room, left_on, left_done, room_is}
+use Rattle.printing.proofs.RoomLaws.{left_room, left_on, left_done, room_is}
 use Rattle.printing.proofs.ByTag.{all_on, all_ended, behind_on, behind_ended, front_second, first_here, first_ended, first_at, first_bytes, first_quoted, first_number, first_minus, first_spread, first_other, inner_less, parted_on, parted_ended, front_first, text_second, behind_within}
-use Rattle.field.specs.Bytes.{ascii, Bytes}
+use Rattle.field.specs.Bytes.{Bytes}
 use Rattle.page.specs.Tree.{choose}
 use Rattle.printing.proofs.expression.+print.Goals as goal
 

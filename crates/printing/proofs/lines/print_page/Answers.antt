@@ -1,9 +1,7 @@
 -- `print_page` meets its contract. The loop's invariant: the text of the items behind is left to write.
 use native.Mathlib.Omega.{arith}
-use mathlib.Core.List.{[], ◌∷◌}
-use Rattle.field.proofs.PutLaws.{wrote_length}
 use Rattle.printing.proofs.LineLaws.{page_import, page_templates, page_empty, page_item, page_end}
-use Rattle.printing.proofs.RoomLaws.{left_begin, left_room, left_on, left_done}
+use Rattle.printing.proofs.RoomLaws.{left_room, left_on, left_done}
 use Rattle.printing.proofs.lines.print_page.Goals as goal
 
 pub print_import-a-requires : goal.print_import-a-requires

@@ -1,9 +1,9 @@
 -- `print_templates` meets its contract. The loop's invariant: the text of the templates behind is left to write.
 use mathlib.Core.Path.{refl}
 use native.Mathlib.Omega.{arith}
-use Rattle.field.proofs.PutLaws.{wrote_then, wrote_length}
+use Rattle.field.proofs.PutLaws.{wrote_then}
 use Rattle.printing.proofs.LineLaws.{templates_on, templates_turn, templates_end}
-use Rattle.printing.proofs.RoomLaws.{left_begin, left_on, left_done}
+use Rattle.printing.proofs.RoomLaws.{left_on, left_done}
 use Rattle.printing.proofs.lines.print_templates.Goals as goal
 
 pub put_template_name-c-requires : goal.put_template_name-c-requires

@@ -1,8 +1,4 @@
 -- `put_renamed` meets its contract.
-use native.Mathlib.Omega.{arith}
-use mathlib.Core.List.{◌++◌}
-use lib.ListN.{length-append}
-use Rattle.field.specs.Bytes.{ascii}
 use Rattle.field.proofs.PutLaws.{wrote_then}
 use Rattle.printing.proofs.lines.put_renamed.Goals as goal
 

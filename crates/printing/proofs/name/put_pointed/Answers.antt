@@ -1,13 +1,10 @@
 -- `put_pointed` meets its contract. The loop's invariant: of the text behind the first name that of the rest is left to write.
-use mathlib.Core.Path.{refl, sym, ap, ◌∙◌}
-use native.Mathlib.Omega.{arith}
-use mathlib.Core.List.{◌∷◌}
+use mathlib.Core.Path.{sym, ap}
 use Rattle.field.specs.Row.{read}
-use Rattle.field.proofs.PutLaws.{wrote_none, wrote_is, wrote_then, wrote_length}
+use Rattle.field.proofs.PutLaws.{wrote_none, wrote_is, wrote_then}
 use Rattle.printing.specs.Card.{pointed_more}
-use Rattle.printing.specs.Front.{front_in}
 use Rattle.printing.proofs.NameLaws.{pointed_on, pointed_more_on, pointed_end, pointed_more_end}
-use Rattle.printing.proofs.RoomLaws.{room_is, room_first, room_next, left_begin, left_room, left_on, left_done}
+use Rattle.printing.proofs.RoomLaws.{room_is, room_next, left_begin, left_on, left_done}
 use Rattle.printing.proofs.name.put_pointed.Goals as goal
 
 pub returns-in_default : goal.returns-in_default

@@ -1,9 +1,5 @@
 -- `printing::quoted::put_quoted` meets its contract. Assumes nothing.
-use native.Mathlib.Omega.{arith}
-use mathlib.Core.List.{[], ◌∷◌}
-use lib.ListN.{length-append}
 use Rattle.field.proofs.PutLaws.{wrote_then}
-use Rattle.printing.specs.Card.{quoted_bytes}
 use Rattle.printing.proofs.quoted.put_quoted.Goals as goal
 
 pub returns : goal.returns

@@ -1,11 +1,8 @@
 -- `printing::quoted::put_quoted_bytes` meets its contract. The loop's invariant: the first bytes are written, quoted. Assumes nothing.
 use native.Mathlib.Omega.{arith}
-use mathlib.Core.Path.{ap}
 use Prim.Native.Nat.{◌+◌, ◌^◌}
 use lib.ListN.{get_or}
-use lib.Seq.{take_all}
-use Rattle.field.specs.Bytes.{Bytes}
-use Rattle.field.proofs.PutLaws.{wrote_none, wrote_is, wrote_length}
+use Rattle.field.proofs.PutLaws.{wrote_none}
 use Rattle.text.proofs.WriteLaws.{room_for, wrote_more}
 use Rattle.printing.specs.Card.{quoted_byte, quoted_bytes}
 use Rattle.printing.proofs.QuotedLaws.{quoted_more, quoted_le}

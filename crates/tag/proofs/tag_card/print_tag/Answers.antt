@@ -31,9 +31,6 @@ slice_bounds-put_page-end c = (stands (goal.at.slice_bounds-put_page-end c).In-0
 pub slice_bounds-put_page-end-in-0 : goal.slice_bounds-put_page-end-in-0
 slice_bounds-put_page-end-in-0 c = front_length _ _ (stands (goal.at.slice_bounds-put_page-end-in-0 c).In-0).field_within
 
-pub put_page-end-requires : goal.put_page-end-requires
-put_page-end-requires c = omega (arith, (stands (goal.at.put_page-end-requires c).In-0).field_length, c.requires)
-
 pub slice_bounds-print_card-end : goal.slice_bounds-print_card-end
 slice_bounds-print_card-end c = (page_stands _ c.put_page-end.ensures (omega (arith, (stands (goal.at.slice_bounds-print_card-end c).In-0).field_length, c.requires))).0
 

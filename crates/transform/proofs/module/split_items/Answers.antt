@@ -1,10 +1,7 @@
 -- `split_items` meets its contract: what is passed holds no statement. Assumes nothing.
 use native.Mathlib.Omega.{arith}
-use Rattle.transform.proofs.SplitLaws.{passing_begins, passing_on, splits, splits_all}
+use Rattle.transform.proofs.SplitLaws.{passing_on, splits, splits_all}
 use Rattle.transform.proofs.module.split_items.Goals as goal
-
-pub loop-item-init : goal.loop-item-init
-loop-item-init c = rw c.into_iter-item-iterator.ensures.into_iter_gives (passing_begins _)
 
 pub returns : goal.returns
 returns c = splits_all c.loop-item.invariant c.in-None.ensures.steps.ended

@@ -6,12 +6,6 @@ use Rattle.walk.specs.See.{at, hole_mid}
 use Rattle.walk.proofs.LeafLaws.{low_as, done_as, node_room, node_inner, node_close, node_is}
 use Rattle.walk.proofs.call.hole_leaf.Goals as goal
 
-pub leaf-requires : goal.leaf-requires
-leaf-requires c = let a = c.args in low_as (at [] a.page.now a.st) (ap (λ (b : Bool). hole_mid b) c.if-splice.true) c.requires
-
-pub returns-then-splice : goal.returns-then-splice
-returns-then-splice c = let a = c.args in done_as (at [] a.page.now a.st) (ap (λ (b : Bool). hole_mid b) c.if-splice.true) c.leaf.ensures
-
 pub begin-requires : goal.begin-requires
 begin-requires c = let a = c.args in node_room 0x76 (O.leaf 0x78 []) a.page.now a.st (low_as (at [] a.page.now a.st) (ap (λ (b : Bool). hole_mid b) c.if-splice.false) c.requires)
 

@@ -1,14 +1,11 @@
 -- The invariant: the name is in the chain where it is in what is left of it.
-use mathlib.Core.Path.{◌≡◌, sym, ap, ◌∙◌}
-use Prim.Native.Nat.{ℕ, ◌-◌, ◌+◌, ◌*◌}
+use mathlib.Core.Path.{◌≡◌, ap, ◌∙◌}
+use Prim.Native.Nat.{ℕ, ◌-◌, ◌+◌}
 use native.Mathlib.Omega.{arith}
 use Rattle.field.specs.Bytes.{among}
-use Rattle.decisions.specs.Index.{two_at, chain, link_of}
+use Rattle.decisions.specs.Index.{chain, link_of}
 use Rattle.decisions.proofs.IndexLaws.{chain_spent, chain_none, chain_here, chain_on}
 use Rattle.decisions.proofs.index.Index.has.Goals as goal
-
-pub loop-passed-init : goal.loop-passed-init
-loop-passed-init g c = (c.link_at-next.ensures.within, ap (λ n. among (g.N.Asked.bytes c.args.asked.now) (chain 1366 c.args.self.0.now n)) (c.link_at-next.ensures.value ∙ ap (λ h. two_at c.args.self.0.now (2 * h)) c.hash.ensures.0))
 
 pub returns-in_default : goal.returns-in_default
 returns-in_default g c = chain_none _ _ _ c.in_default.is ∙ c.loop-passed.invariant.1
