@@ -4,7 +4,8 @@
 -- How the stack is held is left open: a list of frames, or bytes.
 -- Main statements: `start`, `on_stop`, `on_leaf`, `on_open`, `on_end`, `on_done`. Assumes nothing.
 use mathlib.Core.Path.{◌≡◌, refl, sym, ap, ◌∙◌, subst}
-use Prim.Native.Nat.{ℕ, zero, suc, ◌+◌, ◌-◌, ◌%◌, ◌≤◌, ◌<◌}
+use mathlib.Core.Logic.{inl, inr}
+use Prim.Native.Nat.{ℕ, zero, suc, ◌+◌, ◌*◌, ◌-◌, ◌%◌, ◌≤◌, ◌<◌}
 use native.Mathlib.Omega.{arith}
 use native.Mathlib.Numerals.{add-one}
 use mathlib.Core.List.{List}
@@ -12,7 +13,7 @@ use lib.ListN.{length, get_or, take, drop, set}
 use lib.Seq.{take_all, get_or-set_other}
 use Rattle.field.specs.Bytes.{Bytes}
 use Rattle.field.specs.Row.{Row}
-use Rattle.loops.specs.Until.{until}
+use Rattle.loops.specs.Until.{until, HighEnough}
 use Rattle.loops.proofs.Parts.{part, Room, length_part, part_back, part_part, room_on, room_in, room_left, low, stored_until}
 
 -- a recursion over rows: `does c x w` is the world when the row x is done, where c is expected and the world was w. Of a frame, the bytes of its
@@ -44,6 +45,7 @@ pub record Going (k : Walk) (s : Bytes) (fs : k.Stack) (h at e : ℕ) (c : k.Exp
   pub ordered : at ≤ e
   pub ends : e ≤ length s
   pub room : Room h at e
+  pub entered : 3 * h ≤ at
   pub later : k.World → k.World
   pub waits : Waits k s fs h e later
   pub total : later (k.does c (k.reads (part s at e)) w) ≡ t
@@ -86,6 +88,7 @@ start k s fs c w =
       ordered = omega arith;
       ends = omega arith;
       room = tt;
+      entered = omega arith;
       later = λ x. x;
       waits = bottom refl;
       total = ap (λ (b : Bytes). k.does c (k.reads b) w) (take_all (length s - 0) s (omega arith));
@@ -96,12 +99,14 @@ module _ {k : Walk} {s : Bytes} {fs : k.Stack} {h at e : ℕ} {c : k.Expects} {w
   pub left_is : length (part s at e) ≡ e - at
   left_is = length_part s at e p.ordered p.ends
 
-  -- the stack is high enough for a field that begins here, and for what waits
-  pub deep : at + 3 ≤ e → h < 21846
-  deep x = room_left h at e p.room x
+  -- a stack that is high enough is so for a field that begins here, and for what waits
+  pub deep : {n : ℕ} → HighEnough n (length s) → at + 3 ≤ e → h < n
+  deep (inl z) x = omega (arith, room_left h at e p.room x, z)
+  deep (inr z) x = omega (arith, z, p.entered, p.ends)
 
-  pub high : h ≤ 21846
-  high = low h at e p.room p.ordered
+  pub high : {n : ℕ} → HighEnough n (length s) → h ≤ n
+  high (inl z) = omega (arith, low h at e p.room p.ordered, z)
+  high (inr z) = omega (arith, z, p.entered, p.ordered, p.ends)
 
   -- nothing more is done, whatever waits
   pub on_stop : {w' : k.World} → k.does c (k.reads (part s at e)) w ≡ w' → Stops k w' → w' ≡ t
@@ -119,6 +124,7 @@ module _ {k : Walk} {s : Bytes} {fs : k.Stack} {h at e : ℕ} {c : k.Expects} {w
         ordered = omega (arith, p.ordered);
         ends = p.ends;
         room = room_on h at (at + n) e p.room (omega arith);
+        entered = omega (arith, p.entered);
         later = p.later;
         waits = p.waits;
         total = ap p.later (ap (λ (x : Bytes). k.does c' (k.reads x) w') (sym (part_back s at e p.ordered p.ends n)) ∙ sym q) ∙ p.total;
@@ -145,19 +151,21 @@ module _ {k : Walk} {s : Bytes} {fs : k.Stack} {h at e : ℕ} {c : k.Expects} {w
         ordered = omega arith;
         ends = omega (arith, p.ends);
         room = rw (add-one h) (room_in h at e j n p.room a u within);
+        entered = omega (arith, p.entered);
         later = λ x. p.later (k.does (k.next f) (k.reads behind) (k.leave f x));
         waits = rw (add-one h) (under e f same g within p.ends (room_on h at (at + n) e p.room (omega arith)) (kept gs below p.waits));
         total = ap p.later (sym z) ∙ p.total;
       }
 
-popped : {k : Walk} {s : Bytes} {fs : k.Stack} {h at e : ℕ} {l : k.World → k.World} {w t : k.World} → at ≡ e → Waits k s fs (suc h) e l → l w ≡ t
+popped : {k : Walk} {s : Bytes} {fs : k.Stack} {h at e : ℕ} {l : k.World → k.World} {w t : k.World} → at ≡ e → 3 * suc h ≤ at → Waits k s fs (suc h) e l → l w ≡ t
     → Going k s fs h at (ends_at k s fs h at) (k.next (k.frame fs h)) (k.leave (k.frame fs h) w) t
-popped {k = k} {s = s} {fs = fs} {h = h} {at = at} {w = w} {t = t} x (under {l = l} g f q d a b r v) go =
+popped {k = k} {s = s} {fs = fs} {h = h} {at = at} {w = w} {t = t} x z (under {l = l} g f q d a b r v) go =
     let y : g ≡ until h at (k.rest f) (length s) = sym d ∙ ap (λ (j : ℕ). until h j (k.rest f) (length s)) (sym x) in
     let p : Going k s fs h at g (k.next f) (k.leave f w) t = record {
       ordered = omega arith;
       ends = b;
       room = rw x r;
+      entered = omega arith;
       later = l;
       waits = v;
       total = ap (λ (j : ℕ). l (k.does (k.next f) (k.reads (part s j g)) (k.leave f w))) x ∙ go;
@@ -174,4 +182,4 @@ on_end {k = k} {s = s} {fs = fs} (suc h) {at = at} {e = e} {t = t} {w' = w'} p b
     let x : at ≡ e = omega (arith, p.ordered) in
     let m : h ≡ suc h - 1 = omega arith in
     subst (λ (j : ℕ). Going k s fs j at (ends_at k s fs j at) (k.next (k.frame fs j)) (k.leave (k.frame fs j) w') t) m
-    (popped x p.waits (ap p.later (sym q) ∙ p.total))
+    (popped x p.entered p.waits (ap p.later (sym q) ∙ p.total))

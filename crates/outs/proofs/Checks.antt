@@ -9,7 +9,7 @@ use Rattle.std.specs.Prelude.{Result, Ok, Err}
 use Rattle.field.specs.Bytes.{Bytes}
 use Rattle.page.specs.Refusal.{Verdict, Fine, Refused, after}
 use Rattle.page.specs.declared.Refusal.{Refusal}
-use Rattle.loops.specs.Until.{until}
+use Rattle.loops.specs.Until.{until, HighEnough}
 use Rattle.loops.proofs.Parts.{part}
 use Rattle.loops.proofs.Turns.{Walk, Going, Stops, ends_at, start, left_is, deep, on_stop, on_leaf, on_open, on_end, on_done}
 use Rattle.outs.specs.Held.{read_out}
@@ -67,14 +67,14 @@ module _ (width : ℕ) {s : Bytes} {fs : List Frame} {h at e : ℕ} {c : Expect}
       let q : LeafIs width c (part s at e) n o = told g in
       (q.header, on_leaf p n q.ends q.is)
 
-  pub opens_up : {k n : ℕ} {o a : Expect} → r ≡ Ok (F.Open k n o a) → (3 ≤ k) × (k ≤ n) × (h < 21846) × (at + n ≤ e)
+  pub opens_up : {k n depth : ℕ} {o a : Expect} → HighEnough depth (length s) → r ≡ Ok (F.Open k n o a) → (3 ≤ k) × (k ≤ n) × (h < depth) × (at + n ≤ e)
       × ((gs : List Frame) → get_or gs h none ≡ record { rest = (e - at - n) % 65536; after = a } → ((i : ℕ) → i < h → get_or gs i none ≡ get_or fs i none) → Going (checks width) s gs (h + 1) (at + k) (at + n) o Fine t)
   unfolding after
-  opens_up {k} {n} {o} {a} g =
+  opens_up {k} {n} {depth} {o} {a} hi g =
       let q : OpenIs width c (part s at e) k n o a = told g in
       let l = left_is p in
       let f : Frame = record { rest = (e - at - n) % 65536; after = a } in
-      (q.header, q.starts, deep p (omega (arith, p.ordered, q.header, q.starts, q.ends)), omega (arith, p.ordered, q.ends), λ gs same below. on_open p gs f same below k n q.header q.starts q.ends q.short refl q.is)
+      (q.header, q.starts, deep p hi (omega (arith, p.ordered, q.header, q.starts, q.ends)), omega (arith, p.ordered, q.ends), λ gs same below. on_open p gs f same below k n q.header q.starts q.ends q.short refl q.is)
 
   -- f is the frame on top of h' more
   pub closes : r ≡ Ok F.End → {h' : ℕ} {f : Frame} → h ≡ h' + 1 → get_or fs h' none ≡ f → Going (checks width) s fs h' at (until h' at f.rest (length s)) f.after Fine t

@@ -1,5 +1,6 @@
 // The check of a page out: one loop with a stack of its own, since recursion by nesting would run out of the machine's stack.
-ghost use Rattle.std.specs.Prelude.{◌≡◌};
+ghost use Rattle.std.specs.Prelude.{◌≡◌, ◌≤◌, length};
+ghost use Rattle.loops.specs.Until.{HighEnough};
 ghost use Rattle.outs.specs.PageOut.{check_page_out};
 ghost use Rattle.outs.specs.Step.{Stepped};
 
@@ -63,10 +64,12 @@ fn step(b: &[u8], expect: Expect, width: usize) -> Result<Front, Refusal>
     }
 }
 
-pub fn check_page_out(s: &[u8], width: usize) -> Result<(), Refusal>
+// With a stack that is high enough for so many bytes.
+fn check_by<const N: usize>(s: &[u8], width: usize) -> Result<(), Refusal>
+    requires { (N ≤ 21846) × HighEnough N (length s.now) }
     ensures { result ≡ check_page_out width s.now }
 {
-    let mut stack: Stack<Frame, DEPTH> = Stack::new(Frame {
+    let mut stack: Stack<Frame, N> = Stack::new(Frame {
         rest: 0,
         after: Expect::Whole,
     });
@@ -102,5 +105,32 @@ pub fn check_page_out(s: &[u8], width: usize) -> Result<(), Refusal>
                 expect = f.after;
             }
         }
+    }
+}
+
+// Never inlined, so that a short page out has no large stack in its frame.
+#[inline(never)]
+fn check_deep(s: &[u8], width: usize) -> Result<(), Refusal>
+    ensures { result ≡ check_page_out width s.now }
+{
+    check_by::<DEPTH>(s, width)
+}
+
+#[inline(never)]
+fn check_middling(s: &[u8], width: usize) -> Result<(), Refusal>
+    requires { length s.now ≤ 3072 }
+    ensures { result ≡ check_page_out width s.now }
+{
+    check_by::<1024>(s, width)
+}
+
+// Clearing the deepest stack takes 5,600 instructions, so the stack goes by the bytes: three of them open a field.
+pub fn check_page_out(s: &[u8], width: usize) -> Result<(), Refusal>
+    ensures { result ≡ check_page_out width s.now }
+{
+    match s.len() {
+        ..=192 => check_by::<64>(s, width),
+        ..=3072 => check_middling(s, width),
+        _ => check_deep(s, width),
     }
 }

@@ -25,7 +25,8 @@ use Rattle.field.proofs.PutLaws.{wrote_length, length_field_bytes}
 use Rattle.field.proofs.Reading.{all_parts, length_bytes}
 use Rattle.loops.proofs.Headers.{read_empty, read_torn, front_of, inner_of, body, next_is, field_is, length_body}
 use Rattle.loops.proofs.Parts.{part, Room, drop_take}
-use Rattle.loops.specs.Until.{until}
+use mathlib.Core.Logic.{inl}
+use Rattle.loops.specs.Until.{until, HighEnough}
 use Rattle.loops.proofs.Turns as T
 use Rattle.outs.specs.Held.{held, read_out}
 use Rattle.outs.specs.Renumber.{renumbered_front, renumbered, Renumbers}
@@ -344,11 +345,11 @@ module _ {from to : ℕ} {s o : Bytes} {fs : List Frame} {h base at e : ℕ} {ou
             spans = λ no. omega (arith, p.spans no, w.end_is, u.0);
           }
 
-    pub deep : h < 21846
-    deep =
+    pub deep : {k : ℕ} → HighEnough k (length s) → h < k
+    deep hi =
         let z = T.left_is p.going in
         let u = within_field i x in
-        T.deep p.going (omega (arith, u.0, u.1, p.going.ordered))
+        T.deep p.going hi (omega (arith, u.0, u.1, p.going.ordered))
 
     module _ {r : Option ℕ} {m st : ℕ} (k : Holding (held from hd.tag) r) (k' : r ≡ Some m) (g : st ≡ 3 + min m (hd.end - 3)) where
       after : held from hd.tag ≡ fields_after m
@@ -396,7 +397,7 @@ module _ {from to : ℕ} {s o : Bytes} {fs : List Frame} {h base at e : ℕ} {ou
             let inner : Row = read_out from (take (hd.end - st) (drop st c)) in
             let rest : Row = read_out from (drop hd.end c) in
             let lo = starts in
-            let room = deep in
+            let room = deep {k = 21846} (inl refl) in
             let fits : h < length fs = omega (arith, p.size) in
             let found : b' + (n - b') ≡ n = omega (arith, base_low eb) in
             let same : lifted b' (get_or (set fs h fr) h none) ≡ up =

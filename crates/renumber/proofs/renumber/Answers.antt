@@ -1,12 +1,14 @@
 -- `renumber::renumber` meets its contract: each turn keeps `Keeps`. Assumes nothing.
 use Prim.Native.Nat.{◌+◌, ◌-◌}
-use mathlib.Core.Path.{sym, ap, ◌∙◌}
+use mathlib.Core.Logic.{inl}
+use mathlib.Core.Path.{refl, sym, ap, ◌∙◌}
 use native.Mathlib.Omega.{arith}
 use lib.ListN.{drop}
 use borrow.Author.Tests.{eqb-true, eqb-false}
 use Rattle.field.proofs.HeaderLaws.{within_field}
 use Rattle.field.proofs.NumberLaws.{all_from}
 use Rattle.loops.proofs.Parts.{part}
+use Rattle.loops.proofs.Turns.{high}
 use Rattle.renumber.proofs.Renumbering.{begins, fits_torn, fits_leaf, fits_open, on_done, on_torn, on_leaf, on_open, on_pop, none, base_new, base_same, head_low, call_number, two_or_four, take_short}
 use Rattle.renumber.proofs.renumber.Goals as goal
 use Rattle.renumber.proofs.renumber.Goals.{then-stack-eq0, else-stack-eq0}
@@ -19,6 +21,9 @@ put_bytes-n-requires c = omega (arith, fits_torn c.loop-out.invariant c.read_hea
 
 pub loop-out-preserved-then-not-is_empty : goal.loop-out-preserved-then-not-is_empty
 loop-out-preserved-then-not-is_empty c = on_torn c.loop-out.invariant c.read_header.ensures.0 c.in-None.is (eqb-false _ 0 (sym c.is_empty.ensures ∙ c.if-not-is_empty.true)) c.put_bytes-n.ensures
+
+pub pop-requires : goal.pop-requires
+pop-requires c = (omega arith, high c.loop-out.invariant.going {n = 21846} (inl refl))
 
 pub returns-in_default : goal.returns-in_default
 returns-in_default c = on_done c.loop-out.invariant (eqb-true _ 0 (sym c.is_empty.ensures ∙ c.if-not-is_empty.false)) (rw c.in_default.is at c.pop.ensures.top).0
