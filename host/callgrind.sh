@@ -3,6 +3,7 @@
 # callgrind.sh [WORD]: only the sets of pages whose name has WORD, and 'mean', to which all are compared.
 # callgrind.sh tags [WORD]: instructions a byte of tag text, in the reader of tags.
 # callgrind.sh conversions [WORD]: instructions a byte of both outs, in the way up and the way down.
+# callgrind.sh fillings [WORD]: instructions a byte of HTML, in fillings.
 # callgrind.sh lookups [WORD]: instructions a byte of templates that are checked, and a template of the walk at 256 numbers.
 set -eu
 cd "$(dirname "$0")"
@@ -44,6 +45,23 @@ if [ "$word" = conversions ]; then
     echo "$name$tab$bytes$tab$instructions$tab$answer" |
       awk -F '\t' '{ printf "%-34s %7d %13d %9.1f  %s\n", $1, $2, $3, $3 / $2, $4 }'
   done
+  exit
+fi
+
+if [ "$word" = fillings ]; then
+  printf '%-34s %9s %7s %7s %13s %9s  %s\n' order templates order HTML instructions 'a byte' answer
+  "$speed" fillings | while IFS=$tab read -r name templates order html; do
+    case $name in *"${2:-}"*) ;; *) continue ;; esac
+    count jsx_precompile_fill fill "$name" >"$rates.one"
+    IFS=$tab read -r instructions answer <"$rates.one" || true
+    echo "$name$tab$templates$tab$order$tab$html$tab$instructions$tab$answer" | tee -a "$rates" |
+      awk -F '\t' '{ printf "%-34s %9d %7d %7d %13d %9.1f  %s\n", $1, $2, $3, $4, $5, $5 / $4, $6 }'
+  done
+  # Of each way to have 9,361 orders.
+  awk -F '\t' '{ instructions[$1] = $5 } END {
+    one = instructions["their bytes, one template"]
+    for (name in instructions) if (one && name ~ /^9,361/) printf "%s, over their bytes in one template: %.1f\n", name, instructions[name] / one
+  }' "$rates"
   exit
 fi
 

@@ -3,18 +3,20 @@
 //!
 //! For callgrind.sh: `list` names the sets of pages, `run NAME` calls the library once on each page of a set; `tags` names
 //! the tag texts, `tag NAME` has the library read one; `lookups` names the rows of templates, `find NAME` and `check NAME` look
-//! 256 numbers and none up in one; `conversions` names both outs, each way, `convert NAME` converts one.
+//! 256 numbers and none up in one; `conversions` names both outs, each way, `convert NAME` converts one; `fillings` names
+//! templates with their orders, `fill NAME` fills one.
 
 #![allow(missing_docs)]
 
 mod conversions;
+mod fillings;
 mod lookups;
 mod pages;
 mod tags;
 
 use jsx_precompile::limits::{MAX_TAG, MIN_SCRATCH};
 use jsx_precompile::{
-    Answer, Options, Transformer, downgrade_into, find_answer, read_tag_into, transform_into, upgrade_into,
+    Answer, Options, Transformer, downgrade_into, fill_into, find_answer, read_tag_into, transform_into, upgrade_into,
 };
 use oracle::outs::convert::Way;
 use oracle::stand_ins::swc_ecma_ast::Module;
@@ -41,6 +43,10 @@ fn main() {
                 .for_each(|one| println!("{}\t{}", one.name, one.templates.len() + one.page.len()));
         }
         ["convert", name] => convert(name),
+        ["fillings"] => fillings::all().iter().for_each(|one| {
+            println!("{}\t{}\t{}\t{}", one.name, one.templates.len(), one.order.len(), one.html_bytes);
+        }),
+        ["fill", name] => fill(name),
         ["find", name] => find(name, true),
         ["check", name] => find(name, false),
         [] if oracle::AVAILABLE => times(),
@@ -89,6 +95,11 @@ fn convert(name: &str) {
         Way::Down => downgrade_into,
     };
     println!("{}", call(&one.templates, &one.page, &mut templates, &mut page).number);
+}
+
+fn fill(name: &str) {
+    let one = fillings::all().into_iter().find(|one| one.name == name).expect("an order of that name");
+    println!("{}", fill_into(&one.templates, &one.order, &mut vec![0; one.html_bytes]).number);
 }
 
 /// The three lent buffers, allocated once.

@@ -27,7 +27,7 @@ uint32_t jsx_precompile_version(void);
 #define JSX_PRECOMPILE_MAX_NUMBERS 256 /* of templates that are looked up at once */
 
 /* The numbers of an answer. 9 is reserved and never given. 16 and 19 are given behind 10 and before 11. 17
-   is a conversion's, 20 a lookup's. */
+   is a conversion's, 18 a filling's, 20 a lookup's. */
 enum jsx_precompile_number {
     JSX_PRECOMPILE_ACCEPTED = 0,
     JSX_PRECOMPILE_SCRATCH_TOO_SMALL = 1,
@@ -41,11 +41,12 @@ enum jsx_precompile_number {
     JSX_PRECOMPILE_TAG_LEFT = 10,
     JSX_PRECOMPILE_OUTPUT_TOO_LONG = 11,
     JSX_PRECOMPILE_TEMPLATES_TOO_SMALL = 12,
-    JSX_PRECOMPILE_PAGE_TOO_SMALL = 13, /* of a tag: tag_out is too small */
+    JSX_PRECOMPILE_PAGE_TOO_SMALL = 13, /* of a tag or a filling: tag_out or html_out is too small */
     JSX_PRECOMPILE_NO_READING = 14,
     JSX_PRECOMPILE_NAMES_DIFFER = 15,
     JSX_PRECOMPILE_REPEATED_ATTRIBUTE = 16,
     JSX_PRECOMPILE_DISAGREEING = 17,
+    JSX_PRECOMPILE_UNFITTING = 18,
     JSX_PRECOMPILE_MIXED_CASE_VOID = 19,
     JSX_PRECOMPILE_NOT_RISING = 20
 };
@@ -114,6 +115,29 @@ typedef struct jsx_precompile_places {
 jsx_precompile_places jsx_precompile_find(
     const uint8_t *templates, size_t templates_length,
     const uint32_t *numbers, size_t numbers_length);
+
+/* A refusal has its number and a zero. */
+typedef struct jsx_precompile_filled {
+    uint32_t number;
+    size_t html_bytes; /* written to html_out */
+} jsx_precompile_filled;
+
+/* Fills templates: writes, as HTML, the static strings of the template that the order names and the order's fillings in
+   turn. An order is 85, a length of two bytes, the number of a template in four, and a filling for each of its dynamic
+   expressions: 86, a length and a text for an attribute's, written as it is, 87, a length and a text for a child, written
+   with its five signs escaped, or another order for a child; up to MAX_DEPTH of these lie within each other. The first two
+   parts are read, html_out is written; none is kept, and calls in several threads do not meet. No pointer may be null, not
+   even with a length of 0, and the three parts may not overlap. Half a megabyte of stack is enough.
+
+   Accepted: the HTML stands at the front of html_out, the bytes behind it are as before. It is well nested where the
+   templates are those of a page. Refused: html_out is all zero. The numbers are TRUNCATED, MISPLACED and NOT_UTF8 for the
+   templates, then these and TOO_DEEP for the order, the first that is met from front to back; UNFITTING where the
+   fillings are not as many as the template has dynamic expressions or not of their kinds, where a number is that of no
+   template or of two, or where an attribute's text has `<` or `>`; then PAGE_TOO_SMALL. */
+jsx_precompile_filled jsx_precompile_fill(
+    const uint8_t *templates, size_t templates_length,
+    const uint8_t *order, size_t order_length,
+    uint8_t *html_out, size_t html_out_length);
 
 /* A refusal has its number and zeros. */
 typedef struct jsx_precompile_converted {

@@ -2,7 +2,9 @@
 //! (torn, then misplaced), then its depth, then its body; a missing field where what should hold it ends.
 
 use crate::decimal::{Decimal, DecimalError};
-use crate::field::{HEADER, NUMBER_AND_COUNT, OLD_TEMPLATE, TEMPLATE, around, tag_name};
+use crate::field::{
+    ATTRIBUTE_TEXT, HEADER, NUMBER_AND_COUNT, OLD_TEMPLATE, ORDER, PLAIN_TEXT, TEMPLATE, around, tag_name,
+};
 use crate::limits::*;
 use crate::path::Path;
 use crate::refusal::Refusal;
@@ -28,7 +30,8 @@ pub struct Fault {
     /// Which bytes are refused.
     pub input: Input,
     /// The byte at which it shows: the header of a field that is torn, misplaced, too deep or lacks one in it, or the
-    /// byte of a body; the header of an element or item that the transform refuses; the limit of what is too long.
+    /// byte of a body; the header of an element or item that the transform refuses, or of an order or filling that does not
+    /// fit its template; the limit of what is too long.
     pub at: usize,
     /// The field that is refused, or that holds it where it cannot be read.
     pub path: Path,
@@ -66,6 +69,8 @@ pub enum Input {
     Templates,
     /// The page with its calls.
     PageOut,
+    /// What templates are filled with, field 85.
+    Order,
 }
 
 impl fmt::Display for Input {
@@ -75,6 +80,7 @@ impl fmt::Display for Input {
             Input::Options => "options",
             Input::Templates => "templates out",
             Input::PageOut => "page out",
+            Input::Order => "order",
         })
     }
 }
@@ -130,10 +136,15 @@ fn length(input: Input, bytes: usize) -> Result<(), Found> {
         _ => usize::MAX,
     };
     match bytes {
-        0 if input == Input::Page => fault(0, Refusal::Truncated, "an empty page"),
+        0 if is_alone(input) => fault(0, Refusal::Truncated, format!("an empty {input}")),
         _ if bytes > most => fault(most, Refusal::InputTooLong, format!("{bytes} bytes, at most {most} are taken")),
         _ => Ok(()),
     }
+}
+
+/// Whether it is one field with nothing behind it.
+fn is_alone(input: Input) -> bool {
+    matches!(input, Input::Page | Input::Order)
 }
 
 fn walk(input: Input, bytes: &[u8], rows: &mut Vec<Row>) -> Result<(), Found> {
@@ -164,8 +175,8 @@ fn ends(input: Input, row: &Row) -> Result<(), Found> {
 fn field(input: Input, bytes: &[u8], row: &mut Row, depth: usize) -> Result<Option<Row>, Found> {
     let at = row.next;
     let left = row.end - at;
-    if input == Input::Page && row.holder == 0 && row.count == 1 {
-        return fault(at, Refusal::Truncated, format!("{left} bytes follow the page"));
+    if is_alone(input) && row.holder == 0 && row.count == 1 {
+        return fault(at, Refusal::Truncated, format!("{left} bytes follow the {input}"));
     }
     if left < HEADER {
         return fault(at, Refusal::Truncated, format!("{left} bytes where a field begins"));
@@ -182,7 +193,7 @@ fn field(input: Input, bytes: &[u8], row: &mut Row, depth: usize) -> Result<Opti
         let reason = format!("{} stands where {} may stand", named(tag), takes.words());
         return fault(at, Refusal::Misplaced, reason);
     }
-    if matches!(input, Input::Page | Input::Options) && depth > MAX_DEPTH {
+    if matches!(input, Input::Page | Input::Options | Input::Order) && depth > MAX_DEPTH {
         return fault(at, Refusal::TooDeep, format!("{} lies {depth} deep", named(tag)));
     }
     row.next = at + HEADER + length;
@@ -258,6 +269,8 @@ enum Takes {
     CalledName,
     Props,
     PropList,
+    Order,
+    Fillings,
     Nothing,
 }
 
@@ -276,6 +289,8 @@ fn place(input: Input, row: &Row) -> Place {
         (0, Input::Options) => any(Options(row.last)),
         (0, Input::Templates) => any(Template(row.last)),
         (0, Input::PageOut) => any(ItemsOut { first: row.count == 0, templates_place: !row.has_templates_place }),
+        (0, Input::Order) => these(&[(Order, true)]),
+        (ORDER, _) => any(Fillings),
         (0x01, _) => any(Items),
         (0x02 | 0x03, _) => any(Names),
         (0x10..=0x12 | 0x79, _) => any(if out { PiecesOut } else { Pieces }),
@@ -329,6 +344,8 @@ impl Takes {
             CalledName => matches!(tag, 0x81 | 0x40 | 0x41),
             Props => matches!(tag, 0x73 | 0x95),
             PropList => matches!(tag, 0x96 | 0x53),
+            Order => tag == ORDER,
+            Fillings => matches!(tag, ORDER | ATTRIBUTE_TEXT | PLAIN_TEXT),
             Nothing => false,
         }
     }
@@ -364,6 +381,8 @@ impl Takes {
             CalledName => "the name of what is called (81, 40 or 41)",
             Props => "props (73 or 95)",
             PropList => "props (96, 53)",
+            Order => "an order (85)",
+            Fillings => "fillings (85, 86, 87)",
             Nothing => "nothing more",
         }
     }

@@ -1,5 +1,5 @@
-//! Fields: a tag byte, a two-byte length with the high byte first, a body. Page, options, templates out and page out
-//! are all series of fields; this is the one place that reads a header.
+//! Fields: a tag byte, a two-byte length with the high byte first, a body. Page, options, templates out, page out and
+//! orders are all series of fields; this is the one place that reads a header.
 
 pub use crate::path::{Path, Step};
 
@@ -27,7 +27,7 @@ pub struct Field<'a> {
 pub(crate) const HEADER: usize = 3;
 
 impl<'a> Field<'a> {
-    /// The fields in the body: of an 80 or 90 those behind its number, of an 84 those behind its kinds, of an 82 those
+    /// The fields in the body: of an 80, 85 or 90 those behind its number, of an 84 those behind its kinds, of an 82 those
     /// before its sum, of a leaf none.
     ///
     /// ```
@@ -56,7 +56,7 @@ impl<'a> Field<'a> {
         tag_name(self.tag)
     }
 
-    /// The number at the front of an 84 or 90, four bytes, or of an 80, two bytes.
+    /// The number at the front of an 84, 85 or 90, four bytes, or of an 80, two bytes.
     ///
     /// ```
     /// use jsx_precompile::field::Fields;
@@ -67,7 +67,7 @@ impl<'a> Field<'a> {
     /// ```
     pub fn number(&self) -> Option<u32> {
         match (self.tag, self.body) {
-            (TEMPLATE | 0x90, [a, b, c, d, ..]) => Some(u32::from_be_bytes([*a, *b, *c, *d])),
+            (TEMPLATE | ORDER | 0x90, [a, b, c, d, ..]) => Some(u32::from_be_bytes([*a, *b, *c, *d])),
             (OLD_TEMPLATE, [high, low, ..]) => Some(u16::from_be_bytes([*high, *low]).into()),
             _ => None,
         }
@@ -178,8 +178,20 @@ pub(crate) const TEMPLATE: u8 = 0x84;
 /// A template as it was written before its dynamic expressions had kinds.
 pub(crate) const OLD_TEMPLATE: u8 = 0x80;
 
+/// A template to be filled, its number and its fillings.
+pub(crate) const ORDER: u8 = 0x85;
+
+/// A filling in an opening tag.
+pub(crate) const ATTRIBUTE_TEXT: u8 = 0x86;
+
+/// A filling among children that is escaped.
+pub(crate) const PLAIN_TEXT: u8 = 0x87;
+
 /// The bytes of an 84's number and count.
 pub(crate) const NUMBER_AND_COUNT: usize = 6;
+
+/// The bytes of the number of an 85 or 90.
+const NUMBER: usize = 4;
 
 /// Of a field whose body has fields: how many bytes stand before them, and how many behind.
 pub(crate) fn around(tag: u8, body: &[u8]) -> Option<(usize, usize)> {
@@ -191,7 +203,7 @@ pub(crate) fn around(tag: u8, body: &[u8]) -> Option<(usize, usize)> {
             let count = body.get(4..NUMBER_AND_COUNT).map_or(0, |two| u16::from_be_bytes([two[0], two[1]]));
             Some((NUMBER_AND_COUNT + usize::from(count), 0))
         }
-        0x90 => Some((4, 0)),
+        ORDER | 0x90 => Some((NUMBER, 0)),
         0x82 => Some((0, 1)),
         _ => None,
     }
@@ -245,6 +257,9 @@ pub fn tag_name(tag: u8) -> Option<&'static str> {
         0x82 => "import",
         0x83 => "templates go here",
         TEMPLATE => "template",
+        ORDER => "order",
+        ATTRIBUTE_TEXT => "attribute text",
+        PLAIN_TEXT => "plain text",
         0x90 => "jsxTemplate",
         0x91 => "jsxAttr",
         0x92 => "jsxEscape",

@@ -4,7 +4,8 @@
 //! A page is written as a tree ([`page`]) or given as bytes; [`transform`] takes it apart; what comes out is read by
 //! [`out`] and printed as JavaScript by [`javascript`]. A refusal says where and why ([`Fault`]). A tag that comes as
 //! text is read by [`Tag::read`], and stands in a page as an element does. Templates are looked up by [`find`].
-//! What hosts of before read and wrote is made by [`downgrade`] and read by [`upgrade`].
+//! They are filled by [`fill`], with an [`Order`], into HTML. What hosts of before read and wrote is made by [`downgrade`]
+//! and read by [`upgrade`].
 //! `const a = <p class="t">Hi {n}</p>;` becomes a template and a call of it:
 //!
 //! ```
@@ -35,6 +36,7 @@ mod check;
 mod convert;
 mod decimal;
 pub mod field;
+mod fill;
 mod find;
 pub mod javascript;
 pub mod limits;
@@ -50,6 +52,7 @@ pub use call::{Answer, Forms, Transformer, library_version, transform, transform
 pub use check::{Fault, Input};
 pub use convert::{ConvertAnswer, Converted, downgrade, downgrade_into, upgrade, upgrade_into};
 pub use decimal::{Decimal, DecimalError};
+pub use fill::{FillAnswer, Filling, Order, OrderError, fill, fill_into};
 pub use find::{FindAnswer, Places, find, find_answer};
 pub use options::Options;
 pub use page::write::WriteError;

@@ -1,4 +1,4 @@
-//! The limits of pages, options and outputs.
+//! The limits of pages, options, outputs and orders.
 //!
 //! ```
 //! use jsx_precompile::{Options, Refusal, limits::MAX_PAGE, transform};
@@ -47,7 +47,7 @@ pub const MAX_TAG_TEXT: usize = 32_768;
 /// ```
 pub const MAX_TAG: usize = 65_538;
 
-/// How deep the fields of a page lie within each other; the page itself is 1.
+/// How deep the fields of a page, or of an order, lie within each other; the page or order itself is 1.
 ///
 /// ```
 /// use jsx_precompile::{WriteError, page::{Element, Item, Page}};

@@ -1,13 +1,13 @@
 //! Where in the tree a field stands.
 
-use crate::field::{Field, Fields};
+use crate::field::{Field, Fields, ORDER};
 use std::fmt;
 
 /// Where in the tree a field stands: the fields around it, from the outermost in, and itself.
 ///
 /// It is shown as `01 > 12[3] > 30 p > 50 class`: tags, names where there are some, and in square brackets the place
-/// among the fields beside it, counted from 0. The place is shown for items, and where a field beside it has the same
-/// tag and name.
+/// among the fields beside it, counted from 0. The place is shown for items and for the fillings of an order, and where a
+/// field beside it has the same tag and name.
 ///
 /// ```
 /// use jsx_precompile::page::{Element, Expression, Item, Page};
@@ -45,7 +45,8 @@ pub struct Step {
     pub at: usize,
     /// Its place among the fields beside it, from 0.
     pub index: usize,
-    /// The name of an element, an attribute, a property or of what is called; the number of a template.
+    /// The name of an element, an attribute, a property or of what is called; the number of a template, or of the one that
+    /// an order names.
     pub name: Option<String>,
     shows_index: bool,
 }
@@ -71,7 +72,7 @@ impl Path {
             let Some(index) = all.iter().position(|field| field.at == *place) else { break };
             let field = all[index];
             let alike = |other: &&Field| other.tag == field.tag && label(other) == label(&field);
-            let shows_index = matches!(holder, 0x01) || all.iter().filter(alike).count() > 1;
+            let shows_index = matches!(holder, 0x01 | ORDER) || all.iter().filter(alike).count() > 1;
             path.push(Step { tag: field.tag, at: field.at, index, name: label(&field), shows_index });
             holder = field.tag;
             row = field.inner();
@@ -117,7 +118,7 @@ const MOST_LETTERS: usize = 40;
 pub(crate) fn label(field: &Field) -> Option<String> {
     let name = match field.tag {
         0x30 | 0x50 | 0x91 | 0x94 | 0x96 => name(&field.inner().next()?)?,
-        0x80 | 0x84 | 0x90 => field.number()?.to_string(),
+        0x80 | 0x84 | ORDER | 0x90 => field.number()?.to_string(),
         _ => return None,
     };
     let shown: String = name.chars().take(MOST_LETTERS).flat_map(char::escape_debug).collect();

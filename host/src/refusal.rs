@@ -5,7 +5,8 @@ use std::fmt;
 /// Why a call is refused; document 01's number and word are given by [`number`](Refusal::number) and
 /// [`word`](Refusal::word). 9 is reserved: it was given where the ported Rust stops, and no page is refused there now.
 /// The order is that of the numbers; a transform is refused for the first in this order: 1 to 10, 16, 19, 11, 12, 13. 17
-/// is a conversion's alone, after 3 to 7 and before 11, and 20 a lookup's, after 3, 4 and 6.
+/// is a conversion's alone, after 3 to 7 and before 11, 18 a filling's, after 3, 4, 6 and 8 and before 13, and 20 a lookup's,
+/// after 3, 4 and 6.
 ///
 /// ```
 /// use jsx_precompile::{Options, Refusal, transform};
@@ -39,7 +40,7 @@ pub enum Refusal {
     OutputTooLong = 11,
     /// Small shelf: the templates do not fit the bytes lent for them.
     TemplatesTooSmall = 12,
-    /// Small page: page out does not fit the bytes lent for it.
+    /// Small page: page out does not fit the bytes lent for it; of a filling, the HTML does not.
     PageTooSmall = 13,
     /// Document 02, A4: an element that becomes HTML has two attributes of one name, which a browser would take the first
     /// of.
@@ -47,6 +48,9 @@ pub enum Refusal {
     /// Document 02, A7: a gap is neither in an opening tag behind a space nor outside of tags, or its kind is not the one
     /// that it has by its place, or, on the way down, a number is over 65,535.
     Disagreeing = 17,
+    /// Document 02, A8: fillings do not fit their templates: another count of them, or one of another kind than its gap;
+    /// the number of a template that is not there, or is recorded twice; an attribute text with `<` or `>`.
+    Unfitting = 18,
     /// Document 02, A10: an element that becomes HTML has the name of a void element, such as `br`, but with capitals in
     /// it: it would be closed, and HTML, which compares names in any case, does not close it.
     MixedCaseVoid = 19,
@@ -57,7 +61,7 @@ pub enum Refusal {
 use Refusal::*;
 
 /// In the order of their numbers.
-const ALL: [Refusal; 16] = [
+const ALL: [Refusal; 17] = [
     ScratchTooSmall,
     InputTooLong,
     Truncated,
@@ -72,6 +76,7 @@ const ALL: [Refusal; 16] = [
     PageTooSmall,
     RepeatedAttribute,
     Disagreeing,
+    Unfitting,
     MixedCaseVoid,
     NotRising,
 ];
@@ -91,7 +96,7 @@ impl Refusal {
         ALL.into_iter().find(|refusal| refusal.number() == number)
     }
 
-    /// The number of document 01, 1 to 13 without 9, or of document 02, 16, 17, 19 and 20.
+    /// The number of document 01, 1 to 13 without 9, or of document 02, 16 to 20.
     ///
     /// ```
     /// assert_eq!(jsx_precompile::Refusal::TooDeep.number(), 8);
@@ -121,6 +126,7 @@ impl Refusal {
             PageTooSmall => "small page",
             RepeatedAttribute => "attribute twice",
             Disagreeing => "disagreeing",
+            Unfitting => "unfitting",
             MixedCaseVoid => "mixed case",
             NotRising => "not rising",
         }
@@ -150,10 +156,13 @@ impl Refusal {
             TagLeft => "an element or fragment would be left untransformed",
             OutputTooLong => "a merged run of text, or a body of the outputs, is over 65,535 bytes",
             TemplatesTooSmall => "the templates do not fit the bytes lent for them",
-            PageTooSmall => "page out does not fit the bytes lent for it",
+            PageTooSmall => "page out, or the HTML, does not fit the bytes lent for it",
             RepeatedAttribute => "an element that becomes HTML has one attribute twice, as `class` and `className` are",
             Disagreeing => {
                 "a gap is neither an attribute's nor a child, or of another kind than its template says, or a number is over 65,535"
+            }
+            Unfitting => {
+                "fillings do not fit their templates: in number or kind, by the number of a template that is not there once, or by a `<` or `>` in an attribute text"
             }
             MixedCaseVoid => "the name of a void element is not in small letters",
             NotRising => "over 256 numbers are looked up, or one is not greater than the one before it",
@@ -176,7 +185,7 @@ mod tests {
     #[test]
     fn each_number_that_is_given_is_a_refusal() {
         let numbers: Vec<u32> = (0..=100).filter(|number| Refusal::from_number(*number).is_some()).collect();
-        assert_eq!(numbers, [1, 2, 3, 4, 5, 6, 7, 8, 10, 11, 12, 13, 16, 17, 19, 20]);
+        assert_eq!(numbers, [1, 2, 3, 4, 5, 6, 7, 8, 10, 11, 12, 13, 16, 17, 18, 19, 20]);
         assert_eq!(ALL.map(Refusal::number)[..], numbers);
     }
 }

@@ -179,6 +179,49 @@ fn find() {
 }
 
 #[test]
+fn fill() {
+    let (templates, order) = (example("rows.templates"), example("rows.order"));
+    let html = String::from_utf8(example("rows.html")).expect("text");
+    let files = ["examples/rows.templates", "examples/rows.order"];
+    assert_eq!(run(&[&["fill"], &files[..]].concat(), b""), (0, html.clone(), String::new()));
+    assert_eq!(run(&["fill", "-", files[1]], &templates), (0, html.clone(), String::new()));
+    let hex: String = order.iter().map(|byte| format!("{byte:02x} ")).collect();
+    assert_eq!(run(&["fill", files[0], "-"], hex.as_bytes()), (0, html, String::new()));
+    // HTML of one empty string.
+    let words = ["fill", "-", files[1]];
+    let empty = b"\x84\0\x09\0\0\0\x01\0\0\x81\0\0";
+    assert_eq!(run(&["fill", "examples/rows.templates", "-"], b"\x85\0\x04\0\0\0\x07").0, 1);
+    let given = "order, byte 0, 85 1: 18 (unfitting): template 1 has no gaps and is given 1 filling";
+    assert_eq!(run(&words, empty), (1, String::new(), format!("jsx-precompile: examples/rows.order: {given}\n")));
+    for (words, input, said) in [
+        (
+            ["fill", "-", files[1]],
+            &templates[..40],
+            "standard input: templates out, byte 38: 3 (torn): 2 bytes where a field begins",
+        ),
+        (
+            ["fill", "-", "examples/damaged.page"],
+            b"\x80\0\x05\0\x01\x81\0\0",
+            "standard input: templates out, byte 0, 80 1: 4 (misplaced): 80s are not filled; `upgrade` makes 84s of them",
+        ),
+        (
+            ["fill", files[0], "-"],
+            b"\x85\0\x04\0\0\0\x04",
+            "standard input: order, byte 0, 85 4: 18 (unfitting): there is no template 4",
+        ),
+        (
+            ["fill", files[0], "examples/worked.page"],
+            b"",
+            "examples/worked.page: order, byte 0, 01: 4 (misplaced): 01 (page) stands where an order (85) may stand",
+        ),
+    ] {
+        assert_eq!(run(&words, input), (1, String::new(), format!("jsx-precompile: {said}\n")), "{words:?}");
+    }
+    let (status, _, said) = run(&["fill", files[0], "no such file"], b"");
+    assert!(status == 2 && said.starts_with("jsx-precompile: no such file: "), "{said}");
+}
+
+#[test]
 fn upgrade_and_downgrade() {
     let files = |age: &str| [format!("examples/hall-{age}.templates"), format!("examples/hall-{age}.out")];
     for (command, from, to, said) in [
@@ -260,7 +303,7 @@ fn bad_calls() {
         (&["show", "--page", "a"], "show has no option --page; see `jsx-precompile show --help`"),
         (
             &["show", "--as", "card", "a"],
-            "--as is page, options, templates or out, not card; see `jsx-precompile show --help`",
+            "--as is page, options, templates, out or order, not card; see `jsx-precompile show --help`",
         ),
         (&["tag"], "no file (- is standard input); see `jsx-precompile tag --help`"),
         (&["tag", "--hex", "a"], "tag has no option --hex; see `jsx-precompile tag --help`"),
@@ -278,6 +321,10 @@ fn bad_calls() {
             &["downgrade", "a", "b", "c"],
             "downgrade takes templates and a page out; see `jsx-precompile downgrade --help`",
         ),
+        (&["fill", "a"], "fill takes templates and an order; see `jsx-precompile fill --help`"),
+        (&["fill", "a", "b", "c"], "fill takes templates and an order; see `jsx-precompile fill --help`"),
+        (&["fill", "-", "-"], "- stands for one file alone; see `jsx-precompile fill --help`"),
+        (&["fill", "--sums", "a", "b"], "fill has no option --sums; see `jsx-precompile fill --help`"),
         (&["upgrade", "-", "-"], "- stands for one file alone; see `jsx-precompile upgrade --help`"),
         (
             &["upgrade", "--page", "c", "a", "b"],
@@ -316,7 +363,7 @@ fn help() {
     let (status, all, said) = run(&["--help"], b"");
     assert_eq!((status, &*said), (0, ""));
     assert_eq!(run(&["help"], b"").1, all);
-    for command in ["build", "check", "show", "preview", "tag", "find", "upgrade", "downgrade"] {
+    for command in ["build", "check", "show", "preview", "tag", "find", "fill", "upgrade", "downgrade"] {
         assert!(all.contains(&format!("\n  {command} ")), "{command}");
         let (status, text, said) = run(&[command, "--help"], b"");
         assert_eq!((status, &*said), (0, ""));

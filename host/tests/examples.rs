@@ -2,8 +2,9 @@
 //! .card what the judge prints of the page and what the program `card` prints. With EXAMPLES_WRITE=1 the files are
 //! written, the cards by the judge; without it they are only compared. Of each .tag the .field is what the program
 //! `jsx-precompile tag` says, and what the judge reads. A .templates is templates out of a page, and its .found what
-//! `jsx-precompile find` says of them. NAME-old and NAME-new, .templates and .out, are both outs of a page as version 0.1.0
-//! wrote them and as they are written now.
+//! `jsx-precompile find` says of them. An .order is what the order here is written as, and its .html what it makes of these
+//! templates. NAME-old and NAME-new, .templates and .out, are both outs of a page as version 0.1.0 wrote them and as they
+//! are written now.
 
 mod common;
 mod program;
@@ -13,7 +14,7 @@ use common::{jsx_precompile, no_judge, say};
 use jsx_precompile::javascript::Printer;
 use jsx_precompile::out::{PageOut, Templates};
 use jsx_precompile::page::Page;
-use jsx_precompile::{Options, downgrade, transform, upgrade};
+use jsx_precompile::{Options, Order, downgrade, fill, transform, upgrade};
 use oracle::outs::convert::{self, Way};
 use oracle::{marks, outcome};
 use program::{Program, parting};
@@ -21,7 +22,7 @@ use std::collections::BTreeSet;
 use std::fs;
 use std::path::{Path, PathBuf};
 use std::sync::Once;
-use trees::Example;
+use trees::{Example, orders};
 
 const VARIABLE: &str = "EXAMPLES_WRITE";
 
@@ -77,8 +78,11 @@ fn write(examples: &[Example]) {
         }
     }
     fs::write(at(SUMS.1), sums_by_the_judge(examples)).unwrap_or_else(|error| panic!("{}: {error}", SUMS.1));
-    let templates = format!("examples/{}.templates", FOUND.0);
-    fs::write(at(&templates), templates_by_the_judge(examples)).unwrap_or_else(|error| panic!("{templates}: {error}"));
+    for (name, order) in orders() {
+        for (name, bytes) in filled_by_the_judge(examples, name, &order) {
+            fs::write(at(&name), bytes).unwrap_or_else(|error| panic!("{name}: {error}"));
+        }
+    }
     let found = format!("examples/{}.found", FOUND.0);
     fs::write(at(&found), found_said()).unwrap_or_else(|error| panic!("{found}: {error}"));
     for (name, bytes) in converted_by_the_judge(examples) {
@@ -91,9 +95,48 @@ fn write(examples: &[Example]) {
     say(&format!("examples: {} written, and the fields of {} tags", examples.len(), TAGS.len()));
 }
 
-fn templates_by_the_judge(examples: &[Example]) -> Vec<u8> {
-    let example = examples.iter().find(|example| example.name == FOUND.0).expect("the example is there");
+fn templates_by_the_judge(examples: &[Example], name: &str) -> Vec<u8> {
+    let example = examples.iter().find(|example| example.name == name).expect("the example is there");
     outcome(&example.page, &[]).expect("the judge takes it").templates
+}
+
+/// The files of templates that are filled, with their bytes: the templates, the order, and the HTML with a line end.
+fn filled_by_the_judge(examples: &[Example], name: &str, order: &Order) -> [(String, Vec<u8>); 3] {
+    let templates = templates_by_the_judge(examples, name);
+    let order = order.to_bytes().expect("an order");
+    let html = oracle::outs::fill::outcome(&templates, &order).expect("the judge fills it");
+    let file = |end: &str| format!("examples/{name}.{end}");
+    [(file("templates"), templates), (file("order"), order), (file("html"), [&html[..], b"\n"].concat())]
+}
+
+#[test]
+fn orders_and_html() {
+    let examples = examples();
+    let readme = String::from_utf8(stored("host/README.md")).expect("text");
+    for (name, order) in orders() {
+        let [templates, ordered, html] = ["templates", "order", "html"].map(|end| format!("examples/{name}.{end}"));
+        let page = stored(&format!("examples/{name}.page"));
+        let forms = transform(&page, &Options::new()).expect("it is taken");
+        assert!(stored(&templates) == forms.templates_bytes(), "{templates} is not what the library writes");
+        assert_eq!(Order::from_bytes(&stored(&ordered)).as_ref(), Ok(&order), "{ordered}");
+        let filled = fill(forms.templates_bytes(), &stored(&ordered)).expect("it is filled");
+        assert!(oracle::demand3::well_nested(filled.as_bytes()), "{filled}");
+        holds(&html, "the library", format!("{filled}\n").as_bytes());
+        let said = jsx_precompile(&["fill", &templates, &ordered], b"");
+        holds(&html, "the program", &[said.stdout, said.stderr].concat());
+        if !no_judge() {
+            for (name, bytes) in filled_by_the_judge(&examples, name, &order) {
+                assert!(stored(&name) == bytes, "{name} is not what the judge writes");
+            }
+        }
+        if name == FOUND.0 {
+            let shown = format!("\n$ jsx-precompile fill {templates} {ordered}\n{filled}\n");
+            assert!(readme.contains(&shown), "host/README.md shows other HTML");
+            let readme = String::from_utf8(stored("README.md")).expect("text");
+            assert!(readme.contains(&format!(" fill {templates} {ordered}\n{filled}\n")), "README.md shows other HTML");
+        }
+    }
+    say(&format!("examples: {} orders filled, as stored", orders().len()));
 }
 
 /// The files of the outs that are converted: old templates and page out, then new ones.
@@ -146,7 +189,7 @@ fn templates_and_their_places() {
     let forms = transform(&page, &Options::new()).expect("it is taken");
     assert!(templates == forms.templates_bytes(), "{name} is not what the library writes");
     if !no_judge() {
-        assert!(templates == templates_by_the_judge(&examples), "{name} is not what the judge writes");
+        assert!(templates == templates_by_the_judge(&examples, FOUND.0), "{name} is not what the judge writes");
     }
     let found = format!("examples/{}.found", FOUND.0);
     holds(&found, "the program", &found_said());
@@ -332,10 +375,13 @@ fn folder_and_readmes() {
     let examples = examples();
     let files = examples.iter().flat_map(|example| ["card", "jsx", "page"].map(|end| file(example, end)));
     let of_tags = TAGS.iter().flat_map(|(tag, _)| ["tag", "field"].map(|end| format!("examples/{tag}.{end}")));
-    let of_templates = ["templates", "found"].map(|end| format!("examples/{}.{end}", FOUND.0));
+    let of_orders = orders()
+        .into_iter()
+        .flat_map(|(name, _)| ["templates", "order", "html"].map(|end| format!("examples/{name}.{end}")));
     let expected: BTreeSet<String> = files
         .chain(of_tags)
-        .chain(of_templates)
+        .chain(of_orders)
+        .chain([format!("examples/{}.found", FOUND.0)])
         .chain(converted_files())
         .chain(["examples/README.md", SUMS.1].map(str::to_string))
         .collect();
@@ -351,6 +397,9 @@ fn folder_and_readmes() {
         assert!(list.contains(&format!("\n| `{name}` |")), "examples/README.md has no line for {name}");
     }
     assert!(list.contains(&format!("\n| `{}.templates` |", FOUND.0)), "examples/README.md has no line for templates");
+    for (name, _) in orders() {
+        assert!(list.contains(&format!("\n| `{name}.order` |")), "examples/README.md has no line for {name}.order");
+    }
     for name in converted_files() {
         let name = name.strip_prefix("examples/").expect("a file of examples/");
         assert!(list.contains(&format!("`{name}`")), "examples/README.md does not name {name}");

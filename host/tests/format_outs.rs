@@ -1,9 +1,12 @@
-//! docs/FORMAT.md, Looking templates up and Outs of before: their examples are what the library and the judge answer.
+//! docs/FORMAT.md, Looking templates up, Filling templates and Outs of before: their examples are what the library and
+//! the judge answer.
 
-use jsx_precompile::{Converted, Refusal, downgrade, find, upgrade};
+use jsx_precompile::{Converted, Refusal, downgrade, fill, find, upgrade};
 use oracle::outs::convert::{self, Way};
+use oracle::outs::fill as judge;
 use oracle::outs::find::{ABSENT, outcome};
 use oracle::vectors::unhex;
+use std::collections::BTreeSet;
 use std::path::Path;
 
 const FENCE: &str = "```";
@@ -85,6 +88,36 @@ fn lookups_hold() {
     }
     println!("format: {} lookups, {found} taken, {refused} refused, as shown", examples.len());
     assert!(found > 1 && refused > 1, "{found} taken, {refused} refused");
+}
+
+#[test]
+fn fillings_hold() {
+    let examples = examples("fill");
+    let (mut filled, mut refused) = (0, BTreeSet::new());
+    for example in &examples {
+        let [templates, order] = ["templates", "order"].map(|key| example.bytes(key));
+        let judged = judge::outcome(&templates, &order).map_err(|refusal| refusal as u32);
+        let mut rows = example.rows[..2].to_vec();
+        let mut row = |key: &str, value: String| rows.push((key.to_string(), value));
+        match fill(&templates, &order) {
+            Ok(html) => {
+                row("answer", "0 accepted".to_string());
+                assert_eq!(judged.as_deref(), Ok(html.as_bytes()), "line {}", example.line);
+                row("html", html);
+                filled += 1;
+            }
+            Err(fault) => {
+                let number = fault.refusal.number();
+                row("answer", format!("{number} {:?}", fault.refusal));
+                row("said", fault.to_string());
+                assert_eq!(judged, Err(number), "line {}", example.line);
+                refused.insert(number);
+            }
+        }
+        assert_eq!(example.rows, rows, "line {}", example.line);
+    }
+    println!("format: {} fillings, {filled} taken, refused {refused:?}, as shown", examples.len());
+    assert!(filled > 1 && refused.contains(&18), "{filled} taken, refused {refused:?}");
 }
 
 type Call = fn(&[u8], &[u8]) -> Result<Converted, Refusal>;

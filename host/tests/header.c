@@ -1,7 +1,8 @@
 /* Transforms the page on the command line, in hex, and prints the answer and both outputs in hex. With the word tag
    before it, reads the tag text there, in hex, and prints the answer and the field in hex. With the word find before it,
    looks the numbers behind it up in the templates there, in hex, and prints the answer and the places. With the word up
-   or down before them, converts the templates and the page out there, in hex, and prints the answer and both in hex. */
+   or down before them, converts the templates and the page out there, in hex, and prints the answer and both in hex. With
+   the word fill before them, fills the templates by the order there, in hex, and prints the answer and the HTML in hex. */
 #include "jsx_precompile.h"
 #include <stdio.h>
 #include <stdlib.h>
@@ -55,6 +56,13 @@ static uint32_t convert(int up, size_t length, size_t page_length) {
     return answer.number;
 }
 
+static uint32_t fill(size_t length, size_t order_length) {
+    jsx_precompile_filled answer = jsx_precompile_fill(input, length, page, order_length, out, sizeof out);
+    printf("%u %lu", (unsigned)answer.number, (unsigned long)answer.html_bytes);
+    print(out, answer.html_bytes);
+    return answer.number;
+}
+
 static size_t unhex(const char *digits, uint8_t *bytes, size_t most) {
     size_t length = strlen(digits) / 2, i;
     if (length > most) exit(2);
@@ -70,11 +78,14 @@ int main(int argc, char **argv) {
     const char *word = argc > 1 ? argv[1] : "";
     int is_tag = strcmp(word, "tag") == 0, is_find = strcmp(word, "find") == 0;
     int is_up = strcmp(word, "up") == 0, is_down = strcmp(word, "down") == 0;
-    int first = 1 + (is_tag || is_find || is_up || is_down), behind = first + 1;
+    int is_fill = strcmp(word, "fill") == 0;
+    int first = 1 + (is_tag || is_find || is_up || is_down || is_fill), behind = first + 1;
     size_t length = unhex(argc > first ? argv[first] : "", input, sizeof input), count = 0;
     uint32_t number;
     if (is_up || is_down) {
         number = convert(is_up, length, unhex(argc > behind ? argv[behind] : "", page, sizeof page));
+    } else if (is_fill) {
+        number = fill(length, unhex(argc > behind ? argv[behind] : "", page, sizeof page));
     } else if (is_find) {
         while (behind < argc && count < sizeof numbers / sizeof *numbers) {
             numbers[count++] = (uint32_t)strtoul(argv[behind++], NULL, 10);

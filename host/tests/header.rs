@@ -2,7 +2,7 @@
 
 use jsx_precompile::limits::MAX_NUMBERS;
 use jsx_precompile::page::{Element, Expression, Item, Page};
-use jsx_precompile::{Options, Tag, downgrade, find, transform};
+use jsx_precompile::{Options, Order, Tag, downgrade, fill, find, transform};
 use std::path::Path;
 use std::process::Command;
 
@@ -73,19 +73,29 @@ fn answers_alike(program: &Path) {
     assert_eq!(looked_up(&[], &all[1..]), format!("0 0{}\n", " absent".repeat(MAX_NUMBERS)));
     assert_eq!(looked_up(&[], &all), format!("20 0{}\n", " absent".repeat(MAX_NUMBERS)));
 
-    let converted = |way: &str, templates: &[u8], page: &[u8]| {
-        let output = Command::new(program).args([way, &hex(templates), &hex(page)]).output().expect("the program runs");
+    let two = |word: &str, one: &[u8], other: &[u8]| {
+        let output = Command::new(program).args([word, &hex(one), &hex(other)]).output().expect("the program runs");
         String::from_utf8(output.stdout).expect("text")
     };
+    let order = |order: Order| order.to_bytes().expect("an order");
+    let hall = order(Order::new(1).text("stalls & balcony"));
+    let html = fill(&templates, &hall).expect("it is filled");
+    assert_eq!(html, "<p class=\"t\">Hi stalls &amp; balcony</p>");
+    assert_eq!(two("fill", &templates, &hall), format!("0 {} {}\n", html.len(), hex(html.as_bytes())));
+    assert_eq!(two("fill", &templates, &order(Order::new(u32::MAX))), "0 0 \n");
+    assert_eq!(two("fill", &templates, &order(Order::new(1))), "18 0 \n");
+    assert_eq!(two("fill", &templates, &[]), "3 0 \n");
+    assert_eq!(two("fill", &templates, &order(Order::new(1).text("s".repeat(1_000)))), "13 0 \n");
+
     let new = (forms.templates_bytes(), forms.page_bytes());
     let old = downgrade(new.0, new.1).expect("it goes down");
     let old = (old.templates_bytes(), old.page_bytes());
-    assert_eq!(converted("down", new.0, new.1), format!("0 {} {}\n", hex(old.0), hex(old.1)));
-    assert_eq!(converted("up", old.0, old.1), format!("0 {} {}\n", hex(new.0), hex(new.1)));
-    assert_eq!(converted("up", &[], &[]), "0  \n");
-    assert_eq!(converted("up", new.0, old.1), "4  \n");
-    assert_eq!(converted("down", &[], &[0x83]), "3  \n");
-    assert_eq!(converted("down", b"\x84\0\x09\0\x01\0\0\0\0\x81\0\0", &[]), "17  \n");
+    assert_eq!(two("down", new.0, new.1), format!("0 {} {}\n", hex(old.0), hex(old.1)));
+    assert_eq!(two("up", old.0, old.1), format!("0 {} {}\n", hex(new.0), hex(new.1)));
+    assert_eq!(two("up", &[], &[]), "0  \n");
+    assert_eq!(two("up", new.0, old.1), "4  \n");
+    assert_eq!(two("down", &[], &[0x83]), "3  \n");
+    assert_eq!(two("down", b"\x84\0\x09\0\x01\0\0\0\0\x81\0\0", &[]), "17  \n");
 }
 
 #[test]
@@ -96,7 +106,7 @@ fn a_program_in_c() {
     let program = Path::new(env!("CARGO_TARGET_TMPDIR")).join("header_c");
     compile("cc", &["-std=c99", "-x", "c"], &program);
     answers_alike(&program);
-    println!("header: compiled by cc, eighteen answers alike");
+    println!("header: compiled by cc, 23 answers alike");
 }
 
 #[test]
@@ -107,7 +117,7 @@ fn a_program_in_cpp() {
     let program = Path::new(env!("CARGO_TARGET_TMPDIR")).join("header_cpp");
     compile("c++", &["-x", "c++"], &program);
     answers_alike(&program);
-    println!("header: compiled by c++, eighteen answers alike");
+    println!("header: compiled by c++, 23 answers alike");
 }
 
 /// The header's limits and numbers are the crate's.
@@ -180,5 +190,5 @@ fn installed() {
     let output = cc.output().expect("the compiler runs");
     assert!(output.status.success(), "{}", String::from_utf8_lossy(&output.stderr));
     answers_alike(&program);
-    println!("header: installed, compiled with {words}, eighteen answers alike");
+    println!("header: installed, compiled with {words}, 23 answers alike");
 }

@@ -1,14 +1,14 @@
 //! `jsx-precompile preview`: its page, and what a browser makes of it. Where there is no chromium that is said, and the
 //! page's text is looked at alone. `PREVIEW_WRITE=1` takes the picture for docs/.
 
+mod browser;
 mod common;
 
+use browser::{chromium, run};
 use common::{jsx_precompile, say};
 use jsx_precompile::out::{Call, Expression};
 use jsx_precompile::{Forms, Options, transform};
 use std::path::{Path, PathBuf};
-use std::process::{Command, Stdio};
-use std::time::{Duration, Instant};
 
 fn root(name: &str) -> PathBuf {
     Path::new(env!("CARGO_MANIFEST_DIR")).with_file_name("").join(name)
@@ -18,21 +18,6 @@ fn preview(words: &[&str]) -> String {
     let output = jsx_precompile(&[&["preview"], words].concat(), b"");
     assert!(output.status.success() && output.stderr.is_empty(), "{output:?}");
     String::from_utf8(output.stdout).expect("text")
-}
-
-/// A browser that takes its orders from the command line; none where there is none.
-fn chromium() -> Option<Command> {
-    let named = ["chromium", "chromium-browser", "google-chrome"];
-    let found = named.into_iter().find(|name| Command::new(name).arg("--version").output().is_ok());
-    if found.is_none() {
-        say("skipped: no chromium here");
-    }
-    let mut command = Command::new(found?);
-    // No sandbox: tests may be run by root, and the page is our own. A folder of its own: another may be running.
-    let profile = format!("chromium-{:?}", std::thread::current().id()).replace(['(', ')'], "");
-    command.args(["--headless", "--no-sandbox", "--disable-gpu", "--disable-dev-shm-usage", "--hide-scrollbars"]);
-    command.arg(format!("--user-data-dir={}/{profile}", env!("CARGO_TARGET_TMPDIR")));
-    Some(command)
 }
 
 /// Looks about in the page as it is shown, and leaves what it saw as lines in it.
@@ -58,22 +43,6 @@ report.textContent = "\n" + lines.join("\n") + "\n";
 document.body.append(report);
 </script>
 "##;
-
-/// What the browser prints; it is stopped where it does not end by itself.
-fn run(chromium: &mut Command) -> String {
-    let printed = Path::new(env!("CARGO_TARGET_TMPDIR")).join(format!("printed-{:?}", std::thread::current().id()));
-    let file = std::fs::File::create(&printed).expect("a file");
-    let mut child = chromium.stdout(file).stderr(Stdio::null()).spawn().expect("it runs");
-    let start = Instant::now();
-    while child.try_wait().expect("its status").is_none() {
-        if start.elapsed() > Duration::from_secs(60) {
-            let _ = child.kill();
-            panic!("the browser did not end within a minute");
-        }
-        std::thread::sleep(Duration::from_millis(20));
-    }
-    std::fs::read_to_string(&printed).expect("text")
-}
 
 /// What the browser saw of a page.
 fn report(name: &str, html: &str) -> Option<Vec<String>> {

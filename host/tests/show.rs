@@ -88,6 +88,38 @@ fn options() {
 }
 
 #[test]
+fn orders() {
+    let order = b"85001a00000001860003613d62870003c3a93c85000700000002870000";
+    let expected = r#"     0  85 order 1
+     7    86 attribute text "a=b"
+    13    87 plain text "é<"
+    19    85 order 2
+    26      87 plain text ""
+order: 29 bytes, 5 fields, 3 deep
+"#;
+    assert_eq!(shown(&[], order, 0), expected);
+    assert_eq!(shown(&["--as", "order"], order, 0), expected);
+    // An order of an order without a number; bytes behind one; another field in one.
+    let (tree, said) = damaged(b"85000a00000001850003000000");
+    assert!(
+        tree.contains("     7    85 order 000000\n    10    ^ 4 (misplaced): 85 (order) of 3 bytes lacks its number\n"),
+        "{tree}"
+    );
+    assert!(said.contains("order, byte 10, 85 1 > 85[0]: 4 (misplaced)"), "{said}");
+    assert!(damaged(b"850004000000018500").1.ends_with("order, byte 7: 3 (torn): 2 bytes follow the order\n"));
+    let (tree, said) = damaged(b"85000800000001810001 61");
+    assert!(
+        tree.contains("     7    81 static string \"a\"\n     7    ^ 4 (misplaced): 81 (static string) stands where"),
+        "{tree}"
+    );
+    assert!(said.contains("order, byte 7, 85 1 > 81[0]: 4 (misplaced)"), "{said}");
+    let (tree, _) = damaged(b"85000800000001860001ff");
+    assert!(tree.contains("     7    86 attribute text not UTF-8: ff\n    10    ^ 6 (bad letters): byte ff"), "{tree}");
+    let output = jsx_precompile(&["show", "--as", "order", "-"], b"");
+    assert_eq!(String::from_utf8_lossy(&output.stdout), "     0  ^ 3 (torn): an empty order\n");
+}
+
+#[test]
 fn damaged_pages() {
     // the element's name is `1`
     let (tree, said) = damaged(b"01000a12000730000440000131");

@@ -23,7 +23,7 @@ pub fn finish(out: &mut [u8], at: usize) -> bool {
 pub enum Body {
     Bytes,
     Fields,
-    /// A number and what else `front` counts, then fields (80, 84 and 90).
+    /// A number and what else `front` counts, then fields (80, 84, 85 and 90).
     FrontThenFields,
     /// Fields, then one byte (82).
     FieldsThenByte,
@@ -34,15 +34,16 @@ pub fn body_of(tag: u8) -> Body {
     match tag {
         0x01..=0x03 | 0x10..=0x12 | 0x30 | 0x31 | 0x41 | 0x42 | 0x50 | 0x52 | 0x53 | 0x61 => Body::Fields,
         0x76 | 0x77 | 0x79 | 0x91..=0x96 => Body::Fields,
-        0x04 | 0x05 | 0x13 | 0x20 | 0x40 | 0x51 | 0x60 | 0x70..=0x75 | 0x78 | 0x7a | 0x7b | 0x81 | 0x83 => Body::Bytes,
-        0x80 | 0x84 | 0x90 => Body::FrontThenFields,
+        0x04 | 0x05 | 0x13 | 0x20 | 0x40 | 0x51 | 0x60 | 0x70..=0x75 | 0x78 | 0x7a | 0x7b => Body::Bytes,
+        0x81 | 0x83 | 0x86 | 0x87 => Body::Bytes,
+        0x80 | 0x84 | 0x85 | 0x90 => Body::FrontThenFields,
         0x82 => Body::FieldsThenByte,
         _ => Body::Unknown,
     }
 }
 
 /// How many bytes stand before the fields of such a body: in an 80 a number of two bytes; in an 84 one of four, a count of
-/// two, and as many kinds; in a 90 a number of four.
+/// two, and as many kinds; in an 85 or 90 a number of four.
 pub fn front(tag: u8, body: &[u8]) -> Option<usize> {
     let length = match (tag, body) {
         (0x80, _) => 2,
@@ -53,8 +54,8 @@ pub fn front(tag: u8, body: &[u8]) -> Option<usize> {
     (length <= body.len()).then_some(length)
 }
 
-/// A field read as a tree. `bytes` is the body of a leaf, what stands before the fields of an 80, 84 or 90, or the byte of
-/// an 82.
+/// A field read as a tree. `bytes` is the body of a leaf, what stands before the fields of an 80, 84, 85 or 90, or the byte
+/// of an 82.
 #[derive(Clone, Debug, PartialEq, Eq)]
 pub struct Node {
     pub tag: u8,
@@ -85,7 +86,7 @@ impl Node {
         finish(out, at);
     }
 
-    /// The number of an 80, 84 or 90.
+    /// The number of an 80, 84, 85 or 90.
     pub fn number(&self) -> u32 {
         let bytes = &self.bytes[..if self.tag == 0x80 { 2 } else { 4 }];
         bytes.iter().fold(0, |number, byte| number << 8 | u32::from(*byte))

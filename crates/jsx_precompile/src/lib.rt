@@ -7,6 +7,7 @@
 ghost use Rattle.std.specs.Prelude.{◌≡◌, length};
 ghost use Rattle.convert.specs.Convert.{upgraded, downgraded};
 ghost use Rattle.convert.specs.Flat.{Converts};
+ghost use Rattle.fill.specs.Answer as F;
 ghost use Rattle.find.specs.Answer.{Answered};
 ghost use Rattle.spec.specs.Answer.{outcome};
 ghost use Rattle.tag_pass.specs.Answers.{TagAnswers};
@@ -14,6 +15,7 @@ ghost use Rattle.transform.specs.Run.{Answers};
 ghost use Rattle.jsx_precompile.specs.Version.{version};
 
 use convert::{Converted, downgrade, upgrade};
+use fill::{Filled, fill};
 use find::{Places, find};
 use tag_pass::answer::{TagAnswer, read_tag};
 use transform::{Answer, transform};
@@ -66,6 +68,13 @@ pub fn jsx_precompile_find<'a>(templates: &'a [u8], numbers: &'a [u32]) -> Place
     ensures { Answered templates.now numbers.now result.number result.records result.places }
 {
     find(templates, numbers)
+}
+
+// Document 02, A8: the HTML of an order over templates.
+pub fn jsx_precompile_fill<'a>(templates: &'a [u8], order: &'a [u8], html_out: &mut [u8]) -> Filled
+    ensures { F.Answered (F.outcome templates.now order.now (length html_out.old)) html_out.old result.number result.html_bytes html_out.new }
+{
+    fill(templates, order, html_out)
 }
 
 // The version of the library: major * 10,000 + minor * 100 + patch.

@@ -6,6 +6,7 @@
 ghost use Rattle.std.specs.Prelude.{◌≡◌, length};
 ghost use Rattle.convert.specs.Convert.{upgraded, downgraded};
 ghost use Rattle.convert.specs.Flat.{Converts};
+ghost use Rattle.fill.specs.Answer as F;
 ghost use Rattle.find.specs.Answer.{Answered};
 ghost use Rattle.spec.specs.Answer.{outcome};
 ghost use Rattle.tag_pass.specs.Answers.{TagAnswers};
@@ -13,6 +14,7 @@ ghost use Rattle.transform.specs.Run.{Answers};
 ghost use Rattle.jsx_precompile.specs.Version.{version};
 
 use convert::Converted;
+use fill::Filled;
 use find::Places;
 use tag_pass::answer::TagAnswer;
 use transform::Answer;
@@ -70,6 +72,18 @@ pub extern "C" fn jsx_precompile_find<'a>(templates: &'a [u8], numbers: &'a [u32
     ensures { Answered templates.now numbers.now result.number result.records result.places }
 {
     jsx_precompile::jsx_precompile_find(templates, numbers)
+}
+
+// Document 02, A8: the HTML of an order over templates.
+#[unsafe(no_mangle)]
+pub extern "C" fn jsx_precompile_fill<'a>(
+    templates: &'a [u8],
+    order: &'a [u8],
+    html_out: &mut [u8],
+) -> Filled
+    ensures { F.Answered (F.outcome templates.now order.now (length html_out.old)) html_out.old result.number result.html_bytes html_out.new }
+{
+    jsx_precompile::jsx_precompile_fill(templates, order, html_out)
 }
 
 // The version of the library: major * 10,000 + minor * 100 + patch.

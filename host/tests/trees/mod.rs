@@ -1,7 +1,10 @@
-//! The pages of examples/ as trees.
+//! The pages of examples/ as trees, and the orders that fill their templates.
 
 mod marks;
+mod orders;
 mod seat_pages;
+
+pub use orders::orders;
 
 use jsx_precompile::page::{Expression, Item, Page, Piece};
 

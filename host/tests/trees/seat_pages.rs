@@ -18,6 +18,7 @@ pub fn all() -> Vec<Example> {
         Example::new("values", values()),
         Example::new("prices", prices()),
         Example::new("blocks", blocks()),
+        Example::new("paper", paper()),
         Example::new("module", module()),
         Example::new("no-tags", no_tags()),
         Example::new("twice", twice()),
@@ -263,6 +264,54 @@ fn blocks() -> Page {
         .child(Element::new("tr").child(Element::new("td").child(left)))
         .text("\n  ");
     Page::new([Item::export(["export function Blocks({ gallery }) {\n  return ".into(), list.into(), ";\n}".into()])])
+}
+
+/// What the print office fills: the sheet of a paper programme, an act, a part in it, and two things one behind the other.
+fn paper() -> Page {
+    let style = "@page { size: A5 } body { font: 12pt Georgia, serif; max-width: 32em; margin: 2em auto } \
+                 header, footer { text-align: center } footer { margin-top: 2em } h2 { font-size: 1em; font-variant: small-caps } \
+                 table { width: 100%; border-collapse: collapse } tr { border-bottom: 1px dotted } \
+                 th { text-align: left; font-weight: normal } td { text-align: right } .guest { font-style: italic }";
+    let head = Element::new("head")
+        .text("\n    ")
+        .child(Element::new("meta").attribute("charset", "utf-8"))
+        .text("\n    ")
+        .child(Element::new("title").child(code("play")))
+        .text("\n    ")
+        .child(Element::new("style").child(string(style)))
+        .text("\n  ");
+    let header = Element::new("header")
+        .text("\n      ")
+        .child(Element::new("p").child(code("hall")))
+        .text("\n      ")
+        .child(Element::new("h1").attribute("id", code("id")).child(code("play")))
+        .text("\n      ")
+        .child(Element::new("p").child(code("day")))
+        .text("\n    ");
+    let body = Element::new("body")
+        .text("\n    ")
+        .child(header)
+        .text("\n    ")
+        .child(Element::new("main").child(code("acts")))
+        .text("\n    ")
+        .child(Element::new("footer").child(code("note")))
+        .text("\n  ");
+    let sheet =
+        Element::new("html").attribute("lang", "en").text("\n  ").child(head).text("\n  ").child(body).text("\n");
+    let parts = Element::new("table").child(Element::new("tbody").child(code("parts")));
+    let act = Element::new("section").child(Element::new("h2").child(code("title"))).child(parts);
+    let part = Element::new("tr")
+        .attribute("class", code("guest"))
+        .child(Element::new("th").child(code("role")))
+        .child(Element::new("td").child(code("player")));
+    let both = Fragment::new().child(code("one")).child(code("other"));
+    let export = |front: &str, tag: Piece| Item::export([front.into(), tag, ";".into()]);
+    Page::new([
+        export("export const Sheet = ({ hall, id, play, day, acts, note }) => ", sheet.into()),
+        export("export const Act = ({ title, parts }) => ", act.into()),
+        export("export const Part = ({ guest, role, player }) => ", part.into()),
+        export("export const Both = ({ one, other }) => ", both.into()),
+    ])
 }
 
 /// All kinds of items: the templates stand before the first that is no import.

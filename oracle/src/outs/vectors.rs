@@ -1,7 +1,7 @@
 //! Stored answers, one call on a line, words parted by one space, bytes as small hex digits, `-` where there are none.
 
 use super::catalogue::{self, Catalogued};
-use super::compare::Convert;
+use super::compare::{Convert, Fill};
 use super::convert::{Converted, Way, downgrade, upgrade};
 use super::fill::{Filled, fill};
 use super::find::{ABSENT, MOST_NUMBERS, Places, find};
@@ -56,8 +56,12 @@ pub fn convert_by(line: &str, up: impl Convert, down: impl Convert) -> Option<Fo
     found(number, (answer, out, page_out), (stored, stored_out, stored_page))
 }
 
-/// seed templates order out-lent number bytes HTML
 pub fn filling(line: &str) -> Option<Found> {
+    filling_by(line, fill)
+}
+
+/// seed templates order out-lent number bytes HTML; `fill` is the judge's or another's.
+pub fn filling_by(line: &str, fill: impl Fill) -> Option<Found> {
     let [_, templates, order, lent, number, bytes, html] = line.split(' ').collect::<Vec<_>>()[..] else { return None };
     let (number, lent) = (number.parse().ok()?, lent.parse().ok()?);
     let mut out = vec![TEMPLATES_BEFORE; lent];

@@ -21,16 +21,17 @@ Usage: jsx-precompile COMMAND [OPTION]... FILE
 Commands:
   build      print the page as a JavaScript module, or write both outputs as bytes
   check      say whether pages are taken, and where not, the place and the reason
-  show       print the fields of a page, of options or of an output as a tree
+  show       print the fields of a page, of options, of an output or of an order as a tree
   preview    print an HTML page that shows source, templates and calls
   tag        read the text of one tag and print its field, or the place and the reason
   find       print where templates stand, by their numbers
+  fill       print the HTML that templates and an order make
   upgrade    convert templates out and page out of version 0.1.0 into what is written now
   downgrade  convert templates out and page out into what version 0.1.0 wrote
 
-FILE is a page, as bytes or in hex digits, for tag a text, for find templates out, and for
-upgrade and downgrade there are two, templates out and page out; - is standard input. docs/FORMAT.md of the repository
-says what these are.
+FILE is a page, as bytes or in hex digits, for tag a text, for find templates out. For fill there are two, templates
+out and an order, and for upgrade and downgrade templates out and page out. - is standard input. docs/FORMAT.md of the
+repository says what these are.
 `jsx-precompile COMMAND --help` tells more of a command, --version prints the version.
 
 Results go to standard output, messages to standard error. The exit status is
@@ -78,11 +79,11 @@ the element p (30). `jsx-precompile show` prints the whole tree.
 
 pub const SHOW: &str = "jsx-precompile show [OPTION]... FILE
 
-Prints a page, options, templates out or page out as a tree of fields: the place of each in the bytes, its tag, what the
-tag means, and its text. Where the bytes are refused, the place is marked and the status is 1.
+Prints a page, options, templates out, page out or an order as a tree of fields: the place of each in the bytes, its tag,
+what the tag means, and its text. Where the bytes are refused, the place is marked and the status is 1.
 
 Options:
-  --as KIND    page, options, templates or out; without it the first byte tells
+  --as KIND    page, options, templates, out or order; without it the first byte tells
   --hex        the file has hex digits; without it and --raw the file itself tells
   --raw        the file has the bytes themselves
   --whole      print long texts whole
@@ -151,6 +152,17 @@ Example:
       83  84 template 3: attribute, attribute, child
   absent  84 template 9
   3 of 4 found, 3 templates read
+";
+
+pub const FILL: &str = "jsx-precompile fill TEMPLATES ORDER
+
+Prints HTML: of the template that the order names the static strings, and between them the order's fillings, which are
+texts and other templates. The line end behind it is no part of it. Where the templates are a page's, the HTML is well
+nested. Fillings that do not fit their templates are refused with their place in the order.
+
+Example:
+  $ jsx-precompile fill examples/rows.templates examples/rows.order
+  <ol class=\"rows\"><li ><b>Row A</b><button type=\"button\" data-seat=\"A1\" disabled>1</button></li></ol>
 ";
 
 macro_rules! convert_help {

@@ -37,8 +37,8 @@ pub fn read(file: &str, written: Option<Bytes>) -> Result<Vec<u8>, Failure> {
     }
 }
 
-/// The bytes that hex digits are. No page, options or output begins with a digit or a letter, so raw bytes are not
-/// mistaken for them.
+/// The bytes that hex digits are. No page, options, output or order begins with a digit or a letter, so raw bytes are
+/// not mistaken for them.
 fn unhex(text: &[u8]) -> Option<Vec<u8>> {
     let digits: Vec<u8> = text.iter().copied().filter(|byte| !byte.is_ascii_whitespace()).collect();
     if digits.is_empty() != text.is_empty() || !digits.len().is_multiple_of(2) {

@@ -2,6 +2,7 @@
 //! says how it is called.
 
 mod convert;
+mod fill;
 mod find;
 mod help;
 mod input;
@@ -72,6 +73,7 @@ fn run(command: &Command) -> u8 {
                 write(page, both.page_bytes())
             }
         }),
+        Command::Fill { files } => fill::filled(files).and_then(|html| print(&html)),
         Command::Find { file, numbers } => read(file, None).and_then(|bytes| {
             let printed = find::printed(&bytes, numbers);
             print(&printed.map_err(|said| Failure { said: format!("{}: {said}", named(file)), status: REFUSED })?)

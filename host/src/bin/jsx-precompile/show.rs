@@ -3,13 +3,14 @@
 use jsx_precompile::field::{Field, Fields};
 use jsx_precompile::out::{Import, Kind, PageOut, Templates};
 use jsx_precompile::page::Page;
-use jsx_precompile::{Decimal, Fault, Input, Options};
+use jsx_precompile::{Decimal, Fault, Input, Options, Order};
 
 /// What bytes are, by the first of them.
 pub fn told_by(bytes: &[u8]) -> Input {
     match bytes.first() {
         Some(0x02..=0x05) => Input::Options,
         Some(0x80 | 0x84) => Input::Templates,
+        Some(0x85) => Input::Order,
         Some(0x10..=0x13 | 0x82 | 0x83) => Input::PageOut,
         _ => Input::Page,
     }
@@ -21,6 +22,7 @@ fn check(input: Input, bytes: &[u8]) -> Result<(), Fault> {
         Input::Options => Options::from_bytes(bytes).map(drop),
         Input::Templates => Templates::read(bytes).map(drop),
         Input::PageOut => PageOut::read(bytes).map(drop),
+        Input::Order => Order::from_bytes(bytes).map(drop),
     }
 }
 
@@ -106,7 +108,7 @@ fn line(field: &Field, whole: bool) -> String {
         (0x7a | 0x7b, [digits @ .., places]) if digits.len() == 8 => decimal(digits, *places),
         (0x72, [0]) => "false".to_string(),
         (0x72, [1]) => "true".to_string(),
-        (0x80 | 0x84 | 0x90, _) => match (field.number(), field.kinds()) {
+        (0x80 | 0x84 | 0x85 | 0x90, _) => match (field.number(), field.kinds()) {
             (Some(number), None | Some([])) => number.to_string(),
             (Some(number), Some(kinds)) => format!("{number}: {}", listed(kinds, whole)),
             (None, _) => hex(body, whole),
@@ -116,7 +118,7 @@ fn line(field: &Field, whole: bool) -> String {
             format!("{sum}: {}", names.join(", "))
         }
         (0x05 | 0x13 | 0x71..=0x73 | 0x75 | 0x78 | 0x7a | 0x7b | 0x83, _) => hex(body, whole),
-        (0x04 | 0x20 | 0x40 | 0x51 | 0x60 | 0x70 | 0x74 | 0x81, _) => text(body, whole),
+        (0x04 | 0x20 | 0x40 | 0x51 | 0x60 | 0x70 | 0x74 | 0x81 | 0x86 | 0x87, _) => text(body, whole),
         _ => String::new(),
     };
     format!("{tag:02x} {name} {inside}").trim_end().to_string()

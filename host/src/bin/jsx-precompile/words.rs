@@ -15,6 +15,7 @@ pub enum Command {
     Preview { file: String, options: Options },
     Tag { file: String, form: Form },
     Find { file: String, numbers: Vec<u32> },
+    Fill { files: [String; 2] },
     Convert { way: Way, files: [String; 2], outputs: Option<(String, String)> },
 }
 
@@ -42,13 +43,14 @@ pub struct BadCall {
     pub command: Option<&'static str>,
 }
 
-const COMMANDS: [(&str, &str); 8] = [
+const COMMANDS: [(&str, &str); 9] = [
     ("build", help::BUILD),
     ("check", help::CHECK),
     ("show", help::SHOW),
     ("preview", help::PREVIEW),
     ("tag", help::TAG),
     ("find", help::FIND),
+    ("fill", help::FILL),
     ("upgrade", help::UPGRADE),
     ("downgrade", help::DOWNGRADE),
 ];
@@ -147,12 +149,10 @@ impl Words {
             _ => return Err("--templates and --page belong together".to_string()),
         };
         if let Some(way) = way(command) {
-            let files: [String; 2] =
-                files.try_into().map_err(|_| format!("{command} takes templates and a page out"))?;
-            return match &files {
-                [templates, page] if templates == "-" && page == "-" => Err("- stands for one file alone".to_string()),
-                _ => Ok(Command::Convert { way, files, outputs }),
-            };
+            return Ok(Command::Convert { way, files: two(command, files, "a page out")?, outputs });
+        }
+        if command == "fill" {
+            return Ok(Command::Fill { files: two(command, files, "an order")? });
         }
         let file = match (files.pop(), files.pop()) {
             (Some(file), None) => file,
@@ -165,6 +165,15 @@ impl Words {
             "tag" => Command::Tag { file, form: form.unwrap_or(Form::Tree) },
             _ => Command::Build { file, options, outputs },
         })
+    }
+}
+
+/// Templates and this.
+fn two(command: &str, files: Vec<String>, second: &str) -> Result<[String; 2], String> {
+    let files: [String; 2] = files.try_into().map_err(|_| format!("{command} takes templates and {second}"))?;
+    match files.each_ref().map(String::as_str) {
+        ["-", "-"] => Err("- stands for one file alone".to_string()),
+        _ => Ok(files),
     }
 }
 
@@ -182,7 +191,8 @@ fn kind(word: &str) -> Result<Input, String> {
         "options" => Input::Options,
         "templates" => Input::Templates,
         "out" => Input::PageOut,
-        _ => return Err(format!("--as is page, options, templates or out, not {word}")),
+        "order" => Input::Order,
+        _ => return Err(format!("--as is page, options, templates, out or order, not {word}")),
     })
 }
 

@@ -1,0 +1,17 @@
+use Prim.Native.Nat.{◌+◌, ◌*◌}
+use lib.ListN.{length}
+use Rattle.field.specs.Row.{read}
+use Rattle.std.specs.Slice.Iter.{iter_rest}
+use Rattle.fill.specs.Indexed.{Served}
+use Rattle.fill.proofs.HtmlLaws.{Turning}
+use Rattle.fill.proofs.html.+html.Given as goal
+
+abbrev pub decreases-write_filling : goal.decreases-write_filling
+decreases-write_filling l = 2 * length l.filling.body.now + 1
+
+abbrev pub decreases-write_order : goal.decreases-write_order
+decreases-write_order l = 2 * length l.body.now
+
+abbrev pub invariant-write_order-loop-filling : goal.invariant-write_order-loop-filling
+invariant-write_order-loop-filling l =
+    Turning (Served l.templates l.entries.numbers.now l.entries.places.now) (read l.templates) l.body l.initial.out l.at (iter_rest l.kinds) l.strings.0.now l.filling-iterator.0.now l.out l.n

@@ -1,0 +1,135 @@
+// The index of what an order asks for. Each record of the templates is looked up once among the numbers, and not each number among the records.
+ghost use Rattle.std.specs.Prelude.{◌≡◌, ◌+◌, ◌≤◌, length, take};
+ghost use Rattle.std.specs.List.Sorted.{IsNonDecreasing};
+ghost use Rattle.field.specs.Put.{Wrote};
+ghost use Rattle.field.specs.Row.{read};
+ghost use Rattle.page.specs.Refusal.{Fine};
+ghost use Rattle.outs.specs.Templates.{check_templates};
+ghost use Rattle.outs.specs.declared.Kind.TheVariants.{New};
+ghost use Rattle.fill.specs.Order.{read_order, check_order, asked};
+ghost use Rattle.fill.specs.Indexed.{Checked, FirstIndex, Located, Served, Indexed, Looked};
+
+use field::reader::{Fields, body};
+use find::ABSENT;
+
+// The tag of an order.
+const ORDER: u8 = 0x85;
+
+// The numbers that an order asks for, sorted, and where the record with each begins; of a number that is asked for several times, at its first
+// index. A place is ABSENT until the record is met: an Option would take twice the room.
+#[derive(Drop)]
+pub struct Index<const N: usize> {
+    numbers: [u32; N],
+    places: [usize; N],
+    count: usize,
+}
+
+// The same, whatever room it has: the writing goes by it, and so stands once in the library. The checker proves no generic function that calls
+// itself in a loop.
+#[derive(Clone, Copy)]
+pub struct Entries<'i> {
+    numbers: &'i [u32],
+    places: &'i [usize],
+}
+
+// The numbers of all orders in a row of fillings, front to back, written from a place on; the place behind them. It calls itself to the depth of the
+// check, 48.
+fn gather(numbers: &mut [u32], at: usize, fillings: &[u8]) -> usize
+    requires { Checked fillings.now × (at + length (asked (read_order fillings.now)) ≤ length numbers.old) }
+    ensures { Wrote numbers.old at (asked (read_order fillings.now)) numbers.new result }
+{
+    let mut end = at;
+    for filling in Fields(fillings) {
+        if filling.tag == ORDER {
+            let b = filling.body;
+            numbers[end] = u32::from_be_bytes([b[0], b[1], b[2], b[3]]);
+            end = gather(numbers, end + 1, &b[4..]);
+        }
+    }
+    end
+}
+
+// Where a number stands that may stand there several times.
+fn first_index(numbers: &[u32], number: u32) -> Option<usize>
+    requires { IsNonDecreasing numbers.now }
+    ensures { FirstIndex numbers.now number result }
+{
+    let i = numbers.partition_point(|n| *n < number);
+    if *numbers.get(i)? == number {
+        Some(i)
+    } else {
+        None
+    }
+}
+
+// The place of each number's record; None, where a number that is asked for stands in two records.
+fn locate(numbers: &[u32], places: &mut [usize], templates: &[u8]) -> Option<()>
+    requires { (check_templates New templates.now ≡ Fine) × IsNonDecreasing numbers.now × (length numbers.now ≤ length places.old) }
+    ensures { Located templates.now numbers.now places.new result }
+{
+    places.fill(ABSENT);
+    let mut fields = Fields(templates);
+    loop {
+        let at = templates.len() - fields.0.len();
+        let Some(record) = fields.next() else {
+            return Some(());
+        };
+        let b = record.body;
+        let number = u32::from_be_bytes([b[0], b[1], b[2], b[3]]);
+        if let Some(i) = first_index(numbers, number) {
+            if places[i] != ABSENT {
+                return None;
+            }
+            places[i] = at;
+        }
+    }
+}
+
+impl<const N: usize> Index<N> {
+    // Inline, so that no array is copied.
+    #[inline(always)]
+    pub fn new() -> Index<N> {
+        Index {
+            numbers: [0; N],
+            places: [0; N],
+            count: 0,
+        }
+    }
+
+    // None, where some number that is asked for stands in two records, so that the order has no HTML.
+    pub fn index(&mut self, templates: &[u8], order: &[u8]) -> Option<()>
+        requires { (check_templates New templates.now ≡ Fine) × (check_order (read_order order.now) ≡ Fine) × (length (asked (read_order order.now)) ≤ N) }
+        ensures { Indexed templates.now order.now self.new result }
+    {
+        self.count = gather(&mut self.numbers, 0, order);
+        let numbers = &mut self.numbers[..self.count];
+        numbers.sort_unstable();
+        locate(numbers, &mut self.places[..self.count], templates)
+    }
+
+    pub fn entries(&self) -> Entries<'_>
+        requires { self.now.count ≤ length self.now.numbers }
+        ensures { (result.numbers.now ≡ take self.now.count self.now.numbers) × (result.places.now ≡ self.now.places) }
+    {
+        Entries {
+            numbers: &self.numbers[..self.count],
+            places: &self.places,
+        }
+    }
+}
+
+impl<'i> Entries<'i> {
+    // The body of the record with a number that the order asks for; None, where there is none.
+    pub fn record_of<'t>(self, templates: &'t [u8], number: u32) -> Option<&'t [u8]>
+        requires { Served templates.now self.numbers.now self.places.now number }
+        ensures { Looked (read templates.now) number result }
+    {
+        let i = first_index(self.numbers, number)?;
+        let place = self.places[i];
+        if place == ABSENT {
+            None
+        } else {
+            Some(body(&templates[place..]))
+        }
+    }
+}

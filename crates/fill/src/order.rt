@@ -1,0 +1,73 @@
+// The check of an order. Its fields nest 48 deep at the most, so the check calls itself, and the bytes that are left fall at each call.
+ghost use Rattle.std.specs.Prelude.{◌≡◌, ◌≤◌, OnOk};
+ghost use Rattle.page.specs.Check.{check_header};
+ghost use Rattle.fill.specs.Order.{read_order, is_filling, check_fillings, check_order};
+ghost use Rattle.fill.specs.CheckFilling.{check_body, check_filling};
+
+use field::reader::{Field, Fields};
+use page::leaf::check_text;
+use page::name::check_nothing_after;
+use page::{MAX_DEPTH, Refusal, refuse_unless};
+
+// Whether a field may stand there, then its depth.
+#[tactic(auto, unfolding(page::specs::Check::check_header, page::specs::Refusal::after))]
+fn check_header(fits: bool, depth: usize) -> Result<(), Refusal>
+    ensures gives { result ≡ check_header fits depth }
+    ensures fits { OnOk result (depth ≤ 48) }
+{
+    refuse_unless(fits, Refusal::Misplaced)?;
+    refuse_unless(depth <= MAX_DEPTH, Refusal::TooDeep)
+}
+
+fn is_filling(tag: u8) -> bool
+    ensures { result ≡ is_filling tag }
+{
+    matches!(tag, 0x85..=0x87)
+}
+
+// The body of an 85: the number of a record, and fillings at a depth.
+#[cycle(check)]
+fn check_body(s: &[u8], depth: usize) -> Result<(), Refusal>
+    ensures { result ≡ check_body depth s.now }
+{
+    let [_, _, _, _, fillings @ ..] = s else {
+        return Err(Refusal::Misplaced);
+    };
+    check_fillings(fillings, depth)
+}
+
+#[cycle(check)]
+fn check_filling(tag: u8, body: &[u8], depth: usize) -> Result<(), Refusal>
+    ensures { result ≡ check_filling depth tag body.now }
+{
+    check_header(is_filling(tag), depth)?;
+    if tag == 0x85 {
+        check_body(body, depth + 1)
+    } else {
+        check_text(body)
+    }
+}
+
+#[cycle(check)]
+fn check_fillings(s: &[u8], depth: usize) -> Result<(), Refusal>
+    ensures { result ≡ check_fillings depth (read_order s.now) }
+{
+    let mut fields = Fields(s);
+    while let Some(filling) = fields.next() {
+        check_filling(filling.tag, filling.body, depth)?;
+    }
+    check_nothing_after(fields.0)
+}
+
+// The outermost 85, alone.
+pub fn check_order(s: &[u8]) -> Result<(), Refusal>
+    ensures { result ≡ check_order (read_order s.now) }
+{
+    let mut order = Fields(s);
+    let Some(Field { tag, body }) = order.next() else {
+        return Err(Refusal::Truncated);
+    };
+    refuse_unless(tag == 0x85, Refusal::Misplaced)?;
+    check_body(body, 2)?;
+    check_nothing_after(order.0)
+}
