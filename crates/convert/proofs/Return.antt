@@ -42,14 +42,14 @@ false_true h = let z : ◌≡◌ {A = ℕ} 0 1 = cc in omega arith
 -- ---- numbers of calls
 
 -- a number of two bytes
-two_low : (f : Bytes) → length f ≡ 2 → AllBytes f → number_of f ≤ 65535
+pub two_low : (f : Bytes) → length f ≡ 2 → AllBytes f → number_of f ≤ 65535
 unfolding number_from AllBytes
 two_low [] h a = absurd (omega arith)
 two_low (x ∷ []) h a = absurd (omega arith)
 two_low (x ∷ y ∷ []) h a = omega (arith, a.0, a.1.0)
 two_low (x ∷ y ∷ z ∷ f) h a = absurd (omega arith)
 
-or_false : (a b : Bool) → (a || b) ≡ false → (a ≡ false) × (b ≡ false)
+pub or_false : (a b : Bool) → (a || b) ≡ false → (a ≡ false) × (b ≡ false)
 or_false true b h = absurd (false_true (sym h))
 or_false false b h = (refl, h)
 
@@ -113,7 +113,7 @@ module _ (from to : ℕ) (reads : (n : ℕ) → n ≤ 65535 → number_of (big_e
       nothing_left : renumbered from (renumbered to end) ≡ end
       nothing_left = unfold renumbered in refl
 
-  rows_return : (c : Expect) (y : Row) → SaneBy (held from) y → good from c y ≡ Fine → has_wide y ≡ false → renumbered from (renumbered to y) ≡ y
+  pub rows_return : (c : Expect) (y : Row) → SaneBy (held from) y → good from c y ≡ Fine → has_wide y ≡ false → renumbered from (renumbered to y) ≡ y
   unfolding renumbered has_wide
   rows_return c end s g n = refl
   rows_return c (loose b) s g n = refl
@@ -156,7 +156,7 @@ module _ (from to : ℕ) (reads : (n : ℕ) → n ≤ 65535 → number_of (big_e
       let e : renumbered_front to t f ≡ f = ap (λ (b : Bool). pick b (big_endian to (number_of f) []) f) q in
       subst (λ (x : Bytes). FrontFits (held to t) x (renumbered to i)) (sym e) (subst (λ (c : Inside). FrontFits c f (renumbered to i)) (held_other t q) (fits_on (held from t) f i s))
 
-  rows_shaped : (y : Row) → ShapedBy (held from) y → ShapedBy (held to) (renumbered to y)
+  pub rows_shaped : (y : Row) → ShapedBy (held from) y → ShapedBy (held to) (renumbered to y)
   unfolding renumbered
   rows_shaped end s = tt
   rows_shaped (loose b) s = s
@@ -327,13 +327,13 @@ not_given true h = absurd (false_true h)
 not_given false h = refl
 
 -- both that were written
-record Given (o : Option Row) (narrow : Bool) (y : Row) (w : Written) : Type 0 where
-  row : Row
-  row_is : o ≡ some row
-  narrow_is : narrow ≡ true
-  short : (long_body row || long_body y) ≡ false
-  templates_is : w.templates_out ≡ bytes row
-  page_is : w.page_out ≡ bytes y
+pub record Given (o : Option Row) (narrow : Bool) (y : Row) (w : Written) : Type 0 where
+  pub row : Row
+  pub row_is : o ≡ some row
+  pub narrow_is : narrow ≡ true
+  pub short : (long_body row || long_body y) ≡ false
+  pub templates_is : w.templates_out ≡ bytes row
+  pub page_is : w.page_out ≡ bytes y
 
 written_given : (tr pr : ℕ) (o : Option Row) (narrow : Bool) (y : Row) (w : Written) → C.written tr pr o narrow y ≡ converted w → Given o narrow y w
 unfolding C.written
@@ -359,7 +359,7 @@ written_given tr pr (some x) narrow y w h =
     }
 
 module _ (t p : Bytes) (tr pr : ℕ) (w : Written) where
-  up_given : upgraded t p tr pr ≡ converted w → (check_templates Old t ≡ Fine) × (check_page_out 2 p ≡ Fine) × Given (raised (read t)) true (renumbered 4 (read_out 2 p)) w
+  pub up_given : upgraded t p tr pr ≡ converted w → (check_templates Old t ≡ Fine) × (check_page_out 2 p ≡ Fine) × Given (raised (read t)) true (renumbered 4 (read_out 2 p)) w
   unfolding upgraded
   up_given h =
       let last : Unit {0} → Outcome = λ _. C.written tr pr (raised (read t)) true (renumbered 4 (read_out 2 p)) in
@@ -380,7 +380,7 @@ picked : (c : Bool) (x z : Row) → pick c (some x) none ≡ some z → (c ≡ t
 picked true x z h = (refl, cc)
 picked false x z h = absurd (let k : ◌≡◌ {A = Option Row} none (some z) = h in let j : ◌≡◌ {A = ℕ} 0 1 = cc in omega arith)
 
-down_not : (b : Bool) → b ≡ false → T (not b)
+pub down_not : (b : Bool) → b ≡ false → T (not b)
 down_not true h = absurd (false_true (sym h))
 down_not false h = tt
 

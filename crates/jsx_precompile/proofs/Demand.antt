@@ -13,7 +13,7 @@ use Rattle.transform.specs.Run.{Answers}
 -- the answer and the buffers behind a call, by the contract of `jsx_precompile_transform`
 module _ (page options scratch templates_out page_out : Bytes) (a : Answer) (scratch' templates_out' page_out' : Bytes)
     (x : Answers (outcome page options (length scratch) (length templates_out) (length page_out)) scratch templates_out page_out a scratch' templates_out' page_out') where
-  answered :
+  pub answered :
       Answered (outcome page options (length scratch) (length templates_out) (length page_out)) templates_out page_out a.number a.templates_bytes a.page_bytes
       a.templates templates_out' page_out'
   answered =

@@ -2,3 +2,4 @@
 pub mod Demand
 pub mod Tags
 pub mod Filled
+pub mod Conversions

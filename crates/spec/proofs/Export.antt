@@ -1,5 +1,5 @@
 -- What a caller of the export knows from its answer and its buffers alone. Main statements: `export_demand3`, `export_kept`,
--- `export_bytes`, `export_behind`, `export_refused`. Assumes nothing.
+-- `export_written`, `export_bytes`, `export_behind`, `export_refused`. Assumes nothing.
 use Prim.Native.Nat.{ℕ, ◌+◌, ◌≤◌}
 use native.Mathlib.Nat.{zero-add}
 use mathlib.Core.Path.{◌≡◌, refl, sym, ap, ap₂, ◌∙◌, subst}
@@ -104,6 +104,16 @@ module _ (page options : Bytes) (scratch : ℕ) (templates_before page_before : 
   export_kept all z =
       let k = placed z in
       subst (KeptBytes page options) (page_front k) (kept_bytes page options scratch (length templates_before) (length page_before) k.what all k.outcome_is)
+
+  -- what holds of both outputs of every accepted page holds of the first bytes of both outs
+  pub export_written : (P : Bytes → Bytes → Type 0) → ((w : Written) → outcome page options scratch (length templates_before) (length page_before) ≡ accepted w → P w.templates_out w.page_out) → n ≡ 0 → P (take tb templates_after) (take pb page_after)
+  unfolding bytes_of_templates templates_left
+  export_written P h z =
+      let k = placed z in
+      let w : Written = k.what in
+      let b = k.answered in
+      let et : w.templates_out ≡ take tb templates_after = sym (put_front templates_before w.templates_out k.fits.0) ∙ ap₂ take (sym b.templates_bytes_is) (sym b.templates_out_is) in
+      subst (λ (y : Bytes). P (take tb templates_after) y) (page_front k) (subst (λ (y : Bytes). P y w.page_out) et (h w k.outcome_is))
 
   -- what is written is bytes, where a buffer of bytes holds it
   pub export_bytes : (w : Written) → outcome page options scratch (length templates_before) (length page_before) ≡ accepted w → AllBytes templates_after → AllBytes page_after → AllBytes w.templates_out × AllBytes w.page_out

@@ -16,10 +16,22 @@ use Rattle.spec.specs.Words.{Comparison, WellNestedBy, places, filled, AllFit}
 
 -- ---- templates
 
+-- whether a space comes last, where before the text it did or did not
+unfoldable pub ends_spaced : Bool → Bytes → Bool
+ends_spaced z [] = z
+ends_spaced z (c ∷ cs) = ends_spaced (eqb c 32) cs
+
+-- right before each dynamic expression inside an opening tag a space comes
+unfoldable pub Spaced : Bool → List Bytes → List Bool → Type 0
+Spaced z [] ks = Unit {0}
+Spaced z (s ∷ ss) [] = Unit {0}
+Spaced z (s ∷ ss) (k ∷ ks) = (T k → T (ends_spaced z s)) × Spaced (ends_spaced z s) ss ks
+
 -- a template whose dynamic expressions are of these kinds
 pub record Sound (t : Template) : Type 0 where
   pub one_more : length t.strings ≡ suc (length t.kinds)
   pub placed : places t.strings ≡ t.kinds
+  pub spaced : Spaced false t.strings t.kinds
   pub nested : (how : Comparison) (fs : List Bytes) → AllFit how t.kinds fs → WellNestedBy how (filled t.strings fs)
 
 unfoldable pub AllSound : List Template → Type 0

@@ -35,18 +35,18 @@ abbrev pub made_page : (page options : Bytes) → Row
 made_page page options = page_out_row (options_in (read options)) (made page options)
 
 module _ (page options : Bytes) (scratch tr pr : ℕ) (w : Written) (all : AllBytes page) (e : outcome page options scratch tr pr ≡ accepted w) where
-  says : Accepted page options scratch tr pr w
+  pub says : Accepted page options scratch tr pr w
   says = accepted_says page options scratch tr pr w e
 
-  exact : (page ≡ encode (page_in (read page))) × ModuleItemsOk (page_in (read page))
+  pub exact : (page ≡ encode (page_in (read page))) × ModuleItemsOk (page_in (read page))
   exact = let q = (read_exactly page (page_in (read page)) all).0 (says.inputs.page_fine, refl) in (q.0, q.1)
 
-  good : Visited (Unit {0}) (page_weight (page_given page options)) (made page options)
+  pub good : Visited (Unit {0}) (page_weight (page_given page options)) (made page options)
   unfolding page_given
   good = page_good (Unit {0}) (options_in (read options)) (page_given page options) (given_ok (works_sums (read options)) (page_in (read page)) exact.1) (λ t. tt)
 
   -- as many numbers as tags at most, and three bytes for each tag; working out sums gives and takes none
-  taken_few : (made page options).taken * 3 ≤ length page
+  pub taken_few : (made page options).taken * 3 ≤ length page
   unfolding page_given
   taken_few =
       let h : page_weight (page_in (read page)) * 3 ≤ length page = subst (λ (b : Bytes). page_weight (page_in (read page)) * 3 ≤ length b) (sym exact.0) (weight_within (page_in (read page))) in
@@ -55,11 +55,11 @@ module _ (page options : Bytes) (scratch tr pr : ℕ) (w : Written) (all : AllBy
   count_is : length (made page options).templates ≡ w.templates
   count_is = ap (λ (v : Written). v.templates) says.written_is
 
-  short : T (not (long_body (templates_row (made page options).templates))) × T (not (long_body (made_page page options)))
+  pub short : T (not (long_body (templates_row (made page options).templates))) × T (not (long_body (made_page page options)))
   short = short_outputs (made page options).flags (templates_row (made page options).templates) (made_page page options) says.outputs.short
 
   -- both outputs read as the rows that are written
-  templates_read : read w.templates_out ≡ templates_row (made page options).templates
+  pub templates_read : read w.templates_out ≡ templates_row (made page options).templates
   templates_read = ap (λ (v : Written). read v.templates_out) (sym says.written_is) ∙ read_back (templates_row (made page options).templates) (templates_shaped (made page options).templates short.0) short.0
 
   pub page_read : read w.page_out ≡ made_page page options

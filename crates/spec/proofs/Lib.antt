@@ -1,5 +1,6 @@
 -- The table of marks, demand 3, acceptance, how long the outputs are at most, that as many templates are called as recorded, that the
--- page's own expressions are kept, and what 05 changes; 16 and 19 exactly where the page given has their cause.
+-- page's own expressions are kept, and what 05 changes; 16 and 19 exactly where the page given has their cause; that a space comes before each
+-- gap in an opening tag, and that texts stay UTF-8.
 pub mod Marks
 pub mod NestedCases
 pub mod Good
@@ -27,6 +28,9 @@ pub mod RowDemand
 pub mod Answers
 pub mod Given
 pub mod Lent
+pub mod Spaced
+pub mod Characters
+pub mod Texts
 pub mod Export
 pub mod Sums
 pub mod TagLeft

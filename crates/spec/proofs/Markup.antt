@@ -114,7 +114,7 @@ byte_within how os (outside ns) c = pick_within os (eqb c 60) (inr refl) (pick_w
 byte_within how os (inside_tag ns b) c = pick_within os (eqb c 60) (inl refl) (pick_within os (eqb c 62) (end_within how os ns b) (inr refl))
 byte_within how os ill c = inl refl
 
-read_ill : (how : Comparison) (w : Bytes) → read_markup how ill w ≡ ill
+pub read_ill : (how : Comparison) (w : Bytes) → read_markup how ill w ≡ ill
 unfolding read_markup read_byte
 read_ill how [] = refl
 read_ill how (c ∷ w) = read_ill how w

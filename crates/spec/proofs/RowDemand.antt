@@ -41,7 +41,7 @@ unfolding AllTags strings_row
 strings_tagged [] = tt
 strings_tagged (s ∷ ss) = (tt, strings_tagged ss)
 
-strings_back : (ss : List Bytes) → strings_in (strings_row ss) ≡ ss
+pub strings_back : (ss : List Bytes) → strings_in (strings_row ss) ≡ ss
 unfolding strings_in strings_row
 strings_back [] = refl
 strings_back (s ∷ ss) = ap (λ (l : List Bytes). s ∷ l) (strings_back ss)
