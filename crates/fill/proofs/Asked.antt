@@ -1,5 +1,5 @@
 -- The numbers that a row of fillings asks for, field by field, and what is gathered of them. Main statements: `asked_order`, `asked_text`,
--- `asked_none`, `checked_order`, `checked_behind`, `gather_begins`, `gather_order`, `gather_text`, `gather_ends`. Assumes nothing.
+-- `asked_none`, `checked_order`, `checked_behind`, `gather_begins`, `gather_order`, `gather_alone`, `gather_text`, `gather_ends`. Assumes nothing.
 use mathlib.Core.Path.{◌≡◌, refl, sym, ap, ap₂, ◌∙◌}
 use Prim.Native.Nat.{ℕ, suc, ◌+◌, ◌≤◌, ◌<◌}
 use native.Mathlib.Omega.{arith}
@@ -10,6 +10,7 @@ use Rattle.field.specs.Number.{number_of}
 use Rattle.field.specs.Row.{field}
 use Rattle.field.specs.Fields.{IsFront, IsEnd}
 use Rattle.field.specs.Put.{put, Wrote}
+use Rattle.field.proofs.Reading.{nil}
 use Rattle.field.proofs.PutLaws.{length_put, put_nil, put_one, put_put}
 use Rattle.loops.proofs.Headers.{front_of, inner_of}
 use Rattle.fill.specs.Order.{held_in_order, read_order, check_fillings, asked}
@@ -51,6 +52,11 @@ module _ {s : Bytes} {t : ℕ} {w r : Bytes} (f : IsFront s t w r) where
 pub asked_none : {s r : Bytes} → IsEnd s r → asked (read_order s) ≡ []
 unfolding asked
 asked_none i = sym (row_end (λ _. []) asked refl (λ b. refl) i)
+
+asked_empty : (s : Bytes) → length s ≡ 0 → asked (read_order s) ≡ []
+unfolding asked
+asked_empty [] z = unfold read_order in ap asked (nil held_in_order)
+asked_empty (b ∷ s) z = absurd (omega arith)
 
 -- ---- what is gathered
 
@@ -112,6 +118,12 @@ module _ {o : List ℕ} {at : ℕ} {s : Bytes} {o' : List ℕ} {end : ℕ} {b : 
                 ∙ sym (put_put (set o' end n) (end + 1) inner (asked (read_order r)))
                 ∙ ap₂ (λ (x : List ℕ) (y : ℕ). put x y (asked (read_order r))) (sym h.out_is) j;
           }
+
+      -- an order that has no filling
+      pub gather_alone : length v ≡ 0 → {n : ℕ} → n ≡ number_of (take 4 w) → end < length o' → Gathered o at s (set o' end n) (end + 1) r
+      gather_alone z {n} k l =
+          let i : inner ≡ [] = asked_empty v z in
+          gather_order k l record { out_is = sym (ap (put (set o' end n) (end + 1)) i ∙ put_nil (set o' end n) (end + 1)); end_is = omega (arith, ap length i) }
 
   pub gather_ends : {r : Bytes} → IsEnd b r → Wrote o at (asked (read_order s)) o' end
   gather_ends i =

@@ -1,8 +1,8 @@
--- The first index of a number among sorted ones, as a search finds it. Main statements: `first_found`, `first_missing`, `index_below`.
+-- The first index of a number among sorted ones, as a search finds it. Main statements: `first_found`, `first_missing`, `first_here`, `index_below`.
 -- Assumes nothing.
 use mathlib.Core.Path.{◌≡◌, refl, sym}
 use mathlib.Core.Bool.{Bool, true, false}
-use Prim.Native.Nat.{ℕ, zero, suc, ◌≤◌, ◌<◌}
+use Prim.Native.Nat.{ℕ, zero, suc, ◌-◌, ◌≤◌, ◌<◌}
 use native.Mathlib.Omega.{arith}
 use native.Mathlib.Decide.{dec_le}
 use mathlib.Core.List.{List, [], ◌∷◌}
@@ -42,3 +42,7 @@ module _ (ns : List ℕ) (n i : ℕ) (up : IsNonDecreasing ns) (p : IsPartitionP
           let b : n ≤ get_or ns i 0 = ltb-false (get_or ns i 0) n (p.1 i 0 (omega arith) (omega arith)) in
           f (omega arith) (omega (arith, q))
       on j l q (no k) = let z : get_or ns j 0 < n = ltb-true (get_or ns j 0) n (p.0 j 0 (omega arith) (omega arith)) in omega (arith, q)
+
+-- a number that stands at an index, and a less one before
+pub first_here : (ns : List ℕ) (n i : ℕ) → IsNonDecreasing ns → i < length ns → get_or ns i 0 ≡ n → (0 < i → get_or ns (i - 1) 0 < n) → (i < length ns) × (i ≡ index_of n ns)
+first_here ns n i up l e f = (l, sym (index_present ns n i l e (λ j k q. let z : get_or ns j 0 ≤ get_or ns (i - 1) 0 = up j (i - 1) 0 (omega arith) (omega arith) in omega (arith, f (omega arith), z, q))))

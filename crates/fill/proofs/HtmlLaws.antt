@@ -15,7 +15,7 @@ use Rattle.field.specs.Number.{number_of}
 use Rattle.field.specs.Row.{Row, read}
 use Rattle.field.specs.Fields.{IsFront, IsEnd}
 use Rattle.field.specs.Put.{Wrote}
-use Rattle.field.proofs.PutLaws.{wrote_then}
+use Rattle.field.proofs.PutLaws.{wrote_none, wrote_then}
 use Rattle.text.specs.Escape.{escape_html}
 use Rattle.page.specs.Refusal.{Fine}
 use Rattle.page.specs.Tree.{choose}
@@ -33,6 +33,10 @@ use Rattle.fill.proofs.PartLaws.{strings_left, string_front, string_there, strin
 module _ (o : Bytes) (n : ℕ) (o' : Bytes) (r : S.Option ℕ) where
   pub fills_is : {x y : Option Bytes} → x ≡ y → Fills y o n o' r → Fills x o n o' r
   fills_is {x} {y} e f = subst (λ (z : Option Bytes). Fills z o n o' r) (sym e) f
+
+pub wrote_empty : (o : Bytes) (n : ℕ) (s : Bytes) → length s ≡ 0 → Wrote o n s o n
+wrote_empty o n [] z = wrote_none o n
+wrote_empty o n (c ∷ s) z = absurd (omega arith)
 
 -- ---- a filling, by its kind, its tag and its body
 

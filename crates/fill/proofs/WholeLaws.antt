@@ -90,10 +90,11 @@ module _ (s : Bytes) (c : check_order (read_order s) ≡ Fine) where
       (this_fits order_is g).if_order refl
 
   -- by the entries of an index, and by the body as the code has them
-  pub entries_fit : {t w : Bytes} {ns ns' ps ps' : List ℕ} → (ns ≡ ns') × (ps ≡ ps') → All (Served t ns' ps') (asked (read_order s)) → w ≡ body_of s → OrderFits (Served t ns ps) w
-  entries_fit {t} {w} {ns} {ns'} {ps} {ps'} e a q =
+  pub entries_fit : {t t' w : Bytes} {ns ns' ps ps' : List ℕ} → (ns ≡ ns') × (ps ≡ ps') × (t ≡ t') → All (Served t' ns' ps') (asked (read_order s)) → w ≡ body_of s → OrderFits (Served t ns ps) w
+  entries_fit {t} {t'} {w} {ns} {ns'} {ps} {ps'} e a q =
       subst (λ (x : List ℕ). OrderFits (Served t x ps) w) (sym e.0)
-      (subst (λ (x : List ℕ). OrderFits (Served t ns' x) w) (sym e.1) (subst (OrderFits (Served t ns' ps')) (sym q) (order_fits a)))
+      (subst (λ (x : List ℕ). OrderFits (Served t ns' x) w) (sym e.1)
+      (subst (λ (x : Bytes). OrderFits (Served x ns' ps') w) (sym e.2) (subst (OrderFits (Served t' ns' ps')) (sym q) (order_fits a))))
 
   pub order_html : (ts : Row) → html_of ts (read_order s) ≡ html_of_body ts (body_of s)
   unfolding html_of html_of_body

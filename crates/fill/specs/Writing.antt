@@ -1,6 +1,6 @@
 -- What the writing goes by: a record in its parts, HTML by the bytes of an order, and what the check and the index say of these bytes. Nothing here
 -- needs belief. Assumes nothing: these are definitions.
-use Rattle.std.specs.Prelude.{ℕ, suc, ◌≡◌, ◌≤◌, T, eqb, length, take, drop, Option, Some, None}
+use Rattle.std.specs.Prelude.{ℕ, suc, ◌≡◌, ◌≤◌, Bool, ◌&&◌, not, T, eqb, length, take, drop, Option, Some, None}
 use Rattle.std.specs.List.{All}
 use Rattle.std.proofs.Math.Option as M
 use Rattle.field.specs.Bytes.{Bytes, pick}
@@ -27,6 +27,10 @@ pub record PartsAre (w kinds strings : Bytes) : Type 0 where
   pub strings_are : strings_in (read strings) ≡ (template_in w).strings
   pub one_more : check_strings (suc (length kinds)) (read strings) ≡ Fine
   pub short : length strings ≤ length w
+
+-- a byte that the text of an attribute may have
+unfoldable pub no_sign : ℕ → Bool
+no_sign c = not (eqb c 60) && not (eqb c 62)
 
 abbrev pub free_text : Bytes → M.Option Bytes
 free_text b = pick (free b) (M.some b) M.none

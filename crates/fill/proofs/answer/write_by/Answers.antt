@@ -1,8 +1,8 @@
 -- `answer::write_by` meets its contract: an order without one of its records has no HTML, and else its body is written. Assumes nothing.
-use mathlib.Core.Path.{sym, ap, ◌∙◌}
+use mathlib.Core.Path.{sym, ap, ap₂, ◌∙◌}
 use native.Mathlib.Omega.{arith}
 use lib.ListN.{length}
-use Rattle.field.specs.Bytes.{AllBytes}
+use Rattle.field.specs.Bytes.{Bytes, AllBytes}
 use Rattle.field.specs.Row.{read}
 use Rattle.field.proofs.NumberLaws.{all_from}
 use Rattle.fill.proofs.AskedLaws.{unknown_none}
@@ -31,4 +31,4 @@ write_order-requires g c =
     (entries_fit c.args.order.now c.requires.1 c.entries.ensures c.in_ok-index.ensures.1 c.body.ensures, omega (arith, body_short c.args.order.now c.requires.1 a, ap length c.body.ensures))
 
 pub returns : goal.returns
-returns g c = fills_is _ _ _ _ (order_html _ c.requires.1 _ ∙ ap (html_of_body (read c.args.templates.now)) (sym c.body.ensures)) c.write_order.ensures.html
+returns g c = fills_is _ _ _ _ (order_html _ c.requires.1 _ ∙ ap₂ (λ (t w : Bytes). html_of_body (read t) w) (sym c.entries.ensures.2) (sym c.body.ensures)) c.write_order.ensures.html

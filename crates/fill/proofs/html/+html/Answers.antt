@@ -7,17 +7,17 @@ use Rattle.text.proofs.EscapeLaws.{length_escape_html}
 use Rattle.fill.proofs.HtmlLaws.{fills_is, order_filling, free_filling, plain_filling, no_filling, record_none, turns_begin, turn_fits, no_kind, no_string, turn_stops, turn_on, kind_left, string_missing, turns_end}
 use Rattle.fill.proofs.html.+html.Goals as goal
 
-pub write_filling-put_escaped-requires : goal.write_filling-put_escaped-requires
-write_filling-put_escaped-requires t c = omega (arith, c.requires.1, length_escape_html c.args.filling.body.now)
+pub write_filling-put_text-requires : goal.write_filling-put_text-requires
+write_filling-put_text-requires t c = omega (arith, c.requires.1, length_escape_html c.args.filling.body.now)
 
 pub write_filling-returns-in-2-eq133-clause-html : goal.write_filling-returns-in-2-eq133-clause-html
 write_filling-returns-in-2-eq133-clause-html t c = fills_is _ _ _ _ (order_filling _ _ c.in-2-eq133.is-0 c.in-2-eq133.is-1) c.write_order.ensures.html
 
 pub write_filling-returns-in-2-eq135-clause-html : goal.write_filling-returns-in-2-eq135-clause-html
-write_filling-returns-in-2-eq135-clause-html t c = fills_is _ _ _ _ (plain_filling _ _ c.in-2-eq135.is-0 c.in-2-eq135.is-1) c.put_escaped.ensures
+write_filling-returns-in-2-eq135-clause-html t c = fills_is _ _ _ _ (plain_filling _ _ c.in-2-eq135.is-0 c.in-2-eq135.is-1) c.put_text.ensures
 
 pub write_filling-returns-in-2-eq135-clause-short : goal.write_filling-returns-in-2-eq135-clause-short
-write_filling-returns-in-2-eq135-clause-short t c = omega (arith, c.put_escaped.ensures.end_is, length_escape_html c.args.filling.body.now)
+write_filling-returns-in-2-eq135-clause-short t c = omega (arith, c.put_text.ensures.end_is, length_escape_html c.args.filling.body.now)
 
 pub write_filling-returns-in-1-eq134-clause-html : goal.write_filling-returns-in-1-eq134-clause-html
 write_filling-returns-in-1-eq134-clause-html t c = fills_is _ _ _ _ (free_filling _ _ c.in-1-eq134.is-0 c.in-1-eq134.is-1) c.put_free.ensures.html
@@ -52,17 +52,17 @@ write_order-write_filling-requires t c =
     let i = c.loop-filling.invariant in
     let f = c.in-Some.ensures.steps in
     let g = c.in_ok-string.ensures.steps in
-    (omega (arith, c.decreases, i.short, f.sizes), (turn_fits i f, omega (arith, c.requires.1, i.room, f.sizes, g.sizes, c.put_bytes-m.ensures.end_is)))
+    (omega (arith, c.decreases, i.short, f.sizes), (turn_fits i f, omega (arith, c.requires.1, i.room, f.sizes, g.sizes, c.put_string-m.ensures.end_is)))
 
 pub write_order-returns-in_err-n-clause-html : goal.write_order-returns-in_err-n-clause-html
 write_order-returns-in_err-n-clause-html t c =
-    rw c.from_residual-in_err-n.ensures (turn_stops c.loop-filling.invariant c.in-Some.ensures.steps c.in_ok-kind.ensures.steps c.in_ok-string.ensures.steps c.put_bytes-m.ensures _ c.in_err-n.ensures.html)
+    rw c.from_residual-in_err-n.ensures (turn_stops c.loop-filling.invariant c.in-Some.ensures.steps c.in_ok-kind.ensures.steps c.in_ok-string.ensures.steps c.put_string-m.ensures _ c.in_err-n.ensures.html)
 
 pub write_order-loop-filling-preserved : goal.write_order-loop-filling-preserved
-write_order-loop-filling-preserved t c = turn_on c.loop-filling.invariant c.in-Some.ensures.steps c.in_ok-kind.ensures.steps c.in_ok-string.ensures.steps c.put_bytes-m.ensures c.in_ok-n.ensures.html c.in_ok-n.ensures.short
+write_order-loop-filling-preserved t c = turn_on c.loop-filling.invariant c.in-Some.ensures.steps c.in_ok-kind.ensures.steps c.in_ok-string.ensures.steps c.put_string-m.ensures c.in_ok-n.ensures.html c.in_ok-n.ensures.short
 
 pub write_order-returns-in-None-Some-clause-html : goal.write_order-returns-in-None-Some-clause-html
-write_order-returns-in-None-Some-clause-html t c = turns_end c.loop-filling.invariant c.in-None.ensures.steps c.in-None-Some.ensures.steps.0 c.in-None-Some.ensures'.steps c.put_bytes.ensures
+write_order-returns-in-None-Some-clause-html t c = turns_end c.loop-filling.invariant c.in-None.ensures.steps c.in-None-Some.ensures.steps.0 c.in-None-Some.ensures'.steps c.put_string.ensures
 
 pub write_order-returns-in_default-clause-html : goal.write_order-returns-in_default-clause-html
 write_order-returns-in_default-clause-html t c = absurd (string_missing c.loop-filling.invariant c.in-None.ensures.steps c.in_default.ensures.steps.0 c.in_default.ensures'.steps)

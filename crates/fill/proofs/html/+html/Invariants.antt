@@ -14,4 +14,4 @@ decreases-write_order l = 2 * length l.body.now
 
 abbrev pub invariant-write_order-loop-filling : goal.invariant-write_order-loop-filling
 invariant-write_order-loop-filling l =
-    Turning (Served l.templates l.entries.numbers.now l.entries.places.now) (read l.templates) l.body l.initial.out l.at (iter_rest l.kinds) l.strings.0.now l.filling-iterator.0.now l.out l.n
+    Turning (Served l.entries.templates.now l.entries.numbers.now l.entries.places.now) (read l.entries.templates.now) l.body l.initial.out l.at (iter_rest l.kinds) l.strings.0.now l.filling-iterator.0.now l.out l.n

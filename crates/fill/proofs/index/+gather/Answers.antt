@@ -6,7 +6,7 @@ use lib.ListN.{length, take, drop, length-drop, length-set}
 use lib.Seq.{take_all}
 use Rattle.field.specs.Bytes.{Bytes}
 use Rattle.find.proofs.RecordLaws.{number_four}
-use Rattle.fill.proofs.Asked.{has_number, checked_within, gather_begins, gather_order, gather_text, gather_room, gather_end, gather_ends}
+use Rattle.fill.proofs.Asked.{has_number, checked_within, gather_begins, gather_order, gather_alone, gather_text, gather_room, gather_end, gather_ends}
 use Rattle.fill.proofs.index.+gather.Goals as goal
 
 pub loop-filling-init : goal.loop-filling-init
@@ -55,12 +55,20 @@ gather-end-requires t c =
       ),
     )
 
-pub loop-filling-preserved-then-filling : goal.loop-filling-preserved-then-filling
-loop-filling-preserved-then-filling t c =
+pub loop-filling-preserved-then-b-gt4 : goal.loop-filling-preserved-then-b-gt4
+loop-filling-preserved-then-b-gt4 t c =
     let a = c.loop-filling.invariant in
     let f = c.in-Some.ensures.steps in
     let e = c.if-filling.true in
     gather_order a f e (rest_is c.in-Some.filling.body.now) (number_four _ (has_number f a.checked e) c.from_be_bytes.ensures) (gather_end a f e refl c.requires.1) c.gather-end.ensures
+
+pub loop-filling-preserved-else-b-gt4 : goal.loop-filling-preserved-else-b-gt4
+loop-filling-preserved-else-b-gt4 t c =
+    let a = c.loop-filling.invariant in
+    let f = c.in-Some.ensures.steps in
+    let e = c.if-filling.true in
+    let b = c.in-Some.filling.body.now in
+    gather_alone a f e (rest_is b) (omega (arith, ap length (rest_is b), length-drop 4 b, c.if-b-gt4.false)) (number_four _ (has_number f a.checked e) c.from_be_bytes.ensures) (gather_end a f e refl c.requires.1)
 
 pub loop-filling-preserved : goal.loop-filling-preserved
 loop-filling-preserved t c = gather_text c.loop-filling.invariant c.in-Some.ensures.steps c.if-filling.false

@@ -25,21 +25,21 @@ pub returns-then-places-i : goal.returns-then-places-i
 returns-then-places-i c =
     let a = c.loop-record.invariant in
     let f = c.in-Some.ensures.steps in
-    let i = c.in-Some-first_index.ensures in
+    let i = c.in-Some-first_near.ensures in
     twice_none a f (number_four _ (omega (arith, locating_six a f)) c.from_be_bytes-number.ensures) i.0 i.1 c.if-places-i.true
 
-pub loop-record-preserved-in-Some-first_index : goal.loop-record-preserved-in-Some-first_index
-loop-record-preserved-in-Some-first_index c =
+pub loop-record-preserved-in-Some-first_near : goal.loop-record-preserved-in-Some-first_near
+loop-record-preserved-in-Some-first_near c =
     let a = c.loop-record.invariant in
     let f = c.in-Some.ensures.steps in
-    let i = c.in-Some-first_index.ensures in
+    let i = c.in-Some-first_near.ensures in
     locating_found a f (number_four _ (omega (arith, locating_six a f)) c.from_be_bytes-number.ensures) i.0 i.1 (all_from _ (λ k. (c.type_inv.templates k).fits)) (omega arith) c.if-places-i.false
 
 pub loop-record-preserved : goal.loop-record-preserved
 loop-record-preserved c =
     let a = c.loop-record.invariant in
     let f = c.in-Some.ensures.steps in
-    locating_passed a f (number_four _ (omega (arith, locating_six a f)) c.from_be_bytes-number.ensures) c.in_default-first_index.ensures
+    locating_passed a f (number_four _ (omega (arith, locating_six a f)) c.from_be_bytes-number.ensures) c.in_default-first_near.ensures
 
 pub returns-in_default : goal.returns-in_default
 returns-in_default c = locating_ends c.loop-record.invariant c.in_default.ensures.steps
