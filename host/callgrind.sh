@@ -4,6 +4,8 @@
 # callgrind.sh tags [WORD]: instructions a byte of tag text, in the reader of tags.
 # callgrind.sh conversions [WORD]: instructions a byte of both outs, in the way up and the way down.
 # callgrind.sh fillings [WORD]: instructions a byte of HTML, in fillings.
+# callgrind.sh catalogue [WORD]: instructions a byte of a catalogue of 16,777,216, in arrivals, leavings and checks, and
+# how many times those of a plain pass over its bytes.
 # callgrind.sh lookups [WORD]: instructions a byte of templates that are checked, and a template of the walk at 256 numbers.
 set -eu
 cd "$(dirname "$0")"
@@ -62,6 +64,19 @@ if [ "$word" = fillings ]; then
     one = instructions["their bytes, one template"]
     for (name in instructions) if (one && name ~ /^9,361/) printf "%s, over their bytes in one template: %.1f\n", name, instructions[name] / one
   }' "$rates"
+  exit
+fi
+
+if [ "$word" = catalogue ]; then
+  printf '%-34s %9s %8s %9s %13s %9s %9s  %s\n' catalogue used pages templates instructions 'a byte' 'x a pass' answer
+  "$speed" catalogues | while IFS=$tab read -r name used pages templates; do
+    case $name in *"${2:-}"*) ;; *) continue ;; esac
+    case $name in *arrival) call=add ;; *) call=remove ;; esac
+    count plain_pass pass "$name" | cut -f 1 >"$rates.one"
+    count "jsx_precompile_catalogue_$call" catalogue "$name" >>"$rates.one"
+    echo "$name$tab$used$tab$pages$tab$templates$tab$(tr '\n' '\t' <"$rates.one")" |
+      awk -F '\t' '{ printf "%-34s %9d %8d %9d %13.0f %9.1f %9.1f  %s\n", $1, $2, $3, $4, $6, $6 / $2, $6 / $5, $7 }'
+  done
   exit
 fi
 

@@ -4,10 +4,12 @@
 //! For callgrind.sh: `list` names the sets of pages, `run NAME` calls the library once on each page of a set; `tags` names
 //! the tag texts, `tag NAME` has the library read one; `lookups` names the rows of templates, `find NAME` and `check NAME` look
 //! 256 numbers and none up in one; `conversions` names both outs, each way, `convert NAME` converts one; `fillings` names
-//! templates with their orders, `fill NAME` fills one.
+//! templates with their orders, `fill NAME` fills one; `catalogues` names catalogues with a call of each, `catalogue NAME`
+//! makes one, and `pass NAME` a plain pass over its bytes.
 
 #![allow(missing_docs)]
 
+mod catalogues;
 mod conversions;
 mod fillings;
 mod lookups;
@@ -47,6 +49,12 @@ fn main() {
             println!("{}\t{}\t{}\t{}", one.name, one.templates.len(), one.order.len(), one.html_bytes);
         }),
         ["fill", name] => fill(name),
+        ["catalogues"] => catalogues::all().iter().for_each(|one| {
+            let (used, pages, templates) = catalogues::counts(&one.catalogue());
+            println!("{}\t{used}\t{pages}\t{templates}", one.name);
+        }),
+        ["catalogue", name] => catalogue(name, false),
+        ["pass", name] => catalogue(name, true),
         ["find", name] => find(name, true),
         ["check", name] => find(name, false),
         [] if oracle::AVAILABLE => times(),
@@ -100,6 +108,16 @@ fn convert(name: &str) {
 fn fill(name: &str) {
     let one = fillings::all().into_iter().find(|one| one.name == name).expect("an order of that name");
     println!("{}", fill_into(&one.templates, &one.order, &mut vec![0; one.html_bytes]).number);
+}
+
+fn catalogue(name: &str, plain: bool) {
+    let one = catalogues::all().into_iter().find(|one| one.name == name).expect("a catalogue of that name");
+    let mut bytes = one.catalogue();
+    if plain {
+        println!("{}", catalogues::plain_pass(&bytes));
+    } else {
+        println!("{}", one.run(&mut bytes));
+    }
 }
 
 /// The three lent buffers, allocated once.

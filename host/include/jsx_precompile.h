@@ -25,9 +25,11 @@ uint32_t jsx_precompile_version(void);
 #define JSX_PRECOMPILE_MIN_SCRATCH 65536
 #define JSX_PRECOMPILE_MAX_OLD_NUMBER 65535 /* of a template in an 80 */
 #define JSX_PRECOMPILE_MAX_NUMBERS 256 /* of templates that are looked up at once */
+#define JSX_PRECOMPILE_MAX_CATALOGUE 16777216
+#define JSX_PRECOMPILE_HOUSES 16 /* of a catalogue, numbered from 1 */
 
 /* The numbers of an answer. 9 is reserved and never given. 16 and 19 are given behind 10 and before 11. 17
-   is a conversion's, 18 a filling's, 20 a lookup's. */
+   is a conversion's and a catalogue's, 18 a filling's, 20 a lookup's, 21 to 26 are a catalogue's. 23 is not given. */
 enum jsx_precompile_number {
     JSX_PRECOMPILE_ACCEPTED = 0,
     JSX_PRECOMPILE_SCRATCH_TOO_SMALL = 1,
@@ -48,7 +50,12 @@ enum jsx_precompile_number {
     JSX_PRECOMPILE_DISAGREEING = 17,
     JSX_PRECOMPILE_UNFITTING = 18,
     JSX_PRECOMPILE_MIXED_CASE_VOID = 19,
-    JSX_PRECOMPILE_NOT_RISING = 20
+    JSX_PRECOMPILE_NOT_RISING = 20,
+    JSX_PRECOMPILE_NAME_PRESENT = 21,
+    JSX_PRECOMPILE_NAME_ABSENT = 22,
+    JSX_PRECOMPILE_OVER_MOST = 24,
+    JSX_PRECOMPILE_NOT_COVERED = 25,
+    JSX_PRECOMPILE_BAD_SHARES = 26
 };
 
 /* A refusal has its number and zeros. */
@@ -138,6 +145,44 @@ jsx_precompile_filled jsx_precompile_fill(
     const uint8_t *templates, size_t templates_length,
     const uint8_t *order, size_t order_length,
     uint8_t *html_out, size_t html_out_length);
+
+/* A refusal has its number and zeros. */
+typedef struct jsx_precompile_catalogued {
+    uint32_t number;
+    size_t used;  /* the bytes that pages take after the call */
+    size_t pages; /* how many there are after the call */
+} jsx_precompile_catalogued;
+
+/* The pages of up to HOUSES houses in one buffer, the catalogue: at most MAX_CATALOGUE bytes, zeros before the first call.
+   A page is 97, its name in four bytes, its house in one, the lengths of its two parts in four each, and the parts: its
+   templates and its page out, as jsx_precompile_transform writes them, with its n templates numbered on from those of the
+   pages before it, in templates and calls alike. Zeros follow the last page. No two pages have one name.
+
+   catalogue_add: a page arrives and stands behind the others. The shares are 2 * HOUSES numbers, guaranteed and most of
+   house 1, of house 2, and so on, in bytes of pages, counted from their 97. The page is accepted where its house stays
+   within its most, and the bytes that are left free cover what the other houses have not used of their guarantees. As long
+   as the shares and the catalogue's length stay as they were when it was empty, a page within its house's guarantee is so
+   always accepted.
+   catalogue_remove: the page of that name leaves, and later ones close up.
+
+   The catalogue is read and written, the other parts are read; none is kept. Calls on one catalogue may not meet. No pointer
+   may be null, not even with a length of 0, and the parts may not overlap. Half a megabyte of stack is enough.
+
+   Accepted: the catalogue is as if built afresh from the pages that remain, in the order of their arrival; nothing before
+   the place was touched. Refused: it is as it was. The numbers of an arrival: MISPLACED where the catalogue is none;
+   TRUNCATED, MISPLACED and NOT_UTF8 for the templates, TRUNCATED to NUMBER_TOO_LARGE for the page out; DISAGREEING where a
+   gap's kind is not that of its place, or the numbers are not 1 up to the count, each recorded once and called once;
+   BAD_SHARES where there is no such house, shares_length is another, a guarantee is above its most, or all together are
+   more than the catalogue; NAME_PRESENT; OVER_MOST; NOT_COVERED. Of a leaving: MISPLACED, then NAME_ABSENT. */
+jsx_precompile_catalogued jsx_precompile_catalogue_add(
+    uint8_t *catalogue, size_t catalogue_length,
+    uint32_t name, uint32_t house,
+    const uint32_t *shares, size_t shares_length,
+    const uint8_t *templates, size_t templates_length,
+    const uint8_t *page, size_t page_length);
+jsx_precompile_catalogued jsx_precompile_catalogue_remove(
+    uint8_t *catalogue, size_t catalogue_length,
+    uint32_t name);
 
 /* A refusal has its number and zeros. */
 typedef struct jsx_precompile_converted {

@@ -71,6 +71,8 @@ pub enum Input {
     PageOut,
     /// What templates are filled with, field 85.
     Order,
+    /// The pages of all houses, which are no fields.
+    Catalogue,
 }
 
 impl fmt::Display for Input {
@@ -81,6 +83,7 @@ impl fmt::Display for Input {
             Input::Templates => "templates out",
             Input::PageOut => "page out",
             Input::Order => "order",
+            Input::Catalogue => "catalogue",
         })
     }
 }

@@ -4,8 +4,8 @@
 //! A page is written as a tree ([`page`]) or given as bytes; [`transform`] takes it apart; what comes out is read by
 //! [`out`] and printed as JavaScript by [`javascript`]. A refusal says where and why ([`Fault`]). A tag that comes as
 //! text is read by [`Tag::read`], and stands in a page as an element does. Templates are looked up by [`find`].
-//! They are filled by [`fill`], with an [`Order`], into HTML. What hosts of before read and wrote is made by [`downgrade`]
-//! and read by [`upgrade`].
+//! They are filled by [`fill`], with an [`Order`], into HTML. The pages of several houses stand together in a
+//! [`catalogue`]. What hosts of before read and wrote is made by [`downgrade`] and read by [`upgrade`].
 //! `const a = <p class="t">Hi {n}</p>;` becomes a template and a call of it:
 //!
 //! ```
@@ -32,6 +32,7 @@
 //! ```
 
 mod call;
+pub mod catalogue;
 mod check;
 mod convert;
 mod decimal;

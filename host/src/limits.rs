@@ -1,4 +1,4 @@
-//! The limits of pages, options, outputs and orders.
+//! The limits of pages, options, outputs, orders and catalogues.
 //!
 //! ```
 //! use jsx_precompile::{Options, Refusal, limits::MAX_PAGE, transform};
@@ -104,6 +104,27 @@ pub const MAX_MEMBERS: usize = 8;
 /// assert_eq!(find(&[], &numbers), Err(Refusal::NotRising));
 /// ```
 pub const MAX_NUMBERS: usize = 256;
+
+/// The bytes of a catalogue.
+///
+/// ```
+/// use jsx_precompile::{catalogue::{Catalogue, Shares}, limits::MAX_CATALOGUE};
+///
+/// let arrival = |length: usize| Catalogue::new(length).add(5, 1, &Shares::new(), &[], &[]);
+/// assert!(arrival(MAX_CATALOGUE).is_ok());
+/// let error = arrival(MAX_CATALOGUE + 1).unwrap_err();
+/// assert_eq!(error.to_string(), "catalogue, byte 16777216: 4 (misplaced): 16777217 bytes, at most 16777216 are taken");
+/// ```
+pub const MAX_CATALOGUE: usize = 16_777_216;
+
+/// The houses of a catalogue, numbered from 1.
+///
+/// ```
+/// use jsx_precompile::{catalogue::Shares, limits::HOUSES};
+///
+/// assert_eq!(Shares::new().numbers().len(), 2 * HOUSES);
+/// ```
+pub const HOUSES: usize = 16;
 
 /// The greatest number of a template that an 80, a template of before, has room for.
 ///

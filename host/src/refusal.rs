@@ -5,8 +5,10 @@ use std::fmt;
 /// Why a call is refused; document 01's number and word are given by [`number`](Refusal::number) and
 /// [`word`](Refusal::word). 9 is reserved: it was given where the ported Rust stops, and no page is refused there now.
 /// The order is that of the numbers; a transform is refused for the first in this order: 1 to 10, 16, 19, 11, 12, 13. 17
-/// is a conversion's alone, after 3 to 7 and before 11, 18 a filling's, after 3, 4, 6 and 8 and before 13, and 20 a lookup's,
-/// after 3, 4 and 6.
+/// is a conversion's, after 3 to 7 and before 11, and a catalogue's, 18 a filling's, after 3, 4, 6 and 8 and before 13, and
+/// 20 a lookup's, after 3, 4 and 6. A catalogue's arrival is refused as 4 for the catalogue, then 3 to 7 and 17 for the page,
+/// 26, 21, 24, 25, a leaving as 4 and 22. 23 is document 02's for a page that does not fit before there were shares, and is
+/// not given.
 ///
 /// ```
 /// use jsx_precompile::{Options, Refusal, transform};
@@ -46,7 +48,8 @@ pub enum Refusal {
     /// of.
     RepeatedAttribute = 16,
     /// Document 02, A7: a gap is neither in an opening tag behind a space nor outside of tags, or its kind is not the one
-    /// that it has by its place, or, on the way down, a number is over 65,535.
+    /// that it has by its place, or, on the way down, a number is over 65,535. A13: the numbers of an arriving page are not 1
+    /// up to their count, each recorded once and called once.
     Disagreeing = 17,
     /// Document 02, A8: fillings do not fit their templates: another count of them, or one of another kind than its gap;
     /// the number of a template that is not there, or is recorded twice; an attribute text with `<` or `>`.
@@ -56,12 +59,23 @@ pub enum Refusal {
     MixedCaseVoid = 19,
     /// Document 02, A11: more than 256 numbers are looked up, or they do not rise.
     NotRising = 20,
+    /// Document 02, A13: a page of that name is in the catalogue.
+    NamePresent = 21,
+    /// Document 02, A13: no page of that name is in the catalogue.
+    NameAbsent = 22,
+    /// Document 02, A14: with the page its house would have more of the catalogue than its most.
+    OverMost = 24,
+    /// Document 02, A14: what is free does not hold the page and the unused guarantees of the other houses.
+    NotCovered = 25,
+    /// Document 02, A14: a house outside 1 to 16, shares of another count than 32, a guarantee above its most, or guarantees
+    /// that add up to more than the catalogue.
+    BadShares = 26,
 }
 
 use Refusal::*;
 
 /// In the order of their numbers.
-const ALL: [Refusal; 17] = [
+const ALL: [Refusal; 22] = [
     ScratchTooSmall,
     InputTooLong,
     Truncated,
@@ -79,6 +93,11 @@ const ALL: [Refusal; 17] = [
     Unfitting,
     MixedCaseVoid,
     NotRising,
+    NamePresent,
+    NameAbsent,
+    OverMost,
+    NotCovered,
+    BadShares,
 ];
 
 impl Refusal {
@@ -96,7 +115,7 @@ impl Refusal {
         ALL.into_iter().find(|refusal| refusal.number() == number)
     }
 
-    /// The number of document 01, 1 to 13 without 9, or of document 02, 16 to 20.
+    /// The number of document 01, 1 to 13 without 9, or of document 02, 16 to 26 without 23.
     ///
     /// ```
     /// assert_eq!(jsx_precompile::Refusal::TooDeep.number(), 8);
@@ -129,6 +148,11 @@ impl Refusal {
             Unfitting => "unfitting",
             MixedCaseVoid => "mixed case",
             NotRising => "not rising",
+            NamePresent => "name present",
+            NameAbsent => "name absent",
+            OverMost => "over the most",
+            NotCovered => "not covered",
+            BadShares => "bad shares",
         }
     }
 
@@ -159,13 +183,20 @@ impl Refusal {
             PageTooSmall => "page out, or the HTML, does not fit the bytes lent for it",
             RepeatedAttribute => "an element that becomes HTML has one attribute twice, as `class` and `className` are",
             Disagreeing => {
-                "a gap is neither an attribute's nor a child, or of another kind than its template says, or a number is over 65,535"
+                "a gap is neither an attribute's nor a child, or of another kind than its template says, or a number is over 65,535, or in a catalogue's page not recorded once and called once"
             }
             Unfitting => {
                 "fillings do not fit their templates: in number or kind, by the number of a template that is not there once, or by a `<` or `>` in an attribute text"
             }
             MixedCaseVoid => "the name of a void element is not in small letters",
             NotRising => "over 256 numbers are looked up, or one is not greater than the one before it",
+            NamePresent => "a page of that name is in the catalogue",
+            NameAbsent => "no page of that name is in the catalogue",
+            OverMost => "the page's house would have more than its most",
+            NotCovered => "what is free does not hold the page and the unused guarantees of the other houses",
+            BadShares => {
+                "the house is not 1 to 16, or a guarantee is above its most, or all together are more than the catalogue"
+            }
         }
     }
 }
@@ -185,7 +216,7 @@ mod tests {
     #[test]
     fn each_number_that_is_given_is_a_refusal() {
         let numbers: Vec<u32> = (0..=100).filter(|number| Refusal::from_number(*number).is_some()).collect();
-        assert_eq!(numbers, [1, 2, 3, 4, 5, 6, 7, 8, 10, 11, 12, 13, 16, 17, 18, 19, 20]);
+        assert_eq!(numbers, [1, 2, 3, 4, 5, 6, 7, 8, 10, 11, 12, 13, 16, 17, 18, 19, 20, 21, 22, 24, 25, 26]);
         assert_eq!(ALL.map(Refusal::number)[..], numbers);
     }
 }

@@ -221,6 +221,115 @@ fn fill() {
     assert!(status == 2 && said.starts_with("jsx-precompile: no such file: "), "{said}");
 }
 
+/// What host/README.md and examples/README.md show: a catalogue is made, pages come and leave, and it is the stored one.
+#[test]
+fn catalogue() {
+    let file = room("hall.catalogue");
+    let shares = ["--shares", "examples/festival.shares"];
+    let catalogue = |words: &[&str]| run(&[&["catalogue"], words].concat(), b"");
+    let outs = |page: &str| {
+        let [templates, out] = ["templates", "out"].map(|end| room(&format!("catalogue-{page}.{end}")));
+        let words = ["build", "--templates", &templates, "--page", &out, &format!("examples/{page}.page")];
+        assert_eq!(run(&words, b""), (0, String::new(), String::new()));
+        [templates, out]
+    };
+    let add = |name: &str, house: &str, page: &str| {
+        let [templates, out] = outs(page);
+        let (status, out, said) = catalogue(&["add", shares[0], shares[1], &file, name, house, &templates, &out]);
+        (status, out + &said)
+    };
+    let readme = include_str!("../README.md");
+    assert_eq!(catalogue(&["new", &file, "2048"]), (0, String::new(), String::new()));
+    assert_eq!(std::fs::read(&file).expect("it is written"), [0; 2_048]);
+    let (status, out, said) = catalogue(&["new", &file, "2048"]);
+    assert!(status == 2 && out.is_empty() && said.starts_with(&format!("jsx-precompile: {file}: ")), "{said}");
+    let shown = "       0  page 11 of house 1: 440 bytes, templates 1 to 3\n";
+    assert_eq!(add("11", "1", "rows"), (0, shown.to_string()));
+    assert!(readme.contains(&format!(" 11 1 rows.templates rows.out\n{shown}")), "host/README.md shows another page");
+    assert_eq!(add("21", "2", "hall").0, 0);
+    assert_eq!(add("12", "1", "choices").0, 0);
+    assert_eq!(std::fs::read(&file).expect("it is there"), example("festival-before.catalogue"));
+    let refused = |words: &str| (1, format!("jsx-precompile: {file}: {words}\n"));
+    assert_eq!(
+        add("13", "1", "paper"),
+        refused("shares: 24 (over the most): house 1 would have 2085 bytes, and may have 1500")
+    );
+    assert_eq!(
+        add("13", "1", "prices"),
+        refused("catalogue: 25 (not covered): the page has 464 bytes; 828 are free, 522 of them kept for other houses")
+    );
+    assert_eq!(
+        add("12", "2", "notice"),
+        refused("catalogue, byte 818: 21 (name present): page 12 stands there, of house 1")
+    );
+    assert_eq!(add("13", "17", "notice"), refused("shares: 26 (bad shares): there is no house 17; they are 1 to 16"));
+    assert_eq!(std::fs::read(&file).expect("it is there"), example("festival-before.catalogue"));
+    assert_eq!(add("22", "2", "notice").0, 0);
+    assert_eq!(catalogue(&["remove", &file, "11"]), (0, String::new(), String::new()));
+    assert_eq!(std::fs::read(&file).expect("it is there"), example("festival.catalogue"));
+    let (status, _, said) = catalogue(&["remove", &file, "11"]);
+    assert_eq!((status, said), refused("catalogue: 22 (name absent): there is no page 11"));
+
+    let list = String::from_utf8(example("festival.list")).expect("text");
+    assert_eq!(catalogue(&["list", shares[0], shares[1], &file]), (0, list, String::new()));
+    let plain = "       0  page 21 of house 2: 378 bytes, template 1
+     378  page 12 of house 1: 402 bytes, template 2
+     780  page 22 of house 2: 278 bytes, template 3
+house 1: 402 bytes
+house 2: 656 bytes
+3 pages, 3 templates, 1058 of 2048 bytes
+";
+    assert_eq!(catalogue(&["list", &file]), (0, plain.to_string(), String::new()));
+    assert!(!Path::new(&format!("{file}.new")).exists());
+}
+
+/// Which of the files it is, where one is not as it must be.
+#[test]
+fn refused_in_a_catalogue() {
+    let file = "examples/festival.catalogue";
+    let before = example("festival.catalogue");
+    for (words, input, said) in [
+        (
+            &["add", file, "5", "1", "-", "examples/hall-new.out"][..],
+            &b"\x84\0"[..],
+            "standard input: templates out, byte 0: 3 (torn): 2 bytes where a field begins",
+        ),
+        (
+            &["add", file, "5", "1", "examples/hall-old.templates", "examples/hall-old.out"],
+            b"",
+            "examples/hall-old.templates: templates out, byte 0, 80 1: 4 (misplaced): 80s do not stand in a catalogue; `upgrade` makes 84s of them",
+        ),
+        (
+            &["add", file, "5", "1", "examples/hall-new.templates", "-"],
+            b"\x12\0\x07\x90\0\x04\0\0\0\x02",
+            "standard input: page out, byte 3, 12 > 90 2: 17 (disagreeing): template 2 is called, and the page's template is 1",
+        ),
+        (
+            &["list", "examples/worked.page"],
+            b"",
+            "examples/worked.page: catalogue, byte 0: 4 (misplaced): 01 behind the last page, where zeros must stand",
+        ),
+        (&["show", file, "11"], b"", "examples/festival.catalogue: catalogue: 22 (name absent): there is no page 11"),
+    ] {
+        let expected = format!("jsx-precompile: {said}\n");
+        assert_eq!(run(&[&["catalogue"], words].concat(), input), (1, String::new(), expected), "{words:?}");
+    }
+    let shares = room("bad.shares");
+    for (text, words) in [
+        ("1 5 4\n", "house 1 is guaranteed 5 bytes and may have 4"),
+        ("\n17 5 6", "there is no house 17; they are 1 to 16"),
+        ("1 2 3\n# a remark\n1 2 3", "house 1 stands on line 3 again"),
+        ("1 2", "line 1 is not a house, what it is guaranteed, and the most that it may have"),
+    ] {
+        std::fs::write(&shares, text).expect("it is written");
+        let (status, out, said) = run(&["catalogue", "list", "--shares", &shares, file], b"");
+        assert_eq!((status, &*out, said), (2, "", format!("jsx-precompile: {shares}: {words}\n")));
+    }
+    let (status, _, said) = run(&["catalogue", "list", "no such file"], b"");
+    assert!(status == 2 && said.starts_with("jsx-precompile: no such file: "), "{said}");
+    assert_eq!(example("festival.catalogue"), before);
+}
+
 #[test]
 fn upgrade_and_downgrade() {
     let files = |age: &str| [format!("examples/hall-{age}.templates"), format!("examples/hall-{age}.out")];
@@ -303,7 +412,7 @@ fn bad_calls() {
         (&["show", "--page", "a"], "show has no option --page; see `jsx-precompile show --help`"),
         (
             &["show", "--as", "card", "a"],
-            "--as is page, options, templates, out or order, not card; see `jsx-precompile show --help`",
+            "--as is page, options, templates, out, order or catalogue, not card; see `jsx-precompile show --help`",
         ),
         (&["tag"], "no file (- is standard input); see `jsx-precompile tag --help`"),
         (&["tag", "--hex", "a"], "tag has no option --hex; see `jsx-precompile tag --help`"),
@@ -325,6 +434,44 @@ fn bad_calls() {
         (&["fill", "a", "b", "c"], "fill takes templates and an order; see `jsx-precompile fill --help`"),
         (&["fill", "-", "-"], "- stands for one file alone; see `jsx-precompile fill --help`"),
         (&["fill", "--sums", "a", "b"], "fill has no option --sums; see `jsx-precompile fill --help`"),
+        (&["catalogue"], "new, add, remove, list or show; see `jsx-precompile catalogue --help`"),
+        (&["catalogue", "list"], "list takes a file with a catalogue; see `jsx-precompile catalogue --help`"),
+        (
+            &["catalogue", "keep", "a"],
+            "new, add, remove, list or show, not keep; see `jsx-precompile catalogue --help`",
+        ),
+        (&["catalogue", "new", "a"], "new takes a file and its length; see `jsx-precompile catalogue --help`"),
+        (
+            &["catalogue", "new", "a", "16777217"],
+            "16777217 is no number from 0 to 16777216; see `jsx-precompile catalogue --help`",
+        ),
+        (
+            &["catalogue", "add", "a", "1"],
+            "add takes a file, a name, a house, templates and a page out; see `jsx-precompile catalogue --help`",
+        ),
+        (
+            &["catalogue", "add", "a", "1", "2", "b"],
+            "add takes templates and a page out; see `jsx-precompile catalogue --help`",
+        ),
+        (
+            &["catalogue", "add", "a", "b", "2", "c", "d"],
+            "b is no number from 0 to 4294967295; see `jsx-precompile catalogue --help`",
+        ),
+        (&["catalogue", "remove", "a"], "remove takes a file and a name; see `jsx-precompile catalogue --help`"),
+        (&["catalogue", "list", "a", "b"], "list takes one file; see `jsx-precompile catalogue --help`"),
+        (
+            &["catalogue", "show", "a", "1", "2"],
+            "show takes a file, or a file and a name; see `jsx-precompile catalogue --help`",
+        ),
+        (
+            &["catalogue", "remove", "--shares", "b", "a", "1"],
+            "--shares is for add and list alone; see `jsx-precompile catalogue --help`",
+        ),
+        (&["catalogue", "list", "--whole", "a"], "--whole is for show alone; see `jsx-precompile catalogue --help`"),
+        (
+            &["catalogue", "list", "--sums", "a"],
+            "catalogue has no option --sums; see `jsx-precompile catalogue --help`",
+        ),
         (&["upgrade", "-", "-"], "- stands for one file alone; see `jsx-precompile upgrade --help`"),
         (
             &["upgrade", "--page", "c", "a", "b"],
@@ -363,7 +510,7 @@ fn help() {
     let (status, all, said) = run(&["--help"], b"");
     assert_eq!((status, &*said), (0, ""));
     assert_eq!(run(&["help"], b"").1, all);
-    for command in ["build", "check", "show", "preview", "tag", "find", "fill", "upgrade", "downgrade"] {
+    for command in ["build", "check", "show", "preview", "tag", "find", "fill", "catalogue", "upgrade", "downgrade"] {
         assert!(all.contains(&format!("\n  {command} ")), "{command}");
         let (status, text, said) = run(&[command, "--help"], b"");
         assert_eq!((status, &*said), (0, ""));

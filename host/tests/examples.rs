@@ -3,7 +3,8 @@
 //! written, the cards by the judge; without it they are only compared. Of each .tag the .field is what the program
 //! `jsx-precompile tag` says, and what the judge reads. A .templates is templates out of a page, and its .found what
 //! `jsx-precompile find` says of them. An .order is what the order here is written as, and its .html what it makes of these
-//! templates. NAME-old and NAME-new, .templates and .out, are both outs of a page as version 0.1.0 wrote them and as they
+//! templates. festival.catalogue and festival-before.catalogue have pages of these under festival.shares, and their .list is
+//! what `jsx-precompile catalogue list` says of them. NAME-old and NAME-new, .templates and .out, are both outs of a page as version 0.1.0 wrote them and as they
 //! are written now.
 
 mod common;
@@ -11,18 +12,20 @@ mod program;
 mod trees;
 
 use common::{jsx_precompile, no_judge, say};
+use jsx_precompile::catalogue::{Catalogue, CatalogueError, Shares};
 use jsx_precompile::javascript::Printer;
 use jsx_precompile::out::{PageOut, Templates};
 use jsx_precompile::page::Page;
-use jsx_precompile::{Options, Order, downgrade, fill, transform, upgrade};
+use jsx_precompile::{Forms, Options, Order, downgrade, fill, transform, upgrade};
 use oracle::outs::convert::{self, Way};
+use oracle::outs::shares as judge;
 use oracle::{marks, outcome};
 use program::{Program, parting};
 use std::collections::BTreeSet;
 use std::fs;
 use std::path::{Path, PathBuf};
 use std::sync::Once;
-use trees::{Example, orders};
+use trees::{Example, festival, orders};
 
 const VARIABLE: &str = "EXAMPLES_WRITE";
 
@@ -87,6 +90,12 @@ fn write(examples: &[Example]) {
     fs::write(at(&found), found_said()).unwrap_or_else(|error| panic!("{found}: {error}"));
     for (name, bytes) in converted_by_the_judge(examples) {
         fs::write(at(&name), bytes).unwrap_or_else(|error| panic!("{name}: {error}"));
+    }
+    fs::write(at(SHARES), festival::SHARES).unwrap_or_else(|error| panic!("{SHARES}: {error}"));
+    for (name, bytes) in catalogues_by_the_judge(examples) {
+        fs::write(at(&name), bytes).unwrap_or_else(|error| panic!("{name}: {error}"));
+        let list = name.replace(".catalogue", ".list");
+        fs::write(at(&list), listed(&name)).unwrap_or_else(|error| panic!("{list}: {error}"));
     }
     for (tag, _) in TAGS {
         let name = format!("examples/{tag}.field");
@@ -171,6 +180,106 @@ fn outs_old_and_new() {
         }
     }
     say("examples: an old shelf and page out go up and come back as stored");
+}
+
+/// What both houses of the festival have.
+const SHARES: &str = "examples/festival.shares";
+
+/// The catalogue before some calls and behind them, by the judge.
+fn catalogues_by_the_judge(examples: &[Example]) -> [(String, Vec<u8>); 2] {
+    let shares: Shares = festival::SHARES.parse().expect("shares");
+    let mut bytes = vec![0; festival::LENGTH];
+    let add = |bytes: &mut [u8], name: u32, house: u32, page: &str| {
+        let example = examples.iter().find(|example| example.name == page).expect("the example is there");
+        let outs = outcome(&example.page, &[]).expect("the judge takes it");
+        judge::add(bytes, name, house, &shares.numbers(), &outs.templates, &outs.page).number
+    };
+    let call = |bytes: &mut [u8], call: &festival::Call| {
+        let (answered, due) = match *call {
+            festival::Call::Arrives { name, house, page } => (add(bytes, name, house, page), 0),
+            festival::Call::Leaves { name } => (judge::remove(bytes, name).number, 0),
+            festival::Call::Refused { name, house, page, number } => (add(bytes, name, house, page), number),
+        };
+        assert_eq!(answered, due);
+    };
+    festival::BEFORE.iter().for_each(|one| call(&mut bytes, one));
+    let before = bytes.clone();
+    festival::AFTER.iter().for_each(|one| call(&mut bytes, one));
+    [("before", before), ("", bytes)].map(|(word, bytes)| (catalogue_file(word), bytes))
+}
+
+fn catalogue_file(word: &str) -> String {
+    format!("examples/festival{}{word}.catalogue", if word.is_empty() { "" } else { "-" })
+}
+
+/// What the program lists.
+fn listed(catalogue: &str) -> Vec<u8> {
+    jsx_precompile(&["catalogue", "list", "--shares", SHARES, catalogue], b"").stdout
+}
+
+/// What the library writes of an example.
+fn outs(page: &str) -> Forms {
+    transform(&stored(&format!("examples/{page}.page")), &Options::new()).expect("it is taken")
+}
+
+/// A call of the festival by the library.
+fn called(catalogue: &mut Catalogue, call: &festival::Call) {
+    let shares: Shares = festival::SHARES.parse().expect("shares");
+    let mut add = |name: u32, house: u32, page: &str| {
+        let forms = outs(page);
+        let added = catalogue.add(name, house, &shares, forms.templates_bytes(), forms.page_bytes());
+        added.map_or_else(|error: CatalogueError| error.refusal().number(), |()| 0)
+    };
+    match *call {
+        festival::Call::Arrives { name, house, page } => assert_eq!(add(name, house, page), 0),
+        festival::Call::Leaves { name } => catalogue.remove(name).expect("it is there"),
+        festival::Call::Refused { name, house, page, number } => assert_eq!(add(name, house, page), number),
+    }
+}
+
+#[test]
+fn a_festival() {
+    let examples = examples();
+    assert_eq!(String::from_utf8(stored(SHARES)).as_deref(), Ok(festival::SHARES));
+    let mut catalogue = Catalogue::new(festival::LENGTH);
+    festival::BEFORE.iter().for_each(|call| called(&mut catalogue, call));
+    let before = catalogue.bytes().to_vec();
+    festival::AFTER.iter().for_each(|call| called(&mut catalogue, call));
+    for (name, bytes) in [(catalogue_file("before"), &before[..]), (catalogue_file(""), catalogue.bytes())] {
+        assert!(stored(&name) == bytes, "{name} is not what the library writes");
+        holds(&name.replace(".catalogue", ".list"), "the program", &listed(&name));
+    }
+    if !no_judge() {
+        for (name, bytes) in catalogues_by_the_judge(&examples) {
+            assert!(stored(&name) == bytes, "{name} is not what the judge writes");
+        }
+    }
+    let list = String::from_utf8(stored("examples/festival.list")).expect("text");
+    for readme in ["host/README.md", "README.md"] {
+        let text = String::from_utf8(stored(readme)).expect("text");
+        let shown = format!(" catalogue list --shares {SHARES} {}\n{list}", catalogue_file(""));
+        assert!(text.contains(&shown), "{readme} shows another catalogue");
+    }
+    say(&format!("examples: {} calls of a catalogue, as stored", festival::BEFORE.len() + festival::AFTER.len()));
+}
+
+/// Each page there is as it arrived, and still the module that it was, but for its numbers.
+#[test]
+fn pages_of_the_festival() {
+    examples();
+    let catalogue = Catalogue::over(stored(&catalogue_file(""))).expect("it is sound");
+    for page in catalogue.pages() {
+        let arrived = festival::BEFORE.iter().chain(&festival::AFTER).find_map(|call| match call {
+            festival::Call::Arrives { name, page: file, .. } => (*name == page.name()).then(|| outs(file)),
+            _ => None,
+        });
+        let forms = arrived.expect("it arrived");
+        let (templates, page_out) = page.as_arrived();
+        assert_eq!((&templates[..], &page_out[..]), (forms.templates_bytes(), forms.page_bytes()));
+        let plain = |module: String| module.replace(|letter: char| letter.is_ascii_digit(), "");
+        assert_eq!(plain(Printer::new(page.templates(), page.page()).module()), plain(forms.javascript()));
+    }
+    assert_eq!(catalogue.count(), 3);
 }
 
 /// What the program finds.
@@ -383,7 +492,9 @@ fn folder_and_readmes() {
         .chain(of_orders)
         .chain([format!("examples/{}.found", FOUND.0)])
         .chain(converted_files())
-        .chain(["examples/README.md", SUMS.1].map(str::to_string))
+        .chain(["before", ""].map(catalogue_file))
+        .chain(["before", ""].map(|word| catalogue_file(word).replace(".catalogue", ".list")))
+        .chain(["examples/README.md", SUMS.1, SHARES].map(str::to_string))
         .collect();
     let folder = fs::read_dir(at("examples")).unwrap_or_else(|error| panic!("examples: {error}"));
     for file in folder {
@@ -403,6 +514,10 @@ fn folder_and_readmes() {
     for name in converted_files() {
         let name = name.strip_prefix("examples/").expect("a file of examples/");
         assert!(list.contains(&format!("`{name}`")), "examples/README.md does not name {name}");
+    }
+    for name in ["before", ""].map(catalogue_file) {
+        let name = name.strip_prefix("examples/").expect("a file of examples/");
+        assert!(list.contains(&format!("\n| `{name}` |")), "examples/README.md has no line for {name}");
     }
     for (tag, _) in TAGS {
         assert!(list.contains(&format!("\n| `{tag}.tag` |")), "examples/README.md has no line for {tag}.tag");

@@ -239,6 +239,8 @@ fn every_limit_has_its_row() {
         ("body of a field, in and out", MAX_BODY, " bytes"),
         ("scratch, at least", MIN_SCRATCH, " bytes"),
         ("numbers looked up at once", MAX_NUMBERS, ""),
+        ("a catalogue", MAX_CATALOGUE, " bytes"),
+        ("houses of a catalogue", HOUSES, ""),
         ("number of a template in an `80`", MAX_OLD_NUMBER as usize, ""),
     ];
     for (name, limit, unit) in limits {

@@ -1,10 +1,13 @@
-//! docs/FORMAT.md, Looking templates up, Filling templates and Outs of before: their examples are what the library and
-//! the judge answer.
+//! docs/FORMAT.md, Looking templates up, Filling templates, Catalogues and Outs of before: their examples are what the
+//! library and the judge answer.
 
+use jsx_precompile::catalogue::{Catalogue, CatalogueError, Shares};
 use jsx_precompile::{Converted, Refusal, downgrade, fill, find, upgrade};
+use oracle::outs::catalogue::Catalogued;
 use oracle::outs::convert::{self, Way};
 use oracle::outs::fill as judge;
 use oracle::outs::find::{ABSENT, outcome};
+use oracle::outs::shares;
 use oracle::vectors::unhex;
 use std::collections::BTreeSet;
 use std::path::Path;
@@ -27,6 +30,10 @@ struct Example {
 impl Example {
     fn value(&self, key: &str) -> Option<&str> {
         self.rows.iter().find(|(own, _)| own == key).map(|(_, value)| value.as_str())
+    }
+
+    fn number(&self, key: &str) -> Option<u32> {
+        self.value(key).map(|word| word.parse().expect("a number"))
     }
 
     fn bytes(&self, key: &str) -> Vec<u8> {
@@ -118,6 +125,83 @@ fn fillings_hold() {
     }
     println!("format: {} fillings, {filled} taken, refused {refused:?}, as shown", examples.len());
     assert!(filled > 1 && refused.contains(&18), "{filled} taken, refused {refused:?}");
+}
+
+/// A call of a catalogue: the name of the page that leaves, or name, house, shares, templates and page out of one that
+/// arrives. Shares stand in one line, and the program reads them from several.
+enum CatalogueCall {
+    Leaves(u32),
+    Arrives(u32, u32, Shares, Vec<u8>, Vec<u8>),
+}
+
+impl CatalogueCall {
+    fn of(example: &Example) -> CatalogueCall {
+        if let Some(name) = example.number("leaves") {
+            return CatalogueCall::Leaves(name);
+        }
+        let shares = example.value("shares").unwrap_or_default().replace(", ", "\n");
+        let shares = shares.parse().unwrap_or_else(|error| panic!("line {}: {error}", example.line));
+        let [name, house] = ["name", "house"].map(|key| example.number(key).expect("a number"));
+        CatalogueCall::Arrives(name, house, shares, example.bytes("templates"), example.bytes("page"))
+    }
+
+    fn run(&self, catalogue: &mut Catalogue) -> Result<(), CatalogueError> {
+        match self {
+            CatalogueCall::Leaves(name) => catalogue.remove(*name),
+            CatalogueCall::Arrives(name, house, shares, templates, page) => {
+                catalogue.add(*name, *house, shares, templates, page)
+            }
+        }
+    }
+
+    fn judge(&self, bytes: &mut [u8]) -> Catalogued {
+        match self {
+            CatalogueCall::Leaves(name) => shares::remove(bytes, *name),
+            CatalogueCall::Arrives(name, house, of_houses, templates, page) => {
+                shares::add(bytes, *name, *house, &of_houses.numbers(), templates, page)
+            }
+        }
+    }
+}
+
+#[test]
+fn catalogues_hold() {
+    let examples = examples("catalogue");
+    let (mut taken, mut refused) = (0, BTreeSet::new());
+    for example in &examples {
+        let (line, call) = (example.line, CatalogueCall::of(example));
+        let lent = [example.bytes("catalogue"), vec![0; example.number("zeros").expect("zeros") as usize]].concat();
+        let mut theirs = lent.clone();
+        let judged = call.judge(&mut theirs);
+        let given = example.rows.iter().take_while(|(key, _)| key != "answer").count();
+        let mut rows = example.rows[..given].to_vec();
+        let mut row = |key: &str, value: &str| rows.push((key.to_string(), value.to_string()));
+        let after = Catalogue::over(lent.clone())
+            .map_err(CatalogueError::Unsound)
+            .and_then(|mut catalogue| call.run(&mut catalogue).map(|()| catalogue));
+        match after {
+            Ok(catalogue) => {
+                row("answer", "0 accepted");
+                row("after", example.value("after").expect("bytes"));
+                row("used", &catalogue.used().to_string());
+                row("pages", &catalogue.count().to_string());
+                assert_eq!(catalogue.bytes(), theirs, "line {line}");
+                assert_eq!(catalogue.bytes()[..catalogue.used()], example.bytes("after"), "line {line}");
+                assert_eq!((judged.number, judged.used, judged.pages), (0, catalogue.used(), catalogue.count()));
+                taken += 1;
+            }
+            Err(error) => {
+                let refusal = error.refusal();
+                row("answer", &format!("{} {refusal:?}", refusal.number()));
+                row("said", &error.to_string());
+                assert_eq!((judged.number, &theirs), (refusal.number(), &lent), "line {line}");
+                refused.insert(refusal.number());
+            }
+        }
+        assert_eq!(example.rows, rows, "line {line}");
+    }
+    println!("format: {} calls of a catalogue, {taken} taken, refused {refused:?}, as shown", examples.len());
+    assert!(taken > 2 && refused == BTreeSet::from([4, 17, 21, 22, 24, 25, 26]), "{taken} taken, refused {refused:?}");
 }
 
 type Call = fn(&[u8], &[u8]) -> Result<Converted, Refusal>;

@@ -1,5 +1,6 @@
 //! The C header: a C program with it is compiled, linked with the library, run, and answers as the Rust call does.
 
+use jsx_precompile::catalogue::{CatalogueAnswer, Shares, add_into, remove_from};
 use jsx_precompile::limits::MAX_NUMBERS;
 use jsx_precompile::page::{Element, Expression, Item, Page};
 use jsx_precompile::{Options, Order, Tag, downgrade, fill, find, transform};
@@ -87,6 +88,8 @@ fn answers_alike(program: &Path) {
     assert_eq!(two("fill", &templates, &[]), "3 0 \n");
     assert_eq!(two("fill", &templates, &order(Order::new(1).text("s".repeat(1_000)))), "13 0 \n");
 
+    catalogues_alike(program);
+
     let new = (forms.templates_bytes(), forms.page_bytes());
     let old = downgrade(new.0, new.1).expect("it goes down");
     let old = (old.templates_bytes(), old.page_bytes());
@@ -98,6 +101,38 @@ fn answers_alike(program: &Path) {
     assert_eq!(two("down", b"\x84\0\x09\0\x01\0\0\0\0\x81\0\0", &[]), "17  \n");
 }
 
+/// Two pages of one template arrive, others are refused, and the last one that was asked for leaves.
+fn catalogues_alike(program: &Path) {
+    let (templates, page) = (&b"\x84\0\x09\0\0\0\x01\0\0\x81\0\0"[..], &b"\x12\0\x07\x90\0\x04\0\0\0\x01"[..]);
+    let shares =
+        (1..=16).try_fold(Shares::new(), |shares, house| shares.house(house, 1, 60)).expect("shares").numbers();
+    for (page, houses, due) in [
+        (page, &[2, 16, 16, 17, 3][..], [0, 0, 21, 26, 25, 22]),
+        (page, &[1, 2, 0, 17, 2], [0, 0, 26, 26, 21, 0]),
+        (&b"\x12\0\x16\x90\0\x04\0\0\0\x01\x79\0\x0c\x20\0\x09a + b + c"[..], &[1, 2, 1], [0, 25, 21, 0, 0, 0]),
+        (&page[1..], &[1], [3, 22, 0, 0, 0, 0]),
+    ] {
+        let mut catalogue = [0; 100];
+        let mut numbers = vec![];
+        let mut said = String::new();
+        let mut answered = |CatalogueAnswer { number, used, pages }| {
+            numbers.push(number);
+            format!("{number} {used} {pages} ")
+        };
+        for house in houses {
+            said += &answered(add_into(&mut catalogue, *house, *house, &shares, templates, page));
+        }
+        said += &format!(" {} ", hex(&catalogue));
+        said += &answered(remove_from(&mut catalogue, *houses.last().expect("a house")));
+        said += &format!(" {}\n", hex(&catalogue));
+        assert_eq!(numbers, due[..houses.len() + 1]);
+        let mut command = Command::new(program);
+        command.args(["add", &hex(templates), &hex(page)]).args(houses.iter().map(u32::to_string));
+        let output = command.output().expect("the program runs");
+        assert_eq!(String::from_utf8_lossy(&output.stdout), said);
+    }
+}
+
 #[test]
 fn a_program_in_c() {
     if !has("cc") {
@@ -106,7 +141,7 @@ fn a_program_in_c() {
     let program = Path::new(env!("CARGO_TARGET_TMPDIR")).join("header_c");
     compile("cc", &["-std=c99", "-x", "c"], &program);
     answers_alike(&program);
-    println!("header: compiled by cc, 23 answers alike");
+    println!("header: compiled by cc, 27 answers alike");
 }
 
 #[test]
@@ -117,7 +152,7 @@ fn a_program_in_cpp() {
     let program = Path::new(env!("CARGO_TARGET_TMPDIR")).join("header_cpp");
     compile("c++", &["-x", "c++"], &program);
     answers_alike(&program);
-    println!("header: compiled by c++, 23 answers alike");
+    println!("header: compiled by c++, 27 answers alike");
 }
 
 /// The header's limits and numbers are the crate's.
@@ -135,6 +170,8 @@ fn constants() {
     assert!(header.contains(&format!("#define JSX_PRECOMPILE_MAX_TAG {MAX_TAG} ")));
     assert!(header.contains(&format!("#define JSX_PRECOMPILE_MAX_NUMBERS {MAX_NUMBERS} ")));
     assert!(header.contains(&format!("#define JSX_PRECOMPILE_MAX_OLD_NUMBER {MAX_OLD_NUMBER} ")));
+    assert!(header.contains(&format!("#define JSX_PRECOMPILE_MAX_CATALOGUE {MAX_CATALOGUE}\n")));
+    assert!(header.contains(&format!("#define JSX_PRECOMPILE_HOUSES {HOUSES} ")));
     assert!(header.contains(&format!("#define JSX_PRECOMPILE_VERSION \"{}\"\n", jsx_precompile::VERSION)));
     let (major, minor, patch) = jsx_precompile::library_version();
     assert_eq!(format!("{major}.{minor}.{patch}"), jsx_precompile::VERSION, "the library's own answer");
@@ -190,5 +227,5 @@ fn installed() {
     let output = cc.output().expect("the compiler runs");
     assert!(output.status.success(), "{}", String::from_utf8_lossy(&output.stderr));
     answers_alike(&program);
-    println!("header: installed, compiled with {words}, 23 answers alike");
+    println!("header: installed, compiled with {words}, 27 answers alike");
 }

@@ -49,6 +49,55 @@ fn a_page_in_hex_and_raw() {
     assert_eq!(shown(&["--raw", "--as", "page"], &raw(PAGE), 0), PAGE_SHOWN);
 }
 
+/// A catalogue of two pages: its first byte tells.
+#[test]
+fn a_catalogue() {
+    let first = "970000000502000000100000000a84000d000000010000810004 3c62723e1200079000 0400000001".replace(' ', "");
+    let second = "97000000080100000000000000 03130000".replace(' ', "");
+    let text = "     0  97 page 5 of house 2: template 1, 40 bytes
+    14    84 template 1
+    23      81 static string \"<br>\"
+    30    12 statement
+    33      90 jsxTemplate 1
+    40  97 page 8 of house 1: no templates, 17 bytes
+    54    13 empty statement
+";
+    let (free, all) = ("    57  free: 2 bytes\n", "catalogue: 59 bytes, 5 fields, 3 deep\n");
+    assert_eq!(shown(&[], format!("{first}{second}0000").as_bytes(), 0), format!("{text}{free}{all}"));
+    assert_eq!(
+        shown(&["--as", "catalogue"], &raw("0000"), 0),
+        "     0  free: 2 bytes\ncatalogue: 2 bytes, 0 fields, 1 deep\n"
+    );
+    // The place of what is wrong, within a page too.
+    let behind = format!("{first}{second}0005");
+    let (out, said) = damaged(behind.as_bytes());
+    let mark = "    58  ^ 4 (misplaced): 05 behind the last page, where zeros must stand\n";
+    assert_eq!(out, format!("{text}    57  free: 1 bytes, then 05\n{mark}"));
+    assert!(said.ends_with("catalogue, byte 58: 4 (misplaced): 05 behind the last page, where zeros must stand\n"));
+    let (out, _) = damaged(first.replace("3c62723e", "3c6272ff").as_bytes());
+    assert!(
+        out.contains("\n    29      ^ 4 (misplaced): page 5: templates out, byte 15, 84 1 > 81: 6 (bad letters): "),
+        "{out}"
+    );
+    // A page that is cut off.
+    let (out, _) = damaged(&second.as_bytes()[..second.len() - 2]);
+    assert!(out.starts_with("     0  no page: 970000000801"), "{out}");
+}
+
+/// One page of a catalogue in a file.
+#[test]
+fn a_page_of_a_catalogue() {
+    let output = jsx_precompile(&["catalogue", "show", "examples/festival.catalogue", "12"], b"");
+    let text = String::from_utf8(output.stdout).expect("text");
+    assert!(
+        text.starts_with("   378  97 page 12 of house 1: template 2, 402 bytes\n   392    84 template 2: "),
+        "{text}"
+    );
+    let all = jsx_precompile(&["catalogue", "show", "examples/festival.catalogue"], b"");
+    let all = String::from_utf8(all.stdout).expect("text");
+    assert!(all.contains(&text) && all.contains("\n  1058  free: 990 bytes\n"), "{all}");
+}
+
 #[test]
 fn a_file() {
     let file = std::path::Path::new(env!("CARGO_TARGET_TMPDIR")).join("show.page");

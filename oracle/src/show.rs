@@ -1,13 +1,36 @@
-//! Any bytes as indented fields, one on a line, with what they are. What is no field is shown as bytes.
+//! Any bytes as indented fields, one on a line, with what they are; a catalogue as pages that hold fields. What is no field
+//! is shown as bytes.
 
 use crate::decimal::Decimal;
 use crate::field::{Body, Node, body_of, front};
+use crate::outs::catalogue::PAGE;
 use std::fmt::Write;
 
 pub fn show(bytes: &[u8]) -> String {
     let mut out = String::new();
-    fields(&mut out, bytes, 0);
+    match bytes {
+        [PAGE, ..] => pages(&mut out, bytes),
+        _ => fields(&mut out, bytes, 0),
+    }
     out
+}
+
+/// 02, A13 and A14: pages by their lengths, and what is behind them.
+fn pages(out: &mut String, mut bytes: &[u8]) {
+    let four = |bytes: &[u8]| u32::from_be_bytes(bytes.try_into().expect("four bytes"));
+    while let Some((front, behind)) = bytes.split_first_chunk::<14>().filter(|(front, _)| front[0] == PAGE) {
+        let lengths = [6, 10].map(|at| four(&front[at..at + 4]) as usize);
+        let Some((templates, rest)) = behind.split_at_checked(lengths[0]) else { break };
+        let Some((page, rest)) = rest.split_at_checked(lengths[1]) else { break };
+        line(out, 0, &format!("97 page {} of house {}", four(&front[1..5]), front[5]));
+        fields(out, templates, 1);
+        fields(out, page, 1);
+        bytes = rest;
+    }
+    match bytes.iter().all(|byte| *byte == 0) {
+        true => line(out, 0, &format!("{} bytes are free", bytes.len())),
+        false => line(out, 0, &format!("no page: {}", hex(bytes))),
+    }
 }
 
 fn fields(out: &mut String, mut bytes: &[u8], indent: usize) {

@@ -301,6 +301,17 @@ fn sound_catalogues() {
     assert_eq!(catalogue::remove(&mut vec![0; MOST_CATALOGUE + 1], 1).number, 4);
 }
 
+/// As fields in pages, and what is behind them.
+#[test]
+fn shown_as_pages() {
+    let shown = |bytes: &[u8]| oracle::show::show(bytes);
+    let two = [page(5, &[2], b"", b"\x13\0\0"), page(0x100, &[16], b"", b"")].concat();
+    let text = "97 page 5 of house 2\n  13 empty statement\n97 page 256 of house 16\n";
+    assert_eq!(shown(&padded(two.clone(), 60)), format!("{text}29 bytes are free\n"));
+    assert_eq!(shown(&[&two[..], b"\0\x05"].concat()), format!("{text}no page: 0005\n"));
+    assert_eq!(shown(&two[..10]), "no page: 97000000050200000000\n");
+}
+
 #[test]
 fn shares_of_houses() {
     // House 1 is guaranteed 20 and may have 28, house 2 is guaranteed 14 and may have all.

@@ -31,7 +31,7 @@ use Rattle.spec.specs.Demand.{strings_in, kinds_behind}
 use Rattle.spec.proofs.Ledger.{neither}
 use Rattle.convert.specs.Kinds.{all_passed, kind_there, kinds_from}
 use Rattle.convert.specs.Convert.{before, raised, agrees, lowered}
-use Rattle.convert.specs.Flat.{kind_number, kind_marks, all_clear, same_kinds, fields_in, gaps_in, raised_front, strings_at, kinds_at, rewritten_body, body_clear, rewritten_tag, BodyFits, rewritten_bytes, all_bodies_clear, some_body_long}
+use Rattle.convert.specs.Flat.{kind_number, kind_marks, all_clear, same_kinds, fields_in, gaps_in, raised_front, strings_at, kinds_at, body_agrees, rewritten_body, body_clear, rewritten_tag, BodyFits, rewritten_bytes, all_bodies_clear, some_body_long}
 use Rattle.convert.proofs.KindLaws.{length_marks}
 use Rattle.convert.specs.declared.kinds.Markup.{Markup}
 use Rattle.convert.specs.declared.kinds.Markup.TheVariants as M
@@ -52,7 +52,7 @@ refused_not {n} h = let z : ◌≡◌ {A = ℕ} 0 1 = cc in omega arith
 
 -- ---- strings that are fine
 
-any_of : (t : ℕ) (f : Bytes) (i r : Row) → check_any_strings (field t f i r) ≡ Fine → (t ≡ 0x81) × (check_any_strings r ≡ Fine)
+pub any_of : (t : ℕ) (f : Bytes) (i r : Row) → check_any_strings (field t f i r) ≡ Fine → (t ≡ 0x81) × (check_any_strings r ≡ Fine)
 unfolding check_any_strings
 any_of t f i r h =
     let a = after_fine (unless (eqb t 0x81) R.Misplaced) (λ _. after (check_text f) λ _. check_any_strings r) h in
@@ -411,12 +411,15 @@ module _ (i : Row) (s : Strings i) where
   new_body f n = rw (new_strings f (bytes i) n, new_number f (bytes i) n)
 
   -- as many kinds as gaps
-  pub new_clear : (f : Bytes) → NewFront f → fields_in i ≡ suc (count_of f) → body_clear New (f ++ bytes i) ≡ (leb (number_of (take 4 f)) 65535 && agrees f (strings_in i))
-  unfolding body_clear
-  new_clear f n e =
+  pub new_agrees : (f : Bytes) → NewFront f → fields_in i ≡ suc (count_of f) → body_agrees (f ++ bytes i) ≡ agrees f (strings_in i)
+  new_agrees f n e =
       let c : length (drop 6 f) ≡ fields_in i - 1 = omega (arith, length-drop 6 f, n.length_is) in
       let m : kind_marks (length (drop 6 f)) M.Outside (bytes i) ≡ by_marks M.Outside (strings_in i) = ap (λ (x : ℕ). kind_marks x M.Outside (bytes i)) c ∙ marks_are i M.Outside s in
-      rw (new_strings f (bytes i) n, new_number f (bytes i) n, new_kinds f (bytes i) n, m, agrees_is f (strings_in i))
+      rw (new_strings f (bytes i) n, new_kinds f (bytes i) n, m, agrees_is f (strings_in i))
+
+  pub new_clear : (f : Bytes) → NewFront f → fields_in i ≡ suc (count_of f) → body_clear New (f ++ bytes i) ≡ (leb (number_of (take 4 f)) 65535 && agrees f (strings_in i))
+  unfolding body_clear
+  new_clear f n e = rw (new_number f (bytes i) n, new_agrees f n e)
 
 body_is : (k : Kind) (t : ℕ) (f : Bytes) (i r : Row) → Sound k (field t f i r) → rewritten_body k (f ++ bytes i) ≡ rewritten_front k f i ++ bytes i
 body_is Old t f i r s = old_body i (rest_sound Old t f i r s).1 f (old_front f (record_of Old t f i r s.fine).front_is)

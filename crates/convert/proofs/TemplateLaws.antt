@@ -1,4 +1,4 @@
--- The loop over records: what it keeps, and what is written of a record. Main statements: `sound_read`, `Keeps`, `keeps_on`, `keeps_end`,
+-- The loop over records: what it keeps, and what is written of a record. Main statements: `in_front`, `sound_read`, `Keeps`, `keeps_on`, `keeps_end`,
 -- `raise_wrote`, `lower_wrote`. Assumes nothing.
 use mathlib.Core.Path.{◌≡◌, refl, sym, ap, ap₂, ◌∙◌, subst}
 use mathlib.Core.Bool.{Bool, true, false, ◌&&◌, ◌||◌, not}
@@ -33,13 +33,13 @@ use Rattle.convert.proofs.RecordLaws.{Sound, record_of, fits, room, old_length, 
 
 -- ---- what stands in front of bytes
 
-record InFront (s : Bytes) (t : ℕ) : Type 0 where
-  front : Bytes
-  inner : Row
-  read_is : read s ≡ field t front inner (read (behind_of s))
-  body_is : front ++ bytes inner ≡ body_of s
+pub record InFront (s : Bytes) (t : ℕ) : Type 0 where
+  pub front : Bytes
+  pub inner : Row
+  pub read_is : read s ≡ field t front inner (read (behind_of s))
+  pub body_is : front ++ bytes inner ≡ body_of s
 
-in_front : (s : Bytes) (t : ℕ) → t ≡ tag_of_front s → (t ≡ 256 → ⊥) → AllBytes s → InFront s t
+pub in_front : (s : Bytes) (t : ℕ) → t ≡ tag_of_front s → (t ≡ 256 → ⊥) → AllBytes s → InFront s t
 unfolding opened bytes
 in_front s t e h a = on (inside t) (read_at s t e h)
   where

@@ -1,6 +1,6 @@
 -- Templates as the code goes over them, record by record: what is written of each, whether it may be, and the strings by their bytes.
 -- Nothing here needs belief. Assumes nothing: these are definitions.
-use Rattle.std.specs.Prelude.{ℕ, zero, suc, ◌-◌, ◌≤◌, ◌≡◌, Bool, true, false, ◌&&◌, ◌||◌, [], ◌∷◌, ◌++◌, leb, ltb, length, take, drop, Option, Some, None, Result, Ok, Err}
+use Rattle.std.specs.Prelude.{ℕ, zero, suc, ◌-◌, ◌≤◌, ◌≡◌, Bool, true, false, ◌&&◌, ◌||◌, not, [], ◌∷◌, ◌++◌, eqb, leb, ltb, length, take, drop, Option, Some, None, Result, Ok, Err}
 use Rattle.field.specs.Bytes.{Bytes, same}
 use Rattle.field.specs.Number.{number_of, big_endian}
 use Rattle.field.specs.Row.{Row, end, loose, field, field_bytes, bytes, counted_front, read}
@@ -18,6 +18,18 @@ use Rattle.convert.specs.declared.templates.Rewritten.{Rewritten}
 use Rattle.convert.specs.declared.kinds.Gaps.{Gaps}
 use Rattle.convert.specs.declared.kinds.Markup.{Markup}
 use Rattle.convert.specs.declared.kinds.Markup.TheVariants as M
+
+-- ---- texts
+
+-- neither `<` nor `>` is among these
+unfoldable pub plain : Bytes → Bool
+plain [] = true
+plain (c ∷ cs) = (not (eqb c 60) && not (eqb c 62)) && plain cs
+
+-- from m on, t leaves us where s does
+pub record PassesOver (m : Markup) (s t : Bytes) : Type 0 where
+  pub same_end : all_passed m s ≡ all_passed m t
+  pub no_longer : length t ≤ length s
 
 -- ---- kinds
 
@@ -76,13 +88,17 @@ strings_at w = drop (counted_front 4 w) w
 abbrev pub kinds_at : Bytes → Bytes
 kinds_at w = take (counted_front 4 w - 6) (drop 6 w)
 
+-- the kinds of an 84 are those of its strings
+abbrev pub body_agrees : Bytes → Bool
+body_agrees w = same_kinds (kinds_at w) (kind_marks (length (kinds_at w)) M.Outside (strings_at w))
+
 unfoldable pub rewritten_body : Kind → Bytes → Bytes
 rewritten_body Old w = raised_front w ++ drop 2 w
 rewritten_body New w = big_endian 2 (number_of (take 4 w)) [] ++ strings_at w
 
 unfoldable pub body_clear : Kind → Bytes → Bool
 body_clear Old w = all_clear (kind_marks (gaps_in (drop 2 w)) M.Outside (drop 2 w))
-body_clear New w = leb (number_of (take 4 w)) 65535 && same_kinds (kinds_at w) (kind_marks (length (kinds_at w)) M.Outside (strings_at w))
+body_clear New w = leb (number_of (take 4 w)) 65535 && body_agrees w
 
 abbrev pub rewritten_tag : Kind → ℕ
 rewritten_tag Old = 0x84

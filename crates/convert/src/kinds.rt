@@ -1,7 +1,7 @@
 // The kinds of gaps from the strings before them, joined.
 ghost use Rattle.std.specs.Prelude.{◌≡◌, ◌+◌, ◌<◌, ◌^◌, length};
 ghost use Rattle.convert.specs.Kinds.{passed, all_passed};
-ghost use Rattle.convert.specs.Flat.{KindIs, NextKind, Marks, kind_marks, same_kinds};
+ghost use Rattle.convert.specs.Flat.{plain, PassesOver, KindIs, NextKind, Marks, kind_marks, same_kinds};
 ghost use Rattle.convert.specs.declared.kinds.Markup.TheVariants as M;
 
 use field::reader::Fields;
@@ -36,12 +36,49 @@ fn pass(m: Markup, c: u8) -> Markup
     }
 }
 
+// Whether neither `<` nor `>` is among these. All are compared, whatever the first ones are: so they are compared side by side.
+fn is_plain(block: &[u8]) -> bool
+    ensures { result ≡ plain block.now }
+{
+    let mut is = true;
+    for c in block {
+        is &= (*c != b'<') & (*c != b'>');
+    }
+    is
+}
+
+// What is left behind plain blocks, where more comes behind them: in an opening tag the last byte counts. Right behind a `<` nothing is skipped,
+// since the next byte says which tag it is.
+fn skip_plain(m: Markup, s: &[u8]) -> &[u8]
+    ensures { PassesOver m s.now result.now }
+{
+    if let Markup::Entered = m {
+        return s;
+    }
+    let mut left = s;
+    while let Some((block, rest)) = left.split_first_chunk::<8>() {
+        if rest.is_empty() || !is_plain(block) {
+            break;
+        }
+        left = rest;
+    }
+    left
+}
+
+// Byte by byte, but for what is skipped where a tag has begun or ended.
 pub fn pass_all(m: Markup, s: &[u8]) -> Markup
     ensures { result ≡ all_passed m s.now }
 {
     let mut q = m;
-    for c in s {
+    let mut left = skip_plain(q, s);
+    while let [c, rest @ ..] = left {
+        let entered = matches!(q, Markup::Entered);
         q = pass(q, *c);
+        left = if entered || *c == b'>' {
+            skip_plain(q, rest)
+        } else {
+            rest
+        };
     }
     q
 }

@@ -10,7 +10,7 @@ ghost use Rattle.convert.specs.declared.Unconverted.TheVariants as U;
 mod kinds;
 mod templates;
 
-pub use kinds::Markup;
+pub use kinds::{Markup, are_kinds};
 use outs::Kind;
 use outs::page_out::check_page_out;
 use outs::templates::check_templates;

@@ -5,6 +5,7 @@
 #![tactic(auto)]
 
 ghost use Rattle.std.specs.Prelude.{◌≡◌, length};
+ghost use Rattle.catalogue_calls.specs.Answer.{arriving, leaving, Catalogues};
 ghost use Rattle.convert.specs.Convert.{upgraded, downgraded};
 ghost use Rattle.convert.specs.Flat.{Converts};
 ghost use Rattle.fill.specs.Answer as F;
@@ -14,6 +15,7 @@ ghost use Rattle.tag_pass.specs.Answers.{TagAnswers};
 ghost use Rattle.transform.specs.Run.{Answers};
 ghost use Rattle.jsx_precompile.specs.Version.{version};
 
+use catalogue_calls::{Catalogued, add, remove};
 use convert::{Converted, downgrade, upgrade};
 use fill::{Filled, fill};
 use find::{Places, find};
@@ -75,6 +77,27 @@ pub fn jsx_precompile_fill<'a>(templates: &'a [u8], order: &'a [u8], html_out: &
     ensures { F.Answered (F.outcome templates.now order.now (length html_out.old)) html_out.old result.number result.html_bytes html_out.new }
 {
     fill(templates, order, html_out)
+}
+
+// Document 02, A13 and A14: a page arrives at a catalogue of pages.
+pub fn jsx_precompile_catalogue_add<'a>(
+    catalogue: &mut [u8],
+    name: u32,
+    house: u32,
+    shares: &'a [u32],
+    templates: &'a [u8],
+    page: &'a [u8],
+) -> Catalogued
+    ensures { Catalogues (arriving catalogue.old name house shares.now templates.now page.now) catalogue.old result.number result.used result.pages catalogue.new }
+{
+    add(catalogue, name, house, shares, templates, page)
+}
+
+// And leaves it.
+pub fn jsx_precompile_catalogue_remove(catalogue: &mut [u8], name: u32) -> Catalogued
+    ensures { Catalogues (leaving catalogue.old name) catalogue.old result.number result.used result.pages catalogue.new }
+{
+    remove(catalogue, name)
 }
 
 // The version of the library: major * 10,000 + minor * 100 + patch.

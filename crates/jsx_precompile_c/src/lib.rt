@@ -4,6 +4,7 @@
 #![tactic(auto)]
 
 ghost use Rattle.std.specs.Prelude.{◌≡◌, length};
+ghost use Rattle.catalogue_calls.specs.Answer.{arriving, leaving, Catalogues};
 ghost use Rattle.convert.specs.Convert.{upgraded, downgraded};
 ghost use Rattle.convert.specs.Flat.{Converts};
 ghost use Rattle.fill.specs.Answer as F;
@@ -13,6 +14,7 @@ ghost use Rattle.tag_pass.specs.Answers.{TagAnswers};
 ghost use Rattle.transform.specs.Run.{Answers};
 ghost use Rattle.jsx_precompile.specs.Version.{version};
 
+use catalogue_calls::Catalogued;
 use convert::Converted;
 use fill::Filled;
 use find::Places;
@@ -84,6 +86,29 @@ pub extern "C" fn jsx_precompile_fill<'a>(
     ensures { F.Answered (F.outcome templates.now order.now (length html_out.old)) html_out.old result.number result.html_bytes html_out.new }
 {
     jsx_precompile::jsx_precompile_fill(templates, order, html_out)
+}
+
+// Document 02, A13 and A14: a page arrives at a catalogue of pages.
+#[unsafe(no_mangle)]
+pub extern "C" fn jsx_precompile_catalogue_add<'a>(
+    catalogue: &mut [u8],
+    name: u32,
+    house: u32,
+    shares: &'a [u32],
+    templates: &'a [u8],
+    page: &'a [u8],
+) -> Catalogued
+    ensures { Catalogues (arriving catalogue.old name house shares.now templates.now page.now) catalogue.old result.number result.used result.pages catalogue.new }
+{
+    jsx_precompile::jsx_precompile_catalogue_add(catalogue, name, house, shares, templates, page)
+}
+
+// And leaves it.
+#[unsafe(no_mangle)]
+pub extern "C" fn jsx_precompile_catalogue_remove(catalogue: &mut [u8], name: u32) -> Catalogued
+    ensures { Catalogues (leaving catalogue.old name) catalogue.old result.number result.used result.pages catalogue.new }
+{
+    jsx_precompile::jsx_precompile_catalogue_remove(catalogue, name)
 }
 
 // The version of the library: major * 10,000 + minor * 100 + patch.

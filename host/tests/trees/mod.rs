@@ -1,5 +1,6 @@
-//! The pages of examples/ as trees, and the orders that fill their templates.
+//! The pages of examples/ as trees, the orders that fill their templates, and a catalogue.
 
+pub mod festival;
 mod marks;
 mod orders;
 mod seat_pages;

@@ -1,4 +1,5 @@
-//! `show`: prints the bytes on standard input as indented fields, a page, options, shelf out or page out.
+//! `show`: prints the bytes on standard input as indented fields, a page, options, shelf out, page out, an order or a
+//! catalogue.
 //! `show seed N`: prints page, options, answer and outputs of a seed.
 
 use oracle::generate;

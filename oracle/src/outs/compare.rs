@@ -5,7 +5,7 @@ use super::catalogue::Catalogued;
 use super::convert::{self, Converted, Way};
 use super::fill::{self, Filled};
 use super::find::{Places, find};
-use super::generate::history::{Call, History, history, run};
+use super::generate::history::{Call, History, history, history_of, run};
 use super::generate::{ConvertCase, FillCase, FindCase, convert_case, fill_case, find_case};
 use super::shrink::{smaller_page, smaller_templates};
 use crate::generate::Room;
@@ -131,6 +131,14 @@ pub fn catalogue(history: &History, other: &impl Catalogue) -> Option<String> {
         }
     });
     found
+}
+
+/// Histories with shares of so many calls.
+pub fn first_history(calls: usize, first: u64, count: u64, other: &impl Catalogue) -> Option<String> {
+    (first..first + count).find_map(|seed| {
+        let words = catalogue(&history_of(seed, calls), other)?;
+        Some(format!("seed {seed}: {words}"))
+    })
 }
 
 /// With shares (A14) or without (A13).

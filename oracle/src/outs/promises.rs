@@ -3,6 +3,7 @@
 
 use super::Refusal;
 use super::catalogue::{self, Catalogued, Page};
+use super::compare::Catalogue;
 use super::generate::history::Call;
 use super::reached::Reached;
 use super::shares::{Share, read_shares, used};
@@ -34,8 +35,8 @@ impl Guarantees {
 }
 
 /// A call finds the same number, and leaves the others' pages alike, in a catalogue that differs only in another house's
-/// pages: in their order or, within its guarantee, in that they are gone.
-pub fn apart(call: &Call, before: &[u8], after: &[u8], answer: Catalogued, reached: &mut Reached) {
+/// pages: in their order or, within its guarantee, in that they are gone. `by` is the judge's own call or another's.
+pub fn apart(by: &impl Catalogue, call: &Call, before: &[u8], after: &[u8], answer: Catalogued, reached: &mut Reached) {
     let Some(pages) = catalogue::read(before, true) else { return };
     let (name, asking, shares) = match call {
         Call::Add { name, house, shares, .. } => (*name, Some(*house), read_shares(shares, before.len()).ok()),
@@ -49,7 +50,7 @@ pub fn apart(call: &Call, before: &[u8], after: &[u8], answer: Catalogued, reach
         let alike = |pages: Vec<Page>| {
             let mut bytes = vec![0; before.len()];
             catalogue::build(&mut bytes, &pages, Refusal::NotCovered).expect("no more bytes than before");
-            let other = call.judge(true, &mut bytes);
+            let other = by(call, &mut bytes);
             assert_eq!(other.number, answer.number, "another house is seen");
             let of_others = |bytes: &[u8]| {
                 let pages = catalogue::read(bytes, true).expect("a sound catalogue");

@@ -73,7 +73,8 @@ pub fn histories(housed: bool, first: u64, count: u64) -> Reached {
         run(&history, |step, before, after, answer| {
             reached.meet_catalogue(housed, step, before, answer);
             if housed && step.damage.is_none() {
-                apart(&step.call, before, after, answer, &mut reached);
+                let judge = |call: &Call, bytes: &mut [u8]| call.judge(true, bytes);
+                apart(&judge, &step.call, before, after, answer, &mut reached);
                 shares = shares.take().and_then(|held| held.and(&step.call, before, answer, &mut reached));
             }
             if answer.number != 0 {

@@ -1,11 +1,11 @@
 //! Stored answers, one call on a line, words parted by one space, bytes as small hex digits, `-` where there are none.
 
 use super::catalogue::{self, Catalogued};
-use super::compare::{Convert, Fill};
+use super::compare::{Catalogue, Convert, Fill};
 use super::convert::{Converted, Way, downgrade, upgrade};
 use super::fill::{Filled, fill};
 use super::find::{ABSENT, MOST_NUMBERS, Places, find};
-use super::shares;
+use super::generate::history::Call;
 use crate::vectors::unhex;
 
 /// What lies in each lent byte before a call: of templates out and HTML, and of page out.
@@ -101,20 +101,23 @@ pub fn catalogue_call(line: &str) -> Option<Found> {
     stored_catalogue(number.parse().ok()?, answer, bytes, unhex(after)?, false)
 }
 
-/// seed call guarantees mosts CATALOGUE number AFTER
 pub fn shares_call(line: &str) -> Option<Found> {
+    shares_call_by(line, |call, bytes| call.judge(true, bytes))
+}
+
+/// seed call guarantees mosts CATALOGUE number AFTER; `by` is the judge's call or another's.
+pub fn shares_call_by(line: &str, by: impl Catalogue) -> Option<Found> {
     let [_, call, guaranteed, most, before, number, after] = line.split(' ').collect::<Vec<_>>()[..] else {
         return None;
     };
     let numbers = |word: &str| word.split(',').map(|word| word.parse().ok()).collect::<Option<Vec<u32>>>();
     let shares: Vec<u32> = numbers(guaranteed)?.into_iter().zip(numbers(most)?).flat_map(<[u32; 2]>::from).collect();
     let mut bytes = unhex(before)?;
-    let answer = match Called::parse(call)? {
-        Called::Arrive { name, house, templates, page } => {
-            shares::add(&mut bytes, name, house, &shares, &templates, &page)
-        }
-        Called::Leave { name } => shares::remove(&mut bytes, name),
+    let call = match Called::parse(call)? {
+        Called::Arrive { name, house, templates, page } => Call::Add { name, house, shares, templates, page },
+        Called::Leave { name } => Call::Remove { name },
     };
+    let answer = by(&call, &mut bytes);
     stored_catalogue(number.parse().ok()?, answer, bytes, unhex(after)?, true)
 }
 

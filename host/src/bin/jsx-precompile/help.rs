@@ -21,17 +21,18 @@ Usage: jsx-precompile COMMAND [OPTION]... FILE
 Commands:
   build      print the page as a JavaScript module, or write both outputs as bytes
   check      say whether pages are taken, and where not, the place and the reason
-  show       print the fields of a page, of options, of an output or of an order as a tree
+  show       print the fields of a page, of options, of an output, of an order or of a catalogue as a tree
   preview    print an HTML page that shows source, templates and calls
   tag        read the text of one tag and print its field, or the place and the reason
   find       print where templates stand, by their numbers
   fill       print the HTML that templates and an order make
+  catalogue  keep the pages of several houses in one file: new, add, remove, list, show
   upgrade    convert templates out and page out of version 0.1.0 into what is written now
   downgrade  convert templates out and page out into what version 0.1.0 wrote
 
 FILE is a page, as bytes or in hex digits, for tag a text, for find templates out. For fill there are two, templates
-out and an order, and for upgrade and downgrade templates out and page out. - is standard input. docs/FORMAT.md of the
-repository says what these are.
+out and an order, and for upgrade and downgrade templates out and page out. - is standard input, but for the file of
+catalogue. docs/FORMAT.md of the repository says what these are.
 `jsx-precompile COMMAND --help` tells more of a command, --version prints the version.
 
 Results go to standard output, messages to standard error. The exit status is
@@ -80,10 +81,11 @@ the element p (30). `jsx-precompile show` prints the whole tree.
 pub const SHOW: &str = "jsx-precompile show [OPTION]... FILE
 
 Prints a page, options, templates out, page out or an order as a tree of fields: the place of each in the bytes, its tag,
-what the tag means, and its text. Where the bytes are refused, the place is marked and the status is 1.
+what the tag means, and its text; of a catalogue its pages, and in them their fields. Where the bytes are refused, the
+place is marked and the status is 1.
 
 Options:
-  --as KIND    page, options, templates, out or order; without it the first byte tells
+  --as KIND    page, options, templates, out, order or catalogue; without it the first byte tells
   --hex        the file has hex digits; without it and --raw the file itself tells
   --raw        the file has the bytes themselves
   --whole      print long texts whole
@@ -163,6 +165,35 @@ nested. Fillings that do not fit their templates are refused with their place in
 Example:
   $ jsx-precompile fill examples/rows.templates examples/rows.order
   <ol class=\"rows\"><li ><b>Row A</b><button type=\"button\" data-seat=\"A1\" disabled>1</button></li></ol>
+";
+
+pub const CATALOGUE: &str = "jsx-precompile catalogue new FILE LENGTH
+jsx-precompile catalogue add [--shares SHARES] FILE NAME HOUSE TEMPLATES PAGE
+jsx-precompile catalogue remove FILE NAME
+jsx-precompile catalogue list [--shares SHARES] FILE
+jsx-precompile catalogue show [--whole] FILE [NAME]
+
+Keeps the pages of up to 16 houses in one file of a fixed length, up to 16,777,216 bytes. `new` makes an empty one. `add`
+puts a page behind the others: its name, a number by which it leaves; its house, 1 to 16; the templates and the page out
+that `build` writes. `remove` takes a page out, and later ones close up. `list` prints the pages, and what each house has;
+`show` prints the fields of all pages, or of one.
+
+The file has the catalogue as it was or as it is to be, at whatever moment the program is stopped: the new one is
+written to FILE.new, synced and renamed. One program changes a file at a time.
+
+Options:
+  --shares SHARES    a file with a line for each house that has a share: its number, the bytes that it is guaranteed, and
+                     the most that it may have, or - for no limit. Without it no house is guaranteed anything
+  --whole            print long texts whole
+
+Example:
+  $ jsx-precompile catalogue list --shares examples/festival.shares examples/festival.catalogue
+         0  page 21 of house 2: 378 bytes, template 1
+       378  page 12 of house 1: 402 bytes, template 2
+       780  page 22 of house 2: 278 bytes, template 3
+  house 1: 402 bytes, guaranteed 500, at most 1500; room for a page of 746
+  house 2: 656 bytes, guaranteed 900; room for a page of 892
+  3 pages, 3 templates, 1058 of 2048 bytes
 ";
 
 macro_rules! convert_help {

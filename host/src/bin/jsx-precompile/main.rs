@@ -1,6 +1,7 @@
 //! The program `jsx-precompile`: pages into JavaScript modules, and views of pages and outputs. `jsx-precompile --help`
 //! says how it is called.
 
+mod catalogue;
 mod convert;
 mod fill;
 mod find;
@@ -74,6 +75,7 @@ fn run(command: &Command) -> u8 {
             }
         }),
         Command::Fill { files } => fill::filled(files).and_then(|html| print(&html)),
+        Command::Catalogue { file, action } => catalogue::done(file, action).and_then(|text| print(&text)),
         Command::Find { file, numbers } => read(file, None).and_then(|bytes| {
             let printed = find::printed(&bytes, numbers);
             print(&printed.map_err(|said| Failure { said: format!("{}: {said}", named(file)), status: REFUSED })?)

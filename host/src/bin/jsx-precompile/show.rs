@@ -1,5 +1,6 @@
 //! `show`: bytes as an indented tree of fields, the place of each, its tag, what the tag means, and its text.
 
+use jsx_precompile::catalogue::{Catalogue, Pages, StandingPage};
 use jsx_precompile::field::{Field, Fields};
 use jsx_precompile::out::{Import, Kind, PageOut, Templates};
 use jsx_precompile::page::Page;
@@ -11,6 +12,7 @@ pub fn told_by(bytes: &[u8]) -> Input {
         Some(0x02..=0x05) => Input::Options,
         Some(0x80 | 0x84) => Input::Templates,
         Some(0x85) => Input::Order,
+        Some(0x97) => Input::Catalogue,
         Some(0x10..=0x13 | 0x82 | 0x83) => Input::PageOut,
         _ => Input::Page,
     }
@@ -23,12 +25,13 @@ fn check(input: Input, bytes: &[u8]) -> Result<(), Fault> {
         Input::Templates => Templates::read(bytes).map(drop),
         Input::PageOut => PageOut::read(bytes).map(drop),
         Input::Order => Order::from_bytes(bytes).map(drop),
+        Input::Catalogue => Catalogue::over(bytes).map(drop),
     }
 }
 
 /// The tree, and why the bytes are not what they are read as; the place is marked in the tree.
 pub fn show(bytes: &[u8], input: Input, whole: bool) -> (String, Option<Fault>) {
-    let mut lines = tree(bytes, whole);
+    let mut lines = if input == Input::Catalogue { catalogue(bytes, whole) } else { tree(bytes, whole) };
     let fault = check(input, bytes).err();
     let last = match &fault {
         None => counted(&input.to_string(), bytes, &lines),
@@ -47,6 +50,13 @@ pub fn show(bytes: &[u8], input: Input, whole: bool) -> (String, Option<Fault>) 
 /// The field at the front of some bytes by itself, without what it holds.
 pub fn first(bytes: &[u8]) -> String {
     Fields::new(bytes).next().map_or(String::new(), |field| line(&field, false))
+}
+
+/// A page of a catalogue, and the fields of its templates and its page out.
+pub fn page(page: &StandingPage, whole: bool) -> String {
+    let mut lines = vec![];
+    standing(&mut lines, page, whole);
+    printed(&lines)
 }
 
 /// The tree of a field that is none of these.
@@ -78,14 +88,55 @@ struct Line {
 
 fn tree(bytes: &[u8], whole: bool) -> Vec<Line> {
     let mut lines = vec![];
+    fields(&mut lines, bytes, (0, 0), whole);
+    lines
+}
+
+/// The pages by their lengths, and what stands behind them.
+fn catalogue(bytes: &[u8], whole: bool) -> Vec<Line> {
+    let (mut lines, mut pages) = (vec![], Pages::new(bytes));
+    pages.by_ref().for_each(|page| standing(&mut lines, &page, whole));
+    let (at, rest) = (pages.place(), pages.rest());
+    let text = match rest.iter().position(|byte| *byte != 0) {
+        None if rest.is_empty() => return lines,
+        None => format!("free: {} bytes", rest.len()),
+        Some(0) => format!("no page: {}", hex(rest, whole)),
+        Some(zeros) => format!("free: {zeros} bytes, then {}", hex(&rest[zeros..], whole)),
+    };
+    lines.push(Line { at, depth: 1, text, is_field: false });
+    lines
+}
+
+fn standing(lines: &mut Vec<Line>, page: &StandingPage, whole: bool) {
+    let (at, name, house) = (page.at(), page.name(), page.house());
+    let text = format!("97 page {name} of house {house}: {}, {} bytes", numbered(page), page.bytes());
+    lines.push(Line { at, depth: 1, text, is_field: false });
+    let (templates, page_out) = (page.templates_bytes(), page.page_bytes());
+    let end = at + page.bytes();
+    fields(lines, templates, (end - page_out.len() - templates.len(), 1), whole);
+    fields(lines, page_out, (end - page_out.len(), 1), whole);
+}
+
+/// The numbers of a page's templates, in words.
+pub fn numbered(page: &StandingPage) -> String {
+    let numbers = page.numbers();
+    match (numbers.is_empty(), numbers.start() == numbers.end()) {
+        (true, _) => "no templates".to_string(),
+        (_, true) => format!("template {}", numbers.start()),
+        _ => format!("templates {} to {}", numbers.start(), numbers.end()),
+    }
+}
+
+/// The fields of these bytes, which stand so far behind the front and so deep.
+fn fields(lines: &mut Vec<Line>, bytes: &[u8], (front, outer): (usize, usize), whole: bool) {
     let mut rows = vec![Fields::new(bytes)];
     while let Some(row) = rows.last_mut() {
         let next = row.next();
-        let (at, rest) = (row.place(), row.rest());
-        let depth = rows.len();
+        let (at, rest) = (front + row.place(), row.rest());
+        let depth = outer + rows.len();
         match next {
             Some(field) => {
-                lines.push(Line { at: field.at, depth, text: line(&field, whole), is_field: true });
+                lines.push(Line { at: front + field.at, depth, text: line(&field, whole), is_field: true });
                 rows.push(field.inner());
             }
             None => {
@@ -96,7 +147,6 @@ fn tree(bytes: &[u8], whole: bool) -> Vec<Line> {
             }
         }
     }
-    lines
 }
 
 fn line(field: &Field, whole: bool) -> String {

@@ -2,6 +2,7 @@
 
 use crate::help;
 use crate::input::Bytes;
+use jsx_precompile::limits::MAX_CATALOGUE;
 use jsx_precompile::{Input, Options};
 use std::collections::VecDeque;
 
@@ -17,6 +18,16 @@ pub enum Command {
     Find { file: String, numbers: Vec<u32> },
     Fill { files: [String; 2] },
     Convert { way: Way, files: [String; 2], outputs: Option<(String, String)> },
+    Catalogue { file: String, action: Action },
+}
+
+/// What is done with a catalogue.
+pub enum Action {
+    New { length: usize },
+    Add { name: u32, house: u32, files: [String; 2], shares: Option<String> },
+    Remove { name: u32 },
+    List { shares: Option<String> },
+    Show { name: Option<u32>, whole: bool },
 }
 
 /// Which way templates out and page out are converted.
@@ -43,7 +54,7 @@ pub struct BadCall {
     pub command: Option<&'static str>,
 }
 
-const COMMANDS: [(&str, &str); 9] = [
+const COMMANDS: [(&str, &str); 10] = [
     ("build", help::BUILD),
     ("check", help::CHECK),
     ("show", help::SHOW),
@@ -51,6 +62,7 @@ const COMMANDS: [(&str, &str); 9] = [
     ("tag", help::TAG),
     ("find", help::FIND),
     ("fill", help::FILL),
+    ("catalogue", help::CATALOGUE),
     ("upgrade", help::UPGRADE),
     ("downgrade", help::DOWNGRADE),
 ];
@@ -94,6 +106,7 @@ struct Words {
     bytes: Option<Bytes>,
     whole: bool,
     form: Option<Form>,
+    shares: Option<String>,
 }
 
 impl Words {
@@ -124,7 +137,8 @@ impl Words {
                 "--as" if command == "tag" => read.form = Some(form(&value()?)?),
                 "--hex" if command == "show" => read.bytes = Some(Bytes::Hex),
                 "--raw" if command == "show" => read.bytes = Some(Bytes::Raw),
-                "--whole" if command == "show" => read.whole = true,
+                "--whole" if matches!(command, "show" | "catalogue") => read.whole = true,
+                "--shares" if command == "catalogue" => read.shares = Some(value()?),
                 "--" => read.files.extend(rest.drain(..).map(str::to_string)),
                 _ if word.starts_with('-') && word != "-" => return Err(format!("{command} has no option {word}")),
                 _ => read.files.push(word.to_string()),
@@ -134,7 +148,10 @@ impl Words {
     }
 
     fn command(self, command: &str) -> Result<Command, String> {
-        let Words { mut files, options, templates, page, input, bytes, whole, form } = self;
+        if command == "catalogue" {
+            return self.catalogue();
+        }
+        let Words { mut files, options, templates, page, input, bytes, whole, form, shares: _ } = self;
         if command == "check" {
             return if files.is_empty() { Err("no file".to_string()) } else { Ok(Command::Check { files, options }) };
         }
@@ -166,6 +183,43 @@ impl Words {
             _ => Command::Build { file, options, outputs },
         })
     }
+
+    /// The words behind `catalogue`: what is done, the file, and what it is done with.
+    fn catalogue(self) -> Result<Command, String> {
+        let Words { files, shares, whole, .. } = self;
+        let mut words = files.into_iter();
+        let action = words.next().ok_or("new, add, remove, list or show")?;
+        let file = words.next().ok_or_else(|| format!("{action} takes a file with a catalogue"))?;
+        let rest: Vec<String> = words.collect();
+        let takes = |what: &str| Err(format!("{action} takes {what}"));
+        let action = match (action.as_str(), &rest[..]) {
+            ("new", [length]) => match length.parse() {
+                Ok(length) if length <= MAX_CATALOGUE => Action::New { length },
+                _ => return Err(format!("{length} is no number from 0 to {MAX_CATALOGUE}")),
+            },
+            ("new", _) => return takes("a file and its length"),
+            ("add", [name, house, files @ ..]) => {
+                let files = two("add", files.to_vec(), "a page out")?;
+                Action::Add { name: number(name)?, house: number(house)?, files, shares: shares.clone() }
+            }
+            ("add", _) => return takes("a file, a name, a house, templates and a page out"),
+            ("remove", [name]) => Action::Remove { name: number(name)? },
+            ("remove", _) => return takes("a file and a name"),
+            ("list", []) => Action::List { shares: shares.clone() },
+            ("list", _) => return takes("one file"),
+            ("show", []) => Action::Show { name: None, whole },
+            ("show", [name]) => Action::Show { name: Some(number(name)?), whole },
+            ("show", _) => return takes("a file, or a file and a name"),
+            _ => return Err(format!("new, add, remove, list or show, not {action}")),
+        };
+        if whole && !matches!(action, Action::Show { .. }) {
+            return Err("--whole is for show alone".to_string());
+        }
+        if shares.is_some() && !matches!(action, Action::Add { .. } | Action::List { .. }) {
+            return Err("--shares is for add and list alone".to_string());
+        }
+        Ok(Command::Catalogue { file, action })
+    }
 }
 
 /// Templates and this.
@@ -192,11 +246,12 @@ fn kind(word: &str) -> Result<Input, String> {
         "templates" => Input::Templates,
         "out" => Input::PageOut,
         "order" => Input::Order,
-        _ => return Err(format!("--as is page, options, templates, out or order, not {word}")),
+        "catalogue" => Input::Catalogue,
+        _ => return Err(format!("--as is page, options, templates, out, order or catalogue, not {word}")),
     })
 }
 
-/// The number of a template.
+/// The number of a template or house, or the name of a page.
 fn number(word: &str) -> Result<u32, String> {
     word.parse().map_err(|_| format!("{word} is no number from 0 to {}", u32::MAX))
 }

@@ -73,8 +73,19 @@ pub fn run(history: &History, mut each: impl FnMut(&Step, &[u8], &[u8], catalogu
 /// Room for several pages with more than 255 templates.
 const LARGE: usize = 20_000;
 
+/// A short one, with or without houses.
 pub fn history(seed: u64, housed: bool) -> History {
     let rng = &mut Rng::new(seed ^ 0x97_9797);
+    let calls = rng.within(4, 24);
+    with_calls(rng, housed, calls)
+}
+
+/// One with houses of so many calls.
+pub fn history_of(seed: u64, calls: usize) -> History {
+    with_calls(&mut Rng::new(seed ^ 0x1497_9797), true, calls)
+}
+
+fn with_calls(rng: &mut Rng, housed: bool, calls: usize) -> History {
     let length =
         [rng.below(64), rng.within(64, 600), rng.within(600, 5_000), LARGE][rng.weighted(&[150, 450, 390, 10])];
     let mut bytes = vec![0; length];
@@ -84,7 +95,7 @@ pub fn history(seed: u64, housed: bool) -> History {
     let mut steps = Steps { rng, housed, shares: vec![], names: vec![] };
     steps.shares = steps.shares(length);
     let mut history = History { housed, catalogue: bytes.clone(), steps: vec![] };
-    for _ in 0..steps.rng.within(4, 24) {
+    for _ in 0..calls {
         let step = steps.step(&bytes);
         if step.damage.is_none() {
             step.call.judge(housed, &mut bytes);

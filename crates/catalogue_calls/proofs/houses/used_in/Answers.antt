@@ -1,0 +1,16 @@
+-- `houses::used_in` meets its contract: each page adds its bytes at its house. Assumes nothing.
+use mathlib.Core.Path.{refl}
+use Rattle.catalogue_calls.proofs.HousesLaws.{house_below, using_one, using_all}
+use Rattle.catalogue_calls.proofs.houses.used_in.Goals as goal
+
+pub bounds-used-p : goal.bounds-used-p
+bounds-used-p c = house_below c.in-Some.ensures
+
+pub bounds-used-p-in-Some : goal.bounds-used-p-in-Some
+bounds-used-p-in-Some c = house_below c.in-Some.ensures
+
+pub loop-p-preserved : goal.loop-p-preserved
+loop-p-preserved c = using_one c.loop-p.invariant c.in-Some.ensures _ refl
+
+pub returns : goal.returns
+returns c = using_all c.loop-p.invariant c.in_default.ensures
