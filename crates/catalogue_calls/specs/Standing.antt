@@ -4,6 +4,7 @@ use Rattle.field.specs.Bytes.{Bytes, pick}
 use Rattle.catalogue.specs.Page.{A14, Format, house_right}
 use Rattle.catalogue.specs.Catalogue.{four, within, body_in, behind_body}
 use Rattle.catalogue.specs.Judged.{project}
+use Rattle.catalogue_calls.specs.declared.standing.Pages.{Pages}
 use Rattle.catalogue_calls.specs.declared.standing.Standing.{Standing}
 
 -- the catalogue of this project, each page with its house
@@ -28,6 +29,11 @@ pub record IsPage (s : Bytes) (name house : ℕ) (templates page_out r : Bytes) 
 abbrev pub StandsAt : Bytes → Option Standing → Type 0
 StandsAt s None = framed s ≡ false
 StandsAt s (Some p) = IsPage s p.name p.house p.templates.now p.page.now p.behind.now
+
+-- a step over the pages from the front on, and the bytes that it leaves
+abbrev pub GivesPage : Pages → Option Standing → Pages → Type 0
+GivesPage x None y = (framed x.0.now ≡ false) × (y.0.now ≡ x.0.now)
+GivesPage x (Some p) y = IsPage x.0.now p.name p.house p.templates.now p.page.now y.0.now
 
 -- the frames from the front on, by the names of their pages; so many steps
 unfoldable pub names_from : ℕ → Bytes → List ℕ

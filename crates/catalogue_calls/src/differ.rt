@@ -5,12 +5,13 @@ ghost use Rattle.std.specs.List.Sorted.{IsNonDecreasing};
 ghost use Rattle.catalogue_calls.specs.Standing.{all_differ, names_in};
 ghost use Rattle.catalogue_calls.specs.Differ.{none_among, Taken};
 
-use crate::standing::page_at;
+use crate::standing::{Pages, page_at};
 
 // The names from the front on, as far as there are some and the batch has room: how many, and the bytes behind.
 fn take_names<'a>(s: &'a [u8], batch: &mut [u32]) -> (usize, &'a [u8])
     ensures { Taken s.now (length batch.old) batch.new result.0 result.1.now }
 {
+    // by page_at and a count, since both are answered: how many names, and the bytes behind
     let mut rest = s;
     let mut count = 0;
     while count < batch.len() {
@@ -36,12 +37,10 @@ fn none_stands_in(s: &[u8], batch: &[u32]) -> bool
     requires { IsNonDecreasing batch.now }
     ensures { result ≡ none_among (names_in s.now) batch.now }
 {
-    let mut rest = s;
-    while let Some(p) = page_at(rest) {
+    for p in Pages(s) {
         if batch.binary_search(&p.name).is_ok() {
             return false;
         }
-        rest = p.behind;
     }
     true
 }

@@ -6,7 +6,7 @@ ghost use Rattle.catalogue.specs.Shares.{total, but};
 ghost use Rattle.catalogue_calls.specs.Answer.{shares_of};
 ghost use Rattle.catalogue_calls.specs.Houses.{UsedIn, unused_by};
 
-use crate::standing::page_at;
+use crate::standing::{PARTS, Pages};
 
 const HOUSES: usize = 16;
 
@@ -15,10 +15,8 @@ pub fn used_in(s: &[u8]) -> [usize; 17]
     ensures { UsedIn s.now result }
 {
     let mut used = [0; 17];
-    let mut rest = s;
-    while let Some(p) = page_at(rest) {
-        used[p.house as usize] += 14 + p.templates.len() + p.page.len();
-        rest = p.behind;
+    for p in Pages(s) {
+        used[p.house as usize] += PARTS + p.templates.len() + p.page.len();
     }
     used
 }

@@ -24,6 +24,7 @@ fn count_of(templates: &[u8]) -> usize
 pub fn look_up(catalogue: &[u8], name: u32) -> Option<Found>
     ensures { LooksUp catalogue.now name result }
 {
+    // by page_at, since a page's place is told by the bytes that are left
     let mut rest = catalogue;
     while let Some(p) = page_at(rest) {
         if p.name == name {

@@ -25,6 +25,7 @@ pub fn read(catalogue: &[u8]) -> Option<Held>
     if catalogue.len() > MOST_BYTES {
         return None;
     }
+    // by page_at, since what lies behind the pages is looked at too
     let mut rest = catalogue;
     let mut pages = 0;
     let mut forms = 0;

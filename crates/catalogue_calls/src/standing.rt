@@ -2,7 +2,8 @@
 ghost use Rattle.std.specs.Prelude.{◌≡◌, ◌+◌, ◌<◌, drop, length, MatchOption};
 ghost use Rattle.catalogue.specs.Page.{A14, house_right};
 ghost use Rattle.catalogue.specs.Catalogue.{four};
-ghost use Rattle.catalogue_calls.specs.Standing.{StandsAt};
+ghost use Rattle.catalogue_calls.specs.Standing.{StandsAt, GivesPage};
+ghost use Rattle.std.specs.Iterator.{at_most};
 
 // Document 02, A13 and A14: where a page's templates begin, counted from its 97.
 pub const PARTS: usize = 14;
@@ -41,6 +42,24 @@ pub fn page_at<'a>(s: &'a [u8]) -> Option<Standing<'a>>
         page,
         behind,
     })
+}
+
+// The pages of a catalogue one after the other. Behind the last one stays what is no page.
+#[derive(Clone, Copy)]
+pub struct Pages<'a>(pub &'a [u8]);
+
+impl<'a> Iterator for Pages<'a> {
+    type Item = Standing<'a>;
+
+    ghost next_gives = { GivesPage };
+
+    ghost remaining = { λ row. at_most (length row.0.now) };
+
+    fn next(&mut self) -> Option<Standing<'a>> {
+        let p = page_at(self.0)?;
+        self.0 = p.behind;
+        Some(p)
+    }
 }
 
 // Document 02, A14: the houses are numbered from 1 to 16.

@@ -1,11 +1,7 @@
 use mathlib.Core.Path.{◌≡◌}
-use lib.ListN.{length}
 use Rattle.catalogue_calls.specs.Standing.{names_in}
 use Rattle.catalogue_calls.specs.Differ.{none_among}
 use Rattle.catalogue_calls.proofs.differ.none_stands_in.Given as goal
 
 abbrev pub invariant-loop-p : goal.invariant-loop-p
-invariant-loop-p l = none_among (names_in l.s) l.batch ≡ none_among (names_in l.rest) l.batch
-
-abbrev pub decreases-loop-p : goal.decreases-loop-p
-decreases-loop-p l = length l.rest
+invariant-loop-p l = none_among (names_in l.s) l.batch ≡ none_among (names_in l.p-iterator.0.now) l.batch
