@@ -34,6 +34,7 @@ fn lower(s: &mut [u8], forms: u32)
     ensures { Lowers s.old forms s.new }
 {
     let mut at = 0;
+    // by places, since each page is changed as it is passed
     while let Some(size) = lower_front(&mut s[at..], forms) {
         at += size;
     }

@@ -43,6 +43,7 @@ fn next_call(s: &[u8]) -> Option<usize>
     ensures { NextCall s.now result }
 {
     let mut rest = s;
+    // into a field that holds fields, or over one that does not: no iterator over fields goes so
     while let Some(h) = read_header(rest) {
         match front_of(h.tag, 4) {
             Some(4) => return Some(s.len() - rest.len() + 3),
@@ -60,6 +61,7 @@ impl Numbers for Records {
 
     fn next<'a>(s: &'a [u8]) -> Option<(u32, &'a [u8])> {
         let mut fields = Fields(s);
+        // no `for`: what lies behind the record is answered too
         while let Some(field) = fields.next() {
             if field.tag == 0x84 {
                 return Some((four_in(field.body), fields.0));
@@ -95,6 +97,7 @@ pub fn raise_records(s: &mut [u8], by: u32)
     ensures { s.new ≡ bytes (changed (raised 0x84 by) (read s.old)) }
 {
     let mut at = 0;
+    // by places, since the bytes that are walked are changed
     while let Some(h) = read_header(&s[at..]) {
         raise(s, at + 3, by);
         at += h.end;
@@ -106,6 +109,7 @@ pub fn raise_calls(s: &mut [u8], by: u32)
     ensures { s.new ≡ bytes (changed (raised 0x90 by) (read_out 4 s.old)) }
 {
     let mut at = 0;
+    // by places, as raise_records
     while let Some(number) = next_call(&s[at..]) {
         raise(s, at + number, by);
         at += number + 4;

@@ -29,6 +29,7 @@ fn is_clear<N: Numbers, const W: usize>(s: &[u8], count: usize, before: u32, low
     let mut words = [0u64; W];
     let mut left = count;
     let mut rest = s;
+    // by Numbers::next, which has the bytes behind: one walk for records and calls
     while let Some((raised, behind)) = N::next(rest) {
         let number = raised.wrapping_sub(before) as usize;
         if left == 0 || number == 0 || number > count {

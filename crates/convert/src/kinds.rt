@@ -56,6 +56,7 @@ fn skip_plain(m: Markup, s: &[u8]) -> &[u8]
         return s;
     }
     let mut left = s;
+    // no `for` over chunks: what is left is answered, and a block that is not plain stays in front of it
     while let Some((block, rest)) = left.split_first_chunk::<8>() {
         if rest.is_empty() || !is_plain(block) {
             break;
@@ -71,6 +72,7 @@ pub fn pass_all(m: Markup, s: &[u8]) -> Markup
 {
     let mut q = m;
     let mut left = skip_plain(q, s);
+    // by what is left, since a turn may pass many bytes
     while let [c, rest @ ..] = left {
         let entered = matches!(q, Markup::Entered);
         q = pass(q, *c);

@@ -53,6 +53,7 @@ fn check_fillings(s: &[u8], depth: usize) -> Result<(), Refusal>
     ensures { result ≡ check_fillings depth (read_order s.now) }
 {
     let mut fields = Fields(s);
+    // no `for`: what stands behind the last filling is looked at
     while let Some(filling) = fields.next() {
         check_filling(filling.tag, filling.body, depth)?;
     }
