@@ -1,5 +1,6 @@
 //! No constant of the built library holds one of the 76 hyphenated names (02, A5). Its bytes are searched for each, and so are the
-//! programs over it. Rattle has no statics: a constant is laid on the stack where it is used, so that a name can stand in the bytes
+//! programs over it. A constant that is borrowed stands in read-only data, as the table of the 76 does; one that is used by its value is
+//! laid on the stack by the code. So a name can stand in the bytes
 //! - whole;
 //! - in pieces: constants of sixteen bytes, in an order of the linker's own, and then stores of immediate bytes, eight, four, two and
 //!   one;
@@ -225,6 +226,8 @@ fn planted_names_are_found() {
         let word = spelling.as_bytes();
         let put = |places: &[(usize, &[u8])]| {
             let mut copy = bytes.clone();
+            // emptied, so that no byte that stood beside a planted part makes a whole word of it
+            copy[data.clone()].fill(0);
             for (at, part) in places {
                 copy[*at..*at + part.len()].copy_from_slice(part);
             }

@@ -7,6 +7,7 @@ pub mod ListLaws
 pub mod NormalizeLaws
 pub mod TableLaws
 pub mod VoidLaws
+pub mod WordLaws
 pub mod MarkLaws
 pub mod NamespacedLaws
 pub mod EscapedLaws

@@ -1,11 +1,11 @@
 -- A table of names, sorted by length, each with a mark behind it: its rule is proved by two tests that are computed, one over every
 -- entry of the table and one over every name that it has to have.
--- Main statements: `table_mark`, `table_finds`, `table_has`, `lacks`, `table_lacks`, `table_row`.
+-- Main statements: `table_mark`, `table_finds`, `table_has`, `lacks`, `table_lacks`, `table_row`, `slot_mark`.
 -- Assumes nothing.
 use mathlib.Core.Path.{◌≡◌, refl, sym, ap, ap₂, subst, ◌∙◌}
 use mathlib.Core.Bool.{Bool, true, false, ◌&&◌, false≢true}
 use mathlib.Core.List.{List, [], ◌∷◌}
-use Prim.Native.Nat.{ℕ, zero, suc, ◌+◌, ◌-◌, ◌<◌}
+use Prim.Native.Nat.{ℕ, zero, suc, ◌+◌, ◌-◌, ◌*◌, ◌/◌, ◌%◌, ◌<◌}
 use native.Mathlib.Omega.{arith}
 use lib.Dec.{leb}
 use lib.ListN.{length, get_or, take, drop}
@@ -105,3 +105,24 @@ table_row size s k e h l b =
       rising = leb-true (get_or s l 0) (get_or s (l + 1) 0) (and_left x y t);
       inside = leb-true (get_or s (l + 1) 0) size (and_right x y t);
     }
+
+-- ---- a table that is sorted by length and first letter
+
+-- where a name of this length and first letter would stand, 32 places a length
+abbrev pub slot : Bytes → ℕ
+slot n = length n * 32 + get_or n 0 0 % 32
+
+pub slot_at : {r : Bytes} {m : Option ℕ} {j : ℕ} (t : Bytes) (s : List ℕ) (n : Bytes) → m ≡ mark_in r n → slot n ≡ j → r ≡ row_of t s j → m ≡ mark_in (row_at t s (slot n)) n
+slot_at t s n p e q = p ∙ ap (λ (row : Bytes). mark_in row n) (row_is t s (slot n) (q ∙ ap (row_of t s) (sym e)))
+
+-- the test passes at every entry of the first k rows
+abbrev pub all_slots : (Bytes → ℕ → Bool) → Bytes → List ℕ → ℕ → Bool
+all_slots f t s k = upto (λ j. entries f (j / 32) 0 (row_at t s j)) k
+
+pub slot_mark : (f : Bytes → ℕ → Bool) (t : Bytes) (s : List ℕ) (k : ℕ) → all_slots f t s k ≡ true → (n : Bytes) → slot n < k → (m : ℕ) → mark_in (row_at t s (slot n)) n ≡ Some m → f n m ≡ true
+slot_mark f t s k h n l =
+    let q : length n ≡ slot n / 32 = omega arith in
+    entries_at f n 0 (row_at t s (slot n)) (ap (λ j. entries f j 0 (row_at t s (slot n))) q ∙ upto_at (λ j. entries f (j / 32) 0 (row_at t s j)) k h (slot n) l)
+
+abbrev pub has_slot : Bytes → List ℕ → Bytes → Bool
+has_slot t s w = is_some (mark_in (row_at t s (slot w)) w)

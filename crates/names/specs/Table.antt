@@ -1,8 +1,9 @@
 -- How the code reads a name and the rows of its tables. Nothing here has to be believed: the laws tie each to the definitions of Names.
 -- Assumes nothing: these are definitions.
-use Rattle.std.specs.Prelude.{ℕ, zero, suc, ◌+◌, ◌-◌, ◌≤◌, ◌<◌, ◌/◌, ◌%◌, ◌^◌, Bool, true, false, ◌&&◌, ◌||◌, List, [], ◌∷◌, ◌++◌, leb, eqb, length, take, drop, get_or, slice_get, is_some, Option, Some, None}
+use Rattle.std.specs.Prelude.{ℕ, zero, suc, ◌+◌, ◌-◌, ◌≤◌, ◌<◌, ◌/◌, ◌%◌, ◌^◌, Bool, true, false, ◌&&◌, ◌||◌, List, [], ◌∷◌, ◌++◌, leb, ltb, eqb, length, take, drop, get_or, slice_get, is_some, Option, Some, None}
 use Rattle.field.specs.Bytes.{Bytes, ascii, pick, same}
-use Rattle.names.specs.Names.{capital, small_letters, is_void_element}
+use Rattle.text.specs.Escape.{escape_html}
+use Rattle.names.specs.Names.{capital, small_letter, small_letters, is_void_element}
 use Rattle.names.specs.declared.elements.Void.{Void}
 use Rattle.names.specs.declared.elements.Void.TheVariants.{AsWritten, InSmallLetters}
 use Rattle.names.specs.declared.listed.Spelling.{Spelling}
@@ -67,14 +68,33 @@ unfoldable pub spelled : Option ℕ → Bytes → Bytes
 spelled s [] = []
 spelled s (c ∷ cs) = spelled_letter s c ++ spelled s cs
 
--- what a mark of the attributes' table says: `=` stays, `c` class, `f` for, `h` href, `p` panose-1; any other stands before each capital.
+-- what a mark of the attributes' table says: 0 stays, 1 class, 2 for, 3 href, 4 panose-1, 5 a colon before each capital; any other a hyphen.
 -- A name without a mark goes to small letters
 unfoldable pub by_mark : Option ℕ → Bytes → Bytes
 by_mark None n = spelled None n
 by_mark (Some m) n =
-    pick (eqb m 61) n
-    (pick (eqb m 99) (ascii "class")
-    (pick (eqb m 102) (ascii "for") (pick (eqb m 104) (ascii "href") (pick (eqb m 112) (ascii "panose-1") (spelled (Some m) n)))))
+    pick (eqb m 0) n
+    (pick (eqb m 1) (ascii "class")
+    (pick (eqb m 2) (ascii "for")
+    (pick (eqb m 3) (ascii "href") (pick (eqb m 4) (ascii "panose-1") (pick (eqb m 5) (spelled (Some 58) n) (spelled (Some 45) n))))))
+
+-- the first k letters, and the next one in small behind a hyphen
+unfoldable pub front : ℕ → Bytes → Bytes
+front k n = take k n ++ (45 ∷ small_letter (get_or n k 0) ∷ [])
+
+-- the name with its hyphens, by the places of its capitals: so many letters before the first, and how far behind that the second is, 0 where
+-- there is none
+unfoldable pub by_places : ℕ → ℕ → Bytes → Bytes
+by_places k d n = front k n ++ pick (eqb d 0) (drop (k + 1) n) (front (d - 1) (drop (k + 1) n) ++ drop d (drop (k + 1) n))
+
+-- these are the places of its capitals, and what stands behind the last is no more than sixteen letters
+unfoldable pub places_are : ℕ → ℕ → Bytes → Bool
+places_are k d n = (ltb (k + d) (length n) && leb (length n) (k + d + 17)) && same (by_places k d n) (spelled (Some 45) n)
+
+-- what else is known of a name that has a mark: it has no sign that is escaped, and the places are right
+unfoldable pub told : Option ℕ → Bytes → Bool
+told None n = true
+told (Some m) n = same n (escape_html n) && (ltb m 6 || places_are (m / 16) (m % 16) n)
 
 -- what a spelling stands for
 unfoldable pub spelt : Spelling → Bytes → Bytes

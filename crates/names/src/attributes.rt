@@ -1,12 +1,13 @@
 // What an attribute's name becomes. The hyphens are worked out while the name is copied, and nowhere is a normalised name held.
-ghost use Rattle.std.specs.Prelude.{◌≡◌, ◌+◌, ◌≤◌, ◌<◌, ◌^◌, ◌&&◌, ◌∷◌, ◌++◌, length};
+ghost use Rattle.std.specs.Prelude.{◌≡◌, ◌+◌, ◌≤◌, ◌<◌, ◌^◌, ◌&&◌, ◌/◌, ◌%◌, ◌∷◌, [], ◌++◌, true, Some, length};
 ghost use Rattle.field.specs.Bytes.{ascii, same};
 ghost use Rattle.field.specs.Put.{Wrote};
-ghost use Rattle.names.specs.Names.{ident, get_attr_name, normalize_dom_attr_name};
-ghost use Rattle.names.specs.Table.{plain_name, spelled_letter, spelled};
+ghost use Rattle.names.specs.Names.{ident, small_letter, get_attr_name, normalize_dom_attr_name};
+ghost use Rattle.names.specs.Table.{plain_name, spelled_letter, spelled, front, by_places, places_are, by_mark, told};
 
 use crate::compare::{letters_are, same_bytes, small_letter};
-use crate::listed::{Spelling, spelling_of};
+use crate::listed::{Spelling, find_mark, spelling_by};
+use crate::runs::{put_run, put_short};
 use field::writer::{put_byte, put_bytes};
 
 // No capital, no digit and no sign but `-`, as in most names. Each name of the table has a capital, a digit or a colon, so such a name
@@ -83,22 +84,97 @@ pub fn put_spelled(out: &mut [u8], at: usize, name: &[u8], sign: Option<u8>) -> 
     a
 }
 
-// className is asked for by itself: it is the one name of the table that pages are full of. Hyphenated names are most of the others.
-#[tactic(auto, using(field::proofs::PutLaws::wrote_is, crate::proofs::NormalizeLaws::normalize_class_name, crate::proofs::NormalizeLaws::normalize_plain), unfolding(crate::specs::Table::spelt))]
+// A letter in small, behind a hyphen.
+#[tactic(auto, using(field::proofs::PutLaws::store_two))]
+fn put_hyphen(out: &mut [u8], at: usize, c: u8) -> usize
+    requires { at + 2 ≤ length out.old }
+    ensures { Wrote out.old at (45 ∷ small_letter c ∷ []) out.new result }
+{
+    out[at] = b'-';
+    out[at + 1] = small_letter(c);
+    at + 2
+}
+
+// The first k letters, and the next one behind a hyphen.
+#[tactic(auto, using(field::proofs::PutLaws::wrote_then))]
+fn put_front(out: &mut [u8], at: usize, name: &[u8], k: usize) -> usize
+    requires { (at + k + 2 ≤ length out.old) × (k < length name.now) × (k ≤ 16) }
+    ensures { Wrote out.old at (front k name.now) out.new result }
+{
+    let a = put_run(out, at, &name[..k]);
+    put_hyphen(out, a, name[k])
+}
+
+// What lies between the capitals goes in runs.
+fn put_runs(out: &mut [u8], at: usize, name: &[u8], first: usize, more: usize) -> usize
+    requires { (at + length name.now + 2 ≤ length out.old) × (first + more < length name.now) × (length name.now ≤ first + more + 17) × (first ≤ 16) × (more ≤ 16) }
+    ensures { Wrote out.old at (by_places first more name.now) out.new result }
+{
+    let a = put_front(out, at, name, first);
+    let left = &name[first + 1..];
+    if more == 0 {
+        return put_run(out, a, left);
+    }
+    let b = put_front(out, a, left, more - 1);
+    put_run(out, b, &left[more..])
+}
+
+// By the places that a mark says, where there is room.
+fn put_hyphenated(out: &mut [u8], at: usize, name: &[u8], mark: u8) -> usize
+    requires { (at + length (spelled (Some 45) name.now) < 2 ^ 63) × (places_are (mark / 16) (mark % 16) name.now ≡ true) }
+    ensures { Wrote out.old at (spelled (Some 45) name.now) out.new result }
+{
+    if at + name.len() + 2 <= out.len() {
+        put_runs(
+            out,
+            at,
+            name,
+            usize::from(mark / 16),
+            usize::from(mark % 16),
+        )
+    } else {
+        put_spelled(out, at, name, Some(b'-'))
+    }
+}
+
+// A name that the table has, as its mark says.
+#[tactic(auto, using(field::proofs::PutLaws::wrote_is, crate::proofs::MarkLaws::mark_above, crate::proofs::MarkLaws::told_places), unfolding(crate::specs::Table::spelt))]
+pub fn put_marked(out: &mut [u8], at: usize, name: &[u8], mark: u8) -> usize
+    requires { (at + length (by_mark (Some mark) name.now) < 2 ^ 63) × (told (Some mark) name.now ≡ true) }
+    ensures { Wrote out.old at (by_mark (Some mark) name.now) out.new result }
+{
+    if 5 < mark {
+        return put_hyphenated(out, at, name, mark);
+    }
+    match spelling_by(mark, name) {
+        Spelling::Whole(w) => put_bytes(out, at, w),
+        Spelling::Signed(sign) => put_spelled(out, at, name, Some(sign)),
+        Spelling::Small => put_spelled(out, at, name, None),
+    }
+}
+
+// className is asked for by itself: it is the one name of the table that pages are full of. Before it short plain names, which most are, and of
+// which the table has none.
+#[tactic(auto, using(field::proofs::PutLaws::wrote_is, crate::proofs::NormalizeLaws::normalize_class_name, crate::proofs::NormalizeLaws::normalize_plain))]
 pub fn normalize_dom_attr_name(out: &mut [u8], at: usize, name: &[u8]) -> usize
     requires { at + length (normalize_dom_attr_name name.now) < 2 ^ 63 }
     ensures { Wrote out.old at (normalize_dom_attr_name name.now) out.new result }
 {
+    if name.len() < 7 && is_plain(name) {
+        return put_short(out, at, name);
+    }
     if same_bytes(name, b"className") {
         return put_bytes(out, at, b"class");
     }
-    if is_plain(name) {
-        return put_bytes(out, at, name);
-    }
-    match spelling_of(name) {
-        Spelling::Signed(sign) => put_spelled(out, at, name, Some(sign)),
-        Spelling::Small => put_spelled(out, at, name, None),
-        Spelling::Whole(w) => put_bytes(out, at, w),
+    match find_mark(name) {
+        Some(mark) => put_marked(out, at, name, mark),
+        None => {
+            if is_plain(name) {
+                put_short(out, at, name)
+            } else {
+                put_spelled(out, at, name, None)
+            }
+        }
     }
 }
 

@@ -16,8 +16,7 @@ const NAMES: [u8; 69] = *b"\
 // Where the names of each length begin.
 const STARTS: [u16; 8] = [0, 0, 0, 6, 18, 38, 62, 69];
 
-// Of the names of n letters: a bit for each first letter, and 32 above it one for each last letter. No array: that would be laid on the
-// stack, and most names are told by this alone.
+// Of the names of n letters: a bit for each first letter, and 32 above it one for each last letter. Most names are told by this alone.
 #[tactic(auto, using(crate::proofs::VoidLaws::ends_other), unfolding(crate::specs::Table::void_ends))]
 fn ends(n: usize) -> u64
     ensures { result ≡ get_or void_ends n 0 }

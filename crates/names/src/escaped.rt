@@ -4,9 +4,10 @@ ghost use Rattle.field.specs.Put.{Wrote};
 ghost use Rattle.text.specs.Escape.{escape_html};
 ghost use Rattle.names.specs.Names.{small_letters, normalize_dom_attr_name};
 
-use crate::attributes::{is_plain, is_xlink_href, put_spelled};
+use crate::attributes::{is_plain, is_xlink_href, put_marked, put_spelled};
 use crate::compare::{same_bytes, small_letter};
-use crate::listed::{Spelling, spelling_of};
+use crate::listed::find_mark;
+use crate::runs::put_short;
 use field::writer::{put_byte, put_bytes};
 use text::escape::{is_escaped, put_escaped};
 
@@ -30,22 +31,23 @@ pub fn put_attr_name(out: &mut [u8], at: usize, name: &[u8]) -> usize
     requires { at + length (escape_html (normalize_dom_attr_name name.now)) < 2 ^ 63 }
     ensures { Wrote out.old at (escape_html (normalize_dom_attr_name name.now)) out.new result }
 {
+    if name.len() < 7 && is_plain(name) {
+        return put_short(out, at, name);
+    }
     if same_bytes(name, b"className") {
         return put_bytes(out, at, b"class");
     }
-    if is_plain(name) {
-        return put_bytes(out, at, name);
-    }
-    match spelling_of(name) {
-        Spelling::Signed(sign) => put_spelled(out, at, name, Some(sign)),
-        Spelling::Small => {
-            if is_escaped(name) {
+    match find_mark(name) {
+        Some(mark) => put_marked(out, at, name, mark),
+        None => {
+            if is_plain(name) {
+                put_short(out, at, name)
+            } else if is_escaped(name) {
                 put_spelled(out, at, name, None)
             } else {
                 put_small_escaped(out, at, name)
             }
         }
-        Spelling::Whole(w) => put_bytes(out, at, w),
     }
 }
 

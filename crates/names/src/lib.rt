@@ -8,6 +8,7 @@ mod compare;
 mod elements;
 mod escaped;
 mod listed;
+mod runs;
 mod table;
 
 pub use attributes::{

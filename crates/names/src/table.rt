@@ -1,9 +1,12 @@
-// Names in a constant table, sorted by length, each with a mark behind it. A constant is laid on the stack where it is used, so a
-// name is first held to the lengths and first letters that the table has.
-ghost use Rattle.std.specs.Prelude.{◌≡◌, ◌<◌, length};
+// Names in a constant table, sorted by length, each with a mark behind it. A table is borrowed and never copied: so it stays in read-only memory, and
+// nothing of it is laid on the stack.
+ghost use Rattle.std.specs.Prelude.{◌≡◌, ◌<◌, ◌≤◌, length};
+ghost use Rattle.std.specs.Int.{w64, from_le_bytes};
+ghost use Rattle.field.specs.Bytes.{same};
 ghost use Rattle.names.specs.Table.{read_as, fits_in, row_of, HasRow, has_name, mark_in};
 
 use crate::compare::letter;
+use field::writer::copy_bytes;
 
 // Whether the table has a name of this length and first letter.
 #[tactic(auto, using(crate::proofs::FitsLaws::fits_none, crate::proofs::FitsLaws::fits_long, crate::proofs::FitsLaws::fits_bit))]
@@ -54,6 +57,48 @@ pub fn find_in(row: &[u8], name: &[u8], small: bool) -> Option<u8>
                 mark = Some(row[p + n]);
                 break 'names;
             }
+        }
+        p += n + 1;
+    }
+    mark
+}
+
+// Eight bytes as a number.
+fn word(s: &[u8]) -> u64
+    requires { length s.now ≡ 8 }
+    ensures { result ≡ from_le_bytes w64 s.now }
+{
+    let mut bytes = [0u8; 8];
+    copy_bytes(&mut bytes, s);
+    u64::from_le_bytes(bytes)
+}
+
+#[tactic(auto, using(crate::proofs::WordLaws::words_same))]
+fn same_word(a: &[u8], b: &[u8]) -> bool
+    requires { (length a.now ≡ 8) × (length b.now ≡ 8) }
+    ensures { result ≡ same a.now b.now }
+{
+    word(a) == word(b)
+}
+
+// The same of eight letters or more, as they stand. The inner loop takes eight letters a turn, from the end on: names that begin alike are told apart
+// by the first turn, and the last turn takes some letters again.
+pub fn find_long(row: &[u8], name: &[u8]) -> Option<u8>
+    requires { 8 ≤ length name.now }
+    ensures { result ≡ mark_in row.now name.now }
+{
+    let n = name.len();
+    let end = row.len();
+    let mut mark = None;
+    let mut p: usize = 0;
+    'names: while p + n < end {
+        let mut i: usize = n - 8;
+        while same_word(&row[p + i..p + i + 8], &name[i..i + 8]) {
+            if i == 0 {
+                mark = Some(row[p + n]);
+                break 'names;
+            }
+            i = if i < 8 { 0 } else { i - 8 };
         }
         p += n + 1;
     }
