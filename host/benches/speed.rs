@@ -84,7 +84,9 @@ fn run(name: &str) {
 
 fn read(name: &str) {
     let tag = tags::all().into_iter().find(|tag| tag.name == name).expect("a text of that name");
-    println!("{}", read_tag_into(tag.text.as_bytes(), &mut vec![0; MAX_TAG]).number);
+    // No tag needs more for a byte of its text; what is lent beyond it is cleared where a text is refused.
+    let room = MAX_TAG.min(16 * tag.text.len());
+    println!("{}", read_tag_into(tag.text.as_bytes(), &mut vec![0; room]).number);
 }
 
 /// Without a number the templates are checked and no record is read.

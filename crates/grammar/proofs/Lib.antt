@@ -4,5 +4,6 @@ pub mod Complete
 pub mod Meaning
 pub mod Sound
 pub mod Exact
+pub mod Shortest
 pub mod Samples
 pub mod Letters

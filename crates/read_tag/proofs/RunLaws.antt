@@ -1,5 +1,5 @@
 -- A run grows by a byte, and ends. Main statements: `next`, `running_none`, `tested_on`, `tested_stops`, `ran_out`,
--- `any_some`. Assumes nothing.
+-- `any_some`, `not_all`. Assumes nothing.
 use Prim.Native.Nat.{ℕ, suc, ◌+◌, ◌-◌, ◌≤◌, ◌<◌}
 use mathlib.Core.Path.{◌≡◌, refl, sym, ◌∙◌, ap, subst}
 use mathlib.Core.Bool.{Bool, true, false, ◌&&◌, ◌||◌, not, false≢true}
@@ -11,7 +11,7 @@ use lib.ListN.{length, take, drop, get_or, length-append, length-drop, drop_of_l
 use lib.Seq.{drop-cons, drop-drop, take_at}
 use Rattle.std.specs.List.{list_any}
 use Rattle.field.specs.Bytes.{Bytes, pick}
-use Rattle.text.specs.Runs.{run}
+use Rattle.text.specs.Runs.{run, all}
 use Rattle.text.proofs.RunLaws.{run_le}
 use Rattle.grammar.specs.Signs.{each, some_byte}
 use Rattle.grammar.specs.Grammar.{Ends, Run, run_ends, run_on}
@@ -94,6 +94,16 @@ any_some p [] = refl
 any_some p (c ∷ s) = on (p c) (any_some p s)
   where
     on : (b : Bool) → list_any p s ≡ some_byte p s → (b || list_any p s) ≡ not (not b && each (λ d. not (p d)) s)
+    on true e = refl
+    on false e = e
+
+-- and of all others none
+pub not_all : (p : ℕ → Bool) (s : Bytes) → not (all (λ c. not (p c)) s) ≡ list_any p s
+unfolding all
+not_all p [] = refl
+not_all p (c ∷ s) = on (p c) (not_all p s)
+  where
+    on : (b : Bool) → not (all (λ d. not (p d)) s) ≡ list_any p s → not (not b && all (λ d. not (p d)) s) ≡ (b || list_any p s)
     on true e = refl
     on false e = e
 

@@ -1,5 +1,5 @@
 // What braces hold where it is no tag: read by its text alone, and written as an expression's field.
-ghost use Rattle.std.specs.Prelude.{◌≡◌, ◌+◌, ◌-◌, ◌^◌, ◌≤◌, ◌<◌, length, take, drop, MatchOption, IfSome, None, Some};
+ghost use Rattle.std.specs.Prelude.{◌≡◌, not, ◌+◌, ◌-◌, ◌^◌, ◌≤◌, ◌<◌, length, take, drop, MatchOption, IfSome, None, Some};
 ghost use Rattle.std.specs.List.{list_any};
 ghost use Rattle.grammar.specs.Known.{boolean, null, quoted, other, not_read, of_a_number, digit_or_point, unsigned, has_minus, trimmed_end, string_of, rest_of, known_trimmed, known_of};
 ghost use Rattle.read_tag.specs.Knowns.{Counted, Numbered, barred, unquoted, Short, leaf_at, Holding, Holds, HeldWhole, HeldDecimal};
@@ -8,6 +8,7 @@ use crate::signs::{is_quote, is_space, skip_spaces};
 use field::writer::{put_byte, put_eight, put_field, put_head, put_number_field};
 use names::same_bytes;
 use page::number::{MAX_DIGITS, MAX_PLACES, MAX_WHOLE};
+use text::runs::{Class, is_run};
 
 // What was read: whether its number is within the limit, the place behind its field, and how many fields deep it is below the first. A flag, and no
 // Option of the place: the text is read on behind a number over the limit, since 14 and 15 come before 7.
@@ -123,12 +124,12 @@ fn string_in(s: &[u8]) -> Option<&[u8]>
     Some(inner)
 }
 
-// Backquote, backslash, slash, `<`.
+// Backquote, backslash, slash, `<`: without a branch, since a block of bytes is tested.
 #[tactic(auto, unfolding(grammar::specs::Known::not_read))]
 fn is_not_read(c: u8) -> bool
     ensures { result ≡ not_read c }
 {
-    matches!(c, b'`' | b'\\' | b'/' | b'<')
+    (c == b'`') | (c == b'\\') | (c == b'/') | (c == b'<')
 }
 
 // A letter, point or underscore.
@@ -139,13 +140,25 @@ fn is_of_number(c: u8) -> bool
     matches!(c, b'A'..=b'Z' | b'a'..=b'z' | b'.' | b'_')
 }
 
-// Here and below: apart from is_barred, since what `any` finds is proved only where it is all that a function does.
+// All others.
+struct Readable;
+
+impl Class for Readable {
+    ghost holds = { λ x c. not (not_read c) };
+
+    fn has(&self, c: u8) -> bool {
+        !is_not_read(c)
+    }
+}
+
+// By blocks: byte by byte dense tags take 43.0 instructions a byte for 42.1.
 fn holds_not_read(s: &[u8]) -> bool
     ensures { result ≡ list_any not_read s.now }
 {
-    s.iter().any(|c| is_not_read(*c))
+    !is_run::<_, 8>(&Readable, s)
 }
 
+// Apart from is_barred, since what `any` finds is proved only where it is all that a function does.
 fn holds_of_number(s: &[u8]) -> bool
     ensures { result ≡ list_any of_a_number s.now }
 {

@@ -103,6 +103,7 @@ pub fn shape_of(parts: usize, short: bool, plain: bool, points: bool) -> Option<
 }
 
 // The name whose first letter stands at i, part by part.
+#[inline(never)]
 fn scan_parts(text: &[u8], i: usize) -> Option<ScannedName>
     requires { LetterAt text.now i }
     ensures { Scanned text.now i result }
@@ -131,7 +132,9 @@ fn scan_parts(text: &[u8], i: usize) -> Option<ScannedName>
 }
 
 // The same. Most names are one identifier, in which hyphens need not be looked for: by scan_parts alone components take 36.2 instructions a byte for
-// 33.2, and a row of `b` as attributes 163.5 for 132.5: 9 % more and over, where a set may take 3 %.
+// 33.2, and a row of `b` as attributes 163.5 for 132.5: 9 % more and over, where a set may take 3 %. Merged into the pass, as put_name is, and what reads
+// several parts is not: as LLVM has it components take 33.4 for 31.9, dense tags 45.6 for 44.5.
+#[inline(always)]
 pub fn scan_name(text: &[u8], i: usize) -> Option<ScannedName>
     requires { LetterAt text.now i }
     ensures { Scanned text.now i result }
@@ -150,6 +153,7 @@ pub fn scan_name(text: &[u8], i: usize) -> Option<ScannedName>
 }
 
 // A 40 for each part of the name at i. A part of n bytes takes n + 3, so at most four for each byte of the text.
+#[inline(never)]
 fn put_parts(text: &[u8], i: usize, out: &mut [u8], at: usize) -> usize
     requires { NameAt text.now i × (at + 4 * length text.now < 2 ^ 63) }
     ensures { PartsPut text.now i out.old at out.new result }
@@ -163,6 +167,7 @@ fn put_parts(text: &[u8], i: usize, out: &mut [u8], at: usize) -> usize
 
 // The field of the name from i to end, white space apart. One identifier is not read again: its end is found from behind. What holds parts gets
 // its length when they are written.
+#[inline(always)]
 pub fn put_name(text: &[u8], i: usize, tag: u8, end: usize, out: &mut [u8], at: usize) -> usize
     requires { NameAt text.now i × (i ≤ end) × (end ≤ length text.now) × (at + 8 * length text.now < 2 ^ 63) }
     ensures { NamePut text.now i tag end out.old at out.new result }

@@ -5,7 +5,9 @@ ghost use Rattle.read_tag.specs.Sources.{Sourced};
 use crate::signs::{QuotedSource, is_quote, is_source};
 use text::runs::run_end;
 
-// The place of the brace, if it is read up to there.
+// The place of the brace, if it is read up to there. Out of line: merged into the pass each byte sets what the pass would leave without a reading, and
+// dense tags take 40.9 instructions a byte for 38.8.
+#[inline(never)]
 pub fn source_end(text: &[u8], i: usize) -> Option<usize>
     requires { i ≤ length text.now }
     ensures { Sourced text.now i result }

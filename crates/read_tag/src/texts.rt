@@ -33,7 +33,9 @@ pub enum Around {
     Quotes(u8),
 }
 
-// Behind the `&` of an entity. Only as far as a name goes, so that a row of `&` is read in linear time.
+// Behind the `&` of an entity. Only as far as a name goes, so that a row of `&` is read in linear time. Out of line a row of `&lt;` takes 19.6 instructions
+// a byte for 16.4.
+#[inline(always)]
 fn read_entity(text: &[u8], i: usize) -> Option<Entity>
     requires { i ≤ length text.now }
     ensures { Entered text.now i result }
@@ -60,7 +62,9 @@ fn plain_end(text: &[u8], i: usize, x: Around) -> usize
     }
 }
 
-// A run from i on, up to the sign that ends it or the end of the text. None: no reading, whatever follows.
+// A run from i on, up to the sign that ends it or the end of the text. None: no reading, whatever follows. Merged into its two readers: as one function
+// components take 31.3 instructions a byte for 29.3, dense tags 43.6 for 42.4.
+#[inline(always)]
 fn decode(text: &[u8], i: usize, x: Around, out: &mut [u8], at: usize) -> Option<Run>
     requires { (i ≤ length text.now) × (at + length text.now < 2 ^ 63) }
     ensures { Decodes x text.now i out.old at out.new result }

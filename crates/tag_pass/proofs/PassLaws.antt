@@ -19,6 +19,7 @@ use Rattle.grammar.specs.Signs.{choose, letter, space}
 use Rattle.grammar.specs.Syntax as S
 use Rattle.grammar.specs.Syntax.{Name, Tag, Attributes, no_attributes, no_children, same_name, every_tag}
 use Rattle.grammar.specs.Reader.{Braces, child_braces, spread_child_braces, value_braces, spread_braces, Frame, within, value_of, in_braces, Stack, State, start, for_tag, in_ident, opened, behind_tag, in_children, closed, close_of, done, filled, refused, step, at_end, no_reading, outcome}
+use Rattle.grammar.proofs.Shortest.{short_unread}
 use Rattle.grammar.proofs.Complete.{skip_opened, skip_behind_tag, refused_never}
 use Rattle.tag_tree.specs.PageTag.{page_tag, page_expr}
 use Rattle.tag_tree.specs.TagAnswer.{shallow, known_in_range}
@@ -35,7 +36,7 @@ use Rattle.tag_pass.specs.declared.state.Mode.TheVariants as M
 use Rattle.tag_pass.specs.Signs.{SignAt, Blank}
 use Rattle.tag_pass.specs.Worlds.{World, more, any_known, any_names, tag_world, children_world, value_world, before_world, braces_at, braces_world, frame_world, world_of, ended_world, nothing_made, Made}
 use Rattle.tag_pass.specs.States.{goes_on, TagName, no_name, name_at, braces_kind, kind_of, frame_name, PlainFrame, BracesFifty, Fifty, idle, Framed, Stacked, empty, frame, Bounded, Stands, OpensIn, Next, next_tag, next_children, next_inner, next_ended, next_done, next_none, Going, Lent, Passed, passed_none, passed_tag, Unended, Settled}
-use Rattle.tag_pass.specs.Turns.{at_mode, low_name, waits, pushed, popped, inner_depth, AttributeEnded, FilledTurn, TagTurn, ChildrenTurn, ClosingTurn, NamedTurn, FragmentTurn, InnerTurn, EndedTurn, BehindTurn, FrontTurn, StepTurn, OuterTurn, fresh_reading, NamePlace, Front, Onward}
+use Rattle.tag_pass.specs.Turns.{at_mode, low_name, waits, pushed, popped, inner_depth, AttributeEnded, FilledTurn, TagTurn, ChildrenTurn, ClosingTurn, NamedTurn, FragmentTurn, InnerTurn, EndedTurn, BehindTurn, Turned, turned, stayed, ModeTurn, FrontTurn, StepTurn, OuterTurn, fresh_reading, NamePlace, Front, Onward}
 use Rattle.tag_pass.specs.declared.state.Reading.{Reading}
 use Rattle.tag_pass.proofs.Machine.{reads, differs, told, spaces, not_space, steps, stuck, out_of}
 use Rattle.tag_pass.proofs.WorldLaws.{child_more}
@@ -404,6 +405,38 @@ front_inner {i = i} {st} m x y g =
     let left = inner_left st.mode m x y in
     record { from = i; going = g; passed = λ z. absurd (z st left.0 refl left.1); reached = λ w k q z. (let same : st ≡ w = cc in omega (arith, ap (λ (v : Reading). v.place) same)) }
 
+-- a turn in a tag, and then one among children
+pub turned_bounded : {s o : Bytes} {fs : List Waiting} {i : ℕ} {st v : Reading} {out out' : Bytes} → length s ≤ 32768 → Going s o fs i (Some st) out → Turned M.InTag s o fs st out (Some v) out' → v.mode ≡ M.InChildren → Bounded (length s) v v.place
+unfolding stands_at
+turned_bounded small g (turned k p) m = going_bounded small p (ap stands_at m)
+turned_bounded small g (stayed k) m = going_bounded small g (ap stands_at m)
+
+pub turned_none : {m : Mode} {s out out' : Bytes} {st : Reading} → ModeTurn m s st out None out' → FrontTurn s st out None out'
+turned_none {m} {s} {out} {out'} {st} t fs o i g = on (t fs o i g)
+  where
+    on : Turned m s o fs st out None out' → Front s o fs st None out'
+    on (turned k p) = front_on p
+
+-- the second began behind the first, which went on from st
+front_later : {s o : Bytes} {fs : List Waiting} {st v : Reading} {r : Option Reading} {out : Bytes} → st.place ≤ v.place → Front s o fs v r out → Front s o fs st r out
+front_later l f = record { from = f.from; going = f.going; passed = λ z. omega (arith, l, f.passed z); reached = λ w k q m. omega (arith, l, f.reached w k q m) }
+
+second : {s o : Bytes} {fs : List Waiting} {i : ℕ} {st : Reading} {r : Option Reading} {out out' : Bytes} → goes_on st.mode ≡ true → (st.mode ≡ M.InTag → ⊥) → Going s o fs i (Some st) out → Turned M.InChildren s o fs st out r out' → Front s o fs st r out'
+second m n g (turned k q) = front_on q
+second m n g (stayed k) = front_inner m n k g
+
+further : {s o : Bytes} {fs : List Waiting} {st v : Reading} {r : Option Reading} {out out' : Bytes} → Going s o fs st.place (Some v) out → Turned M.InChildren s o fs v out r out' → Front s o fs st r out'
+unfolding stands_at
+further {v = v} p (turned k q) = front_later {v = v} (omega (arith, (somewhere p.next (ap stands_at k)).after)) (front_on q)
+further p (stayed k) = front_on p
+
+first : {s o : Bytes} {fs : List Waiting} {i : ℕ} {st v : Reading} {r : Option Reading} {out out₁ out' : Bytes} → goes_on st.mode ≡ true → ModeTurn M.InChildren s v out₁ r out' → Going s o fs i (Some st) out → Turned M.InTag s o fs st out (Some v) out₁ → Front s o fs st r out'
+first m u g (turned k p) = further p (u _ _ _ p)
+first m u g (stayed k) = second m k g (u _ _ _ g)
+
+pub turned_both : {s out out₁ out' : Bytes} {st v : Reading} {r : Option Reading} → goes_on st.mode ≡ true → ModeTurn M.InTag s st out (Some v) out₁ → ModeTurn M.InChildren s v out₁ r out' → FrontTurn s st out r out'
+turned_both m t u fs o i g = first m u g (t fs o i g)
+
 -- a step that is all of the turn
 pub step_none : {s out out' : Bytes} {fs : List Waiting} {st : Reading} → FrontTurn s st out None out' → StepTurn s fs st out None fs out'
 step_none turn = (
@@ -582,6 +615,10 @@ passing_more {r = r} p turn size =
 
 none_read : {s o : Bytes} {K : Stack} {h i : ℕ} {out : Bytes} → Next s o K h i None out → outcome start s ≡ no_reading
 none_read (next_none e) = e
+
+-- a text that no tag is as short as
+pub too_short : {s o : Bytes} → length s < 4 → Passed s o None o
+too_short {s} l = passed_none (short_unread s l)
 
 -- without a reading
 pub passes_none : {s o : Bytes} {fs : List Waiting} {i : ℕ} {out : Bytes} → Going s o fs i None out → Passed s o None out

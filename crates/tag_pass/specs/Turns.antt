@@ -197,7 +197,15 @@ EndedTurn s fs st out r out' = (o : Bytes) (n : Name) (t : Tag) (K : Stack) (h i
 abbrev pub BehindTurn : Bytes → Reading → Braced → ℕ → Bytes → Option Reading → Bytes → Type 0
 BehindTurn s st k p out r out' = (o : Bytes) (t : Tag) (g : Braces) (K : Stack) (h i : ℕ) → i < st.place → k ≡ braces_kind g → p ≡ length (world_of (in_braces g ∷ K)).bytes → PlainBraces g → BracesFifty (world_of K).bytes g st.fifty → Stands s o (behind_tag t g K) (ended_world (world_of (in_braces g ∷ K)) (depth_of (in_braces g ∷ K)) t) (braces_name g) K h st st.place out → Next s o K h i r out'
 
--- where the pass is behind a turn that leaves the stack as it is: further on, or before an inner tag
+-- a turn in the mode m, which leaves the stack as it is; none where the pass stands in another
+pub data Turned (m : Mode) (s o : Bytes) (fs : List Waiting) (st : Reading) (out : Bytes) : Option Reading → Bytes → Type 0 where
+  turned : {r : Option Reading} {out' : Bytes} → st.mode ≡ m → Going s o fs st.place r out' → Turned m s o fs st out r out'
+  stayed : (st.mode ≡ m → ⊥) → Turned m s o fs st out (Some st) out
+
+abbrev pub ModeTurn : Mode → Bytes → Reading → Bytes → Option Reading → Bytes → Type 0
+ModeTurn m s st out r out' = (fs : List Waiting) (o : Bytes) (i : ℕ) → Going s o fs i (Some st) out → Turned m s o fs st out r out'
+
+-- where the pass is behind both: further on, or before an inner tag
 pub record Front (s o : Bytes) (fs : List Waiting) (st : Reading) (r : Option Reading) (out : Bytes) : Type 0 where
   pub from : ℕ
   pub going : Going s o fs from r out

@@ -1,8 +1,8 @@
 // The loop over the text, and what it does with the stack.
 ghost use Rattle.std.specs.Prelude.{◌≡◌, true, ◌*◌, ◌≤◌, ◌<◌, length};
-ghost use Rattle.tag_pass.specs.declared.state.Mode.TheVariants.{Ended};
+ghost use Rattle.tag_pass.specs.declared.state.Mode.TheVariants.{InTag, InChildren, Ended};
 ghost use Rattle.tag_pass.specs.States.{goes_on, Bounded, Unended, Lent, Passed};
-ghost use Rattle.tag_pass.specs.Turns.{InnerTurn, EndedTurn, BehindTurn, FrontTurn, StepTurn, PassTurn, OuterTurn, NamePlace};
+ghost use Rattle.tag_pass.specs.Turns.{InnerTurn, EndedTurn, BehindTurn, ModeTurn, StepTurn, PassTurn, OuterTurn, NamePlace};
 
 use crate::braces::{end_attribute, end_braces};
 use crate::children::step_children;
@@ -72,24 +72,36 @@ fn ended(text: &[u8], out: &mut [u8], frames: &[Waiting], st: Reading) -> Option
     }
 }
 
-// A turn that leaves the stack as it is. Behind the `<` of an inner tag there is none.
-fn step(text: &[u8], out: &mut [u8], st: Reading) -> Option<Reading>
-    requires { Bounded (length text.now) st st.place × (goes_on st.mode ≡ true) }
-    ensures { FrontTurn text.now st out.old result out.new }
+// In a tag, where the pass stands in one.
+fn tag_turn(text: &[u8], out: &mut [u8], st: Reading) -> Option<Reading>
+    requires { Bounded (length text.now) st st.place }
+    ensures { ModeTurn InTag text.now st out.old result out.new }
 {
     match st.mode {
         Mode::InTag => step_tag(text, out, st),
+        _ => Some(st),
+    }
+}
+
+// Among children, where it stands there.
+fn children_turn(text: &[u8], out: &mut [u8], st: Reading) -> Option<Reading>
+    requires { st.mode ≡ InChildren → Bounded (length text.now) st st.place }
+    ensures { ModeTurn InChildren text.now st out.old result out.new }
+{
+    match st.mode {
         Mode::InChildren => step_children(text, out, st),
         _ => Some(st),
     }
 }
 
-// Then the inner tag, where the pass stands before one: it is not worth a turn of its own.
+// What leaves the stack as it is; then the inner tag, where the pass stands before one. One after the other, and neither is worth a turn of its own: by
+// one match of the mode dense tags take 40.0 instructions a byte for 38.8.
 fn opened(text: &[u8], out: &mut [u8], frames: &mut [Waiting], st: Reading) -> Option<Reading>
     requires { Lent text.now frames.old st out.old × (goes_on st.mode ≡ true) }
     ensures { StepTurn text.now frames.old st out.old result frames.new out.new }
 {
-    let w = step(text, out, st)?;
+    let v = tag_turn(text, out, st)?;
+    let w = children_turn(text, out, v)?;
     match w.mode {
         Mode::Inner(holder) => open_inner(text, out, frames, w, holder),
         _ => Some(w),
@@ -167,16 +179,24 @@ fn pass_in<const FRAMES: usize>(text: &[u8], out: &mut [u8]) -> Option<Reading>
     pass_with(text, out, &mut frames)
 }
 
+// `<a/>`: no tag is shorter (grammar, Shortest.antt). A text of one to three bytes is told by that alone, and need not have a stack cleared for it.
+const SHORTEST: usize = 4;
+
 // A stack is cleared before it is used: a text of over 64 bytes pays for at most eight times what it can need. None: no reading. That the text is short
 // is asked of four functions here, and is no type's invariant: each reader below takes a slice, and would open the type again.
+#[tactic(auto, using(crate::proofs::PassLaws::too_short))]
 pub fn read(text: &[u8], out: &mut [u8]) -> Option<Reading>
     requires { length text.now ≤ 32768 }
     ensures { Passed text.now out.old result out.new }
 {
+    if text.len() < SHORTEST {
+        return None;
+    }
     match text.len() {
         0..=64 => pass_in::<32>(text, out),
         65..=512 => pass_in::<256>(text, out),
-        513..=2048 => pass_in::<1024>(text, out),
+        513..=1024 => pass_in::<512>(text, out),
+        1025..=2048 => pass_in::<1024>(text, out),
         2049..=8192 => pass_in::<4096>(text, out),
         _ => pass_in::<16384>(text, out),
     }

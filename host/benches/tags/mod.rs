@@ -1,4 +1,5 @@
-//! Tag texts to measure on: components as the web writes them, a dense example, tiny ones, and the worst that the limit allows.
+//! Tag texts to measure on: components as the web writes them, the tags of the examples, the densest of these alone, tiny texts, and the worst that
+//! the limit allows.
 
 use jsx_precompile::limits::MAX_TAG_TEXT;
 
@@ -33,15 +34,31 @@ const SHOW: &str = r#"  <article class="show" data-id={show.id}>
 /// Every kind of name, value, child and expression, close together.
 const DENSE: &str = include_str!("../../../examples/programme.tag");
 
+/// The modules of the examples that hold a tag of 150 bytes and more which is read.
+const MODULES: [&str; 6] = [
+    include_str!("../../../examples/hall.jsx"),
+    include_str!("../../../examples/choices.jsx"),
+    include_str!("../../../examples/booleans.jsx"),
+    include_str!("../../../examples/paper.jsx"),
+    include_str!("../../../examples/plan.jsx"),
+    include_str!("../../../examples/prices.jsx"),
+];
+
+/// Texts that are too short for a tag.
+const SHORT: [&str; 8] = ["<", "a", "<a", "é", "<a>", "abc", "</>", "€"];
+
 pub fn all() -> Vec<Text> {
     let mut texts = vec![];
+    let examples: Vec<&str> = MODULES.iter().map(|module| outermost(module)).chain([DENSE]).collect();
     for (size, most) in [("500 bytes", 520), ("1 KB", 1_024), ("8 KB", 8_192), ("32 KB", MAX_TAG_TEXT)] {
         texts.push(named(&format!("components, {size}"), within(&[PERSON, SHOW], most)));
+        texts.push(named(&format!("examples, {size}"), within(&examples, most)));
         texts.push(named(&format!("dense, {size}"), within(&[DENSE], most)));
     }
     for text in ["<a/>", "<></>", "<p>a</p>", "<p>Hi {n}</p>", r#"<p class="t">Hi {name}, ok</p>"#] {
         texts.push(named(text, text.into()));
     }
+    texts.extend(SHORT.map(|text| named(&format!("too short: {text}"), text.into())));
     texts.extend(worst());
     texts
 }
@@ -49,6 +66,13 @@ pub fn all() -> Vec<Text> {
 fn named(name: &str, text: String) -> Text {
     assert!(text.len() <= MAX_TAG_TEXT, "{name}");
     Text { name: name.into(), text }
+}
+
+/// The tag of a module's first statement that has one.
+fn outermost(module: &str) -> &str {
+    let statement = module.split(";\n").find(|statement| statement.contains('<')).expect("a tag");
+    let (start, end) = (statement.find('<'), statement.rfind('>'));
+    &statement[start.expect("its start")..=end.expect("its end")]
 }
 
 /// The parts by turns, in one element, as long as they fit.
