@@ -1,6 +1,7 @@
 -- Names as they are read for HTML, letter by letter. Main statements: `left_starts`, `reads_sign`, `reads_letter`, `ident_whole`, `pair_other`,
 -- `names_50`, `repeats_more`, `keyed`; what the loops over attributes keep, `Passed`, `noted_more`. Assumes nothing.
 use Rattle.std.specs.Prelude.{Option, Some, None, option_map, MatchOption, IfSome}
+use Rattle.std.specs.Option.{is_some}
 use Rattle.std.specs.Iterator.{YieldsFirst, YieldsThen}
 use Rattle.std.specs.List.{list_any, AllZip}
 use Rattle.std.proofs.lemmas.Iterator.{YieldsList}
@@ -9,11 +10,15 @@ use denote.Ref.{Bor}
 use Rattle.std.specs.Char.{is_ascii_uppercase}
 use mathlib.Core.Path.{◌≡◌, refl, sym, ap, subst, ◌∙◌}
 use mathlib.Core.Bool.{Bool, true, false, ◌&&◌, ◌||◌, not, and-false, and-eq-true_iff, or-false, false≢true}
-use Prim.Native.Nat.{ℕ, suc, ◌+◌, ◌-◌, ◌*◌, ◌%◌, ◌≤◌, ◌<◌, ◌^◌}
+use Prim.Native.Nat.{ℕ, suc, ◌+◌, ◌-◌, ◌*◌, ◌/◌, ◌%◌, ◌≤◌, ◌<◌, ◌^◌}
 use native.Mathlib.Nat.{mod-lt, mul-le-mul_right}
 use native.Mathlib.Omega.{arith}
 use mathlib.Core.List.{List, [], ◌∷◌, ◌++◌, append-nil, append_assoc}
 use lib.Dec.{eqb, leb, ltb}
+use Rattle.std.specs.Int.{w64, bit_at}
+use Rattle.std.specs.Int.RustNames.{bit_or}
+use Rattle.std.proofs.Common.{bit_and}
+use Rattle.std.proofs.lemmas.Nat.Bits.{shr_and_one, bit_at_set_same, bit_at_set_other}
 use lib.ListN.{length, get_or, set, take, drop}
 use lib.Seq.{take_at, get_or-set_same, get_or-set_other}
 use borrow.Author.Tests.{eqb-true, eqb-false, leb-true, eq-eqb, ne_eqb, le-ltb}
@@ -31,7 +36,7 @@ use Rattle.names.specs.Table.{signed, spelled_letter, spelled}
 use Rattle.names.proofs.MarkLaws.{spelled_none}
 use Rattle.names.proofs.NormalizeLaws.{over_lists, normalize_ind}
 use Rattle.names.proofs.CompareLaws.{same_eq, capital_above, length_small, letter_at}
-use Rattle.decisions.specs.Repeats.{joined, IsPlain, letters, sign_read, behind, left_in, html_name, html_names, name_in, names_in, repeats, hash_on, name_hash, low_half, high_half, key_by, last_letter, letter_key}
+use Rattle.decisions.specs.Repeats.{joined, IsPlain, letters, sign_read, behind, left_in, html_name, html_names, name_in, names_in, repeats, hash_on, name_hash, low_half, high_half, key_by, last_letter, letter_key, ends_key_by, ends_key}
 use Rattle.decisions.specs.declared.repeats.Spelled.{Spelled}
 use Rattle.names.proofs.NamespacedLaws.{namespaced_xlink, namespaced_other}
 use Rattle.page.specs.Tree.{attributes_in, attr_name_in}
@@ -88,6 +93,16 @@ left_plain (c ∷ p) = rw (left_plain p) (on (capital c))
     on : (k : Bool) → behind (pick k None None) (small_letter c ∷ small_letters p) ≡ small_letter c ∷ small_letters p
     on true = refl
     on false = refl
+
+-- with no sign and no second part it is the first in small letters
+no_some : {A : Type 0} (o : Option A) → is_some o ≡ false → o ≡ None
+no_some None e = refl
+no_some (Some x) e = absurd (false≢true (sym e))
+
+pub unsigned_letters : (x : Spelled) → is_some x.sign ≡ false → is_some x.second ≡ false → x.behind_sign ≡ false → letters x ≡ small_letters x.first.now
+unsigned_letters x s q b =
+    let e : letters x ≡ left_in None x.first.now None false = rw (no_some x.sign s, no_some x.second q, b) in
+    e ∙ left_plain x.first.now
 
 -- a name as it stands, and one that has a sign or a second part besides
 module _ {n : Bytes} {x : Spelled} (p : IsPlain n x) where
@@ -425,6 +440,105 @@ key_of_more (c ∷ d ∷ cs) h =
 
 pub keyed : (a b : Bytes) → attr_name_in (read a) ≡ ident b → 97 ≤ last_letter b → (m : ℕ) → m ≡ letter_key b → (m < 64) × (m ≡ letter_key (name_in a))
 keyed a b e h m g = (subst (λ (x : ℕ). x < 64) (sym g) (key_low b), g ∙ sym (key_normal b h) ∙ ap (λ n. letter_key (html_name n)) (sym e))
+
+-- ---- the key by both ends
+
+ends_key_small : (n : Bytes) → ends_key (small_letters n) ≡ ends_key n
+unfolding ends_key small_letters
+ends_key_small [] = refl
+ends_key_small (c ∷ cs) =
+    let n = c ∷ cs in
+    ap (λ (a : ℕ). (a * 4 + 43) * (last_letter (small_letters n) % 32 + 14) / 4 % 64) (letter_mod n 0 (omega arith))
+    ∙ ap (λ (l : ℕ). (get_or n 0 0 % 32 * 4 + 43) * (get_or (small_letters n) (l - 1) 0 % 32 + 14) / 4 % 64) (length_small n)
+    ∙ ap (λ (d : ℕ). (get_or n 0 0 % 32 * 4 + 43) * (d + 14) / 4 % 64) (letter_mod n (length n - 1) (omega arith))
+
+-- the rule over all names that do not simply go to small letters
+ends_key_listed : over_lists (λ w v. eqb (ends_key (small_letters v)) (ends_key w)) ≡ true
+unfolding ends_key renamed hyphenated_names kept_names parted small_letters small_letter
+ends_key_listed = refl
+
+ends_key_normal : (n : Bytes) → ends_key (html_name (ident n)) ≡ ends_key n
+unfolding html_name get_attr_name
+ends_key_normal n = eqb-true (ends_key (small_letters (normalize_dom_attr_name n))) (ends_key n) (normalize_ind f ends_key_listed n (λ l. other))
+  where
+    f : Bytes → Bytes → Bool
+    f w v = eqb (ends_key (small_letters v)) (ends_key w)
+
+    other : f n (small_letters n) ≡ true
+    other = eq-eqb (ends_key (small_letters (small_letters n))) (ends_key n) (ends_key_small (small_letters n) ∙ ends_key_small n)
+
+pub ends_key_is : (n : Bytes) → ends_key_by (get_or n 0 0) (last_letter n) ≡ ends_key n
+unfolding ends_key
+ends_key_is n = refl
+
+ends_key_low : (n : Bytes) → ends_key n < 64
+unfolding ends_key
+ends_key_low n = mod-lt ((get_or n 0 0 % 32 * 4 + 43) * (last_letter n % 32 + 14) / 4) (let l : 0 < 64 = omega arith in l)
+
+-- a name of another length is another name
+another_length : (n m : Bytes) → (length n ≡ length m → ⊥) → same n m ≡ false
+another_length n m h = on (same n m) refl
+  where
+    on : (b : Bool) → same n m ≡ b → b ≡ false
+    on false e = refl
+    on true e = absurd (h (ap length (same_eq n m e)))
+
+pub ends_keyed : (a b : Bytes) → attr_name_in (read a) ≡ ident b → (length b ≡ 23 → ⊥) → (m : ℕ) → m ≡ ends_key b →
+    (m < 64) × (m ≡ ends_key (name_in a)) × (same (get_attr_name (attr_name_in (read a)) false) (ascii "dangerouslySetInnerHTML") ≡ false)
+unfolding get_attr_name
+ends_keyed a b e h m g = (
+  subst (λ (x : ℕ). x < 64) (sym g) (ends_key_low b),
+  g ∙ sym (ends_key_normal b) ∙ ap (λ n. ends_key (html_name n)) (sym e),
+  ap (λ n. same (get_attr_name n false) (ascii "dangerouslySetInnerHTML")) e ∙ another_length b (ascii "dangerouslySetInnerHTML") h,
+)
+
+-- ---- keys that are seen, each a bit
+
+abbrev Bits : ℕ → List Bytes → Type 0
+Bits seen ns = (x : Bytes) → among x ns ≡ true → bit_at seen (ends_key x) ≡ 1
+
+-- some names are passed, no two of them one, and the key of each is seen
+pub record SeenSoFar (N : List Bytes) (seen : ℕ) (left : List Bytes) : Type 0 where
+  pub names : List Bytes
+  pub passed : Passed N names left
+  pub bits : Bits seen names
+
+pub seen_none : (N : List Bytes) → SeenSoFar N 0 N
+unfolding among
+seen_none N = record { names = []; passed = passed_none N; bits = λ x h. absurd (false≢true h) }
+
+module _ {N : List Bytes} {seen : ℕ} {left : List Bytes} (p : SeenSoFar N seen left) where
+  pub seen_all : left ≡ [] → repeats N ≡ false
+  seen_all e = sym (passed_all p.passed e)
+
+  module _ {y : Bytes} {r : List Bytes} (e : left ≡ y ∷ r) {k : ℕ} (l : k < 64) (g : k ≡ ends_key y) (h : bit_and (seen / 2 ^ k) 1 ≡ 1 → ⊥) where
+    clear : bit_at seen k ≡ 1 → ⊥
+    clear f = h (shr_and_one seen k ∙ f)
+
+    new : among y p.names ≡ false
+    new = on (among y p.names) refl
+      where
+        on : (b : Bool) → among y p.names ≡ b → b ≡ false
+        on false f = refl
+        on true f = absurd (clear (ap (bit_at seen) g ∙ p.bits y f))
+
+    abbrev pub marked : ℕ
+    marked = bit_or seen (1 * 2 ^ k % 2 ^ 64)
+
+    more_bits : Bits marked (p.names ++ (y ∷ []))
+    unfolding among marked ends_key
+    more_bits x m = on (eqb (ends_key x) k) refl
+      where
+        kept : eqb (ends_key x) k ≡ false → (b : Bool) → same x y ≡ b → (among x p.names || (b || false)) ≡ true → among x p.names ≡ true
+        kept f true q z = absurd (eqb-false (ends_key x) k f (ap ends_key (same_eq x y q) ∙ sym g))
+        kept f false q z = sym (or-false (among x p.names)) ∙ z
+
+        on : (b : Bool) → eqb (ends_key x) k ≡ b → bit_at marked (ends_key x) ≡ 1
+        on true f = ap (bit_at marked) (eqb-true (ends_key x) k f) ∙ bit_at_set_same w64 seen k l
+        on false f = bit_at_set_other w64 seen k l (ends_key x) (eqb-false (ends_key x) k f) ∙ p.bits x (kept f (same x y) refl (sym (among_append x p.names (y ∷ [])) ∙ m))
+
+    pub seen_more : SeenSoFar N marked r
+    seen_more = record { names = p.names ++ (y ∷ []); passed = passed_one p.passed e new; bits = more_bits }
 
 -- ---- the attributes in front
 

@@ -1,13 +1,17 @@
 -- 02, A4: the names that attributes have in HTML, and whether one stands twice; and how the code reads such a name. Main definitions:
 -- `html_names`, `repeats`. Assumes nothing: these are definitions.
 use Rattle.std.specs.Prelude.{ℕ, suc, ◌+◌, ◌-◌, ◌*◌, ◌/◌, ◌%◌, ◌<◌, Bool, true, false, ◌||◌, ◌&&◌, not, ◌≡◌, List, [], ◌∷◌, ◌++◌, length, get_or, Option, Some, None, option_map}
-use Rattle.field.specs.Bytes.{Bytes, pick, among}
+use Rattle.field.specs.Bytes.{Bytes, ascii, pick, same, among}
 use Rattle.names.specs.Names.{AttrName, get_attr_name, capital, small_letter, small_letters}
 use Rattle.names.specs.Table.{spelled}
 use Rattle.field.specs.Row.{read}
+use Rattle.field.specs.Front.{behind_of}
 use Rattle.page.specs.Page as P
 use Rattle.page.specs.Tree.{attributes_in, attr_name_in}
+use Rattle.decisions.specs.At.{forbids, serializable}
 use Rattle.decisions.specs.declared.repeats.Spelled.{Spelled}
+use Rattle.decisions.specs.declared.repeats.Names.{Names}
+use Rattle.decisions.specs.declared.repeats.Names.TheVariants.{Different, Unsure}
 
 -- normalised, in small letters
 unfoldable pub html_name : AttrName → Bytes
@@ -94,3 +98,33 @@ letter_key n = key_by (get_or n 0 0) (get_or (1 ∷ n) (length n - 1) 0) (last_l
 abbrev pub Keyed : Bytes → Option ℕ → Type 0
 Keyed n None = Unit {0}
 Keyed n (Some k) = (k < 64) × (k ≡ letter_key n)
+
+-- ---- a key by both ends, modulo 32: normalising keeps it of every identifier
+
+abbrev pub ends_key_by : ℕ → ℕ → ℕ
+ends_key_by c d = (c % 32 * 4 + 43) * (d % 32 + 14) / 4 % 64
+
+unfoldable pub ends_key : Bytes → ℕ
+ends_key n = ends_key_by (get_or n 0 0) (last_letter n)
+
+-- of the attribute with these fields: its name is not dangerouslySetInnerHTML then
+abbrev pub EndsKeyed : Bytes → Option ℕ → Type 0
+EndsKeyed a None = Unit {0}
+EndsKeyed a (Some k) = (k < 64) × (k ≡ ends_key (name_in a)) × (same (get_attr_name (attr_name_in (read a)) false) (ascii "dangerouslySetInnerHTML") ≡ false)
+
+-- ---- what is told of an element's names
+
+-- of the attributes in front of a row
+abbrev pub Told : Bytes → Names → Type 0
+Told s Different = repeats (names_in s) ≡ false
+Told s Unsure = Unit {0}
+
+-- where none of them keeps the element from being serialized
+abbrev pub AttributesTold : Bytes → Option Names → Type 0
+AttributesTold s None = forbids (attributes_in (read s)) ≡ true
+AttributesTold s (Some n) = (forbids (attributes_in (read s)) ≡ false) × Told s n
+
+-- of an element that is serialized, by the fields of its 30
+abbrev pub SerializedTold : (skip b : Bytes) → Option Names → Type 0
+SerializedTold k b None = serializable k b ≡ false
+SerializedTold k b (Some n) = (serializable k b ≡ true) × Told (behind_of b) n

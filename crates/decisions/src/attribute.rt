@@ -112,15 +112,23 @@ pub fn ident_at(a: &[u8]) -> Option<&[u8]>
     }
 }
 
-// Whether the attribute with these fields is listed in 03. Most options list none.
+// Whether the attribute with these fields is one of the names of 03.
+#[inline(never)]
+fn is_among<'a>(props: &'a [u8], a: &'a [u8]) -> bool
+    ensures { result ≡ among (get_attr_name (attr_name_in (read a.now)) false) (names_of props.now) }
+{
+    match attr_name_at(a) {
+        AttrName::Ident(n) => lists(props, n),
+        AttrName::Namespaced(ns, n) => lists_namespaced(props, ns, n),
+    }
+}
+
+// Whether it is listed in 03. Most options list none, and that alone is asked where an attribute is looked at.
+#[inline(always)]
 pub fn is_listed<'a>(props: &'a [u8], a: &'a [u8]) -> bool
     ensures { result ≡ among (get_attr_name (attr_name_in (read a.now)) false) (names_of props.now) }
 {
-    !props.is_empty()
-        && match attr_name_at(a) {
-            AttrName::Ident(n) => lists(props, n),
-            AttrName::Namespaced(ns, n) => lists_namespaced(props, ns, n),
-        }
+    !props.is_empty() && is_among(props, a)
 }
 
 // Whether its normalised name is boolean. A namespaced name never is. What this and the next ones share is `ident_at`; each asks another question.

@@ -7,9 +7,11 @@ ghost use Rattle.names.specs.Names.{is_void_element};
 ghost use Rattle.page.specs.Tree.{attributes_in};
 ghost use Rattle.spec.specs.Attributes.{first_upper, is_component};
 ghost use Rattle.decisions.specs.At.{element_name, element_named, identifier_bytes, forbids, serializable};
+ghost use Rattle.decisions.specs.Repeats.{AttributesTold, SerializedTold};
 
 use crate::attribute::{is_inner_html, two_names};
 use crate::index::lists;
+use crate::repeats::{Names, ends_key};
 use field::reader::{Field, Fields, behind, field_at};
 use names::is_void_element;
 
@@ -70,6 +72,57 @@ fn keeps_from_serializing(s: &[u8]) -> bool
         }
     }
     false
+}
+
+// The same where their names repeat, or where that is not told.
+#[inline(never)]
+fn unsure(s: &[u8]) -> Option<Names>
+    ensures { AttributesTold s.now result }
+{
+    if keeps_from_serializing(s) {
+        None
+    } else {
+        Some(Names::Unsure)
+    }
+}
+
+// The same, and what the names tell on the way, by keys: so the question of A4 needs no walk of its own where all keys are different. A function of
+// its own, which calls none in its loop: merged into its caller it takes 7 instructions an attribute more.
+#[inline(never)]
+fn names_told(s: &[u8]) -> Option<Names>
+    ensures { AttributesTold s.now result }
+{
+    let mut seen: u64 = 0;
+    for field in Fields(s) {
+        match field.tag {
+            0x50 => {
+                let Some(key) = ends_key(field.body) else {
+                    return unsure(s);
+                };
+                if (seen >> key) & 1 == 1 {
+                    return unsure(s);
+                }
+                seen |= 1 << key;
+            }
+            0x53 => return None,
+            _ => return Some(Names::Different),
+        }
+    }
+    Some(Names::Different)
+}
+
+// is_serializable, and what is told of its attributes' names where it is.
+pub fn serialized(skip: &[u8], b: &[u8]) -> Option<Names>
+    ensures { SerializedTold skip.now b.now result }
+{
+    let ElementName::Identifier(n) = element_name_at(b) else {
+        return None;
+    };
+    if is_upper(n) {
+        return None;
+    }
+    let names = names_told(behind(b))?;
+    if lists(skip, n) { None } else { Some(names) }
 }
 
 // skip has the names of 02. They are looked at last: most options list none.

@@ -4,10 +4,12 @@
 
 ghost use Rattle.std.specs.Prelude.{◌≡◌, true, false, [], ◌+◌, ◌≤◌, ◌<◌, ◌^◌};
 ghost use Rattle.field.specs.Row.{read};
+ghost use Rattle.field.specs.Front.{behind_of};
 ghost use Rattle.spec.specs.Merge.{merge, long_run, short_runs};
 ghost use Rattle.spec.specs.Output.{dynamic_exprs, gen_template};
 ghost use Rattle.spec.specs.Children.{children_to_string, children_to_expr, serialize_jsx, entries, entries_pass, found_pass};
 ghost use Rattle.decisions.specs.At.{element_at, children_at, serializable, under};
+ghost use Rattle.decisions.specs.Repeats.{Told};
 ghost use Rattle.strings.specs.Carve as C;
 ghost use Rattle.records.specs.Keep.{at, keep, write, begun, kinded_if, end_at, bumped, Low, Room};
 
@@ -17,8 +19,9 @@ pub mod moves;
 use crate::kinds::put_kinds;
 use crate::moves::move_up;
 use decisions::children::{Children, becomes_template, children_of};
-use decisions::element::{inner_children, is_serializable};
+use decisions::element::{inner_children, is_serializable, serialized};
 use decisions::options::Options;
+use decisions::repeats::Names;
 use field::MAX_BODY;
 use field::reader::{Field, Fields, behind};
 use field::writer::{put_four, put_head, put_two};
@@ -92,12 +95,19 @@ fn closed(out: &mut [u8], n: usize, st: Records, open: Open) -> Records
 // plainly.
 
 // Of an element that is HTML.
-fn write_element(options: &Options<'_>, b: &[u8], out: &mut [u8], n: usize, st: Records) -> Records
-    requires { (serializable options.now.skip.now b.now ≡ true) × Low (write n false (under options.now element_at b.now).to_string_vec (at out.old st)) }
+fn write_element(
+    options: &Options<'_>,
+    b: &[u8],
+    names: Names,
+    out: &mut [u8],
+    n: usize,
+    st: Records,
+) -> Records
+    requires { (serializable options.now.skip.now b.now ≡ true) × Low (write n false (under options.now element_at b.now).to_string_vec (at out.old st)) × Told (behind_of b.now) names }
     ensures { at out.new result ≡ write n false (under options.now element_at b.now).to_string_vec (at out.old st) }
 {
     let a = opened(st);
-    let c = tag_strings(options, b, out, a);
+    let c = tag_strings(options, b, names, out, a);
     closed(out, n, st, c)
 }
 
@@ -148,11 +158,11 @@ pub fn record_serialize(
     requires { Room scratch.old b.now (keep (serialize_jsx (under options.now element_at b.now)) (at out.old st)) }
     ensures { at out.new result ≡ keep (serialize_jsx (under options.now element_at b.now)) (at out.old st) }
 {
-    if !is_serializable(options.skip, b) {
+    let Some(names) = serialized(options.skip, b) else {
         return record_found(options, behind(b), scratch, out, st);
-    }
+    };
     let inner = record_parts(options, inner_children(b), scratch, out, taken(st));
-    write_element(options, b, out, st.next, inner)
+    write_element(options, b, names, out, st.next, inner)
 }
 
 // An element in a template. One with nothing behind its name, as most void ones, needs no test of the name.

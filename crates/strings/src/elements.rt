@@ -4,12 +4,14 @@ ghost use Rattle.std.specs.Prelude.{◌≡◌, true, ◌&&◌, ◌+◌, ◌<◌,
 ghost use Rattle.field.specs.Bytes.{Bytes};
 ghost use Rattle.field.specs.Put.{Wrote};
 ghost use Rattle.field.specs.Row.{read};
+ghost use Rattle.field.specs.Front.{behind_of};
 ghost use Rattle.text.specs.Escape.{escape_html};
 ghost use Rattle.names.specs.Table.{void_kind};
 ghost use Rattle.page.specs.Tree.{children_in, contained_in};
 ghost use Rattle.spec.specs.Pass.{chars};
 ghost use Rattle.spec.specs.Children.{children_to_string};
 ghost use Rattle.decisions.specs.At.{children_at, element_at, serializable, is_none, under};
+ghost use Rattle.decisions.specs.Repeats.{Told};
 ghost use Rattle.strings.specs.Due.{graver, grave};
 ghost use Rattle.strings.specs.Carve.{at, carve, flags_at, opening, is_joined, joined_by, put_contained, Low};
 
@@ -17,10 +19,10 @@ use crate::attributes::attributes_strings;
 use crate::due::{Due, graver};
 use crate::writer::{Open, cut, put_chars, put_text};
 use decisions::children::children_at;
-use decisions::element::{identifier, is_serializable};
+use decisions::element::{identifier, serialized};
 use decisions::expr::{Shape, put_number_at, shape_at};
 use decisions::options::Options;
-use decisions::repeats::repeats;
+use decisions::repeats::{Names, repeats};
 use field::reader::{Fields, behind, body};
 use field::writer::{put_byte, put_bytes};
 use names::{Void, void_kind};
@@ -37,24 +39,32 @@ fn put_open(out: &mut [u8], st: Open, n: &[u8]) -> Open
     st.ended(q)
 }
 
-// What is found of an element that is serialized, by what its name is to `void_kind`.
-fn tag_due(due: Due, kind: Option<Void>, rest: &[u8]) -> Due
+// What is found of an element that is serialized, by what its name is to `void_kind` and what is told of its attributes' names.
+fn tag_due(due: Due, kind: Option<Void>, names: Names, rest: &[u8]) -> Due
+    requires { Told rest.now names }
     ensures { (n : Bytes) → kind ≡ void_kind n → result ≡ graver due (grave (flags_at n rest.now)) }
 {
     match kind {
-        _ if repeats(rest) => graver(due, Due::Repeated),
+        _ if repeats(names, rest) => graver(due, Due::Repeated),
         Some(Void::InSmallLetters) => graver(due, Due::Mixed),
         Some(Void::AsWritten) | None => due,
     }
 }
 
-fn open_tag(out: &mut [u8], st: Open, n: &[u8], kind: Option<Void>, rest: &[u8]) -> Open
-    requires { (kind ≡ void_kind n.now) × Low (carve (opening n.now rest.now) (at out.old st)) }
+fn open_tag(
+    out: &mut [u8],
+    st: Open,
+    n: &[u8],
+    kind: Option<Void>,
+    names: Names,
+    rest: &[u8],
+) -> Open
+    requires { (kind ≡ void_kind n.now) × Low (carve (opening n.now rest.now) (at out.old st)) × Told rest.now names }
     ensures { at out.new result ≡ carve (opening n.now rest.now) (at out.old st) }
 {
     let p = put_open(out, st, n);
     Open {
-        due: tag_due(p.due, kind, rest),
+        due: tag_due(p.due, kind, names, rest),
         ..p
     }
 }
@@ -125,24 +135,24 @@ pub fn element_strings(options: &Options<'_>, b: &[u8], out: &mut [u8], st: Open
     requires { Low (carve (under options.now element_at b.now).to_string_vec (at out.old st)) }
     ensures { at out.new result ≡ carve (under options.now element_at b.now).to_string_vec (at out.old st) }
 {
-    if is_serializable(options.skip, b) {
-        tag_strings(options, b, out, st)
-    } else {
-        cut(out, st)
+    match serialized(options.skip, b) {
+        Some(names) => tag_strings(options, b, names, out, st),
+        None => cut(out, st),
     }
 }
 
-// One that is known to be HTML: its tags, and what stands between them. That it is serializable is the caller's test: a type of tested elements
+// One that is known to be HTML: its tags, and what stands between them. That it is serializable is the caller's test, which tells of its attributes'
+// names too: a type of tested elements
 // would have to say by which options they were tested, which is this clause again.
 #[cycle(strings)]
-pub fn tag_strings(options: &Options<'_>, b: &[u8], out: &mut [u8], st: Open) -> Open
-    requires { (serializable options.now.skip.now b.now ≡ true) × Low (carve (under options.now element_at b.now).to_string_vec (at out.old st)) }
+pub fn tag_strings(options: &Options<'_>, b: &[u8], names: Names, out: &mut [u8], st: Open) -> Open
+    requires { (serializable options.now.skip.now b.now ≡ true) × Low (carve (under options.now element_at b.now).to_string_vec (at out.old st)) × Told (behind_of b.now) names }
     ensures { at out.new result ≡ carve (under options.now element_at b.now).to_string_vec (at out.old st) }
 {
     let n = identifier(b);
     let rest = behind(b);
     let kind = void_kind(n);
-    let p = open_tag(out, st, n, kind, rest);
+    let p = open_tag(out, st, n, kind, names, rest);
     let a = attributes_strings(options, rest, out, p);
     let c = put_chars(out, a, b">");
     match kind {

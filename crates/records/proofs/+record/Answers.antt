@@ -137,12 +137,12 @@ record_serialize-record_found-requires t c = let l = behind_shorter _ c.behind.e
   record {
     desk = c.requires.desk;
     short = omega (arith, l, c.requires.short);
-    low = subst Low (serialize_call _ _ _ c.behind.ensures c.is_serializable.ensures c.if-not-is_serializable.true _) c.requires.low;
+    low = subst Low (serialize_call _ _ _ c.behind.ensures refl c.in_default.ensures _) c.requires.low;
   },
 )
 
-pub record_serialize-returns-then-not-is_serializable : goal.record_serialize-returns-then-not-is_serializable
-record_serialize-returns-then-not-is_serializable t c = c.record_found.ensures ∙ sym (serialize_call _ _ _ c.behind.ensures c.is_serializable.ensures c.if-not-is_serializable.true _)
+pub record_serialize-returns-in_default : goal.record_serialize-returns-in_default
+record_serialize-returns-in_default t c = c.record_found.ensures ∙ sym (serialize_call _ _ _ c.behind.ensures refl c.in_default.ensures _)
 
 pub record_serialize-taken-requires : goal.record_serialize-taken-requires
 record_serialize-taken-requires t c = (keep_low _ (at c.args.out.now c.args.st) c.requires.low).low_next
@@ -153,13 +153,13 @@ record_serialize-record_parts-inner-requires t c = let l = inner_shorter _ c.inn
   record {
     desk = c.requires.desk;
     short = omega (arith, l, c.requires.short);
-    low = subst Low (inner_is _ _ _ refl c.is_serializable.ensures c.if-not-is_serializable.false _ c.inner_children.ensures)
-        (inner_low _ _ _ _ _ (serialize_template _ _ _ refl c.is_serializable.ensures c.if-not-is_serializable.false _) c.taken.ensures c.requires.low);
+    low = subst Low (inner_is _ _ _ refl refl c.in-Some.ensures.0 _ c.inner_children.ensures)
+        (inner_low _ _ _ _ _ (serialize_template _ _ _ refl refl c.in-Some.ensures.0 _) c.taken.ensures c.requires.low);
   },
 )
 
 pub record_serialize-write_element-requires : goal.record_serialize-write_element-requires
-record_serialize-write_element-requires t c = (sym c.is_serializable.ensures ∙ c.if-not-is_serializable.false, outer_low _ _ _ _ _ (serialize_template _ _ _ refl c.is_serializable.ensures c.if-not-is_serializable.false _) c.taken.ensures (c.record_parts-inner.ensures ∙ sym (inner_is _ _ _ refl c.is_serializable.ensures c.if-not-is_serializable.false _ c.inner_children.ensures)) c.requires.low)
+record_serialize-write_element-requires t c = (c.in-Some.ensures.0, outer_low _ _ _ _ _ (serialize_template _ _ _ refl refl c.in-Some.ensures.0 _) c.taken.ensures (c.record_parts-inner.ensures ∙ sym (inner_is _ _ _ refl refl c.in-Some.ensures.0 _ c.inner_children.ensures)) c.requires.low, c.in-Some.ensures.1)
 
 pub record_serialize-returns : goal.record_serialize-returns
-record_serialize-returns t c = outer_is _ _ _ _ _ (serialize_template _ _ _ refl c.is_serializable.ensures c.if-not-is_serializable.false _) c.taken.ensures (c.record_parts-inner.ensures ∙ sym (inner_is _ _ _ refl c.is_serializable.ensures c.if-not-is_serializable.false _ c.inner_children.ensures)) c.write_element.ensures
+record_serialize-returns t c = outer_is _ _ _ _ _ (serialize_template _ _ _ refl refl c.in-Some.ensures.0 _) c.taken.ensures (c.record_parts-inner.ensures ∙ sym (inner_is _ _ _ refl refl c.in-Some.ensures.0 _ c.inner_children.ensures)) c.write_element.ensures

@@ -3,9 +3,10 @@
 -- The loop keeps that what is left of the series, written from here on, gives what the whole gives from the start. Assumes nothing.
 use Rattle.names.proofs.VoidLaws.{void_by_kind, not_void_by_kind}
 use Rattle.strings.proofs.FrontSizes.{behind_le}
-use mathlib.Core.Path.{refl}
+use mathlib.Core.Path.{refl, sym, subst}
 use native.Mathlib.Omega.{arith}
 use borrow.Author.Rules.{rules}
+use Rattle.decisions.specs.Repeats.{Told}
 use Rattle.strings.proofs.ElementLaws.{left_start, left_end, body_falls, text_room, text_on, container_room, container_on, element_room, element_on, fragment_room, fragment_on, other_on, gap_room, gap_end, open_room, attrs_room, end_room, void_end, kids_room, close_room, close_end}
 use Rattle.strings.proofs.elements.+strings.Goals as goal
 
@@ -42,14 +43,21 @@ children_strings-returns t c = left_end c.loop-field.invariant c.in_default.ensu
 pub children_strings-loop-field-preserved : goal.children_strings-loop-field-preserved
 children_strings-loop-field-preserved t c = other_on c.loop-field.invariant c.in-Some.ensures.steps (λ z. omega (arith, z)) (λ z. omega (arith, z)) (λ z. omega (arith, z)) (λ z. omega (arith, z))
 
-pub element_strings-cut-requires : goal.element_strings-cut-requires
-element_strings-cut-requires t c = gap_room _ _ _ _ c.is_serializable.ensures c.if-is_serializable.false c.requires
+pub element_strings-tag_strings-requires : goal.element_strings-tag_strings-requires
+element_strings-tag_strings-requires t c = (omega (arith, c.decreases), (c.in-Some.ensures.0, c.requires, c.in-Some.ensures.1))
 
-pub element_strings-returns-else-is_serializable : goal.element_strings-returns-else-is_serializable
-element_strings-returns-else-is_serializable t c = gap_end _ _ _ _ c.is_serializable.ensures c.if-is_serializable.false c.cut.ensures
+pub element_strings-cut-requires : goal.element_strings-cut-requires
+element_strings-cut-requires t c = gap_room _ _ _ _ refl c.in-None.ensures c.requires
+
+pub element_strings-returns-in-None : goal.element_strings-returns-in-None
+element_strings-returns-in-None t c = gap_end _ _ _ _ refl c.in-None.ensures c.cut.ensures
 
 pub tag_strings-open_tag-p-requires : goal.tag_strings-open_tag-p-requires
-tag_strings-open_tag-p-requires t c = (c.void_kind-kind.ensures, open_room _ _ _ _ refl c.requires.0 c.identifier-n.ensures c.behind-rest.ensures c.requires.1)
+tag_strings-open_tag-p-requires t c = (
+  c.void_kind-kind.ensures,
+  open_room _ _ _ _ refl c.requires.0 c.identifier-n.ensures c.behind-rest.ensures c.requires.1,
+  subst (λ r. Told r c.args.names) (sym c.behind-rest.ensures) c.requires.2,
+)
 
 pub tag_strings-attributes_strings-a-requires : goal.tag_strings-attributes_strings-a-requires
 tag_strings-attributes_strings-a-requires t c = attrs_room _ _ _ _ refl c.requires.0 c.identifier-n.ensures c.behind-rest.ensures c.open_tag-p.ensures c.requires.1
