@@ -59,10 +59,15 @@ if [ "$word" = fillings ]; then
     echo "$name$tab$templates$tab$order$tab$html$tab$instructions$tab$answer" | tee -a "$rates" |
       awk -F '\t' '{ printf "%-34s %9d %7d %7d %13d %9.1f  %s\n", $1, $2, $3, $4, $5, $5 / $4, $6 }'
   done
-  # Of each way to have 9,361 orders.
+  # Of each way to have 9,361 orders: over their bytes in one template, as one string, and with a gap for each of them.
   awk -F '\t' '{ instructions[$1] = $5 } END {
     one = instructions["their bytes, one template"]
-    for (name in instructions) if (one && name ~ /^9,361/) printf "%s, over their bytes in one template: %.1f\n", name, instructions[name] / one
+    gaps = instructions["their bytes, 9,361 gaps"]
+    for (name in instructions) {
+      if (name !~ /^9,361/) continue
+      if (one) printf "%s, over their bytes in one string: %.1f\n", name, instructions[name] / one
+      if (gaps) printf "%s, over their bytes in 9,361 gaps: %.1f\n", name, instructions[name] / gaps
+    }
   }' "$rates"
   exit
 fi

@@ -12,5 +12,6 @@ pub mod PartLaws
 pub mod TextLaws
 pub mod HtmlLaws
 pub mod WholeLaws
+pub mod Fronts
 pub mod AnswerLaws
 pub mod FillCases

@@ -47,7 +47,7 @@ alone_by (counted n) t w r e =
     record { tag_is = p.tag_is; none_behind = p.alone }
 
 -- nothing but no bytes reads as no field
-no_bytes : (s : Bytes) → read_order s ≡ end → length s ≡ 0
+pub no_bytes : (s : Bytes) → read_order s ≡ end → length s ≡ 0
 no_bytes s e = on (next_of s) refl (sym (row_step s) ∙ e)
   where
     not_field : (h : Inside) (t : ℕ) (w r : Bytes) → opened h read_order t w r ≡ end → ⊥

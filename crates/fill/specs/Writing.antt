@@ -32,6 +32,10 @@ pub record PartsAre (w kinds strings : Bytes) : Type 0 where
 unfoldable pub no_sign : ℕ → Bool
 no_sign c = not (eqb c 60) && not (eqb c 62)
 
+-- a byte that escaping leaves alone, and no `#`
+unfoldable pub unmarked : ℕ → Bool
+unmarked c = not (eqb c 34) && not (eqb c 35) && not (eqb c 38) && not (eqb c 39) && not (eqb c 60) && not (eqb c 62)
+
 abbrev pub free_text : Bytes → M.Option Bytes
 free_text b = pick (free b) (M.some b) M.none
 

@@ -3,6 +3,7 @@
 #![tactic(auto)]
 
 mod answer;
+mod front;
 mod html;
 mod index;
 mod order;

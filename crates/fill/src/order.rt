@@ -1,6 +1,7 @@
 // The check of an order. Its fields nest 48 deep at the most, so the check calls itself, and the bytes that are left fall at each call.
-ghost use Rattle.std.specs.Prelude.{◌≡◌, ◌≤◌, OnOk};
-ghost use Rattle.page.specs.Check.{check_header};
+ghost use Rattle.std.specs.Prelude.{◌≡◌, ◌≤◌, OnOk, ltb};
+ghost use Rattle.utf8.specs.Utf8.{ascii};
+ghost use Rattle.page.specs.Check.{check_header, check_text};
 ghost use Rattle.fill.specs.Order.{read_order, is_filling, check_fillings, check_order};
 ghost use Rattle.fill.specs.CheckFilling.{check_body, check_filling};
 
@@ -8,6 +9,7 @@ use field::reader::{Field, Fields};
 use page::leaf::check_text;
 use page::name::check_nothing_after;
 use page::{MAX_DEPTH, Refusal, refuse_unless};
+use text::runs::{Class, is_run};
 
 // Whether a field may stand there, then its depth.
 #[tactic(auto, unfolding(page::specs::Check::check_header, page::specs::Refusal::after))]
@@ -23,6 +25,40 @@ fn is_filling(tag: u8) -> bool
     ensures { result ≡ is_filling tag }
 {
     matches!(tag, 0x85..=0x87)
+}
+
+// ASCII.
+struct Ascii;
+
+impl Class for Ascii {
+    ghost holds = { λ x b. ltb b 0x80 };
+
+    fn has(&self, b: u8) -> bool {
+        b < 0x80
+    }
+}
+
+#[inline(always)]
+fn is_ascii(s: &[u8]) -> bool
+    ensures { result ≡ ascii s.now }
+{
+    if s.len() < 16 {
+        is_run::<_, 8>(&Ascii, s)
+    } else {
+        is_run::<_, 16>(&Ascii, s)
+    }
+}
+
+// Most texts are short and ASCII. With longer ones here LLVM tests a block by twelve instructions in place of three, and 64 KB of texts of 29 bytes took
+// 6 % more (a probe).
+#[inline(always)]
+fn check_short_text(s: &[u8]) -> Result<(), Refusal>
+    ensures { result ≡ check_text s.now }
+{
+    if s.len() <= 32 && is_ascii(s) {
+        return Ok(());
+    }
+    check_text(s)
 }
 
 // The body of an 85: the number of a record, and fillings at a depth.
@@ -44,7 +80,7 @@ fn check_filling(tag: u8, body: &[u8], depth: usize) -> Result<(), Refusal>
     if tag == 0x85 {
         check_body(body, depth + 1)
     } else {
-        check_text(body)
+        check_short_text(body)
     }
 }
 

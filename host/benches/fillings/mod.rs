@@ -19,8 +19,8 @@ pub struct Fill {
 /// As many 85s as one has room for.
 const ORDERS: usize = (MAX_BODY - 4) / 7;
 
-/// What each of many short templates has, and how many bytes they have together.
-const SHORT: &str = "<br>ok";
+/// What each of many short templates has. It has no sign, so that a text of an order can give a part of it.
+const SHORT: &str = "Row A ";
 
 pub fn all() -> Vec<Fill> {
     let text = |sign: &str, bytes: usize| sign.repeat(bytes / sign.len());
@@ -30,6 +30,8 @@ pub fn all() -> Vec<Fill> {
     let orders =
         |number: fn(u32) -> u32| (0..ORDERS as u32).fold(Order::new(1), |all, at| all.order(Order::new(number(at))));
     let holder = gaps(ORDERS, "");
+    let (string, left) = SHORT.split_at(2);
+    let row = template(1, &vec![2; ORDERS], &[&vec![string; ORDERS][..], &[""]].concat());
     let each = |count: u32| (0..count).flat_map(|at| template(at + 2, &[], &[SHORT])).collect::<Vec<u8>>();
     vec![
         set("tiny", template(1, &[1, 2], &["<p ", ">", "</p>"]), Order::new(1).attribute("id=\"a\"").text("Hi")),
@@ -45,8 +47,9 @@ pub fn all() -> Vec<Fill> {
         set("9,361 orders, one template", [&template(2, &[], &[SHORT])[..], &holder].concat(), orders(|_| 2)),
         set("9,361 orders, a template each", [&each(ORDERS as u32)[..], &holder].concat(), orders(|at| at + 2)),
         set("9,361 orders, the last first", [&each(ORDERS as u32)[..], &holder].concat(), orders(|at| 9_362 - at)),
-        // The same bytes as those three, from one template.
+        // The same bytes as those three, from one template: as one string, and with a gap for each order.
         set("their bytes, one template", template(1, &[], &[&SHORT.repeat(ORDERS)]), Order::new(1)),
+        set("their bytes, 9,361 gaps", row, texts(ORDERS, left)),
         set(
             "65,536 templates, one asked for",
             [&each(65_536)[..], &template(1, &[], &[SHORT])].concat(),

@@ -12,6 +12,9 @@ decreases-write_filling l = 2 * length l.filling.body.now + 1
 abbrev pub decreases-write_order : goal.decreases-write_order
 decreases-write_order l = 2 * length l.body.now
 
-abbrev pub invariant-write_order-loop-filling : goal.invariant-write_order-loop-filling
-invariant-write_order-loop-filling l =
-    Turning (Served l.entries.templates.now l.entries.numbers.now l.entries.places.now) (read l.entries.templates.now) l.body l.initial.out l.at (iter_rest l.kinds) l.strings.0.now l.filling-iterator.0.now l.out l.n
+abbrev pub decreases-write_order-loop-fillings : goal.decreases-write_order-loop-fillings
+decreases-write_order-loop-fillings l = length l.fillings
+
+abbrev pub invariant-write_order-loop-fillings : goal.invariant-write_order-loop-fillings
+invariant-write_order-loop-fillings l =
+    Turning (Served l.entries.templates.now l.entries.numbers.now l.entries.places.now) (read l.entries.templates.now) l.body l.initial.out l.at (iter_rest l.kinds) l.strings l.fillings l.out l.n
