@@ -32,7 +32,7 @@ module _ (skip props : Bytes) where
   pub enters_by : (R R' : List Entry → Bytes → Type 0) (es : List Entry) (b : Bytes) → (R es b → R' es b) → (k : Kind) → Enters skip props R es k b → Enters skip props R' es k b
   enters_by R R' es b f K.Nothing x = x
   enters_by R R' es b f K.Empty x = x
-  enters_by R R' es b f K.Many x = x
+  enters_by R R' es b f (K.Many k) x = x
   enters_by R R' es b f K.Run x = f x
   enters_by R R' es b f K.Text x = x
   enters_by R R' es b f K.Element x = x
@@ -46,7 +46,7 @@ module _ (skip props : Bytes) where
     unfolding is_empty
     enters_none es b K.Nothing h x = absurd x
     enters_none es b K.Empty h x = x
-    enters_none es b K.Many h x = absurd (false≢true h)
+    enters_none es b (K.Many k) h x = absurd (false≢true h)
     enters_none es b K.Run h x = absurd (false≢true h)
     enters_none es b K.Text h x = absurd (false≢true h)
     enters_none es b K.Element h x = absurd (false≢true h)
@@ -62,7 +62,7 @@ module _ (skip props : Bytes) where
     unfolding is_empty
     enters_some es b K.Nothing h x = absurd x
     enters_some es b K.Empty h x = absurd (true≢false h)
-    enters_some es b K.Many h x = omega (arith, x.0)
+    enters_some es b (K.Many k) h x = omega (arith, x.0)
     enters_some es b K.Run h x = some es b x
     enters_some es b K.Text h x = one es _ x
     enters_some es b K.Element h x = one es _ x.0
@@ -74,7 +74,7 @@ module _ (skip props : Bytes) where
     -- entries and others behind them
     module _ (s : Bytes) (a b : Found) (xs ys : List Entry) (x : Enters skip props R xs a.kind (part s a)) (y : Enters skip props R ys b.kind (part s b)) where
       joined : (p q : Bool) → is_empty a.kind ≡ p → is_empty b.kind ≡ q →
-          let f : Found = pick p b (pick q a (placed K.Many 0 0)) in
+          let f : Found = pick p b (pick q a (placed (K.Many 0) 0 0)) in
           Enters skip props R (xs ++ ys) f.kind (part s f)
       joined true q h k =
           subst (λ (es : List Entry). Enters skip props R (es ++ ys) b.kind (part s b)) (sym (enters_none xs (part s a) a.kind h x)) y
@@ -91,7 +91,7 @@ module _ (skip props : Bytes) where
 pub then_within : (s : Bytes) (a b : Found) → Within a s → Within b s → {r : Found} → r ≡ then_found a b → Within r s
 then_within s a b v w {r} e = subst (λ (f : Found). Within f s) (sym e) (on (is_empty a.kind) (is_empty b.kind))
   where
-    on : (p q : Bool) → Within (pick p b (pick q a (placed K.Many 0 0))) s
+    on : (p q : Bool) → Within (pick p b (pick q a (placed (K.Many 0) 0 0))) s
     on true q = w
     on false true = v
     on false false = omega arith

@@ -15,11 +15,12 @@ use Rattle.spec.specs.Merge.{Entry, array_found}
 use Rattle.spec.specs.Children as C
 use Rattle.spec.specs.Children.{found_of, sole_mid, sole}
 use Rattle.decisions.specs.At.{opts}
-use Rattle.found.specs.Finds.{Within, part, placed, entries_at, expr_at, first_item, Runs, Enters, Finds, Flattened}
+use Rattle.found.specs.Finds.{Within, part, placed, entries_at, expr_at, first_item, Runs, Enters, Finds, Known, Flattened}
 use Rattle.found.specs.declared.Kind.{Kind}
 use Rattle.found.specs.declared.Kind.TheVariants as K
 use Rattle.found.specs.declared.Found.{Found}
 use Rattle.found.proofs.Places.{Stands, stands_room, stands_part, stands_of, length_part, body_in}
+use Rattle.found.proofs.KnownLaws.{known_none}
 use Rattle.found.proofs.ItemLaws.{item_77, item_78, item_other, sole_of}
 
 several : (es : List Entry) → 2 ≤ length es → C.flattened es ≡ array_found es
@@ -29,19 +30,19 @@ several (e ∷ []) h = absurd (omega arith)
 several (e ∷ e' ∷ es) h = refl
 
 -- several entries of the children in s: all of s is their place
-pub flat_all : (skip props s : Bytes) → 2 ≤ length (entries_at skip props s) → Finds skip props (C.flattened (entries_at skip props s)) K.Many (take (length s) s)
+pub flat_all : (skip props s : Bytes) → 2 ≤ length (entries_at skip props s) → Finds skip props (C.flattened (entries_at skip props s)) (K.Many 0) (take (length s) s)
 flat_all skip props s l =
     let es : List Entry = entries_at skip props s in
     let e : take (length s) s ≡ s = take_all (length s) s (omega arith) in
-    subst (λ (b : Bytes). (C.flattened es ≡ array_found (entries_at skip props b)) × (2 ≤ length (entries_at skip props b))) (sym e) (several es l, l)
+    subst (λ (b : Bytes). Finds skip props (C.flattened es) (K.Many 0) b) (sym e) (several es l, (l, known_none skip s))
 
 -- where nothing is to be done
-kept : (skip props : Bytes) (es : List Entry) (k : Kind) (b : Bytes) → (k ≡ K.Many → ⊥) → (k ≡ K.Item → ⊥) → Enters skip props (Runs skip props) es k b →
+kept : (skip props : Bytes) (es : List Entry) (k : Kind) (b : Bytes) → ((n : ℕ) → k ≡ K.Many n → ⊥) → (k ≡ K.Item → ⊥) → Enters skip props (Runs skip props) es k b →
     Finds skip props (C.flattened es) k b
 unfolding C.flattened sole sole_mid found_of
 kept skip props es K.Nothing b h i x = absurd x
 kept skip props es K.Empty b h i x = ap C.flattened x
-kept skip props es K.Many b h i x = absurd (h refl)
+kept skip props es (K.Many k) b h i x = absurd (h k refl)
 kept skip props es K.Run b h i x = record { run = x.run; found_is = ap C.flattened x.alone; among_all = x.among_all }
 kept skip props es K.Text b h i x = ap C.flattened x
 kept skip props es K.Element b h i x = (ap C.flattened x.0, x.1)
@@ -51,10 +52,10 @@ kept skip props es K.Item b h i x = absurd (i refl)
 kept skip props es K.Hole b h i x = ap C.flattened x
 
 module _ (s : Bytes) (f : Found) (w : Within f s) where
-  pub flat_rest : (f.kind ≡ K.Many → ⊥) → (f.kind ≡ K.Item → ⊥) → Within f s × Flattened s f f
+  pub flat_rest : ((n : ℕ) → f.kind ≡ K.Many n → ⊥) → (f.kind ≡ K.Item → ⊥) → Within f s × Flattened s f f
   flat_rest h i = (w, λ skip props x. kept skip props (entries_at skip props s) f.kind (part s f) h i x)
 
-  pub flat_many : f.kind ≡ K.Many → {r : Found} → r ≡ placed K.Many 0 (length s) → Within r s × Flattened s f r
+  pub flat_many : {n : ℕ} → f.kind ≡ K.Many n → {r : Found} → r ≡ placed (K.Many 0) 0 (length s) → Within r s × Flattened s f r
   flat_many h {r} q =
       subst (λ (r : Found). Within r s × Flattened s f r) (sym q) (
         omega arith,
@@ -63,16 +64,16 @@ module _ (s : Bytes) (f : Found) (w : Within f s) where
       )
 
   -- one fragment alone gives them: its place stays
-  pub flat_placed : f.kind ≡ K.Many → (f.len ≡ 0 → ⊥) → Within f s × Flattened s f f
-  flat_placed h n = (
+  pub flat_placed : {k : ℕ} → f.kind ≡ K.Many k → (f.len ≡ 0 → ⊥) → Within f s × Flattened s f f
+  flat_placed {k} h n = (
     w,
     λ skip props x.
         let es : List Entry = entries_at skip props s in
         let b : Bytes = part s f in
-        let m : (2 ≤ length es) × ((length b ≡ 0 → ⊥) → es ≡ entries_at skip props b) = subst (λ (k : Kind). Enters skip props (Runs skip props) es k b) h x in
-        let e : es ≡ entries_at skip props b = m.1 (λ z. n (sym (length_part s f.from f.len w) ∙ z)) in
+        let m : (2 ≤ length es) × ((length b ≡ 0 → ⊥) → (es ≡ entries_at skip props b) × Known k skip b) = subst (λ (k : Kind). Enters skip props (Runs skip props) es k b) h x in
+        let l : (es ≡ entries_at skip props b) × Known k skip b = m.1 (λ z. n (sym (length_part s f.from f.len w) ∙ z)) in
         subst (λ (k : Kind). Finds skip props (C.flattened es) k b) (sym h)
-        (several es m.0 ∙ ap array_found e, subst (λ (z : List Entry). 2 ≤ length z) e m.0),
+        (several es m.0 ∙ ap array_found l.0, (subst (λ (z : List Entry). 2 ≤ length z) l.0 m.0, l.1)),
   )
 
   module _ (h : f.kind ≡ K.Item) {t : Bytes} (q : t ≡ part s f) where

@@ -1,10 +1,10 @@
 -- What children give, by how many they are: what `found_of` returns. Main statements: `found_none`, `found_60`, `found_52`, `found_empty`,
--- `found_30`, `found_31`, `found_61`, `found_template`, `found_several`, `found_many`; `same_found`, `flat_found`. Assumes nothing.
+-- `found_30`, `found_31`, `found_known`, `found_61`, `found_template`, `found_many`; `given_several`, `found_again`. Assumes nothing.
 use mathlib.Core.Path.{◌≡◌, refl, sym, ap, ◌∙◌, subst}
 use mathlib.Core.Bool.{Bool, true, false}
-use Prim.Native.Nat.{ℕ, ◌+◌, ◌-◌, ◌≤◌}
+use Prim.Native.Nat.{ℕ, ◌+◌, ◌-◌, ◌≤◌, ◌<◌}
 use native.Mathlib.Omega.{arith}
-use mathlib.Core.List.{◌∷◌}
+use mathlib.Core.List.{List, [], ◌∷◌, ◌++◌, append-nil}
 use lib.Dec.{T}
 use lib.ListN.{length, take, drop}
 use lib.Seq.{take_all}
@@ -17,8 +17,8 @@ use Rattle.page.specs.Check.{is_child}
 use Rattle.page.specs.Page as P
 use Rattle.page.specs.Tree.{choose, Contained, nothing_contained, contained, contained_child, element_in, fragment_in, children_in, contained_in, expr_in}
 use Rattle.spec.specs.Merge as M
-use Rattle.spec.specs.Merge.{Child, becomes_template, nothing_found}
-use Rattle.spec.specs.Children.{found_of, flattened, one_child, many_children, children_to_expr}
+use Rattle.spec.specs.Merge.{Entry, Child, merge, flush, becomes_template, nothing_found, array_found}
+use Rattle.spec.specs.Children.{found_of, flattened, spliced, entries, one_child, many_children, children_to_expr}
 use Rattle.spec.specs.Transform.{children, fragment_of}
 use Rattle.decisions.specs.declared.children.Count.{Count}
 use Rattle.decisions.specs.declared.children.Count.TheVariants.{One, More}
@@ -26,18 +26,42 @@ use Rattle.decisions.specs.At.{opts, few, is_none, becomes, FirstChild}
 use Rattle.decisions.proofs.Series.{tested, children_none, children_60, children_52, children_30, children_31, children_61, contained_none, contained_field}
 use Rattle.decisions.proofs.Laws.{child_element, child_fragment, becomes_is}
 use Rattle.found.proofs.ItemLaws.{how_many}
-use Rattle.found.specs.Finds.{Within, part, placed, kids, entries_at, found_at, expr_at, text_entry, element_entry, template_entry, Finds, Flattened}
+use Rattle.found.specs.Finds.{Within, part, placed, kids, entries_at, found_at, expr_at, text_entry, element_entry, template_entry, Finds, Flattened, Several, is_most, KnownOf, Known, known_around}
 use Rattle.found.specs.declared.Kind.{Kind}
 use Rattle.found.specs.declared.Kind.TheVariants as K
 use Rattle.found.specs.declared.Found.{Found}
 use Rattle.found.proofs.Places.{Stands, stands_room, stands_part, tail_of, body_in}
-use Rattle.found.proofs.FlattenLaws.{flat_all}
+use Rattle.found.proofs.KnownLaws.{reached_all, known_more, known_less}
+use Rattle.found.proofs.MergeLaws.{run_entries, left_31}
 use Rattle.found.proofs.EnterLaws.{moved}
 use Rattle.found.proofs.WalkLaws.{Entered}
 
 -- what `found_of` answers
 abbrev pub Given : Bytes → Bytes → Found → Type 0
 Given skip s r = Within r s × ((props : Bytes) → Finds skip props (found_at skip props s) r.kind (part s r))
+
+-- several, where their place is all of the bytes
+given_many : (skip b : Bytes) (y : Found) → Given skip b y → {n : ℕ} → y.kind ≡ K.Many n → (props : Bytes) → Finds skip props (found_at skip props b) (K.Many n) (part b y)
+given_many skip b y g h props = subst (λ (k : Kind). Finds skip props (found_at skip props b) k (part b y)) h (g.1 props)
+
+pub given_several : (skip b : Bytes) (y : Found) → Given skip b y → {n : ℕ} → y.kind ≡ K.Many n → y.len ≡ length b → Several skip b × Known n skip b
+given_several skip b y g {n} h e =
+    let from : y.from ≡ 0 = omega (arith, g.0, e) in
+    let all : part b y ≡ b = ap (λ (m : ℕ). take y.len (drop m b)) from ∙ take_all y.len b (omega (arith, e)) in
+    (λ props. let m = subst (Finds skip props (found_at skip props b) (K.Many n)) all (given_many skip b y g h props) in (m.0, m.1.0), subst (Known n skip) all (given_many skip b y g h []).1.1)
+
+-- they are added to the entries around them
+pub several_added : (skip b : Bytes) (y : Found) → Given skip b y → {n : ℕ} → y.kind ≡ K.Many n → (props : Bytes) →
+    (spliced (found_at skip props b) ≡ entries_at skip props (part b y)) × (2 ≤ length (entries_at skip props (part b y)))
+unfolding spliced
+several_added skip b y g h props = let m = given_many skip b y g h props in (ap spliced m.0, m.1.0)
+
+-- what is known need not be looked for
+pub found_again : (skip b : Bytes) (n k : ℕ) → 0 < k → KnownOf k skip n b → is_most n (length b) ≡ true → {r : Found} → r ≡ placed (K.Many (k - 1)) 0 (length b) → Given skip b r
+found_again skip b n k l h m {r} q =
+    let d = known_less skip b n k l h m in
+    subst (Given skip b) (sym q)
+    (omega arith, λ props. subst (Finds skip props (found_at skip props b) (K.Many (k - 1))) (sym (take_all (length b) b (omega arith))) ((d.0 props).0, ((d.0 props).1, d.1)))
 
 -- ---- none, one, or more
 
@@ -172,7 +196,7 @@ module _ (skip s : Bytes) where
           )
 
     -- a fragment gives what its own children give
-    pub same_found : u ≡ 0x31 → (props : Bytes) → found_at skip props s ≡ found_at skip props b
+    same_found : u ≡ 0x31 → (props : Bytes) → found_at skip props s ≡ found_at skip props b
     unfolding few children children_to_expr one_child fragment_of
     same_found k props =
         alone props (P.tag_child (fragment_in (read (body_of a))) P.no_children) (only (P.tag_child (fragment_in (read (body_of a)))) (children_31 a u o.front.tag_is k) refl)
@@ -185,6 +209,35 @@ module _ (skip s : Bytes) where
           m.0,
           λ props. subst (λ (x : M.Found). Finds skip props x r.kind (part s r)) (sym (same_found k props)) (m.1 props),
         )
+
+    -- with its own children's entries, where they are several
+    module _ (k : u ≡ 0x31) where
+      none_behind : children_in (read (behind_of a)) ≡ P.no_children
+      unfolding few
+      none_behind = lone (children_in (read (behind_of a))) (sym (ap few (same ∙ children_31 a u o.front.tag_is k)) ∙ sym o.one)
+
+      entries_31 : (props : Bytes) → entries_at skip props a ≡ spliced (found_at skip props b)
+      unfolding run_entries children merge flush entries
+      entries_31 props =
+          left_31 skip props a o.front [] k
+          ∙ (ap (λ (x : Bytes). spliced (found_at skip props b) ++ entries_at skip props x) o.front.behind_is
+          ∙ (ap (λ (cs : P.Children). spliced (found_at skip props b) ++ entries (merge false false [] (children (opts skip props) cs))) none_behind
+          ∙ append-nil (spliced (found_at skip props b))))
+
+      pub found_known : (y : Found) → Given skip b y → {n : ℕ} → y.kind ≡ K.Many n → {m : ℕ} → m ≡ known_around (length a) (length b) y.len n →
+          {r : Found} → r ≡ placed (K.Many m) at (length a) → Given skip s r
+      found_known y g {n} h {m} e w =
+          subst (Given skip s) (sym w) (
+            stands_room s at a stands_at,
+            λ props.
+                let l = given_many skip b y g h props in
+                let d = several_added skip b y g h props in
+                let all : entries_at skip props a ≡ entries_at skip props (part b y) = entries_31 props ∙ d.0 in
+                subst (Finds skip props (found_at skip props s) (K.Many m)) (sym (stands_part s at a stands_at)) (
+                  same_found k props ∙ l.0 ∙ ap array_found (sym all),
+                  (subst (λ (es : List Entry). 2 ≤ length es) (sym all) d.1, known_more skip a (reached_all a) o.front k y.len n (given_several skip b y g h) e),
+                ),
+          )
 
   -- several
   module _ (h : More ≡ few (children_in (read s))) {t : Bool} (b : t ≡ becomes skip (children_in (read s))) where
@@ -203,15 +256,9 @@ module _ (skip s : Bytes) where
         )
 
     -- no template
-    pub flat_found : t ≡ false → (props : Bytes) → found_at skip props s ≡ flattened (entries_at skip props s)
+    flat_found : t ≡ false → (props : Bytes) → found_at skip props s ≡ flattened (entries_at skip props s)
     unfolding many_children choose
     flat_found z props = let m = many props z in m.0 ∙ rw (many_children, m.1)
-
-    -- without going through them
-    pub found_several : t ≡ false → ((props : Bytes) → 2 ≤ length (entries_at skip props s)) → {r : Found} → r ≡ placed K.Many 0 (length s) → Given skip s r
-    found_several z g {r} q =
-        subst (Given skip s) (sym q)
-        (omega arith, λ props. subst (λ (x : M.Found). Finds skip props x K.Many (take (length s) s)) (sym (flat_found z props)) (flat_all skip props s (g props)))
 
     pub found_many : t ≡ false → (y : Found) → Entered skip s y → (r : Found) → Within r s × Flattened s y r → Given skip s r
     found_many z y g r q =

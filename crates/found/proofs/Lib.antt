@@ -1,6 +1,6 @@
 -- Laws of `found`: `Places` for bytes that stand within others; for each small function what it learns at its returns; `MergeLaws` for the
 -- entries of merged children, by the tag in front; `WalkLaws` and `StepLaws` for the loop of `entries_of`; `FoundLaws` for `found_of`;
--- `SteadyLaws` for entries that stay, `OneLaws` for `gives`, `SeveralLaws` for `has`.
+-- `KnownLaws` for what is known of fragments.
 pub mod Places
 pub mod ItemLaws
 pub mod JoinLaws
@@ -11,6 +11,4 @@ pub mod EnterLaws
 pub mod WalkLaws
 pub mod FoundLaws
 pub mod StepLaws
-pub mod SteadyLaws
-pub mod OneLaws
-pub mod SeveralLaws
+pub mod KnownLaws

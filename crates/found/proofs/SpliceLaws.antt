@@ -27,7 +27,7 @@ kept : (skip props : Bytes) (x : M.Found) (k : Kind) (b : Bytes) → (k ≡ K.No
 unfolding C.spliced
 kept skip props x K.Nothing b h i z = absurd (h refl)
 kept skip props x K.Empty b h i z = ap C.spliced z
-kept skip props x K.Many b h i z = (subst (λ (y : M.Found). 2 ≤ length (C.spliced y)) (sym z.0) z.1, λ n. ap C.spliced z.0)
+kept skip props x (K.Many k) b h i z = (subst (λ (y : M.Found). 2 ≤ length (C.spliced y)) (sym z.0) z.1.0, λ n. (ap C.spliced z.0, z.1.1))
 kept skip props x K.Run b h i z = record { run = z.run; alone = ap C.spliced z.found_is; among_all = z.among_all }
 kept skip props x K.Text b h i z = ap C.spliced z
 kept skip props x K.Element b h i z = (ap C.spliced z.0, z.1)
@@ -82,7 +82,7 @@ module _ (s : Bytes) (f : Found) (w : Within f s) where
                 ∙ (stills_one skip props (read b) (sym o) ∙ ap (λ (y : Bytes). still (first_item skip props (read y)) ∷ []) (sym (stands_part s (f.from + 3) b st))),
           )
 
-      pub splice_more : More ≡ item_count (read b) → {r : Found} → r ≡ placed K.Many 0 0 → Within r s × Spliced s f r
+      pub splice_more : More ≡ item_count (read b) → {r : Found} → r ≡ placed (K.Many 0) 0 0 → Within r s × Spliced s f r
       splice_more o {r} d =
           subst (λ (r : Found). Within r s × Spliced s f r) (sym d) (
             omega arith,

@@ -15,6 +15,7 @@ use Rattle.found.specs.declared.Kind.{Kind}
 use Rattle.found.specs.declared.Kind.TheVariants as K
 use Rattle.found.specs.declared.Found.{Found}
 use Rattle.found.proofs.Places.{Tail, tail_all, length_part}
+use Rattle.found.proofs.KnownLaws.{Reached, reached_all}
 use Rattle.found.proofs.MergeLaws.{run_entries, left_entries, Grows, left_end}
 use Rattle.found.proofs.EnterLaws.{Here, here_some, here_runs, enters_by, then_enters, then_within, run_enters, run_within}
 
@@ -29,6 +30,7 @@ pub record Left (skip props s t : Bytes) (run : Bool) (cur : Found) : Type 0 whe
 -- t is left of s
 pub record Looked (skip s t : Bytes) (run : Bool) (cur : Found) : Type 0 where
   pub tail : Tail s t
+  pub reached : Reached s t
   pub within : Within cur s
   pub found : (props : Bytes) → Left skip props s t run cur
 
@@ -43,11 +45,17 @@ pub record Adds (skip s t r : Bytes) (x : Found) : Type 0 where
 abbrev pub Entered : Bytes → Bytes → Found → Type 0
 Entered skip s r = Within r s × ((props : Bytes) → Enters skip props (Runs skip props) (entries_at skip props s) r.kind (part s r))
 
-settled : (k : Kind) (n : ℕ) → is_settled k n ≡ true → (k ≡ K.Many) × (n ≡ 0)
+-- several, and no place
+record Settled (k : Kind) (n : ℕ) : Type 0 where
+  levels : ℕ
+  kind_is : k ≡ K.Many levels
+  no_place : n ≡ 0
+
+settled : (k : Kind) (n : ℕ) → is_settled k n ≡ true → Settled k n
 unfolding is_settled
 settled K.Nothing n h = absurd (false≢true h)
 settled K.Empty n h = absurd (false≢true h)
-settled K.Many n h = (refl, eqb-true n 0 h)
+settled (K.Many m) n h = record { levels = m; kind_is = refl; no_place = eqb-true n 0 h }
 settled K.Run n h = absurd (false≢true h)
 settled K.Text n h = absurd (false≢true h)
 settled K.Element n h = absurd (false≢true h)
@@ -59,19 +67,20 @@ settled K.Hole n h = absurd (false≢true h)
 pub looked_start : (skip s : Bytes) {cur : Found} → cur ≡ placed K.Empty 0 0 → Looked skip s s false cur
 looked_start skip s {cur} e =
     subst (Looked skip s s false) (sym e)
-    record { tail = tail_all s; within = omega arith; found = λ props. record { buf = []; so_far = []; run_is = refl; all_is = refl; enters = refl } }
+    record { tail = tail_all s; reached = reached_all s; within = omega arith; found = λ props. record { buf = []; so_far = []; run_is = refl; all_is = refl; enters = refl } }
 
 pub not_null : (b c : Bytes) → null? c ≡ false → null? (b ++ c) ≡ false
 not_null [] c h = h
 not_null (x ∷ b) c h = refl
 
 module _ (skip s t : Bytes) (run : Bool) (cur : Found) (k : Looked skip s t run cur) where
-  module _ (r : Bytes) (a : Tail s r) where
+  module _ (r : Bytes) (a : Tail s r) (b : Reached s r) where
     -- nothing comes of the field in front
     pub looked_past : ((props buf : Bytes) → left_entries skip props buf t ≡ left_entries skip props buf r) → Looked skip s r run cur
     looked_past h =
         record {
           tail = a;
+          reached = b;
           within = k.within;
           found = λ props.
               let l = k.found props in
@@ -83,6 +92,7 @@ module _ (skip s t : Bytes) (run : Bool) (cur : Found) (k : Looked skip s t run 
     looked_more h =
         record {
           tail = a;
+          reached = b;
           within = k.within;
           found = λ props.
               let l = k.found props in
@@ -101,6 +111,7 @@ module _ (skip s t : Bytes) (run : Bool) (cur : Found) (k : Looked skip s t run 
     looked_apart {x} m {w} p {y} q =
         record {
           tail = a;
+          reached = b;
           within = then_within s w x (run_within s cur k.within run p) m.inside q;
           found = λ props.
               let l = k.found props in
@@ -129,9 +140,9 @@ module _ (skip s t : Bytes) (run : Bool) (cur : Found) (k : Looked skip s t run 
         let d = settled cur.kind cur.len (sym e ∙ z) in
         let l = k.found props in
         let rest : List Entry = left_entries skip props l.buf t in
-        let n : 2 ≤ length l.so_far = (subst (λ (c : Kind). Enters skip props (Here skip props s) l.so_far c (part s cur)) d.0 l.enters).0 in
-        subst (λ (c : Kind). Enters skip props (Runs skip props) (entries_at skip props s) c (part s cur)) (sym d.0)
-        (omega (arith, ap length l.all_is, length-append l.so_far rest), λ m. absurd (m (length_part s cur.from cur.len k.within ∙ d.1))),
+        let n : 2 ≤ length l.so_far = (subst (λ (c : Kind). Enters skip props (Here skip props s) l.so_far c (part s cur)) d.kind_is l.enters).0 in
+        subst (λ (c : Kind). Enters skip props (Runs skip props) (entries_at skip props s) c (part s cur)) (sym d.kind_is)
+        (omega (arith, ap length l.all_is, length-append l.so_far rest), λ m. absurd (m (length_part s cur.from cur.len k.within ∙ d.no_place))),
   )
 
   -- nothing is left

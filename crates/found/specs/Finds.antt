@@ -1,9 +1,9 @@
 -- What the children of a call give, by a kind and a place in the bytes that hold them. Assumes nothing: these are definitions.
-use Rattle.std.specs.Prelude.{ℕ, ◌+◌, ◌≤◌, Bool, true, false, List, [], ◌∷◌, ◌≡◌, eqb, length, take, drop}
+use Rattle.std.specs.Prelude.{ℕ, zero, suc, ◌+◌, ◌≤◌, Bool, true, false, ◌&&◌, List, [], ◌∷◌, ◌≡◌, eqb, ltb, length, take, drop}
 use Rattle.std.proofs.Math.Option.{Option, none, some}
 use Rattle.field.specs.Bytes.{Bytes, pick, null?}
 use Rattle.field.specs.Row.{Row, end, loose, field, read}
-use Rattle.field.specs.Front.{tag_of_front, body_of}
+use Rattle.field.specs.Front.{tag_of_front, body_of, behind_of}
 use Rattle.text.specs.Text.{jsx_text_to_str}
 use Rattle.page.specs.Tree.{expr_in, items_in, Contained, nothing_contained, contained}
 use Rattle.spec.specs.Pass as S
@@ -49,6 +49,40 @@ module _ (skip props : Bytes) where
   abbrev pub found_at : Bytes → M.Found
   found_at s = children_to_expr (kids s)
 
+-- ---- what is known of fragments, whatever 03 lists
+
+-- what is left behind so many fields
+unfoldable pub behind_fields : ℕ → Bytes → Bytes
+behind_fields zero s = s
+behind_fields (suc n) s = behind_fields n (behind_of s)
+
+-- of the body of each fragment among the fields of s
+abbrev pub EachFragment : (Bytes → Type 0) → Bytes → Type 0
+EachFragment P s = (n : ℕ) → tag_of_front (behind_fields n s) ≡ 0x31 → P (body_of (behind_fields n s))
+
+-- children give several entries, their own
+abbrev pub Several : Bytes → Bytes → Type 0
+Several skip s = (props : Bytes) → (found_at skip props s ≡ array_found (entries_at skip props s)) × (2 ≤ length (entries_at skip props s))
+
+-- more than half of n bytes
+abbrev pub is_most : ℕ → ℕ → Bool
+is_most n m = ltb n (m + m)
+
+-- so many levels deep: a fragment that is more than half of n bytes gives several, and this is known of those in it
+unfoldable pub KnownOf : ℕ → Bytes → ℕ → Bytes → Type 0
+KnownOf zero skip n b = Unit {0}
+KnownOf (suc k) skip n b = is_most n (length b) ≡ true → Several skip b × EachFragment (KnownOf k skip (length b)) b
+
+abbrev pub Known : ℕ → Bytes → Bytes → Type 0
+Known k skip s = EachFragment (KnownOf k skip (length s)) s
+
+-- by the k levels that are known of a fragment of m bytes, which gives what stands in l of them, those that are known of the n bytes around it
+abbrev pub known_around : ℕ → ℕ → ℕ → ℕ → ℕ
+known_around n m l k = pick (eqb l m && (is_most n m && ltb k n)) (suc k) 0
+
+-- ---- what kinds and places say
+
+module _ (skip props : Bytes) where
   -- the expression in front
   abbrev pub expr_at : Bytes → Mid
   expr_at s = expr (opts skip props) (expr_in (read s)) S.none
@@ -70,19 +104,19 @@ module _ (skip props : Bytes) where
   element_entry b = passed (serialize_jsx (element_at skip props (body_of b)))
 
   abbrev pub template_entry : Bytes → Entry
-  template_entry b = passed (template_pass (kids b))
+  template_entry b = passed (template_pass (kids skip props b))
 
   -- a run is all that the children in b give
   pub record Runs (es : List Entry) (b : Bytes) : Type 0 where
     pub run : Bytes
     pub alone : es ≡ still (string_node run) ∷ []
-    pub among_all : entries_at b ≡ still (string_node run) ∷ []
+    pub among_all : entries_at skip props b ≡ still (string_node run) ∷ []
 
   -- entries are what a kind and the bytes of its place say; a run by R; several are those of the children in the place, where it has bytes
   abbrev pub Enters : (R : List Entry → Bytes → Type 0) → List Entry → Kind → Bytes → Type 0
   Enters R es K.Nothing b = ⊥
   Enters R es K.Empty b = es ≡ []
-  Enters R es K.Many b = (2 ≤ length es) × ((length b ≡ 0 → ⊥) → es ≡ entries_at b)
+  Enters R es (K.Many k) b = (2 ≤ length es) × ((length b ≡ 0 → ⊥) → (es ≡ entries_at skip props b) × Known k skip b)
   Enters R es K.Run b = R es b
   Enters R es K.Text b = es ≡ text_entry b ∷ []
   Enters R es K.Element b = (es ≡ element_entry b ∷ []) × (tag_of_front b ≡ 0x30)
@@ -94,13 +128,13 @@ module _ (skip props : Bytes) where
   pub record RunFound (f : M.Found) (b : Bytes) : Type 0 where
     pub run : Bytes
     pub found_is : f ≡ one_found (still (string_node run))
-    pub among_all : entries_at b ≡ still (string_node run) ∷ []
+    pub among_all : entries_at skip props b ≡ still (string_node run) ∷ []
 
   -- what children give is what a kind and the bytes of its place say
   abbrev pub Finds : M.Found → Kind → Bytes → Type 0
   Finds f K.Nothing b = f ≡ nothing_found
   Finds f K.Empty b = f ≡ array_found []
-  Finds f K.Many b = (f ≡ array_found (entries_at b)) × (2 ≤ length (entries_at b))
+  Finds f (K.Many k) b = (f ≡ array_found (entries_at skip props b)) × ((2 ≤ length (entries_at skip props b)) × Known k skip b)
   Finds f K.Run b = RunFound f b
   Finds f K.Text b = f ≡ one_found (text_entry b)
   Finds f K.Element b = (f ≡ one_found (element_entry b)) × (tag_of_front b ≡ 0x30)
@@ -133,7 +167,7 @@ item_count (field t f i (field u g j r)) = More
 unfoldable pub is_empty : Kind → Bool
 is_empty K.Nothing = false
 is_empty K.Empty = true
-is_empty K.Many = false
+is_empty (K.Many k) = false
 is_empty K.Run = false
 is_empty K.Text = false
 is_empty K.Element = false
@@ -144,13 +178,13 @@ is_empty K.Hole = false
 
 -- entries, and others behind them
 abbrev pub then_found : Found → Found → Found
-then_found a b = pick (is_empty a.kind) b (pick (is_empty b.kind) a (placed K.Many 0 0))
+then_found a b = pick (is_empty a.kind) b (pick (is_empty b.kind) a (placed (K.Many 0) 0 0))
 
 -- several, in a place of n bytes: none
 unfoldable pub is_settled : Kind → ℕ → Bool
 is_settled K.Nothing n = false
 is_settled K.Empty n = false
-is_settled K.Many n = eqb n 0
+is_settled (K.Many k) n = eqb n 0
 is_settled K.Run n = false
 is_settled K.Text n = false
 is_settled K.Element n = false

@@ -5,15 +5,12 @@ ghost use Rattle.std.specs.Prelude.{◌≡◌, ◌+◌, ◌<◌, ◌^◌, length
 ghost use Rattle.field.specs.Bytes.{Bytes};
 ghost use Rattle.field.specs.Row.{read};
 ghost use Rattle.page.specs.Tree.{contained_in};
-ghost use Rattle.found.specs.Finds.{Within, part, placed, Runs, Enters, Finds, Flattened, Spliced, item_count, joined_of, then_found, run_found, is_settled, entries_at, found_at};
+ghost use Rattle.found.specs.Finds.{Within, part, placed, Runs, Enters, Finds, Flattened, Spliced, KnownOf, item_count, joined_of, then_found, run_found, is_settled, is_most, known_around, entries_at, found_at};
 
-use crate::several::has;
 use decisions::children::{Count, becomes_template, children_at};
 use decisions::expr::{Shape, shape_at};
 use field::reader::{Field, Fields, body, field_at};
 use text::jsx_text::is_blank;
-
-mod several;
 
 // 01, What must change shape: "`Option<Expr>` becomes an enum with a place". So no expression is a kind like the others, and not an Option of
 // the rest.
@@ -24,8 +21,9 @@ pub enum Kind {
     // an array of no elements
     Empty,
     // an array of several, those of the children in the place; a place of no bytes, which is never answered, stands for none, since a kind of
-    // its own would be one more for each caller to tell apart
-    Many,
+    // its own would be one more for each caller to tell apart. The number says for how many levels it is known of the fragment that is more than
+    // half of the children around it that it gives several too, so that none of these levels is gone through again when its entries are written
+    Many(usize),
     // a run of texts, among the children in the place
     Run,
     // a text alone, in front of the place
@@ -124,8 +122,7 @@ fn nowhere(kind: Kind) -> Found
     place(kind, 0, &[])
 }
 
-// The only entry, taken out of its array: a spread is dropped, a hole stays. Several that one fragment alone gives keep its place, so that no
-// level above looks at them again.
+// The only entry, taken out of its array: a spread is dropped, a hole stays.
 fn flattened(s: &[u8], f: Found) -> Found
     requires { Within f s.now }
     ensures { Within result s.now × Flattened s.now f result }
@@ -143,9 +140,9 @@ fn flattened(s: &[u8], f: Found) -> Found
             },
         },
         // No guard: the arm below it would not learn what the kind is not.
-        Kind::Many => {
+        Kind::Many(_) => {
             if f.len == 0 {
-                place(Kind::Many, 0, s)
+                place(Kind::Many(0), 0, s)
             } else {
                 f
             }
@@ -165,7 +162,7 @@ fn spliced(s: &[u8], f: Found) -> Found
             Some(Field { tag: 0x76, body }) => match item_count(body) {
                 Count::Zero => nowhere(Kind::Empty),
                 Count::One => place(Kind::Item, f.from + 3, body),
-                Count::More => nowhere(Kind::Many),
+                Count::More => nowhere(Kind::Many(0)),
             },
             _ => f,
         },
@@ -181,7 +178,7 @@ fn then(a: Found, b: Found) -> Found
     match (a.kind, b.kind) {
         (Kind::Empty, _) => b,
         (_, Kind::Empty) => a,
-        _ => nowhere(Kind::Many),
+        _ => nowhere(Kind::Many(0)),
     }
 }
 
@@ -201,10 +198,31 @@ fn with_run(a: Found, run: bool, s: &[u8]) -> Found
 fn is_settled(f: Found) -> bool
     ensures { result ≡ is_settled f.kind f.len }
 {
-    matches!(f.kind, Kind::Many) && f.len == 0
+    matches!(f.kind, Kind::Many(_)) && f.len == 0
 }
 
-// The entries of merged children: none, one and where it stands, or several, with a place where one fragment alone gives them.
+// Whether a fragment is more than half of the children around it: no two that stand beside each other are.
+fn is_most(s: &[u8], b: &[u8]) -> bool
+    requires { length b.now < 2 ^ 62 }
+    ensures { result ≡ is_most (length s.now) (length b.now) }
+{
+    s.len() < b.len() + b.len()
+}
+
+// For how many levels several entries are known of the children in s, by those of the fragment b among them, which stand in a place of so many
+// bytes. That there are fewer levels than bytes is tested here, once a level, so that no contract has to speak of it.
+fn known_around(s: &[u8], b: &[u8], len: usize, known: usize) -> usize
+    requires { length b.now < 2 ^ 62 }
+    ensures { result ≡ known_around (length s.now) (length b.now) len known }
+{
+    if len == b.len() && is_most(s, b) && known < s.len() {
+        known + 1
+    } else {
+        0
+    }
+}
+
+// The entries of merged children: none, one and where it stands, or several, with a place where a fragment gives them.
 #[cycle(found)]
 fn entries_of(skip: &[u8], s: &[u8]) -> Found
     requires { length s.now < 2 ^ 62 }
@@ -218,9 +236,12 @@ fn entries_of(skip: &[u8], s: &[u8]) -> Found
         // The field's place, by what is left behind it: what was left before it would be one more variable, set in each turn.
         let at = s.len() - fields.0.len() - b.len() - 3;
         let x = match field.tag {
-            // a run that has something needs no test
             0x60 => {
-                run = run || !is_blank(b, false);
+                // a run that has something needs no test
+                if run || is_blank(b, false) {
+                    continue;
+                }
+                run = true;
                 continue;
             }
             0x52 => match joined_at(b) {
@@ -232,7 +253,13 @@ fn entries_of(skip: &[u8], s: &[u8]) -> Found
                 Joined::Apart => place(Kind::Expr, at + 3, b),
             },
             0x30 => place(Kind::Element, at, &s[at..]),
-            0x31 => spliced(b, found_of(skip, b)).inside(at + 3),
+            0x31 => {
+                let f = found_of(skip, b);
+                if let Kind::Many(known) = f.kind {
+                    return place(Kind::Many(known_around(s, b, f.len, known)), 0, s);
+                }
+                spliced(b, f).inside(at + 3)
+            }
             _ => continue,
         };
         cur = then(with_run(cur, run, s), x);
@@ -266,15 +293,30 @@ pub fn found_of(skip: &[u8], s: &[u8]) -> Found
                 None => nowhere(Kind::Nothing),
             },
             0x30 => place(Kind::Element, at, a),
-            0x31 => found_of(skip, b).inside(at + 3),
+            0x31 => {
+                let f = found_of(skip, b);
+                if let Kind::Many(known) = f.kind {
+                    return place(Kind::Many(known_around(a, b, f.len, known)), at, a);
+                }
+                f.inside(at + 3)
+            }
             _ => nowhere(Kind::Nothing),
         };
     }
     if becomes_template(skip, s) {
         return place(Kind::Template, 0, s);
     }
-    if has(skip, s, 2) {
-        return place(Kind::Many, 0, s);
-    }
     flattened(s, entries_of(skip, s))
+}
+
+// The same of a fragment among the children in s, of which so many levels are known.
+pub fn found_in(skip: &[u8], s: &[u8], b: &[u8], known: usize) -> Found
+    requires { (length b.now < 2 ^ 62) × KnownOf known skip.now (length s.now) b.now }
+    ensures { Within result b.now × ((props : Bytes) → Finds skip.now props (found_at skip.now props b.now) result.kind (part b.now result)) }
+{
+    if 0 < known && is_most(s, b) {
+        place(Kind::Many(known - 1), 0, b)
+    } else {
+        found_of(skip, b)
+    }
 }

@@ -77,7 +77,7 @@ module _ (skip props : Bytes) (j : ℕ) where
   unfolding found_out found_pass entry_pass pure element_at element_of
   found_stands f K.Nothing b e = ap lacks e
   found_stands f K.Empty b e = ap lacks e ∙ array_stands j []
-  found_stands f K.Many b e = ap lacks e.0 ∙ array_stands j (Finds.entries_at skip props b)
+  found_stands f (K.Many k) b e = ap lacks e.0 ∙ array_stands j (Finds.entries_at skip props b)
   found_stands f K.Run b e = ap lacks e.found_is
   found_stands f K.Text b e = ap lacks e
   found_stands f K.Element b e =

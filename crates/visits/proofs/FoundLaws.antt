@@ -32,7 +32,7 @@ use Rattle.decisions.proofs.Series.{any_front, expr_76}
 use Rattle.strings.specs.Carve.{child_parts}
 use Rattle.strings.proofs.FrontSizes.{body_le}
 use Rattle.strings.proofs.MergeLaws.{direct, child_direct}
-use Rattle.found.specs.Finds.{part, kids, entries_at, found_at, template_pass, Finds, RunFound}
+use Rattle.found.specs.Finds.{part, kids, entries_at, found_at, template_pass, Known, Finds, RunFound}
 use Rattle.found.specs.declared.Kind.{Kind}
 use Rattle.found.specs.declared.Kind.TheVariants as K
 use Rattle.walk.specs.declared.state.Walk.{Walk}
@@ -170,6 +170,9 @@ module _ {skip props s : Bytes} {f : Place} (g : Given skip props s f) {u : Byte
   found_as k e =
       subst (λ (x : Bytes). Finds skip props (found_at skip props s) k x) (sym ue)
       (subst (λ (x : Kind). Finds skip props (found_at skip props s) x (part s f)) e g.finds)
+
+  pub many_known : {d : ℕ} → f.kind ≡ K.Many d → Known d skip u
+  many_known {d} k = (found_as (K.Many d) k).1.1
 
   pub found_short : length u ≤ length s
   found_short = omega (arith, g.within, ap length ue, length-take-le f.len (drop f.from s) (omega (arith, g.within, length-drop f.from s)))
@@ -331,20 +334,20 @@ module _ {skip props s : Bytes} {f : Place} (g : Given skip props s f) {u : Byte
           array_done {p₃} {st₃} =
               field_if_done (not b) 0x76 (act (entries_pass es)) (act_grows (entries_pass es)) t p st (given_out skip props s b (at t p st)) array_is st₁ n t₂ p₂ st₂ v p₃ st₃
 
-    module _ (k : f.kind ≡ K.Many) where
+    module _ {d : ℕ} (k : f.kind ≡ K.Many d) where
       pub many_begin : Low (given_out skip props s b (at t p st)).st → st.page + 3 < 2 ^ 63
-      many_begin = array_begin (entries_at skip props u) (found_as K.Many k).0
+      many_begin = array_begin (entries_at skip props u) (found_as (K.Many d) k).0
 
       module _ {st₁ : Walk} (n : at [] [] st₁ ≡ begun_if (not b) (at [] [] st)) where
         pub many_room : {scratch : Bytes} → Room scratch s (given_out skip props s b (at t p st)) → Room scratch u (act (entries_pass (entries_at skip props u)) (at t p st₁))
-        many_room {scratch} r = room_part scratch scratch s u r refl found_short (array_inner (entries_at skip props u) (found_as K.Many k).0 n r.low)
+        many_room {scratch} r = room_part scratch scratch s u r refl found_short (array_inner (entries_at skip props u) (found_as (K.Many d) k).0 n r.low)
 
         module _ {t₂ p₂ : Bytes} {st₂ : Walk} (v : at t₂ p₂ st₂ ≡ act (entries_pass (entries_at skip props u)) (at t p st₁)) where
           pub many_end : Low (given_out skip props s b (at t p st)).st → (not b ≡ true → st.page + 3 ≤ st₂.page) × Low st₂
-          many_end = array_end (entries_at skip props u) (found_as K.Many k).0 n v
+          many_end = array_end (entries_at skip props u) (found_as (K.Many d) k).0 n v
 
           pub many_done : {p₃ : Bytes} {st₃ : Walk} → at [] p₃ st₃ ≡ wrap_if (not b) 0x76 st.page (at [] p₂ st₂) → at t₂ p₃ st₃ ≡ given_out skip props s b (at t p st)
-          many_done = array_done (entries_at skip props u) (found_as K.Many k).0 n v
+          many_done = array_done (entries_at skip props u) (found_as (K.Many d) k).0 n v
 
     module _ (k : f.kind ≡ K.Empty) where
       pub empty_begin : Low (given_out skip props s b (at t p st)).st → st.page + 3 < 2 ^ 63

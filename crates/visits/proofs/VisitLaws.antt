@@ -274,7 +274,7 @@ module _ (skip props b : Bytes) where
   unfolding found_pass entry_pass pure map raise gen_template
   finds_untagged x F.Nothing e u n = absurd (false≢true (sym u))
   finds_untagged x F.Empty e u n = ap (λ (y : M.Found). is_raw (found_pass y n).value) e
-  finds_untagged x F.Many e u n = ap (λ (y : M.Found). is_raw (found_pass y n).value) e.0
+  finds_untagged x (F.Many k) e u n = ap (λ (y : M.Found). is_raw (found_pass y n).value) e.0
   finds_untagged x F.Run e u n = ap (λ (y : M.Found). is_raw (found_pass y n).value) e.found_is
   finds_untagged x F.Text e u n = ap (λ (y : M.Found). is_raw (found_pass y n).value) e
   finds_untagged x F.Element e u n = ap (λ (y : M.Found). is_raw (found_pass y n).value) e.0 ∙ element_untagged skip props (body_of b) n
@@ -335,7 +335,7 @@ module _ (skip props b : Bytes) (n : ℕ) where
   unfolding visit_found
   visit_given x F.Nothing e u = absurd (false≢true (sym u))
   visit_given x F.Empty e u = subst (λ (y : M.Found). visit_found y n ≡ visit_after (found_pass y) n) (sym e) refl
-  visit_given x F.Many e u = subst (λ (y : M.Found). visit_found y n ≡ visit_after (found_pass y) n) (sym e.0) refl
+  visit_given x (F.Many k) e u = subst (λ (y : M.Found). visit_found y n ≡ visit_after (found_pass y) n) (sym e.0) refl
   visit_given x F.Run e u = subst (λ (y : M.Found). visit_found y n ≡ visit_after (found_pass y) n) (sym e.found_is) refl
   visit_given x F.Text e u = subst (λ (y : M.Found). visit_found y n ≡ visit_after (found_pass y) n) (sym e) refl
   visit_given x F.Element e u = subst (λ (y : M.Found). visit_found y n ≡ visit_after (found_pass y) n) (sym e.0) refl
@@ -348,7 +348,7 @@ module _ (skip props b : Bytes) (n : ℕ) where
   unfolding visit_found
   visit_left x F.Nothing e u = ap (λ (y : M.Found). visit_found y n) e
   visit_left x F.Empty e u = absurd (false≢true u)
-  visit_left x F.Many e u = absurd (false≢true u)
+  visit_left x (F.Many k) e u = absurd (false≢true u)
   visit_left x F.Run e u = absurd (false≢true u)
   visit_left x F.Text e u = absurd (false≢true u)
   visit_left x F.Element e u = absurd (false≢true u)

@@ -63,7 +63,7 @@ found_out false f = found_pass f
 abbrev pub is_found : Kind → Bool
 is_found F.Nothing = false
 is_found F.Empty = true
-is_found F.Many = true
+is_found (F.Many k) = true
 is_found F.Run = true
 is_found F.Text = true
 is_found F.Element = true
@@ -76,7 +76,7 @@ is_found F.Hole = true
 abbrev pub is_left : Kind → Bytes → Bool
 is_left F.Nothing b = true
 is_left F.Empty b = false
-is_left F.Many b = false
+is_left (F.Many k) b = false
 is_left F.Run b = false
 is_left F.Text b = false
 is_left F.Element b = false

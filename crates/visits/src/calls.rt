@@ -8,6 +8,7 @@ ghost use Rattle.spec.specs.Output.{dynamic_exprs};
 ghost use Rattle.spec.specs.Attributes.{attrs_parts, props_of};
 ghost use Rattle.spec.specs.Children.{serialize_jsx, children_to_string, children_to_expr, entries, entries_pass};
 ghost use Rattle.decisions.specs.At.{opts, element_at, attributes_at, children_at, serializable, under};
+ghost use Rattle.found.specs.Finds.{Known};
 ghost use Rattle.walk.specs.See.{at, see, act};
 ghost use Rattle.visits.specs.Visiting.{expr_at, held_at, items_at, pieces_at, element_mid, fragment_mid, template_mid, found_mid, found_out, Given, Room};
 
@@ -17,7 +18,7 @@ use decisions::children::{Children, children_of};
 use decisions::element::{inner_children, is_component, is_serializable};
 use decisions::options::Options;
 use field::reader::{Field, Fields, behind, body, field_at};
-use found::{Found, Kind, found_of};
+use found::{Found, Kind, found_in, found_of};
 use records::{record_found, record_fragment, record_serialize};
 use strings::joins;
 use walk::attribute::{
@@ -456,14 +457,16 @@ fn to_found(
             let c = to_parts(options, u, scratch, templates, page, a);
             close(page, c, p, 0x90)
         }
-        Kind::Run => to_entries(options, u, scratch, templates, page, st),
+        Kind::Run => to_entries(options, u, 0, scratch, templates, page, st),
         Kind::Expr => match elements(u, splice) {
             Some(items) => on_items(options, items, scratch, templates, page, st),
             None => on_expr(options, u, scratch, templates, page, st),
         },
-        Kind::Many if splice => to_entries(options, u, scratch, templates, page, st),
-        Kind::Many => {
-            let c = to_entries(options, u, scratch, templates, page, begin(st));
+        Kind::Many(known) if splice => {
+            to_entries(options, u, known, scratch, templates, page, st)
+        }
+        Kind::Many(known) => {
+            let c = to_entries(options, u, known, scratch, templates, page, begin(st));
             close(page, c, p, 0x76)
         }
         Kind::Empty if splice => st,
@@ -477,12 +480,14 @@ fn to_found(
 fn to_entries(
     options: &Options<'_>,
     s: &[u8],
+    known: usize,
     scratch: &mut [u8],
     templates: &mut [u8],
     page: &mut [u8],
     st: Walk,
 ) -> Walk
-    requires { Room scratch.old s.now (act (entries_pass (entries (merge false false [] (under options.now children_at (read s.now))))) (at templates.old page.old st)) }
+    requires known { Known known options.now.skip.now s.now }
+    requires room { Room scratch.old s.now (act (entries_pass (entries (merge false false [] (under options.now children_at (read s.now))))) (at templates.old page.old st)) }
     ensures { at templates.new page.new result ≡ act (entries_pass (entries (merge false false [] (under options.now children_at (read s.now))))) (at templates.old page.old st) }
 {
     let mut cur = st;
@@ -509,7 +514,7 @@ fn to_entries(
             0x31 => {
                 let a = flush(page, cur, run);
                 run = 0;
-                let f = found_of(options.skip, b);
+                let f = found_in(options.skip, s, b, known);
                 cur = to_found(options, b, f, true, scratch, templates, page, a);
             }
             _ => {}

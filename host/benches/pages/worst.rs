@@ -234,6 +234,12 @@ fn fragments() -> Vec<Set> {
         tag(&format!("fragments, {name}"), element("F", &[inner, braces(null())]))
     };
     let behind = |name: &str, deepest: Vec<Vec<u8>>| beside(name, deepest, vec![], braces(null()));
+    // An array of no elements is an entry, and none where it is taken out of an array, so that what the deepest gives decides at each level.
+    let empty = || braces(array(&[]));
+    let emptied = |name: &str, deepest: Vec<Vec<u8>>| {
+        let inner = around(42, fragment(&deepest), |x| fragment(&[x, empty()]));
+        tag(&format!("fragments, {name}"), element("F", &[inner, braces(null())]))
+    };
     let nine_thousand = vec![empty_braces(); 9_000];
     let one_entry = fragment(&[braces(null()), empty_braces()]);
     let no_entry = fragment(&[empty_braces(), empty_braces()]);
@@ -258,7 +264,9 @@ fn fragments() -> Vec<Set> {
         beside("a fragment behind each", nine_thousand.clone(), vec![], one_entry.clone()),
         beside("fragments beside each", nine_thousand.clone(), vec![no_entry], one_entry.clone()),
         beside("blanks at each", vec![], vec![empty_braces(); 200], one_entry),
-        beside("an empty array behind each", nine_thousand, vec![], braces(array(&[]))),
+        beside("an empty array behind each", nine_thousand.clone(), vec![], empty()),
+        emptied("empty arrays alone", [nine_thousand.clone(), vec![empty(), empty()]].concat()),
+        emptied("empty arrays around nothing", nine_thousand),
         Set::under("fragments, 02 full, calls", field(2, &list), page_of(called(&fill(500, &i())))),
     ]
 }

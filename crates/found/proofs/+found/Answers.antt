@@ -1,5 +1,5 @@
 -- The invariant: what was found is the entries so far, and what is left gives the others.
-use mathlib.Core.Path.{◌≡◌, ◌∙◌}
+use mathlib.Core.Path.{◌≡◌, sym, ◌∙◌}
 use mathlib.Core.Bool.{false}
 use Prim.Native.Nat.{ℕ}
 use native.Mathlib.Omega.{arith}
@@ -10,19 +10,24 @@ use Rattle.decisions.specs.At.{few}
 use Rattle.decisions.proofs.ChildrenLaws.{few_one, few_more}
 use Rattle.found.proofs.Places.{no_bytes, some_bytes, not_none}
 use Rattle.found.proofs.WalkLaws.{Looked, looked_start, looked_many, looked_end}
-use Rattle.found.proofs.StepLaws.{step_text, step_joined, step_more, adds_expr, adds_element, adds_fragment, step_apart, step_other}
-use Rattle.found.proofs.FoundLaws.{Only, found_none, found_60, found_52, found_empty, found_30, found_31, found_61, found_template, found_several, found_many}
+use Rattle.found.proofs.StepLaws.{step_text, step_joined, step_more, adds_expr, adds_element, adds_fragment, step_apart, step_several, step_other}
+use Rattle.found.proofs.FoundLaws.{Only, found_none, found_60, found_52, found_empty, found_30, found_31, found_61, found_template, found_known, found_many}
 use Rattle.found.proofs.+found.Goals as goal
-use Rattle.found.proofs.+found.Goals.{entries_of-After-then-cur, entries_of-in-82+in-Apart, entries_of-in-48, entries_of-in-49, found_of-Then-is_empty, found_of-Else-is_empty}
+use Rattle.found.proofs.+found.Goals.{entries_of-After-then-cur, entries_of-then-run-via-then-run, entries_of-then-run-via-else-run+then-is_blank, entries_of-in-82+in-Apart, entries_of-in-48, entries_of-in-49+in_default-kind, found_of-Then-is_empty, found_of-Else-is_empty}
 
 pub entries_of-loop-field-init : goal.entries_of-loop-field-init
 entries_of-loop-field-init t c = looked_start _ _ c.nowhere-cur.ensures
 
 pub entries_of-loop-field-preserved-then-run : goal.entries_of-loop-field-preserved-then-run
-entries_of-loop-field-preserved-then-run t c = step_text _ _ _ _ _ c.loop-field.invariant c.in-Some.ensures.steps c.in-96.is (rw c.if-run.true)
+entries_of-loop-field-preserved-then-run t c =
+    step_text _ _ _ _ _ c.loop-field.invariant c.in-Some.ensures.steps c.in-96.is
+    (elim c.then-run.branch [
+      | entries_of-then-run-via-then-run w ↦ rw w.if-run.true
+      | entries_of-then-run-via-else-run+then-is_blank w ↦ rw (w.if-run.false, sym w.is_blank.ensures ∙ w.if-is_blank.true)
+    ])
 
-pub entries_of-loop-field-preserved-else-run : goal.entries_of-loop-field-preserved-else-run
-entries_of-loop-field-preserved-else-run t c = step_text _ _ _ _ _ c.loop-field.invariant c.in-Some.ensures.steps c.in-96.is (rw (c.if-run.false, c.is_blank.ensures))
+pub entries_of-loop-field-preserved-in-96 : goal.entries_of-loop-field-preserved-in-96
+entries_of-loop-field-preserved-in-96 t c = step_text _ _ _ _ _ c.loop-field.invariant c.in-Some.ensures.steps c.in-96.is (rw (c.if-run.false, sym c.is_blank.ensures ∙ c.if-is_blank.false))
 
 pub entries_of-loop-field-preserved-in-Nothing : goal.entries_of-loop-field-preserved-in-Nothing
 entries_of-loop-field-preserved-in-Nothing t c = step_joined _ _ _ _ _ c.loop-field.invariant c.in-Some.ensures.steps c.in-82.is c.in-Nothing.ensures
@@ -42,7 +47,7 @@ taken_up t c =
     (elim c.match-field.branch [
       | entries_of-in-82+in-Apart w ↦ adds_expr _ _ _ a f w.in-82.is w.in-Apart.ensures (w.x-is ∙ w.place.ensures)
       | entries_of-in-48 w ↦ adds_element _ _ _ a f w.in-48.is (w.x-is ∙ w.place-x.ensures)
-      | entries_of-in-49 w ↦ adds_fragment _ _ _ a f w.in-49.is _ w.found_of.ensures _ w.spliced.ensures (w.x-is ∙ w.inside-x.ensures)
+      | entries_of-in-49+in_default-kind w ↦ adds_fragment _ _ _ a f w.in-49.is _ w.found_of-f.ensures _ w.spliced.ensures (w.x-is ∙ w.inside-x.ensures)
     ]) c.with_run.ensures c.then-cur.ensures
 
 pub entries_of-returns-then-is_settled : goal.entries_of-returns-then-is_settled
@@ -50,6 +55,9 @@ entries_of-returns-then-is_settled t c = looked_many _ _ _ _ _ (taken_up t (goal
 
 pub entries_of-loop-field-preserved : goal.entries_of-loop-field-preserved
 entries_of-loop-field-preserved t c = taken_up t (goal.at.entries_of-loop-field-preserved t c).After-then-cur
+
+pub entries_of-returns-in-Many : goal.entries_of-returns-in-Many
+entries_of-returns-in-Many t c = step_several _ _ _ _ _ c.loop-field.invariant c.in-Some.ensures.steps c.in-49.is _ c.found_of-f.ensures c.in-Many.is c.known_around.ensures c.place-in-Many.ensures
 
 pub entries_of-returns : goal.entries_of-returns
 entries_of-returns t c = looked_end _ _ _ _ _ c.loop-field.invariant c.in_default.ensures.steps.ended c.with_run-2.ensures
@@ -86,17 +94,17 @@ found_of-returns-in-None t c = found_empty _ _ (only t (goal.at.found_of-returns
 pub found_of-returns-in-48 : goal.found_of-returns-in-48
 found_of-returns-in-48 t c = found_30 _ _ (only t (goal.at.found_of-returns-in-48 t c).Then-is_empty) c.in-48.is c.place-in-48.ensures
 
-pub found_of-returns-in-49 : goal.found_of-returns-in-49
-found_of-returns-in-49 t c = found_31 _ _ (only t (goal.at.found_of-returns-in-49 t c).Then-is_empty) c.in-49.is _ c.found_of.ensures c.inside.ensures
+pub found_of-returns-in-Many : goal.found_of-returns-in-Many
+found_of-returns-in-Many t c = found_known _ _ (only t (goal.at.found_of-returns-in-Many t c).Then-is_empty) c.in-49.is _ c.found_of-f.ensures c.in-Many.is c.known_around.ensures c.place-in-Many.ensures
+
+pub found_of-returns-in_default-kind : goal.found_of-returns-in_default-kind
+found_of-returns-in_default-kind t c = found_31 _ _ (only t (goal.at.found_of-returns-in_default-kind t c).Then-is_empty) c.in-49.is _ c.found_of-f.ensures c.inside.ensures
 
 pub found_of-returns-in_default-tag : goal.found_of-returns-in_default-tag
 found_of-returns-in_default-tag t c = found_61 _ _ (only t (goal.at.found_of-returns-in_default-tag t c).Then-is_empty) (grind arith) (grind arith) (grind arith) (grind arith) c.nowhere-in_default-tag.ensures
 
 pub found_of-returns-then-becomes_template : goal.found_of-returns-then-becomes_template
 found_of-returns-then-becomes_template t c = found_template _ _ (more t (goal.at.found_of-returns-then-becomes_template t c).Else-is_empty) c.becomes_template.ensures c.if-becomes_template.true c.place-then-becomes_template.ensures
-
-pub found_of-returns-then-has : goal.found_of-returns-then-has
-found_of-returns-then-has t c = found_several _ _ (more t (goal.at.found_of-returns-then-has t c).Else-is_empty) c.becomes_template.ensures c.if-becomes_template.false (c.has.ensures c.if-has.true) c.place-then-has.ensures
 
 pub found_of-returns : goal.found_of-returns
 found_of-returns t c = found_many _ _ (more t (goal.at.found_of-returns t c).Else-is_empty) c.becomes_template.ensures c.if-becomes_template.false _ c.entries_of.ensures _ c.flattened.ensures

@@ -15,7 +15,8 @@ use Rattle.strings.proofs.FrontSizes.{behind_le}
 use Rattle.visits.proofs.CallLaws.{prop_front_room, prop_held_room, prop_back_page, prop_back_room, prop_on, spread_begin as to_props_spread_begin, spread_inner as to_props_spread_inner, spread_close as to_props_spread_close, spread_on as to_props_spread_on, props_end}
 use Rattle.visits.proofs.CallSteps.{begin_asked, name_asked, bare_asked, bare_close_asked, bare_done, props_begin_asked, props_asked, front_asked, found_asked, child_asked, closed_asked, key_as, braces_as, key_asked, keyed_asked, keyed_done, string_asked, string_closed, string_done, keyless_asked, keyless_done}
 use Rattle.visits.proofs.EntryLaws.{entering_start, text_room, text_on, joined_room, joined_on, expr_run, expr_room, expr_on, element_run, element_room, element_on, fragment_run, fragment_room, fragment_on, other_on, last_run, entering_end}
-use Rattle.visits.proofs.FoundLaws.{found_short, element_short, items_short, nothing_done, item_done, text_room as to_found_text_room, text_done, hole_room as to_found_hole_room, hole_done, element_room as to_found_element_room, element_done as to_found_element_done, run_room, run_done, expr_room as to_found_expr_room, expr_done, items_room, items_done, merged_begin, merged_room, merged_end, merged_done, many_begin, many_room, many_end, many_done, spliced_begins, spliced_ends, apart_begins, apart_closes, apart_ends, empty_begin, empty_end, empty_done}
+use Rattle.found.proofs.KnownLaws.{known_none, known_front, known_behind}
+use Rattle.visits.proofs.FoundLaws.{many_known, found_short, element_short, items_short, nothing_done, item_done, text_room as to_found_text_room, text_done, hole_room as to_found_hole_room, hole_done, element_room as to_found_element_room, element_done as to_found_element_done, run_room, run_done, expr_room as to_found_expr_room, expr_done, items_room, items_done, merged_begin, merged_room, merged_end, merged_done, many_begin, many_room, many_end, many_done, spliced_begins, spliced_ends, apart_begins, apart_closes, apart_ends, empty_begin, empty_end, empty_done}
 use Rattle.records.proofs.ReadLaws.{behind_shorter, inner_shorter}
 use borrow.Author.Tests.{eqb-true}
 use Rattle.visits.proofs.calls.+visit.Goals as goal
@@ -277,63 +278,67 @@ pub to_attrs-returns : goal.to_attrs-returns
 to_attrs-returns t c = attrs_end _ _ _ _ c.loop-a.invariant.1 c.in-None.ensures.steps
 
 pub to_entries-join_text-run-requires : goal.to_entries-join_text-run-requires
-to_entries-join_text-run-requires t c = text_room _ _ _ c.loop-field.invariant.1 _ c.in-Some.ensures.steps.tag_is c.in-Some.ensures.steps.body_is c.in-96.is c.requires.low
+to_entries-join_text-run-requires t c = text_room _ _ _ c.loop-field.invariant.2 _ c.in-Some.ensures.steps.tag_is c.in-Some.ensures.steps.body_is c.in-96.is c.requires.room.low
 
 pub to_entries-loop-field-init : goal.to_entries-loop-field-init
-to_entries-loop-field-init t c = rw c.into_iter-field-iterator.ensures.into_iter_gives (le_refl _, entering_start _ _ _ _ _ _ _ refl)
+to_entries-loop-field-init t c = rw c.into_iter-field-iterator.ensures.into_iter_gives (le_refl _, c.requires.known, entering_start _ _ _ _ _ _ _ refl)
 
 pub to_entries-loop-field-preserved-in-96 : goal.to_entries-loop-field-preserved-in-96
 to_entries-loop-field-preserved-in-96 t c = let i = c.loop-field.invariant in let tag = c.in-Some.ensures.steps.tag_is in let l = c.in-Some.ensures.steps.sizes in
-    (omega (arith, l, i.0), text_on _ _ _ i.1 _ tag c.in-Some.ensures.steps.body_is c.in-96.is c.in-Some.ensures.steps.behind_is c.join_text-run.ensures)
+    (omega (arith, l, i.0), known_behind c.in-Some.ensures.steps _ _ _ i.1, text_on _ _ _ i.2 _ tag c.in-Some.ensures.steps.body_is c.in-96.is c.in-Some.ensures.steps.behind_is c.join_text-run.ensures)
 
 pub to_entries-join_container-run-requires : goal.to_entries-join_container-run-requires
-to_entries-join_container-run-requires t c = joined_room _ _ _ c.loop-field.invariant.1 _ c.in-Some.ensures.steps.tag_is c.in-Some.ensures.steps.body_is c.in-82.is c.joins.ensures c.if-joins.true c.requires.low
+to_entries-join_container-run-requires t c = joined_room _ _ _ c.loop-field.invariant.2 _ c.in-Some.ensures.steps.tag_is c.in-Some.ensures.steps.body_is c.in-82.is c.joins.ensures c.if-joins.true c.requires.room.low
 
 pub to_entries-loop-field-preserved-then-joins : goal.to_entries-loop-field-preserved-then-joins
 to_entries-loop-field-preserved-then-joins t c = let i = c.loop-field.invariant in let tag = c.in-Some.ensures.steps.tag_is in let l = c.in-Some.ensures.steps.sizes in
-    (omega (arith, l, i.0), joined_on _ _ _ i.1 _ tag c.in-Some.ensures.steps.body_is c.in-82.is c.joins.ensures c.if-joins.true c.in-Some.ensures.steps.behind_is c.join_container-run.ensures)
+    (omega (arith, l, i.0), known_behind c.in-Some.ensures.steps _ _ _ i.1, joined_on _ _ _ i.2 _ tag c.in-Some.ensures.steps.body_is c.in-82.is c.joins.ensures c.if-joins.true c.in-Some.ensures.steps.behind_is c.join_container-run.ensures)
 
 pub to_entries-flush-a-requires : goal.to_entries-flush-a-requires
-to_entries-flush-a-requires t c = expr_run _ _ _ c.loop-field.invariant.1 _ c.in-Some.ensures.steps.tag_is c.in-Some.ensures.steps.body_is c.in-82.is c.joins.ensures c.if-joins.false c.requires.low
+to_entries-flush-a-requires t c = expr_run _ _ _ c.loop-field.invariant.2 _ c.in-Some.ensures.steps.tag_is c.in-Some.ensures.steps.body_is c.in-82.is c.joins.ensures c.if-joins.false c.requires.room.low
 
 pub to_entries-on_expr-cur-requires : goal.to_entries-on_expr-cur-requires
 to_entries-on_expr-cur-requires t c = let i = c.loop-field.invariant in let tag = c.in-Some.ensures.steps.tag_is in let l = c.in-Some.ensures.steps.sizes in
-    (omega (arith, l, i.0, c.decreases), record { desk = omega (arith, c.loop-field.auto.scratch, c.requires.desk); short = omega (arith, l, i.0, c.requires.short); low = expr_room _ _ _ i.1 _ tag c.in-Some.ensures.steps.body_is c.in-82.is c.joins.ensures c.if-joins.false c.flush-a.ensures c.requires.low })
+    (omega (arith, l, i.0, c.decreases), record { desk = omega (arith, c.loop-field.auto.scratch, c.requires.room.desk); short = omega (arith, l, i.0, c.requires.room.short); low = expr_room _ _ _ i.2 _ tag c.in-Some.ensures.steps.body_is c.in-82.is c.joins.ensures c.if-joins.false c.flush-a.ensures c.requires.room.low })
 
 pub to_entries-loop-field-preserved-else-joins : goal.to_entries-loop-field-preserved-else-joins
 to_entries-loop-field-preserved-else-joins t c = let i = c.loop-field.invariant in let tag = c.in-Some.ensures.steps.tag_is in let l = c.in-Some.ensures.steps.sizes in
-    (omega (arith, l, i.0), expr_on _ _ _ i.1 _ tag c.in-Some.ensures.steps.body_is c.in-82.is c.joins.ensures c.if-joins.false c.flush-a.ensures c.in-Some.ensures.steps.behind_is c.on_expr-cur.ensures)
+    (omega (arith, l, i.0), known_behind c.in-Some.ensures.steps _ _ _ i.1, expr_on _ _ _ i.2 _ tag c.in-Some.ensures.steps.body_is c.in-82.is c.joins.ensures c.if-joins.false c.flush-a.ensures c.in-Some.ensures.steps.behind_is c.on_expr-cur.ensures)
 
 pub to_entries-flush-a-requires-in-48 : goal.to_entries-flush-a-requires-in-48
-to_entries-flush-a-requires-in-48 t c = element_run _ _ _ c.loop-field.invariant.1 _ c.in-Some.ensures.steps.tag_is c.in-48.is c.requires.low
+to_entries-flush-a-requires-in-48 t c = element_run _ _ _ c.loop-field.invariant.2 _ c.in-Some.ensures.steps.tag_is c.in-48.is c.requires.room.low
 
 pub to_entries-to_jsx-cur-requires : goal.to_entries-to_jsx-cur-requires
 to_entries-to_jsx-cur-requires t c = let i = c.loop-field.invariant in let tag = c.in-Some.ensures.steps.tag_is in let l = c.in-Some.ensures.steps.sizes in
-    (omega (arith, l, i.0, c.decreases), record { desk = omega (arith, c.loop-field.auto.scratch, c.requires.desk); short = omega (arith, l, i.0, c.requires.short); low = element_room _ _ _ i.1 _ tag c.in-Some.ensures.steps.body_is c.in-48.is c.flush-a-in-48.ensures c.requires.low })
+    (omega (arith, l, i.0, c.decreases), record { desk = omega (arith, c.loop-field.auto.scratch, c.requires.room.desk); short = omega (arith, l, i.0, c.requires.room.short); low = element_room _ _ _ i.2 _ tag c.in-Some.ensures.steps.body_is c.in-48.is c.flush-a-in-48.ensures c.requires.room.low })
 
 pub to_entries-loop-field-preserved-in-48 : goal.to_entries-loop-field-preserved-in-48
 to_entries-loop-field-preserved-in-48 t c = let i = c.loop-field.invariant in let tag = c.in-Some.ensures.steps.tag_is in let l = c.in-Some.ensures.steps.sizes in
-    (omega (arith, l, i.0), element_on _ _ _ i.1 _ tag c.in-Some.ensures.steps.body_is c.in-48.is c.flush-a-in-48.ensures c.in-Some.ensures.steps.behind_is c.to_jsx-cur.ensures)
+    (omega (arith, l, i.0), known_behind c.in-Some.ensures.steps _ _ _ i.1, element_on _ _ _ i.2 _ tag c.in-Some.ensures.steps.body_is c.in-48.is c.flush-a-in-48.ensures c.in-Some.ensures.steps.behind_is c.to_jsx-cur.ensures)
 
 pub to_entries-flush-a-requires-in-49 : goal.to_entries-flush-a-requires-in-49
-to_entries-flush-a-requires-in-49 t c = fragment_run _ _ _ c.loop-field.invariant.1 _ c.in-Some.ensures.steps.tag_is c.in-49.is c.requires.low
+to_entries-flush-a-requires-in-49 t c = fragment_run _ _ _ c.loop-field.invariant.2 _ c.in-Some.ensures.steps.tag_is c.in-49.is c.requires.room.low
+
+pub to_entries-found_in-f-requires : goal.to_entries-found_in-f-requires
+to_entries-found_in-f-requires t c = let i = c.loop-field.invariant in let f = c.in-Some.ensures.steps in
+    (omega (arith, f.sizes, i.0, c.requires.room.short), known_front f _ _ _ i.1 c.in-49.is)
 
 pub to_entries-to_found-cur-requires : goal.to_entries-to_found-cur-requires
 to_entries-to_found-cur-requires t c = let i = c.loop-field.invariant in let tag = c.in-Some.ensures.steps.tag_is in let l = c.in-Some.ensures.steps.sizes in
-    (omega (arith, l, i.0, c.decreases), (record { within = c.found_of-f.ensures.0; finds = c.found_of-f.ensures.1 c.args.options.now.props.now }, record { desk = omega (arith, c.loop-field.auto.scratch, c.requires.desk); short = omega (arith, l, i.0, c.requires.short); low = fragment_room _ _ _ i.1 _ tag c.in-Some.ensures.steps.body_is c.in-49.is c.flush-a-in-49.ensures c.requires.low }))
+    (omega (arith, l, i.0, c.decreases), (record { within = c.found_in-f.ensures.0; finds = c.found_in-f.ensures.1 c.args.options.now.props.now }, record { desk = omega (arith, c.loop-field.auto.scratch, c.requires.room.desk); short = omega (arith, l, i.0, c.requires.room.short); low = fragment_room _ _ _ i.2 _ tag c.in-Some.ensures.steps.body_is c.in-49.is c.flush-a-in-49.ensures c.requires.room.low }))
 
 pub to_entries-loop-field-preserved-in-49 : goal.to_entries-loop-field-preserved-in-49
 to_entries-loop-field-preserved-in-49 t c = let i = c.loop-field.invariant in let tag = c.in-Some.ensures.steps.tag_is in let l = c.in-Some.ensures.steps.sizes in
-    (omega (arith, l, i.0), fragment_on _ _ _ i.1 _ tag c.in-Some.ensures.steps.body_is c.in-49.is c.flush-a-in-49.ensures c.in-Some.ensures.steps.behind_is c.to_found-cur.ensures)
+    (omega (arith, l, i.0), known_behind c.in-Some.ensures.steps _ _ _ i.1, fragment_on _ _ _ i.2 _ tag c.in-Some.ensures.steps.body_is c.in-49.is c.flush-a-in-49.ensures c.in-Some.ensures.steps.behind_is c.to_found-cur.ensures)
 
 pub to_entries-flush-requires : goal.to_entries-flush-requires
-to_entries-flush-requires t c = last_run _ _ _ c.loop-field.invariant.1 (c.in-None.ensures.steps.ended) c.requires.low
+to_entries-flush-requires t c = last_run _ _ _ c.loop-field.invariant.2 (c.in-None.ensures.steps.ended) c.requires.room.low
 
 pub to_entries-returns : goal.to_entries-returns
-to_entries-returns t c = entering_end _ _ _ c.loop-field.invariant.1 (c.in-None.ensures.steps.ended) c.flush.ensures
+to_entries-returns t c = entering_end _ _ _ c.loop-field.invariant.2 (c.in-None.ensures.steps.ended) c.flush.ensures
 
 pub to_entries-loop-field-preserved : goal.to_entries-loop-field-preserved
-to_entries-loop-field-preserved t c = let i = c.loop-field.invariant in let tag = c.in-Some.ensures.steps.tag_is in (omega (arith, c.in-Some.ensures.steps.sizes, i.0), other_on _ _ _ i.1 _ tag c.in-Some.ensures.steps.behind_is (λ q. omega (arith, c.in-Some.ensures.steps.tag_below, q)) (λ z. omega arith) (λ z. omega arith) (λ z. omega arith) (λ z. omega arith))
+to_entries-loop-field-preserved t c = let i = c.loop-field.invariant in let tag = c.in-Some.ensures.steps.tag_is in (omega (arith, c.in-Some.ensures.steps.sizes, i.0), known_behind c.in-Some.ensures.steps _ _ _ i.1, other_on _ _ _ i.2 _ tag c.in-Some.ensures.steps.behind_is (λ q. omega (arith, c.in-Some.ensures.steps.tag_below, q)) (λ z. omega arith) (λ z. omega arith) (λ z. omega arith) (λ z. omega arith))
 
 pub to_found-text_leaf-requires : goal.to_found-text_leaf-requires
 to_found-text_leaf-requires t c = to_found_text_room c.requires.0 c.part-u.ensures _ _ _ _ c.in-Text.is c.body.ensures c.requires.1.low
@@ -351,7 +356,7 @@ pub to_found-close-requires : goal.to_found-close-requires
 to_found-close-requires t c = merged_end c.requires.0 c.part-u.ensures _ _ _ _ c.in-Template.is c.begin_template-a.ensures c.to_parts-c.ensures c.requires.1.low
 
 pub to_found-to_entries-requires : goal.to_found-to_entries-requires
-to_found-to_entries-requires t c = (omega (arith, found_short c.requires.0 c.part-u.ensures, c.decreases), run_room c.requires.0 c.part-u.ensures _ _ _ _ c.in-Run.is c.requires.1)
+to_found-to_entries-requires t c = (omega (arith, found_short c.requires.0 c.part-u.ensures, c.decreases), (known_none _ _, run_room c.requires.0 c.part-u.ensures _ _ _ _ c.in-Run.is c.requires.1))
 
 pub to_found-on_items-requires : goal.to_found-on_items-requires
 to_found-on_items-requires t c = (omega (arith, items_short c.requires.0 c.part-u.ensures c.in-Some.ensures.body_is, c.decreases), items_room c.requires.0 c.part-u.ensures _ _ _ _ c.in-Expr.is c.in-Some.ensures c.requires.1)
@@ -363,13 +368,13 @@ pub to_found-on_expr-requires : goal.to_found-on_expr-requires
 to_found-on_expr-requires t c = (omega (arith, found_short c.requires.0 c.part-u.ensures, c.decreases), to_found_expr_room c.requires.0 c.part-u.ensures _ _ _ _ c.in-Expr.is c.in-None.ensures c.requires.1)
 
 pub to_found-to_entries-requires-in-Many : goal.to_found-to_entries-requires-in-Many
-to_found-to_entries-requires-in-Many t c = (omega (arith, found_short c.requires.0 c.part-u.ensures, c.decreases), many_room c.requires.0 c.part-u.ensures _ _ _ _ c.in-Many.is (spliced_begins c.if-splice.true) c.requires.1)
+to_found-to_entries-requires-in-Many t c = (omega (arith, found_short c.requires.0 c.part-u.ensures, c.decreases), (many_known c.requires.0 c.part-u.ensures c.in-Many.is, many_room c.requires.0 c.part-u.ensures _ _ _ _ c.in-Many.is (spliced_begins c.if-splice.true) c.requires.1))
 
 pub to_found-begin-requires : goal.to_found-begin-requires
 to_found-begin-requires t c = many_begin c.requires.0 c.part-u.ensures _ _ _ _ c.in-Many.is c.requires.1.low
 
 pub to_found-to_entries-c-requires : goal.to_found-to_entries-c-requires
-to_found-to_entries-c-requires t c = (omega (arith, found_short c.requires.0 c.part-u.ensures, c.decreases), many_room c.requires.0 c.part-u.ensures _ _ _ _ c.in-Many.is (apart_begins _ c.if-splice.false c.begin.ensures) c.requires.1)
+to_found-to_entries-c-requires t c = (omega (arith, found_short c.requires.0 c.part-u.ensures, c.decreases), (many_known c.requires.0 c.part-u.ensures c.in-Many-2.is, many_room c.requires.0 c.part-u.ensures _ _ _ _ c.in-Many-2.is (apart_begins _ c.if-splice.false c.begin.ensures) c.requires.1))
 
 pub to_found-close-requires-in-Many-2 : goal.to_found-close-requires-in-Many-2
 to_found-close-requires-in-Many-2 t c = apart_closes c.if-splice.false (many_end c.requires.0 c.part-u.ensures _ _ _ _ c.in-Many.is (apart_begins _ c.if-splice.false c.begin.ensures) c.to_entries-c.ensures c.requires.1.low)

@@ -12,6 +12,7 @@ use Rattle.visits.proofs.CallLaws.{props_in}
 use mathlib.Core.List.{[]}
 use Rattle.spec.specs.Merge.{merge}
 use Rattle.spec.specs.Children.{entries, entries_pass, children_to_string}
+use Rattle.found.specs.Finds.{EachFragment, KnownOf}
 use Rattle.visits.proofs.EntryLaws.{Entering}
 use Rattle.visits.proofs.calls.+visit.Given as goal
 
@@ -76,7 +77,7 @@ abbrev pub invariant-to_attrs-loop-a : goal.invariant-to_attrs-loop-a
 invariant-to_attrs-loop-a l = (length l.a-iterator.0.now ≤ length l.s) × (act (dynamic_exprs (attrs_at l.options.skip.now l.options.props.now l.a-iterator.0.now)) (at l.templates l.page l.cur) ≡ act (dynamic_exprs (attrs_at l.options.skip.now l.options.props.now l.s)) (at l.initial.templates l.initial.page l.initial.cur))
 
 abbrev pub invariant-to_entries-loop-field : goal.invariant-to_entries-loop-field
-invariant-to_entries-loop-field l = (length l.field-iterator.0.now ≤ length l.s) × Entering l.options.skip.now l.options.props.now (act (entries_pass (entries (merge false false [] (children_at l.options.skip.now l.options.props.now (read l.s))))) (at l.initial.templates l.initial.page l.initial.cur)) l.templates l.page l.cur l.field-iterator.0.now l.run
+invariant-to_entries-loop-field l = (length l.field-iterator.0.now ≤ length l.s) × EachFragment (KnownOf l.known l.options.skip.now (length l.s)) l.field-iterator.0.now × Entering l.options.skip.now l.options.props.now (act (entries_pass (entries (merge false false [] (children_at l.options.skip.now l.options.props.now (read l.s))))) (at l.initial.templates l.initial.page l.initial.cur)) l.templates l.page l.cur l.field-iterator.0.now l.run
 
 abbrev pub invariant-to_parts-loop-field : goal.invariant-to_parts-loop-field
 invariant-to_parts-loop-field l = (length l.field-iterator.0.now ≤ length l.s) × (act (dynamic_exprs (parts_at l.options.skip.now l.options.props.now false l.field-iterator.0.now)) (at l.templates l.page l.cur) ≡ act (dynamic_exprs (children_to_string false (children_at l.options.skip.now l.options.props.now (read l.s)))) (at l.initial.templates l.initial.page l.initial.cur))
