@@ -9,13 +9,14 @@ use mathlib.Core.Logic.{◌⊎◌, inl, inr}
 use native.Mathlib.Omega.{arith}
 use lib.Dec.{leb, eqb}
 use lib.ListN.{length}
+use Rattle.std.proofs.lemmas.Bool.{cases_Bool}
+use borrow.Author.Tests.{eqb-true, ne_eqb, eqb-false}
 use Rattle.field.specs.Bytes.{Bytes, pick}
 use Rattle.catalogue.specs.Page.{Page, Request, A14, Given}
 use Rattle.catalogue.specs.Catalogue.{size, row_size, present, Holds}
 use Rattle.catalogue.specs.Shares.{Shares, total, used, unused, but, unused_of_others, others}
 use Rattle.catalogue.specs.Calls.{Outcome, remain, unless, room, call_right, arrival, without, leaving, Call, arrives, leaves, called, number, answer, after_call, listed, pages_of, Handed}
 use Rattle.catalogue.specs.Words.{remaining, asked, named_in, OfAnother, Alike}
-use Rattle.catalogue.proofs.Tests.{decide, true_eq, eq_false, false_eq}
 use Rattle.catalogue.proofs.Exact.{read_back}
 use Rattle.catalogue.proofs.Keeps.{outcome_held, accepted_kept, refused_kept}
 use Rattle.catalogue.proofs.Sums.{total_split, total_but_same, but_there, but_else}
@@ -36,12 +37,12 @@ others_size G g (p ∷ ps) = on (eqb g p.house) (others_size G g ps)
 others_used : (G : Given) (g k : ℕ) (ps : List Page) → (k ≡ g → ⊥) → used G.format k (others g ps) ≡ used G.format k ps
 unfolding others used
 others_used G g k [] d = refl
-others_used G g k (p ∷ ps) d = on (decide (eqb g p.house)) (others_used G g k ps d)
+others_used G g k (p ∷ ps) d = on (cases_Bool (eqb g p.house)) (others_used G g k ps d)
   where
     on : (eqb g p.house ≡ true) ⊎ (eqb g p.house ≡ false) → used G.format k (others g ps) ≡ used G.format k ps
         → used G.format k (pick (eqb g p.house) (others g ps) (p ∷ others g ps)) ≡ pick (eqb k p.house) (size G.format p) 0 + used G.format k ps
     on (inl t) ih =
-        let n : eqb k p.house ≡ false = eq_false k p.house (λ e. d (e ∙ sym (true_eq g p.house t))) in
+        let n : eqb k p.house ≡ false = ne_eqb k p.house (λ e. d (e ∙ sym (eqb-true g p.house t))) in
         ap (λ (q : Bool). used G.format k (pick q (others g ps) (p ∷ others g ps))) t ∙ ih ∙ omega (arith, ap (λ (q : Bool). pick q (size G.format p) 0 + used G.format k ps) n)
     on (inr t) ih = ap (λ (q : Bool). used G.format k (pick q (others g ps) (p ∷ others g ps))) t ∙ ap (λ (i : ℕ). pick (eqb k p.house) (size G.format p) 0 + i) ih
 
@@ -59,7 +60,7 @@ others_append g (p ∷ ps) qs = on (eqb g p.house) (others_append g ps qs)
 others_present : (g x : ℕ) (ps : List Page) → named_in g x ps ≡ false → present x ps ≡ present x (others g ps)
 unfolding others present named_in
 others_present g x [] n = refl
-others_present g x (p ∷ ps) n = on (eqb g p.house) (decide (eqb x p.name)) n (others_present g x ps)
+others_present g x (p ∷ ps) n = on (eqb g p.house) (cases_Bool (eqb x p.name)) n (others_present g x ps)
   where
     on : (t : Bool) → (eqb x p.name ≡ true) ⊎ (eqb x p.name ≡ false) → pick t (pick (eqb x p.name) true (named_in g x ps)) (named_in g x ps) ≡ false
         → (named_in g x ps ≡ false → present x ps ≡ present x (others g ps)) → (eqb x p.name || present x ps) ≡ present x (pick t (others g ps) (p ∷ others g ps))
@@ -70,7 +71,7 @@ others_present g x (p ∷ ps) n = on (eqb g p.house) (decide (eqb x p.name)) n (
 others_without : (g x : ℕ) (ps : List Page) → named_in g x ps ≡ false → others g (without x ps) ≡ without x (others g ps)
 unfolding others without named_in
 others_without g x [] n = refl
-others_without g x (p ∷ ps) n = on (decide (eqb g p.house)) (decide (eqb x p.name)) n (others_without g x ps)
+others_without g x (p ∷ ps) n = on (cases_Bool (eqb g p.house)) (cases_Bool (eqb x p.name)) n (others_without g x ps)
   where
     Goal : Type 0
     Goal = others g (pick (eqb x p.name) ps (p ∷ without x ps)) ≡ without x (pick (eqb g p.house) (others g ps) (p ∷ others g ps))
@@ -130,11 +131,11 @@ module _ (G : Given) (s : Shares) (g : ℕ) (ps qs : List Page) (l : 1 ≤ g) (m
       e₆ (others_size G g qs) v (e₁ ∙ ap₂ (λ (i j : ℕ). i + j) e₃ e₄) (e₂ ∙ ap (λ (i : ℕ). total (but g f') 16 + i) e₅)
     where
       same : (k : ℕ) → (k ≡ g → ⊥) → but h (unused G.format s ps) k ≡ but h (unused G.format s qs) k
-      same k n = on (decide (eqb k h))
+      same k n = on (cases_Bool (eqb k h))
         where
           on : (eqb k h ≡ true) ⊎ (eqb k h ≡ false) → but h (unused G.format s ps) k ≡ but h (unused G.format s qs) k
-          on (inl t) = let q : k ≡ h = true_eq k h t in ap (but h (unused G.format s ps)) q ∙ but_there h (unused G.format s ps) ∙ sym (but_there h (unused G.format s qs)) ∙ ap (but h (unused G.format s qs)) (sym q)
-          on (inr t) = let w : k ≡ h → ⊥ = false_eq k h t in but_else h (unused G.format s ps) k w ∙ unused_same k n ∙ sym (but_else h (unused G.format s qs) k w)
+          on (inl t) = let q : k ≡ h = eqb-true k h t in ap (but h (unused G.format s ps)) q ∙ but_there h (unused G.format s ps) ∙ sym (but_there h (unused G.format s qs)) ∙ ap (but h (unused G.format s qs)) (sym q)
+          on (inr t) = let w : k ≡ h → ⊥ = eqb-false k h t in but_else h (unused G.format s ps) k w ∙ unused_same k n ∙ sym (but_else h (unused G.format s qs) k w)
 
       small : (r r' w u u' c t z x y : ℕ) → r ≡ w + u → r' ≡ w + u' → u - c ≡ u' - c → x ≡ t + (c - u) → y ≡ t + (c - u') → r + z + x ≡ r' + z + y
       small r r' w u u' c t z x y a b e f k = omega arith
@@ -196,14 +197,14 @@ module _ (G : Given) (s : Shares) (g : ℕ) (c : Call) (b₁ : Bytes) (ps₁ : L
 
   -- A14: and behind it both have the same pages of the other houses; each page of a list has its own numbers, from 1
   pub apart_pages : others g (pages_of G.format (after_call G.format s c b₁)) ≡ others g (pages_of G.format (after_call G.format s c b₂))
-  apart_pages = on (decide (eqb (answer G.format s c b₁) 0))
+  apart_pages = on (cases_Bool (eqb (answer G.format s c b₁) 0))
     where
       on : (eqb (answer G.format s c b₁) 0 ≡ true) ⊎ (eqb (answer G.format s c b₁) 0 ≡ false) → others g (pages_of G.format (after_call G.format s c b₁)) ≡ others g (pages_of G.format (after_call G.format s c b₂))
       on (inl t) =
-          let e : answer G.format s c b₁ ≡ 0 = true_eq (answer G.format s c b₁) 0 t in
+          let e : answer G.format s c b₁ ≡ 0 = eqb-true (answer G.format s c b₁) 0 t in
           ap (others g) (after_taken b₁ ps₁ w.sound₁ e)
           ∙ others_remaining g c ps₁ ps₂ w.others_alike w.on_none₁ w.on_none₂
           ∙ ap (others g) (sym (after_taken b₂ ps₂ w.sound₂ (sym apart_number ∙ e)))
       on (inr t) =
-          let f : answer G.format s c b₁ ≡ 0 → ⊥ = false_eq (answer G.format s c b₁) 0 t in
+          let f : answer G.format s c b₁ ≡ 0 → ⊥ = eqb-false (answer G.format s c b₁) 0 t in
           ap (others g) (after_refused b₁ ps₁ w.sound₁ f) ∙ w.others_alike ∙ ap (others g) (sym (after_refused b₂ ps₂ w.sound₂ (λ e. f (apart_number ∙ e))))

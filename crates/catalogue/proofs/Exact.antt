@@ -8,11 +8,13 @@ use mathlib.Core.Logic.{◌⊎◌, inl, inr, ◌↔◌}
 use native.Mathlib.Omega.{arith}
 use lib.Dec.{leb, eqb}
 use lib.ListN.{length, drop, replicate, length-replicate}
+use Rattle.std.proofs.lemmas.Bool.{cases_Bool}
+use borrow.Author.Tests.{le-leb, leb-true, eqb-true}
 use Rattle.field.specs.Bytes.{Bytes, AllBytes, pick}
 use Rattle.field.proofs.NumberLaws.{all_drop}
 use Rattle.catalogue.specs.Page.{Page, house_width, Given, Sound}
 use Rattle.catalogue.specs.Catalogue.{most_bytes, page_then, row, size, row_size, build, Reading, no_row, pages, add, all_zero, four, at_lengths, page_in, behind, page_right, read_page, read_row, names_differ, no_name_twice, read_catalogue, AllSound, none_left, one_sound, Holds}
-use Rattle.catalogue.proofs.Tests.{decide, le_true, true_le, true_eq, and_left, and_right}
+use Rattle.catalogue.proofs.Tests.{and_left, and_right}
 use Rattle.catalogue.proofs.Parts.{page_tail, length_page, page_in_then, behind_then, page_right_then, sound_page_in, then_page_in}
 
 -- ---- lengths
@@ -71,9 +73,9 @@ record Built (G : Given) (n : ℕ) (b : Bytes) (ps : List Page) : Type 0 where
 all_zeros : (b : Bytes) → all_zero b ≡ true → b ≡ replicate (length b) 0
 unfolding all_zero
 all_zeros [] e = refl
-all_zeros (c ∷ b) e = ap₂ (λ (x : ℕ) (y : Bytes). x ∷ y) (true_eq c 0 (and_left (eqb c 0) (all_zero b) e)) (all_zeros b (and_right (eqb c 0) (all_zero b) e))
+all_zeros (c ∷ b) e = ap₂ (λ (x : ℕ) (y : Bytes). x ∷ y) (eqb-true c 0 (and_left (eqb c 0) (all_zero b) e)) (all_zeros b (and_right (eqb c 0) (all_zero b) e))
 
-no_pages : (ps : List Page) {A : Type 0} → no_row ≡ pages ps → A
+pub no_pages : (ps : List Page) {A : Type 0} → no_row ≡ pages ps → A
 no_pages ps e = absurd (let z : ◌≡◌ {A = ℕ} 0 1 = cc in omega arith)
 
 built_end : (G : Given) (n : ℕ) (b : Bytes) (ps : List Page) → b ≡ replicate (length b) 0 → pages [] ≡ pages ps → Built G n b ps
@@ -83,12 +85,12 @@ built_end G n b ps e f =
     let l : length b ≡ length b - 0 = omega arith in
     subst (Built G n b) g (record { sound = none_left; fits = omega arith; is = e ∙ ap (λ (k : ℕ). replicate k 0) l })
 
-record Added (p : Page) (o : Reading) (ps : List Page) : Type 0 where
-  rest : List Page
-  read_is : o ≡ pages rest
-  all_is : p ∷ rest ≡ ps
+pub record Added (p : Page) (o : Reading) (ps : List Page) : Type 0 where
+  pub rest : List Page
+  pub read_is : o ≡ pages rest
+  pub all_is : p ∷ rest ≡ ps
 
-added : (p : Page) (o : Reading) (ps : List Page) → add p o ≡ pages ps → Added p o ps
+pub added : (p : Page) (o : Reading) (ps : List Page) → add p o ≡ pages ps → Added p o ps
 unfolding add
 added p no_row ps e = no_pages ps e
 added p (pages qs) ps e = record { rest = qs; read_is = refl; all_is = cc }
@@ -118,7 +120,7 @@ module _ (G : Given) (f : ℕ → Bytes → Reading) (ih : Builds G f) (n : ℕ)
 
   built_97 : read_page G.format f n b (page_in G.format n b) ≡ pages ps → Built G n (0x97 ∷ b) ps
   unfolding read_page
-  built_97 e = on (decide (page_right G.format b (page_in G.format n b)))
+  built_97 e = on (cases_Bool (page_right G.format b (page_in G.format n b)))
     where
       o : Reading
       o = add (page_in G.format n b) (f (n + G.format.forms (page_in G.format n b).body) (behind G.format b))
@@ -128,7 +130,7 @@ module _ (G : Given) (f : ℕ → Bytes → Reading) (ih : Builds G f) (n : ℕ)
       on (inr t) = no_pages ps (sym (ap (λ (q : Bool). pick q o no_row) t) ∙ e)
 
 built_other : (G : Given) (n : ℕ) (b : Bytes) (ps : List Page) → pick (all_zero b) (pages []) no_row ≡ pages ps → Built G n b ps
-built_other G n b ps e = on (decide (all_zero b))
+built_other G n b ps e = on (cases_Bool (all_zero b))
   where
     on : (all_zero b ≡ true) ⊎ (all_zero b ≡ false) → Built G n b ps
     on (inl t) = built_end G n b ps (all_zeros b t) (sym (ap (λ (q : Bool). pick q (pages []) no_row) t) ∙ e)
@@ -138,7 +140,7 @@ built_read : (G : Given) (k : ℕ) → Builds G (read_row G.format k)
 unfolding Builds read_row AllBytes
 built_read G zero n b ps a e = no_pages ps e
 built_read G (suc k) n [] ps a e = built_end G n [] ps refl e
-built_read G (suc k) n (c ∷ b) ps a e = on (built_read G k) (decide (eqb c 0x97))
+built_read G (suc k) n (c ∷ b) ps a e = on (built_read G k) (cases_Bool (eqb c 0x97))
   where
     y : Reading
     y = read_page G.format (read_row G.format k) n b (page_in G.format n b)
@@ -147,7 +149,7 @@ built_read G (suc k) n (c ∷ b) ps a e = on (built_read G k) (decide (eqb c 0x9
     z = pick (all_zero (c ∷ b)) (pages []) no_row
 
     on : Builds G (read_row G.format k) → (eqb c 0x97 ≡ true) ⊎ (eqb c 0x97 ≡ false) → Built G n (c ∷ b) ps
-    on ih (inl t) = subst (λ (x : ℕ). Built G n (x ∷ b) ps) (sym (true_eq c 0x97 t)) (built_97 G (read_row G.format k) ih n b ps a.1 (sym (ap (λ (q : Bool). pick q y z) t) ∙ e))
+    on ih (inl t) = subst (λ (x : ℕ). Built G n (x ∷ b) ps) (sym (eqb-true c 0x97 t)) (built_97 G (read_row G.format k) ih n b ps a.1 (sym (ap (λ (q : Bool). pick q y z) t) ∙ e))
     on ih (inr t) = built_other G n (c ∷ b) ps (sym (ap (λ (q : Bool). pick q y z) t) ∙ e)
 
 -- ---- the catalogue
@@ -158,7 +160,7 @@ unfolding read_catalogue no_name_twice build
 read_back G b ps h =
     let l = h.short in
     let m = h.fits in
-    ap (λ (t : Bool). pick t (no_name_twice (read_row G.format (suc (length b)) 0 b)) no_row) (le_true (length b) most_bytes l)
+    ap (λ (t : Bool). pick t (no_name_twice (read_row G.format (suc (length b)) 0 b)) no_row) (le-leb (length b) most_bytes l)
     ∙ ap (λ (z : Bytes). no_name_twice (read_row G.format (suc (length b)) 0 z)) h.is_built
     ∙ ap no_name_twice (read_built G (length b) 0 ps (length b - row_size G.format ps) h.all_sound (omega arith) m)
     ∙ ap (λ (t : Bool). pick t (pages ps) no_row) h.differ
@@ -166,7 +168,7 @@ read_back G b ps h =
 once_named : (o : Reading) (ps : List Page) → no_name_twice o ≡ pages ps → (o ≡ pages ps) × (names_differ ps ≡ true)
 unfolding no_name_twice
 once_named no_row ps e = no_pages ps e
-once_named (pages qs) ps e = on (decide (names_differ qs))
+once_named (pages qs) ps e = on (cases_Bool (names_differ qs))
   where
     on : (names_differ qs ≡ true) ⊎ (names_differ qs ≡ false) → (pages qs ≡ pages ps) × (names_differ ps ≡ true)
     on (inl t) =
@@ -177,7 +179,7 @@ once_named (pages qs) ps e = on (decide (names_differ qs))
 
 held : (G : Given) (b : Bytes) (ps : List Page) → AllBytes b → read_catalogue G.format b ≡ pages ps → Holds G.format b ps
 unfolding read_catalogue build Builds
-held G b ps a e = on (decide (leb (length b) most_bytes))
+held G b ps a e = on (cases_Bool (leb (length b) most_bytes))
   where
     o : Reading
     o = no_name_twice (read_row G.format (suc (length b)) 0 b)
@@ -186,7 +188,7 @@ held G b ps a e = on (decide (leb (length b) most_bytes))
     on (inl t) =
         let w = once_named (read_row G.format (suc (length b)) 0 b) ps (sym (ap (λ (q : Bool). pick q o no_row) t) ∙ e) in
         let u = built_read G (suc (length b)) 0 b ps a w.0 in
-        record { short = true_le (length b) most_bytes t; all_sound = u.sound; differ = w.1; fits = u.fits; is_built = u.is }
+        record { short = leb-true (length b) most_bytes t; all_sound = u.sound; differ = w.1; fits = u.fits; is_built = u.is }
     on (inr t) = no_pages ps (sym (ap (λ (q : Bool). pick q o no_row) t) ∙ e)
 
 -- bytes read as these pages exactly where they are the catalogue of these pages

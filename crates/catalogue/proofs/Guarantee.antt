@@ -9,13 +9,15 @@ use mathlib.Core.Logic.{◌⊎◌, inl, inr, ◌↔◌}
 use native.Mathlib.Omega.{arith}
 use lib.Dec.{leb, eqb}
 use lib.ListN.{length, replicate, length-replicate}
+use Rattle.std.proofs.lemmas.Bool.{and_from, cases_Bool}
+use borrow.Author.Tests.{le-leb, leb-true, eqb-true, eqb-false}
 use Rattle.field.specs.Bytes.{Bytes}
 use Rattle.catalogue.specs.Page.{Page, Request, A14, house_right, Given, Sound}
 use Rattle.catalogue.specs.Catalogue.{most_bytes, size, row_size, present, Holds}
 use Rattle.catalogue.specs.Shares.{Shares, total, each, shares_right, used, unused, unused_of_others}
 use Rattle.catalogue.specs.Calls.{room, call_right, arrival, without, before, Call, arrives, leaves, called, outcome, number, answer, after_call, after_calls, listed, pages_of, Handed, AllHanded}
 use Rattle.catalogue.specs.Words.{remaining, since_empty, Room}
-use Rattle.catalogue.proofs.Tests.{decide, both, le_true, true_le, true_eq, false_eq, and_left, and_right}
+use Rattle.catalogue.proofs.Tests.{and_left, and_right}
 use Rattle.catalogue.proofs.Exact.{read_back, empty_holds}
 use Rattle.catalogue.proofs.Lists.{size_append, used_append, one_size, Split, split_at_name}
 use Rattle.catalogue.proofs.Keeps.{taken, covered, arrival_room, room_met, outcome_held, accepted_kept, refused_kept, was_there, size_less}
@@ -28,7 +30,7 @@ Covers G s n ps = row_size G.format ps + total (unused G.format s ps) 16 ≤ n
 covers_none : (G : Given) (s : Shares) (n : ℕ) → shares_right n s ≡ true → Covers G s n []
 unfolding Covers row_size shares_right unused used
 covers_none G s n e =
-    let l : total s.guarantee 16 ≤ n = true_le (total s.guarantee 16) n (and_right (each (λ h. leb (s.guarantee h) (s.most h)) 16) (leb (total s.guarantee 16) n) e) in
+    let l : total s.guarantee 16 ≤ n = leb-true (total s.guarantee 16) n (and_right (each (λ h. leb (s.guarantee h) (s.most h)) 16) (leb (total s.guarantee 16) n) e) in
     omega (arith, total_same (unused G.format s []) s.guarantee 16 (λ i. omega arith))
 
 pub unused_is : (G : Given) (s : Shares) (ps : List Page) (h u : ℕ) → used G.format h ps ≡ u → unused G.format s ps h ≡ s.guarantee h - u
@@ -106,25 +108,25 @@ covers_call G s b ps (arrives p) a h i e =
     let r : number (room A14 G.format n s p ps) ≡ 0 = ap (λ (q : Request). number (room q G.format n s p ps)) (sym a) ∙ t.room_is in
     let k : call_right A14 n s p ≡ true = ap (λ (q : Request). call_right q n s p) (sym a) ∙ t.call_is_right in
     let j : (leb 1 p.house && leb p.house 16) ≡ true = and_left (leb 1 p.house && leb p.house 16) (shares_right n s) k in
-    covers_more G s n p ps (true_le 1 p.house (and_left (leb 1 p.house) (leb p.house 16) j)) (true_le p.house 16 (and_right (leb 1 p.house) (leb p.house 16) j)) (covered G n s p ps r).1 i
+    covers_more G s n p ps (leb-true 1 p.house (and_left (leb 1 p.house) (leb p.house 16) j)) (leb-true p.house 16 (and_right (leb 1 p.house) (leb p.house 16) j)) (covered G n s p ps r).1 i
 covers_call G s b ps (leaves x) a h i e =
     let d = split_at_name x ps (was_there G s b ps h x e).test in
     covers_less G s (length b) x ps d (size_less G s b ps h x d) i
 
 safe_call : (G : Given) (s : Shares) (n : ℕ) (c : Call) (b : Bytes) → G.format.request ≡ A14 → Handed G.format c → Safe G s n b → Safe G s n (after_call G.format s c b)
-safe_call G s n c b a k w = on (decide (eqb (answer G.format s c b) 0))
+safe_call G s n c b a k w = on (cases_Bool (eqb (answer G.format s c b) 0))
   where
     ps : List Page
     ps = w.held
 
     on : (eqb (answer G.format s c b) 0 ≡ true) ⊎ (eqb (answer G.format s c b) 0 ≡ false) → Safe G s n (after_call G.format s c b)
     on (inl t) =
-        let e : answer G.format s c b ≡ 0 = true_eq (answer G.format s c b) 0 t in
+        let e : answer G.format s c b ≡ 0 = eqb-true (answer G.format s c b) 0 t in
         let z = accepted_kept G s b ps w.holds c k e in
         let f : number (called G.format (length b) s c ps) ≡ 0 = ap number (sym (outcome_held G s c b ps w.holds)) ∙ e in
         let v : Covers G s (length b) (remaining c ps) = covers_call G s b ps c a w.holds (subst (λ (m : ℕ). Covers G s m ps) (sym w.long) w.covers) f in
         record { held = remaining c ps; holds = z.holds_them; covers = subst (λ (m : ℕ). Covers G s m (remaining c ps)) w.long v; long = z.length_kept ∙ w.long }
-    on (inr t) = subst (Safe G s n) (sym (refused_kept G s c b (false_eq (answer G.format s c b) 0 t))) w
+    on (inr t) = subst (Safe G s n) (sym (refused_kept G s c b (eqb-false (answer G.format s c b) 0 t))) w
 
 safe_calls : (G : Given) (s : Shares) (n : ℕ) (cs : List Call) (b : Bytes) → G.format.request ≡ A14 → AllHanded G.format cs → Safe G s n b → Safe G s n (after_calls G.format s cs b)
 unfolding after_calls
@@ -142,14 +144,14 @@ unfolding number Covers shares_right
 guaranteed_arrival G s n p ps a r z c x g =
     let h : ℕ = p.house in
     let j : (leb 1 h && leb h 16) ≡ true = ap (λ (q : Request). house_right q h) (sym a) ∙ z.house_is in
-    let l : 1 ≤ h = true_le 1 h (and_left (leb 1 h) (leb h 16) j) in
-    let m : h ≤ 16 = true_le h 16 (and_right (leb 1 h) (leb h 16) j) in
+    let l : 1 ≤ h = leb-true 1 h (and_left (leb 1 h) (leb h 16) j) in
+    let m : h ≤ 16 = leb-true h 16 (and_right (leb 1 h) (leb h 16) j) in
     let y : each (λ i. leb (s.guarantee i) (s.most i)) 16 ≡ true = and_left (each (λ i. leb (s.guarantee i) (s.most i)) 16) (leb (total s.guarantee 16) n) r in
-    let v : s.guarantee h ≤ s.most h = true_le (s.guarantee h) (s.most h) (each_of (λ i. leb (s.guarantee i) (s.most i)) h 16 y l m) in
+    let v : s.guarantee h ≤ s.most h = leb-true (s.guarantee h) (s.most h) (each_of (λ i. leb (s.guarantee i) (s.most i)) h 16 y l m) in
     let u : total (unused G.format s ps) 16 ≡ unused_of_others G.format s ps h + unused G.format s ps h = total_split h (unused G.format s ps) 16 l m in
     let w : unused G.format s ps h ≡ s.guarantee h - used G.format h ps = unused_is G s ps h (used G.format h ps) refl in
     let o : row_size G.format ps + size G.format p + unused_of_others G.format s ps h ≤ n = omega arith in
-    let k : call_right G.format.request n s p ≡ true = ap (λ (q : Request). call_right q n s p) a ∙ both (leb 1 h && leb h 16) (shares_right n s) j r in
+    let k : call_right G.format.request n s p ≡ true = ap (λ (q : Request). call_right q n s p) a ∙ and_from (leb 1 h && leb h 16) (shares_right n s) j r in
     ap number (arrival_room G n s p ps z.judged k x ∙ ap (λ (q : Request). room q G.format n s p ps) a ∙ room_met G n s p ps (omega arith) o)
 
 -- A14: where the shares are right and were the same in all calls since the buffer was all zero, a sound page of a name that is new is taken as
@@ -176,7 +178,7 @@ unfolding called number
 taken_exactly G s b ps p a h j l m r x = (there, back)
   where
     k : call_right G.format.request (length b) s p ≡ true
-    k = ap (λ (q : Request). call_right q (length b) s p) a ∙ both (leb 1 p.house && leb p.house 16) (shares_right (length b) s) (both (leb 1 p.house) (leb p.house 16) (le_true 1 p.house l) (le_true p.house 16 m)) r
+    k = ap (λ (q : Request). call_right q (length b) s p) a ∙ and_from (leb 1 p.house && leb p.house 16) (shares_right (length b) s) (and_from (leb 1 p.house) (leb p.house 16) (le-leb 1 p.house l) (le-leb p.house 16 m)) r
 
     same : outcome G.format s (arrives p) b ≡ room A14 G.format (length b) s p ps
     same = outcome_held G s (arrives p) b ps h ∙ arrival_room G (length b) s p ps j k x ∙ ap (λ (q : Request). room q G.format (length b) s p ps) a

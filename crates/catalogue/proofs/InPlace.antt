@@ -10,6 +10,8 @@ use native.Mathlib.Omega.{arith}
 use lib.Dec.{eqb}
 use lib.ListN.{length, drop, replicate, length-append, length-replicate, replicate-append-replicate}
 use lib.Seq.{take_at, drop_at, drop-append-add}
+use Rattle.std.proofs.lemmas.Bool.{cases_Bool}
+use borrow.Author.Tests.{eqb-true, eqb-false}
 use Rattle.field.specs.Bytes.{Bytes}
 use Rattle.field.specs.Number.{big_endian}
 use Rattle.field.specs.Put.{put}
@@ -19,7 +21,6 @@ use Rattle.catalogue.specs.Catalogue.{most_bytes, page_then, lengths, forms_of, 
 use Rattle.catalogue.specs.Shares.{Shares}
 use Rattle.catalogue.specs.Calls.{without, before, Call, arrives, leaves, answer, after_call, after_calls, Handed, AllHanded}
 use Rattle.catalogue.specs.Words.{remaining, lowered}
-use Rattle.catalogue.proofs.Tests.{decide, true_eq, false_eq}
 use Rattle.catalogue.proofs.Parts.{length_page}
 use Rattle.catalogue.proofs.Exact.{length_row}
 use Rattle.catalogue.proofs.Lists.{row_append, page_front, row_front, size_append, one_size, Split}
@@ -134,10 +135,10 @@ numbers_short G few b ps h = omega (arith, all_few ps h.all_sound, h.fits, h.sho
 pub histories_hold : (G : Given) (s : Shares) (cs : List Call) (b : Bytes) (ps : List Page) → AllHanded G.format cs → Holds G.format b ps → (qs : List Page) × Holds G.format (after_calls G.format s cs b) qs
 unfolding after_calls
 histories_hold G s [] b ps k h = (ps, h)
-histories_hold G s (c ∷ cs) b ps k h = on (decide (eqb (answer G.format s c b) 0)) (histories_hold G s cs (after_call G.format s c b))
+histories_hold G s (c ∷ cs) b ps k h = on (cases_Bool (eqb (answer G.format s c b) 0)) (histories_hold G s cs (after_call G.format s c b))
   where
     on : (eqb (answer G.format s c b) 0 ≡ true) ⊎ (eqb (answer G.format s c b) 0 ≡ false)
         → ((rs : List Page) → AllHanded G.format cs → Holds G.format (after_call G.format s c b) rs → (qs : List Page) × Holds G.format (after_calls G.format s cs (after_call G.format s c b)) qs)
         → (qs : List Page) × Holds G.format (after_calls G.format s cs (after_call G.format s c b)) qs
-    on (inl t) ih = ih (remaining c ps) k.1 (accepted_kept G s b ps h c k.0 (true_eq (answer G.format s c b) 0 t)).holds_them
-    on (inr t) ih = ih ps k.1 (subst (λ (d : Bytes). Holds G.format d ps) (sym (refused_kept G s c b (false_eq (answer G.format s c b) 0 t))) h)
+    on (inl t) ih = ih (remaining c ps) k.1 (accepted_kept G s b ps h c k.0 (eqb-true (answer G.format s c b) 0 t)).holds_them
+    on (inr t) ih = ih ps k.1 (subst (λ (d : Bytes). Holds G.format d ps) (sym (refused_kept G s c b (eqb-false (answer G.format s c b) 0 t))) h)

@@ -7,13 +7,15 @@ use mathlib.Core.List.{List, [], ◌∷◌, ◌++◌}
 use native.Mathlib.Omega.{arith}
 use lib.Dec.{leb, eqb}
 use lib.ListN.{length, take, replicate}
+use Rattle.std.proofs.lemmas.Bool.{not-true, not_from_false}
+use borrow.Author.Tests.{le-leb, leb-true, eq-eqb, eqb-true, eqb-false}
 use Rattle.field.specs.Bytes.{Bytes}
 use Rattle.catalogue.specs.Page.{Page, Request, A13, A14, house_right, Given, Sound}
 use Rattle.catalogue.specs.Catalogue.{most_bytes, row, forms_of, size, row_size, build, present, names_differ, AllSound, none_left, one_sound, Holds}
 use Rattle.catalogue.specs.Shares.{Shares, shares_right, used, unused_of_others}
 use Rattle.catalogue.specs.Calls.{Outcome, refused, remain, unless, room, call_right, arrival, without, before, leaving, Call, arrives, leaves, called, judged, outcome, number, left_by, answer, after_call, house_handed, Handed}
 use Rattle.catalogue.specs.Words.{Kept}
-use Rattle.catalogue.proofs.Tests.{le_true, true_le, true_eq, eq_true, false_eq, and_left, not_true, not_false}
+use Rattle.catalogue.proofs.Tests.{and_left}
 use Rattle.catalogue.proofs.Exact.{length_build, read_back}
 use Rattle.catalogue.proofs.Lists.{row_append, take_row, size_append, sound_append, one_size, differ_last, Split, split_at_name, differ_without, sound_without}
 
@@ -45,13 +47,13 @@ taken G n s p ps e =
     let o₃ : Outcome = room G.format.request G.format n s p ps in
     let o₂ : Outcome = unless (not (present p.name ps)) 21 o₃ in
     let o₁ : Outcome = unless (call_right G.format.request n s p) 26 o₂ in
-    let w₁ = passed (eqb j 0) j o₁ (λ f g. false_eq j 0 f g) e in
+    let w₁ = passed (eqb j 0) j o₁ (λ f g. eqb-false j 0 f g) e in
     let w₂ = passed (call_right G.format.request n s p) 26 o₂ (λ f g. omega arith) w₁.goes_on in
     let w₃ = passed (not (present p.name ps)) 21 o₃ (λ f g. omega arith) w₂.goes_on in
     record {
-      judged = true_eq j 0 w₁.test;
+      judged = eqb-true j 0 w₁.test;
       call_is_right = w₂.test;
-      absent = not_true (present p.name ps) w₃.test;
+      absent = not-true (present p.name ps) w₃.test;
       room_is = w₃.goes_on;
       is = w₁.is ∙ w₂.is ∙ w₃.is;
     }
@@ -64,13 +66,13 @@ room_fits : (q : Request) (G : Given) (n : ℕ) (s : Shares) (p : Page) (ps : Li
 unfolding room
 room_fits A13 G n s p ps e =
     let w = passed (leb (row_size G.format ps + size G.format p) n) 23 (remain (ps ++ (p ∷ []))) (λ f g. omega arith) e in
-    record { within = true_le (row_size G.format ps + size G.format p) n w.test; remain_is = w.is }
+    record { within = leb-true (row_size G.format ps + size G.format p) n w.test; remain_is = w.is }
 room_fits A14 G n s p ps e =
     let o₂ : Outcome = remain (ps ++ (p ∷ [])) in
     let o₁ : Outcome = unless (leb (row_size G.format ps + size G.format p + unused_of_others G.format s ps p.house) n) 25 o₂ in
     let w₁ = passed (leb (used G.format p.house ps + size G.format p) (s.most p.house)) 24 o₁ (λ f g. omega arith) e in
     let w₂ = passed (leb (row_size G.format ps + size G.format p + unused_of_others G.format s ps p.house) n) 25 o₂ (λ f g. omega arith) w₁.goes_on in
-    let l : row_size G.format ps + size G.format p + unused_of_others G.format s ps p.house ≤ n = true_le (row_size G.format ps + size G.format p + unused_of_others G.format s ps p.house) n w₂.test in
+    let l : row_size G.format ps + size G.format p + unused_of_others G.format s ps p.house ≤ n = leb-true (row_size G.format ps + size G.format p + unused_of_others G.format s ps p.house) n w₂.test in
     record { within = omega arith; remain_is = w₁.is ∙ w₂.is }
 
 -- what the two tests of A14 say of a page that passed both
@@ -82,7 +84,7 @@ covered G n s p ps e =
     let o₁ : Outcome = unless (leb (row_size G.format ps + size G.format p + unused_of_others G.format s ps p.house) n) 25 o₂ in
     let w₁ = passed (leb (used G.format p.house ps + size G.format p) (s.most p.house)) 24 o₁ (λ f g. omega arith) e in
     let w₂ = passed (leb (row_size G.format ps + size G.format p + unused_of_others G.format s ps p.house) n) 25 o₂ (λ f g. omega arith) w₁.goes_on in
-    (true_le (used G.format p.house ps + size G.format p) (s.most p.house) w₁.test, true_le (row_size G.format ps + size G.format p + unused_of_others G.format s ps p.house) n w₂.test)
+    (leb-true (used G.format p.house ps + size G.format p) (s.most p.house) w₁.test, leb-true (row_size G.format ps + size G.format p + unused_of_others G.format s ps p.house) n w₂.test)
 
 -- where every test before the room is met, the room decides
 pub arrival_room : (G : Given) (n : ℕ) (s : Shares) (p : Page) (ps : List Page) → G.format.judge p.body ≡ 0 → call_right G.format.request n s p ≡ true → present p.name ps ≡ false
@@ -92,9 +94,9 @@ arrival_room G n s p ps j c a =
     let o₃ : Outcome = room G.format.request G.format n s p ps in
     let o₂ : Outcome = unless (not (present p.name ps)) 21 o₃ in
     let o₁ : Outcome = unless (call_right G.format.request n s p) 26 o₂ in
-    ap (λ (t : Bool). unless t (G.format.judge p.body) o₁) (eq_true (G.format.judge p.body) 0 j)
+    ap (λ (t : Bool). unless t (G.format.judge p.body) o₁) (eq-eqb (G.format.judge p.body) 0 j)
     ∙ ap (λ (t : Bool). unless t 26 o₂) c
-    ∙ ap (λ (t : Bool). unless t 21 o₃) (not_false (present p.name ps) a)
+    ∙ ap (λ (t : Bool). unless t 21 o₃) (not_from_false (present p.name ps) a)
 
 pub room_met : (G : Given) (n : ℕ) (s : Shares) (p : Page) (ps : List Page) → used G.format p.house ps + size G.format p ≤ s.most p.house
     → row_size G.format ps + size G.format p + unused_of_others G.format s ps p.house ≤ n → room A14 G.format n s p ps ≡ remain (ps ++ (p ∷ []))
@@ -102,8 +104,8 @@ unfolding room unless
 room_met G n s p ps l m =
     let o₂ : Outcome = remain (ps ++ (p ∷ [])) in
     let o₁ : Outcome = unless (leb (row_size G.format ps + size G.format p + unused_of_others G.format s ps p.house) n) 25 o₂ in
-    ap (λ (t : Bool). unless t 24 o₁) (le_true (used G.format p.house ps + size G.format p) (s.most p.house) l)
-    ∙ ap (λ (t : Bool). unless t 25 o₂) (le_true (row_size G.format ps + size G.format p + unused_of_others G.format s ps p.house) n m)
+    ap (λ (t : Bool). unless t 24 o₁) (le-leb (used G.format p.house ps + size G.format p) (s.most p.house) l)
+    ∙ ap (λ (t : Bool). unless t 25 o₂) (le-leb (row_size G.format ps + size G.format p + unused_of_others G.format s ps p.house) n m)
 
 -- ---- the outcome at bytes that hold pages
 
@@ -120,7 +122,7 @@ build_holds G n ps l a d f =
     record { short = omega arith; all_sound = a; differ = d; fits = omega arith; is_built = ap (λ (k : ℕ). build G.format k ps) (sym e) }
 
 house_of : (q : Request) (n : ℕ) (s : Shares) (p : Page) → call_right q n s p ≡ true → house_handed q p.house → house_right q p.house ≡ true
-house_of A13 n s p e h = eq_true p.house 0 h
+house_of A13 n s p e h = eq-eqb p.house 0 h
 house_of A14 n s p e h = and_left (leb 1 p.house && leb p.house 16) (shares_right n s) e
 
 -- the bytes of the pages in front are the same, whatever pages and bytes follow

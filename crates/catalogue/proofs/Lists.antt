@@ -9,12 +9,14 @@ use native.Mathlib.Omega.{arith}
 use lib.Dec.{eqb}
 use lib.ListN.{length, take}
 use lib.Seq.{take_at}
+use Rattle.std.proofs.lemmas.Bool.{and_from, not-true, not_from_false, or_parts, or_from, cases_Bool}
+use borrow.Author.Tests.{eqb-true}
 use Rattle.field.specs.Bytes.{Bytes, pick}
 use Rattle.catalogue.specs.Page.{Page, Given}
 use Rattle.catalogue.specs.Catalogue.{page_then, forms_of, row, size, row_size, present, names_differ, AllSound, none_left, one_sound}
 use Rattle.catalogue.specs.Shares.{used}
 use Rattle.catalogue.specs.Calls.{without, before}
-use Rattle.catalogue.proofs.Tests.{decide, both, true_eq, eq_flip, and_left, and_right, not_true, not_false, or_none, none_or}
+use Rattle.catalogue.proofs.Tests.{eq_flip, and_left, and_right}
 use Rattle.catalogue.proofs.Exact.{length_row}
 
 -- ---- rows
@@ -63,21 +65,21 @@ one_size G p = omega arith
 
 -- ---- a page more
 
-present_last : (x : ℕ) (ps : List Page) (p : Page) → present x ps ≡ false → eqb x p.name ≡ false → present x (ps ++ (p ∷ [])) ≡ false
+pub present_last : (x : ℕ) (ps : List Page) (p : Page) → present x ps ≡ false → eqb x p.name ≡ false → present x (ps ++ (p ∷ [])) ≡ false
 unfolding present
-present_last x [] p e f = none_or (eqb x p.name) false f refl
+present_last x [] p e f = or_from (eqb x p.name) false f refl
 present_last x (q ∷ ps) p e f =
-    let o = or_none (eqb x q.name) (present x ps) e in
-    none_or (eqb x q.name) (present x (ps ++ (p ∷ []))) o.0 (present_last x ps p o.1 f)
+    let o = or_parts (eqb x q.name) (present x ps) e in
+    or_from (eqb x q.name) (present x (ps ++ (p ∷ []))) o.0 (present_last x ps p o.1 f)
 
 pub differ_last : (ps : List Page) (p : Page) → names_differ ps ≡ true → present p.name ps ≡ false → names_differ (ps ++ (p ∷ [])) ≡ true
 unfolding names_differ present
 differ_last [] p e f = refl
 differ_last (q ∷ ps) p e f =
-    let o = or_none (eqb p.name q.name) (present p.name ps) f in
-    let m : present q.name ps ≡ false = not_true (present q.name ps) (and_left (not (present q.name ps)) (names_differ ps) e) in
-    both (not (present q.name (ps ++ (p ∷ [])))) (names_differ (ps ++ (p ∷ [])))
-    (not_false (present q.name (ps ++ (p ∷ []))) (present_last q.name ps p m (eq_flip q.name p.name ∙ o.0)))
+    let o = or_parts (eqb p.name q.name) (present p.name ps) f in
+    let m : present q.name ps ≡ false = not-true (present q.name ps) (and_left (not (present q.name ps)) (names_differ ps) e) in
+    and_from (not (present q.name (ps ++ (p ∷ [])))) (names_differ (ps ++ (p ∷ [])))
+    (not_from_false (present q.name (ps ++ (p ∷ []))) (present_last q.name ps p m (eq_flip q.name p.name ∙ o.0)))
     (differ_last ps p (and_right (not (present q.name ps)) (names_differ ps) e) o.1)
 
 -- ---- a page less
@@ -92,13 +94,13 @@ pub record Split (x : ℕ) (ps : List Page) : Type 0 where
 pub split_at_name : (x : ℕ) (ps : List Page) → present x ps ≡ true → Split x ps
 unfolding present before without
 split_at_name x [] e = absurd (true≢false (sym e))
-split_at_name x (p ∷ ps) e = on (decide (eqb x p.name)) (split_at_name x ps)
+split_at_name x (p ∷ ps) e = on (cases_Bool (eqb x p.name)) (split_at_name x ps)
   where
     on : (eqb x p.name ≡ true) ⊎ (eqb x p.name ≡ false) → (present x ps ≡ true → Split x ps) → Split x (p ∷ ps)
     on (inl t) ih = record {
       gone = p;
       later = ps;
-      named = sym (true_eq x p.name t);
+      named = sym (eqb-true x p.name t);
       all_is = ap (λ (q : Bool). pick q [] (p ∷ before x ps) ++ (p ∷ ps)) (sym t);
       rest_is = ap (λ (q : Bool). pick q ps (p ∷ without x ps)) t ∙ ap (λ (q : Bool). pick q [] (p ∷ before x ps) ++ ps) (sym t);
     }
@@ -119,11 +121,11 @@ present_without x y [] e = refl
 present_without x y (p ∷ ps) e = on (eqb x p.name) (present_without x y ps)
   where
     o : (eqb y p.name ≡ false) × (present y ps ≡ false)
-    o = or_none (eqb y p.name) (present y ps) e
+    o = or_parts (eqb y p.name) (present y ps) e
 
     on : (q : Bool) → (present y ps ≡ false → present y (without x ps) ≡ false) → present y (pick q ps (p ∷ without x ps)) ≡ false
     on true ih = o.1
-    on false ih = none_or (eqb y p.name) (present y (without x ps)) o.0 (ih o.1)
+    on false ih = or_from (eqb y p.name) (present y (without x ps)) o.0 (ih o.1)
 
 pub differ_without : (x : ℕ) (ps : List Page) → names_differ ps ≡ true → names_differ (without x ps) ≡ true
 unfolding names_differ without
@@ -131,14 +133,14 @@ differ_without x [] e = refl
 differ_without x (p ∷ ps) e = on (eqb x p.name) (differ_without x ps)
   where
     n : present p.name ps ≡ false
-    n = not_true (present p.name ps) (and_left (not (present p.name ps)) (names_differ ps) e)
+    n = not-true (present p.name ps) (and_left (not (present p.name ps)) (names_differ ps) e)
 
     d : names_differ ps ≡ true
     d = and_right (not (present p.name ps)) (names_differ ps) e
 
     on : (q : Bool) → (names_differ ps ≡ true → names_differ (without x ps) ≡ true) → names_differ (pick q ps (p ∷ without x ps)) ≡ true
     on true ih = d
-    on false ih = both (not (present p.name (without x ps))) (names_differ (without x ps)) (not_false (present p.name (without x ps)) (present_without x p.name ps n)) (ih d)
+    on false ih = and_from (not (present p.name (without x ps))) (names_differ (without x ps)) (not_from_false (present p.name (without x ps)) (present_without x p.name ps n)) (ih d)
 
 pub sound_without : (G : Given) (x : ℕ) (ps : List Page) → AllSound G.format ps → AllSound G.format (without x ps)
 unfolding without

@@ -8,11 +8,16 @@ use mathlib.Core.Logic.{◌⊎◌, inl, inr, ◌↔◌}
 use native.Mathlib.Omega.{arith}
 use lib.Dec.{eqb}
 use lib.ListN.{length}
+use Rattle.std.proofs.lemmas.Float.{T_from_true}
+use Rattle.std.proofs.lemmas.Bool.{and_from, cases_Bool}
+use borrow.Author.Tests.{le-leb, eq-eqb, eqb-true, ne_eqb, eqb-false}
 use Rattle.field.specs.Bytes.{Bytes, pick}
 use Rattle.field.specs.Row.{Row, end, loose, field, bytes, inside, read}
 use Rattle.field.proofs.Reading.{ShapedBy, shaped, length_bytes}
 use Rattle.page.specs.Refusal.{Verdict, Fine, Refused, refusal_number}
 use Rattle.page.specs.Tree.{choose}
+use Rattle.page.proofs.TightRows.{length_read}
+use Rattle.spec.proofs.Counts.{bit_not, bit_low}
 use Rattle.outs.specs.Held.{nests, held, read_out}
 use Rattle.outs.specs.PageOut.{left, within, good, check_page_out}
 use Rattle.outs.specs.Templates.{check_records, check_templates}
@@ -28,8 +33,7 @@ use Rattle.convert.proofs.PageLaws.{leaf_alone, rest_fine, nest_fine}
 use Rattle.catalogue.specs.Page.{Body}
 use Rattle.catalogue.specs.Catalogue.{four}
 use Rattle.catalogue.specs.Judged.{all_agree, recorded_numbers, called_numbers, occurrences, once, each_once, forms, numbered, first_of, judge, Meets}
-use Rattle.catalogue.proofs.Tests.{of_true, decide, both, le_true, true_eq, eq_true, eq_false, false_eq, and_left, and_right}
-use Rattle.catalogue.proofs.Rows.{length_read}
+use Rattle.catalogue.proofs.Tests.{and_left, and_right}
 
 -- ---- one number taken out
 
@@ -44,11 +48,11 @@ record Dropped (m : ℕ) (ks : List ℕ) : Type 0 where
 dropped : (m : ℕ) (ks : List ℕ) → 1 ≤ occurrences m ks → Dropped m ks
 unfolding occurrences drop_one
 dropped m [] h = absurd (omega arith)
-dropped m (k ∷ ks) h = on (decide (eqb k m)) (dropped m ks)
+dropped m (k ∷ ks) h = on (cases_Bool (eqb k m)) (dropped m ks)
   where
     on : (eqb k m ≡ true) ⊎ (eqb k m ≡ false) → (1 ≤ occurrences m ks → Dropped m ks) → Dropped m (k ∷ ks)
     on (inl t) ih =
-        let e : k ≡ m = true_eq k m t in
+        let e : k ≡ m = eqb-true k m t in
         let d : pick (eqb k m) ks (k ∷ drop_one m ks) ≡ ks = ap (λ (b : Bool). pick b ks (k ∷ drop_one m ks)) t in
         record {
           one_less = ap (λ (l : List ℕ). suc (length l)) (sym d);
@@ -66,11 +70,8 @@ dropped m (k ∷ ks) h = on (decide (eqb k m)) (dropped m ks)
 
 -- ---- 1 up to n
 
-bit_not : (a b : ℕ) → (a ≡ b → ⊥) → bit (eqb a b) 1 ≡ 0
-bit_not a b f = ap (λ (x : Bool). bit x 1) (eq_false a b f)
-
 bit_same : (a b : ℕ) → a ≡ b → bit (eqb a b) 1 ≡ 1
-bit_same a b e = ap (λ (x : Bool). bit x 1) (eq_true a b e)
+bit_same a b e = ap (λ (x : Bool). bit x 1) (eq-eqb a b e)
 
 up_to_above : (m n : ℕ) → n < m → up_to m n ≡ 0
 unfolding up_to
@@ -80,11 +81,11 @@ up_to_above m (suc n) h = omega (arith, bit_not (suc n) m (λ e. omega arith), u
 up_to_within : (m n : ℕ) → 1 ≤ m → m ≤ n → up_to m n ≡ 1
 unfolding up_to
 up_to_within m zero h l = absurd (omega arith)
-up_to_within m (suc n) h l = on (decide (eqb (suc n) m)) (up_to_within m n h)
+up_to_within m (suc n) h l = on (cases_Bool (eqb (suc n) m)) (up_to_within m n h)
   where
     on : (eqb (suc n) m ≡ true) ⊎ (eqb (suc n) m ≡ false) → (m ≤ n → up_to m n ≡ 1) → bit (eqb (suc n) m) 1 + up_to m n ≡ 1
-    on (inl t) ih = let e : suc n ≡ m = true_eq (suc n) m t in omega (arith, bit_same (suc n) m e, up_to_above m n (omega arith))
-    on (inr t) ih = let f : suc n ≡ m → ⊥ = false_eq (suc n) m t in omega (arith, bit_not (suc n) m f, ih (omega arith))
+    on (inl t) ih = let e : suc n ≡ m = eqb-true (suc n) m t in omega (arith, bit_same (suc n) m e, up_to_above m n (omega arith))
+    on (inr t) ih = let f : suc n ≡ m → ⊥ = eqb-false (suc n) m t in omega (arith, bit_not (suc n) m f, ih (omega arith))
 
 once_same : (k : ℕ) (ks js : List ℕ) → ((i : ℕ) → i ≤ k → occurrences i ks ≡ occurrences i js) → once k ks ≡ once k js
 unfolding once
@@ -96,7 +97,7 @@ unfolding once up_to occurrences
 counts_are zero [] e o m = refl
 counts_are zero (k ∷ ks) e o m = absurd (omega arith)
 counts_are (suc n) ks e o m =
-    let a : occurrences (suc n) ks ≡ 1 = true_eq (occurrences (suc n) ks) 1 (and_left (eqb (occurrences (suc n) ks) 1) (once n ks) o) in
+    let a : occurrences (suc n) ks ≡ 1 = eqb-true (occurrences (suc n) ks) 1 (and_left (eqb (occurrences (suc n) ks) 1) (once n ks) o) in
     let d = dropped (suc n) ks (omega arith) in
     let s : once n ks ≡ once n (drop_one (suc n) ks) = once_same n ks (drop_one (suc n) ks) (λ i l. omega (arith, d.others i, bit_not (suc n) i (λ q. omega arith))) in
     let i = counts_are n (drop_one (suc n) ks) (omega (arith, d.one_less)) (sym s ∙ and_right (eqb (occurrences (suc n) ks) 1) (once n ks) o) m in
@@ -106,7 +107,7 @@ once_are : (k n : ℕ) (ks : List ℕ) → k ≤ n → ((m : ℕ) → occurrence
 unfolding once
 once_are zero n ks l h = refl
 once_are (suc k) n ks l h =
-    both (eqb (occurrences (suc k) ks) 1) (once k ks) (eq_true (occurrences (suc k) ks) 1 (h (suc k) ∙ up_to_within (suc k) n (omega arith) l)) (once_are k n ks (omega arith) h)
+    and_from (eqb (occurrences (suc k) ks) 1) (once k ks) (eq-eqb (occurrences (suc k) ks) 1 (h (suc k) ∙ up_to_within (suc k) n (omega arith) l)) (once_are k n ks (omega arith) h)
 
 length_is : (n : ℕ) (ks : List ℕ) → ((m : ℕ) → occurrences m ks ≡ up_to m n) → length ks ≡ n
 unfolding up_to occurrences
@@ -122,8 +123,8 @@ length_is (suc n) ks h =
 pub each_once_means : (n : ℕ) (ks : List ℕ) → (each_once n ks ≡ true) ↔ ((m : ℕ) → occurrences m ks ≡ up_to m n)
 unfolding each_once
 each_once_means n ks = (
-  λ e. counts_are n ks (true_eq (length ks) n (and_left (eqb (length ks) n) (once n ks) e)) (and_right (eqb (length ks) n) (once n ks) e),
-  λ h. both (eqb (length ks) n) (once n ks) (eq_true (length ks) n (length_is n ks h)) (once_are n n ks (omega arith) h),
+  λ e. counts_are n ks (eqb-true (length ks) n (and_left (eqb (length ks) n) (once n ks) e)) (and_right (eqb (length ks) n) (once n ks) e),
+  λ h. and_from (eqb (length ks) n) (once n ks) (eq-eqb (length ks) n (length_is n ks h)) (once_are n n ks (omega arith) h),
 )
 
 -- ---- the numbers of a row
@@ -135,7 +136,7 @@ occurrences_append m (k ∷ ks) js = omega (arith, occurrences_append m ks js)
 
 begins_long : (m : ℕ) (f : Bytes) → 4 ≤ length f → begins m f ≡ eqb (four f) m
 unfolding begins
-begins_long m f l = ap (λ (b : Bool). b && eqb (four f) m) (le_true 4 (length f) l)
+begins_long m f l = ap (λ (b : Bool). b && eqb (four f) m) (le-leb 4 (length f) l)
 
 -- templates that are fine are recorded as demand 3 counts them
 pub recorded_is : (m : ℕ) (x : Row) → check_records New x ≡ Fine → occurrences m (recorded_numbers x) ≡ recorded_in m x
@@ -145,14 +146,14 @@ recorded_is m (loose b) h = refl
 recorded_is m (field t f i r) h =
     let d = record_of New t f i r h in
     let l : 4 ≤ length f = omega (arith, (new_front f d.front_is).long_enough) in
-    let e : eqb t 0x84 ≡ true = eq_true t 0x84 d.tag_is in
+    let e : eqb t 0x84 ≡ true = eq-eqb t 0x84 d.tag_is in
     ap (λ (b : Bool). occurrences m (pick b (four f ∷ recorded_numbers r) (recorded_numbers r))) e
     ∙ ap₂ (λ (b : Bool) (n : ℕ). bit b 1 + n) (sym (begins_long m f l)) (recorded_is m r d.rest_is)
     ∙ ap (λ (b : Bool). bit (b && begins m f) 1 + recorded_in m r) (sym e)
 
 called_front : (m t : ℕ) (f : Bytes) → (eqb t 0x90 ≡ true → 4 ≤ length f) → occurrences m (pick (eqb t 0x90) (four f ∷ []) []) ≡ bit (eqb t 0x90 && begins m f) 1
 unfolding occurrences
-called_front m t f l = on (decide (eqb t 0x90))
+called_front m t f l = on (cases_Bool (eqb t 0x90))
   where
     on : (eqb t 0x90 ≡ true) ⊎ (eqb t 0x90 ≡ false) → occurrences m (pick (eqb t 0x90) (four f ∷ []) []) ≡ bit (eqb t 0x90 && begins m f) 1
     on (inl e) =
@@ -161,7 +162,7 @@ called_front m t f l = on (decide (eqb t 0x90))
     on (inr e) = ap (λ (b : Bool). occurrences m (pick b (four f ∷ []) [])) e ∙ ap (λ (b : Bool). bit (b && begins m f) 1) (sym e)
 
 pub nests_call : (t : ℕ) → nests t ≡ false → eqb t 0x90 ≡ true → ⊥
-nests_call t n e = let k : ◌≡◌ {A = Bool} true false = sym (ap nests (true_eq t 0x90 e)) ∙ n in let z : ◌≡◌ {A = ℕ} 0 1 = cc in omega arith
+nests_call t n e = let k : ◌≡◌ {A = Bool} true false = sym (ap nests (eqb-true t 0x90 e)) ∙ n in let z : ◌≡◌ {A = ℕ} 0 1 = cc in omega arith
 
 none : (m : ℕ) → occurrences m (called_numbers end) ≡ called_in m end
 unfolding called_numbers occurrences called_in
@@ -173,7 +174,7 @@ unfolding called_numbers occurrences called_in
 called_is m c end s h = refl
 called_is m c (loose b) s h = refl
 called_is m c (field t f i r) s h =
-    on (decide (nests t)) (λ z. called_is m (within t) i s.1 z) (called_is m (left c t) r s.2 (rest_fine 4 c t f i r h))
+    on (cases_Bool (nests t)) (λ z. called_is m (within t) i s.1 z) (called_is m (left c t) r s.2 (rest_fine 4 c t f i r h))
   where
     Goal : Type 0
     Goal = occurrences m (pick (eqb t 0x90) (four f ∷ []) [] ++ (called_numbers i ++ called_numbers r)) ≡ bit (eqb t 0x90 && begins m f) 1 + (called_in m i + called_in m r)
@@ -185,7 +186,7 @@ called_is m c (field t f i r) s h =
     on : (nests t ≡ true) ⊎ (nests t ≡ false) → (good 4 (within t) i ≡ Fine → occurrences m (called_numbers i) ≡ called_in m i) → occurrences m (called_numbers r) ≡ called_in m r → Goal
     on (inl n) ih g =
         let p = nest_fine 4 c t f i r h n in
-        together (λ e. omega (arith, true_eq (length f) 4 (sym (ap (λ (b : Bool). pick b (eqb (length f) 4) true) e) ∙ p.0))) (ih p.1) g
+        together (λ e. omega (arith, eqb-true (length f) 4 (sym (ap (λ (b : Bool). pick b (eqb (length f) 4) true) e) ∙ p.0))) (ih p.1) g
     on (inr n) ih g =
         let e : i ≡ end = leaf_alone 4 t f i n s.0 in
         together (λ q. absurd (nests_call t n q)) (subst (λ (y : Row). occurrences m (called_numbers y) ≡ called_in m y) (sym e) (none m)) g
@@ -204,14 +205,14 @@ each_agree end c h = refl
 each_agree (loose b) c h = refl
 each_agree (field t f i r) c h =
     let d = record_of New t f i r c in
-    both (agrees f (strings_in i)) (all_agree r) (h.0 (of_true (eqb t 0x84) (eq_true t 0x84 d.tag_is))) (each_agree r d.rest_is h.1)
+    and_from (agrees f (strings_in i)) (all_agree r) (h.0 (T_from_true (eqb t 0x84) (eq-eqb t 0x84 d.tag_is))) (each_agree r d.rest_is h.1)
 
 -- ---- the judge
 
 verdict_fine : (v : Verdict) → verdict_number v ≡ 0 → v ≡ Fine
 unfolding verdict_number
 verdict_fine Fine h = refl
-verdict_fine (Refused r) h = absurd (false_eq (refusal_number r) 0 (number_some r) h)
+verdict_fine (Refused r) h = absurd (eqb-false (refusal_number r) 0 (number_some r) h)
 
 fine_verdict : (v : Verdict) → v ≡ Fine → verdict_number v ≡ 0
 unfolding verdict_number
@@ -219,15 +220,15 @@ fine_verdict v e = ap verdict_number e
 
 both_first : (n : ℕ) (f : Unit {0} → ℕ) → first_of n f ≡ 0 → (n ≡ 0) × (f tt ≡ 0)
 unfolding first_of choose
-both_first n f h = on (decide (eqb n 0))
+both_first n f h = on (cases_Bool (eqb n 0))
   where
     on : (eqb n 0 ≡ true) ⊎ (eqb n 0 ≡ false) → (n ≡ 0) × (f tt ≡ 0)
-    on (inl t) = (true_eq n 0 t, sym (ap (λ (b : Bool). choose b f (λ _. n)) t) ∙ h)
-    on (inr t) = absurd (false_eq n 0 t (sym (ap (λ (b : Bool). choose b f (λ _. n)) t) ∙ h))
+    on (inl t) = (eqb-true n 0 t, sym (ap (λ (b : Bool). choose b f (λ _. n)) t) ∙ h)
+    on (inr t) = absurd (eqb-false n 0 t (sym (ap (λ (b : Bool). choose b f (λ _. n)) t) ∙ h))
 
 first_both : (n : ℕ) (f : Unit {0} → ℕ) → n ≡ 0 → f tt ≡ 0 → first_of n f ≡ 0
 unfolding first_of choose
-first_both n f e h = ap (λ (b : Bool). choose b f (λ _. n)) (eq_true n 0 e) ∙ h
+first_both n f e h = ap (λ (b : Bool). choose b f (λ _. n)) (eq-eqb n 0 e) ∙ h
 
 unless_none : (b : Bool) → number_unless b 17 ≡ 0 → b ≡ true
 unless_none true e = refl
@@ -281,11 +282,11 @@ module _ (x : Body) where
       let cs : List ℕ = called_numbers (read_out 4 x.page_out) in
       let r = of_once rs (λ m. recorded_in m (read x.templates)) (records_are w.templates_are) w.recorded_once in
       let c = of_once cs (λ m. called_in m (read_out 4 x.page_out)) (calls_are w.page_out_is) w.called_once in
-      let n = both (each_once (forms x) rs) (each_once (forms x) cs) r c in
+      let n = and_from (each_once (forms x) rs) (each_once (forms x) cs) r c in
       first_both (verdict_number (check_templates New x.templates)) (λ _. first_of (verdict_number (check_page_out 4 x.page_out)) λ _. last)
       (fine_verdict (check_templates New x.templates) w.templates_are)
       (first_both (verdict_number (check_page_out 4 x.page_out)) (λ _. last) (fine_verdict (check_page_out 4 x.page_out) w.page_out_is)
-      (ap (λ (b : Bool). number_unless b 17) (both (all_agree (read x.templates)) (numbered x) (agree w) n)))
+      (ap (λ (b : Bool). number_unless b 17) (and_from (all_agree (read x.templates)) (numbered x) (agree w) n)))
 
   -- the number 0 says exactly what demand 3's words say
   pub judge_exactly : (judge x ≡ 0) ↔ Meets x
@@ -297,12 +298,8 @@ templates_few : (x : Row) → templates_in x ≤ length (bytes x)
 unfolding templates_in bytes
 templates_few end = omega arith
 templates_few (loose b) = omega arith
-templates_few (field t f i r) = omega (arith, bit_one (eqb t 0x84), templates_few r, length_bytes t f i r)
-  where
-    bit_one : (b : Bool) → bit b 1 ≤ 1
-    bit_one true = omega arith
-    bit_one false = omega arith
+templates_few (field t f i r) = omega (arith, bit_low (eqb t 0x84), templates_few r, length_bytes t f i r)
 
 pub forms_few : (x : Body) → forms x ≤ length x.templates
 unfolding forms read
-forms_few x = omega (arith, templates_few (read x.templates), length_read inside x.templates)
+forms_few x = omega (arith, templates_few (read x.templates), length_read x.templates)

@@ -8,12 +8,14 @@ use native.Mathlib.Omega.{arith}
 use lib.Dec.{leb, eqb}
 use lib.ListN.{length, take, drop, length-append, length-drop, take-append-drop}
 use lib.Seq.{take_at, drop_at, length-take-le}
+use Rattle.std.proofs.lemmas.Bool.{and_from}
+use borrow.Author.Tests.{le-leb, leb-true, eq-eqb, eqb-true}
 use Rattle.field.specs.Bytes.{Bytes, AllBytes}
 use Rattle.field.specs.Number.{big_endian, number_from, number_of}
 use Rattle.field.proofs.NumberLaws.{length_big_endian, four_read, big_endian_back, all_take, all_drop}
 use Rattle.catalogue.specs.Page.{Body, Page, IsBytes, Request, A13, A14, house_width, house_bytes, house_in, house_right, Given, Sound}
 use Rattle.catalogue.specs.Catalogue.{behind_lengths, lengths, page_then, size, four, at_lengths, body_in, page_in, behind_body, behind, within, page_right}
-use Rattle.catalogue.proofs.Tests.{both, le_true, true_le, eq_true, true_eq, and_left, and_right}
+use Rattle.catalogue.proofs.Tests.{and_left, and_right}
 
 -- ---- four bytes in front
 
@@ -85,15 +87,15 @@ module _ (x : Body) (r : Bytes) (lt : length x.templates < 2 ^ 32) (lp : length 
 
   pub within_lengths : within (lengths x r) ≡ true
   within_lengths =
-      both (leb 8 (length (lengths x r))) (leb (8 + four (lengths x r) + four (drop 4 (lengths x r))) (length (lengths x r)))
-      (le_true 8 (length (lengths x r)) (omega (arith, length_lengths)))
-      (le_true (8 + four (lengths x r) + four (drop 4 (lengths x r))) (length (lengths x r)) (omega (arith, length_lengths, first_length, second_length)))
+      and_from (leb 8 (length (lengths x r))) (leb (8 + four (lengths x r) + four (drop 4 (lengths x r))) (length (lengths x r)))
+      (le-leb 8 (length (lengths x r)) (omega (arith, length_lengths)))
+      (le-leb (8 + four (lengths x r) + four (drop 4 (lengths x r))) (length (lengths x r)) (omega (arith, length_lengths, first_length, second_length)))
 
 -- what is read is what was written
 pub lengths_body_in : (b : Bytes) → AllBytes b → within b ≡ true → lengths (body_in b) (behind_body b) ≡ b
 lengths_body_in b a w =
-    let l : 8 ≤ length b = true_le 8 (length b) (and_left (leb 8 (length b)) (leb (8 + four b + four (drop 4 b)) (length b)) w) in
-    let m : 8 + four b + four (drop 4 b) ≤ length b = true_le (8 + four b + four (drop 4 b)) (length b) (and_right (leb 8 (length b)) (leb (8 + four b + four (drop 4 b)) (length b)) w) in
+    let l : 8 ≤ length b = leb-true 8 (length b) (and_left (leb 8 (length b)) (leb (8 + four b + four (drop 4 b)) (length b)) w) in
+    let m : 8 + four b + four (drop 4 b) ≤ length b = leb-true (8 + four b + four (drop 4 b)) (length b) (and_right (leb 8 (length b)) (leb (8 + four b + four (drop 4 b)) (length b)) w) in
     let c : Bytes = drop 4 (drop 4 b) in
     let lc : length c ≡ length b - 8 = omega (arith, length-drop 4 (drop 4 b), length-drop 4 b) in
     let et : length (take (four b) c) ≡ four b = length-take-le (four b) c (omega arith) in
@@ -111,7 +113,7 @@ house_drop A13 h r = refl
 house_drop A14 h r = refl
 
 house_read : (q : Request) (h : ℕ) (r : Bytes) → house_right q h ≡ true → house_in q (house_bytes q h ++ r) ≡ h
-house_read A13 h r e = sym (true_eq h 0 e)
+house_read A13 h r e = sym (eqb-true h 0 e)
 house_read A14 h r e = refl
 
 house_length : (q : Request) (h : ℕ) → length (house_bytes q h) ≡ house_width q
@@ -176,16 +178,16 @@ module _ (G : Given) (n : ℕ) (p : Page) (r : Bytes) (s : Sound G.format p) (h 
   unfolding page_right page_then size
   page_right_then =
       let l : length (page_tail G n p r) + 1 ≡ size G.format p + length r = omega (arith, length_page G n p r) in
-      both (leb (4 + house_width G.format.request) (length (page_tail G n p r))) (within (at_lengths G.format (page_tail G n p r)) && (house_right G.format.request p.house && eqb (G.format.judge p.body) 0))
-      (le_true (4 + house_width G.format.request) (length (page_tail G n p r)) (omega arith))
-      (both (within (at_lengths G.format (page_tail G n p r))) (house_right G.format.request p.house && eqb (G.format.judge p.body) 0)
+      and_from (leb (4 + house_width G.format.request) (length (page_tail G n p r))) (within (at_lengths G.format (page_tail G n p r)) && (house_right G.format.request p.house && eqb (G.format.judge p.body) 0))
+      (le-leb (4 + house_width G.format.request) (length (page_tail G n p r)) (omega arith))
+      (and_from (within (at_lengths G.format (page_tail G n p r))) (house_right G.format.request p.house && eqb (G.format.judge p.body) 0)
       (ap within at_lengths_then ∙ within_lengths up_body r short_templates short_page_out)
-      (both (house_right G.format.request p.house) (eqb (G.format.judge p.body) 0) s.house_is (eq_true (G.format.judge p.body) 0 s.judged)))
+      (and_from (house_right G.format.request p.house) (eqb (G.format.judge p.body) 0) s.house_is (eq-eqb (G.format.judge p.body) 0 s.judged)))
 
 module _ (G : Given) (n : ℕ) (b : Bytes) (a : AllBytes b) (t : page_right G.format b (page_in G.format n b) ≡ true) where
   head_fits : 4 + house_width G.format.request ≤ length b
   unfolding page_right
-  head_fits = true_le (4 + house_width G.format.request) (length b) (and_left (leb (4 + house_width G.format.request) (length b)) (within (at_lengths G.format b) && (house_right G.format.request (page_in G.format n b).house && eqb (G.format.judge (page_in G.format n b).body) 0)) t)
+  head_fits = leb-true (4 + house_width G.format.request) (length b) (and_left (leb (4 + house_width G.format.request) (length b)) (within (at_lengths G.format b) && (house_right G.format.request (page_in G.format n b).house && eqb (G.format.judge (page_in G.format n b).body) 0)) t)
 
   rest_right : (within (at_lengths G.format b) && (house_right G.format.request (page_in G.format n b).house && eqb (G.format.judge (page_in G.format n b).body) 0)) ≡ true
   unfolding page_right
@@ -212,7 +214,7 @@ module _ (G : Given) (n : ℕ) (b : Bytes) (a : AllBytes b) (t : page_right G.fo
     four_bytes = four_below b a;
     of_bytes = G.down_bytes n (body_in (at_lengths G.format b)) in_bytes;
     house_is = and_left (house_right G.format.request (page_in G.format n b).house) (eqb (G.format.judge (page_in G.format n b).body) 0) last_right;
-    judged = true_eq (G.format.judge (page_in G.format n b).body) 0 (and_right (house_right G.format.request (page_in G.format n b).house) (eqb (G.format.judge (page_in G.format n b).body) 0) last_right);
+    judged = eqb-true (G.format.judge (page_in G.format n b).body) 0 (and_right (house_right G.format.request (page_in G.format n b).house) (eqb (G.format.judge (page_in G.format n b).body) 0) last_right);
   }
 
   pub then_page_in : page_then G.format n (page_in G.format n b) (behind G.format b) ≡ 0x97 ∷ b

@@ -9,6 +9,8 @@ use native.Mathlib.Omega.{arith}
 use lib.Dec.{eqb}
 use lib.ListN.{length, drop}
 use Rattle.std.proofs.lemmas.List.{map-append}
+use Rattle.std.proofs.lemmas.Bool.{cases_Bool}
+use borrow.Author.Tests.{le-leb, eq-eqb, eqb-true}
 use Rattle.field.specs.Bytes.{Bytes, pick}
 use Rattle.field.specs.Number.{big_endian}
 use Rattle.field.specs.Row.{Row, end, loose, field, read}
@@ -26,7 +28,6 @@ use Rattle.catalogue.specs.Page.{Body, IsBytes}
 use Rattle.catalogue.specs.Catalogue.{four}
 use Rattle.catalogue.specs.Numbers.{full_turn, changed, raised, up}
 use Rattle.catalogue.specs.Judged.{recorded_numbers, called_numbers, judge}
-use Rattle.catalogue.proofs.Tests.{decide, le_true, true_eq, eq_true}
 use Rattle.catalogue.proofs.Parts.{read_four}
 use Rattle.catalogue.proofs.Rows.{read_up}
 use Rattle.catalogue.proofs.Numbered.{nests_call, judge_exactly}
@@ -40,7 +41,7 @@ module _ (n : ℕ) where
   unfolding raised further
   four_raised tag t f e l =
       let h : (four f + n) % full_turn < 2 ^ 32 = omega arith in
-      ap₂ (λ (a b : Bool). four (pick (a && b) (big_endian 4 ((four f + n) % full_turn) [] ++ drop 4 f) f)) e (le_true 4 (length f) l)
+      ap₂ (λ (a b : Bool). four (pick (a && b) (big_endian 4 ((four f + n) % full_turn) [] ++ drop 4 f) f)) e (le-leb 4 (length f) l)
       ∙ read_four ((four f + n) % full_turn) (drop 4 f) h
 
   recorded_changed : (x : Row) → check_records New x ≡ Fine → recorded_numbers (changed (raised 0x84 n) x) ≡ map further (recorded_numbers x)
@@ -49,7 +50,7 @@ module _ (n : ℕ) where
   recorded_changed (loose b) h = refl
   recorded_changed (field t f i r) h =
       let d = record_of New t f i r h in
-      let e : eqb t 0x84 ≡ true = eq_true t 0x84 d.tag_is in
+      let e : eqb t 0x84 ≡ true = eq-eqb t 0x84 d.tag_is in
       let l : 4 ≤ length f = omega (arith, (new_front f d.front_is).long_enough) in
       ap (λ (b : Bool). pick b (four (raised 0x84 n t f) ∷ recorded_numbers (changed (raised 0x84 n) r)) (recorded_numbers (changed (raised 0x84 n) r))) e
       ∙ ap₂ (λ (k : ℕ) (ks : List ℕ). k ∷ ks) (four_raised 0x84 t f e l) (recorded_changed r d.rest_is)
@@ -57,7 +58,7 @@ module _ (n : ℕ) where
 
   -- the number of one call
   one_call : (t : ℕ) (f : Bytes) → (eqb t 0x90 ≡ true → 4 ≤ length f) → pick (eqb t 0x90) (four (raised 0x90 n t f) ∷ []) [] ≡ map further (pick (eqb t 0x90) (four f ∷ []) [])
-  one_call t f l = on (decide (eqb t 0x90))
+  one_call t f l = on (cases_Bool (eqb t 0x90))
     where
       on : (eqb t 0x90 ≡ true) ⊎ (eqb t 0x90 ≡ false) → pick (eqb t 0x90) (four (raised 0x90 n t f) ∷ []) [] ≡ map further (pick (eqb t 0x90) (four f ∷ []) [])
       on (inl e) =
@@ -74,7 +75,7 @@ module _ (n : ℕ) where
   called_changed c end s h = refl
   called_changed c (loose b) s h = refl
   called_changed c (field t f i r) s h =
-      on (decide (nests t)) (λ z. called_changed (within t) i s.1 z) (called_changed (left c t) r s.2 (rest_fine 4 c t f i r h))
+      on (cases_Bool (nests t)) (λ z. called_changed (within t) i s.1 z) (called_changed (left c t) r s.2 (rest_fine 4 c t f i r h))
     where
       is_call : Bytes → List ℕ
       is_call g = pick (eqb t 0x90) (four g ∷ []) []
@@ -90,7 +91,7 @@ module _ (n : ℕ) where
       on : (nests t ≡ true) ⊎ (nests t ≡ false) → (good 4 (within t) i ≡ Fine → called_numbers (changed (raised 0x90 n) i) ≡ map further (called_numbers i)) → called_numbers (changed (raised 0x90 n) r) ≡ map further (called_numbers r) → Goal
       on (inl q) ih g =
           let p = nest_fine 4 c t f i r h q in
-          together (λ e. omega (arith, true_eq (length f) 4 (sym (ap (λ (b : Bool). pick b (eqb (length f) 4) true) e) ∙ p.0))) (ih p.1) g
+          together (λ e. omega (arith, eqb-true (length f) 4 (sym (ap (λ (b : Bool). pick b (eqb (length f) 4) true) e) ∙ p.0))) (ih p.1) g
       on (inr q) ih g =
           let e : i ≡ end = leaf_alone 4 t f i q s.0 in
           together (λ z. absurd (nests_call t q z)) (subst (λ (y : Row). called_numbers (changed (raised 0x90 n) y) ≡ map further (called_numbers y)) (sym e) no_calls) g

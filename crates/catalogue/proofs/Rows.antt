@@ -10,16 +10,19 @@ use mathlib.Core.Logic.{◌⊎◌, inl, inr}
 use native.Mathlib.Omega.{arith}
 use lib.Dec.{T, leb, ltb, eqb}
 use lib.ListN.{length, take, drop, length-append, length-take, length-drop}
+use Rattle.std.proofs.lemmas.Bool.{cases_Bool}
+use borrow.Author.Tests.{leb-true}
 use Rattle.field.specs.Bytes.{Bytes, AllBytes, pick}
 use Rattle.field.specs.Number.{big_endian, number_of}
 use Rattle.field.specs.Row.{Row, end, loose, field, bytes, long_body, Inside, only_bytes, fields_after, counted, counted_front, inside, read, read_by}
 use Rattle.field.proofs.NumberLaws.{all_append, all_drop, all_big_endian}
 use Rattle.field.proofs.Reading.{FrontFits, ShapedBy, SaneBy, next_nothing, next_sizes, length_bytes, along, back, shaped, written, sane, short, all_bytes}
+use Rattle.page.proofs.TightRows.{length_read_by}
 use Rattle.outs.specs.Held.{nests, held, read_out}
 use Rattle.catalogue.specs.Page.{Body, IsBytes, Request, Given}
 use Rattle.catalogue.specs.Catalogue.{four}
 use Rattle.catalogue.specs.Numbers.{Change, changed, full_turn, raised, opposite, up, down, by_rows}
-use Rattle.catalogue.proofs.Tests.{decide, and_right, true_le}
+use Rattle.catalogue.proofs.Tests.{and_right}
 use Rattle.catalogue.proofs.InPlace.{Lowers}
 use Rattle.catalogue.proofs.Parts.{be_length, read_four, drop_four, four_split, four_below}
 
@@ -32,13 +35,6 @@ record Keeps (holds : ℕ → Inside) (m : Change) : Type 0 where
   all : (t : ℕ) (f : Bytes) → AllBytes f → AllBytes (m t f)
 
 module _ (holds : ℕ → Inside) where
-  pub length_read : (s : Bytes) → length (bytes (read_by holds s)) ≡ length s
-  unfolding bytes
-  length_read =
-      along holds (λ s x. length (bytes x) ≡ length s) (λ s e. ap length (sym (next_nothing s e))) (λ s e. refl)
-      (λ s t w r e q hr. length_bytes t w end (read_by holds r) ∙ omega (arith, next_sizes s t w r e))
-      (λ s t w r n e q hi hr. length_bytes t (take n w) (read_by holds (drop n w)) (read_by holds r) ∙ omega (arith, next_sizes s t w r e, length-take n w, length-drop n w))
-
   renumbered : Change → Bytes → Bytes
   renumbered m s = bytes (changed m (read_by holds s))
 
@@ -90,7 +86,7 @@ module _ (holds : ℕ → Inside) where
 
     length_renumbered : (s : Bytes) → length (renumbered m s) ≡ length s
     unfolding renumbered
-    length_renumbered s = length_changed (read_by holds s) ∙ length_read s
+    length_renumbered s = length_changed (read_by holds s) ∙ length_read_by holds s
 
     all_renumbered : (s : Bytes) → AllBytes s → AllBytes (renumbered m s)
     unfolding renumbered
@@ -128,14 +124,14 @@ module _ (holds : ℕ → Inside) where
 module _ (tag : ℕ) where
   pub length_raised : (n t : ℕ) (f : Bytes) → length (raised tag n t f) ≡ length f
   unfolding raised
-  length_raised n t f = on (decide (eqb t tag && leb 4 (length f)))
+  length_raised n t f = on (cases_Bool (eqb t tag && leb 4 (length f)))
     where
       g : Bytes
       g = big_endian 4 ((four f + n) % full_turn) [] ++ drop 4 f
 
       on : ((eqb t tag && leb 4 (length f)) ≡ true) ⊎ ((eqb t tag && leb 4 (length f)) ≡ false) → length (pick (eqb t tag && leb 4 (length f)) g f) ≡ length f
       on (inl e) =
-          let l : 4 ≤ length f = true_le 4 (length f) (and_right (eqb t tag) (leb 4 (length f)) e) in
+          let l : 4 ≤ length f = leb-true 4 (length f) (and_right (eqb t tag) (leb 4 (length f)) e) in
           ap (λ (b : Bool). length (pick b g f)) e ∙ length-append (big_endian 4 ((four f + n) % full_turn) []) (drop 4 f) ∙ omega (arith, be_length ((four f + n) % full_turn), length-drop 4 f)
       on (inr e) = ap (λ (b : Bool). length (pick b g f)) e
 
@@ -158,14 +154,14 @@ module _ (tag : ℕ) where
 
   raised_none : (t : ℕ) (f : Bytes) → AllBytes f → raised tag 0 t f ≡ f
   unfolding raised
-  raised_none t f a = on (decide (eqb t tag && leb 4 (length f)))
+  raised_none t f a = on (cases_Bool (eqb t tag && leb 4 (length f)))
     where
       g : Bytes
       g = big_endian 4 ((four f + 0) % full_turn) [] ++ drop 4 f
 
       on : ((eqb t tag && leb 4 (length f)) ≡ true) ⊎ ((eqb t tag && leb 4 (length f)) ≡ false) → pick (eqb t tag && leb 4 (length f)) g f ≡ f
       on (inl e) =
-          let l : 4 ≤ length f = true_le 4 (length f) (and_right (eqb t tag) (leb 4 (length f)) e) in
+          let l : 4 ≤ length f = leb-true 4 (length f) (and_right (eqb t tag) (leb 4 (length f)) e) in
           let h : four f < full_turn = four_below f a in
           let w : (four f + 0) % full_turn ≡ four f = omega arith in
           ap (λ (b : Bool). pick b g f) e ∙ ap (λ (k : ℕ). big_endian 4 k [] ++ drop 4 f) w ∙ four_split f a l
@@ -174,7 +170,7 @@ module _ (tag : ℕ) where
   -- one raising after the other
   raised_raised : (n k j t : ℕ) (f : Bytes) → ((four f + n) % full_turn + k) % full_turn ≡ (four f + j) % full_turn → raised tag k t (raised tag n t f) ≡ raised tag j t f
   unfolding raised
-  raised_raised n k j t f w = on (decide (eqb t tag && leb 4 (length f)))
+  raised_raised n k j t f w = on (cases_Bool (eqb t tag && leb 4 (length f)))
     where
       x : ℕ
       x = (four f + n) % full_turn
@@ -217,7 +213,7 @@ counts_by false false false true n e = absurd (let z : ◌≡◌ {A = ℕ} 0 1 =
 counts_by false false false false n e = absurd (let z : ◌≡◌ {A = ℕ} 0 1 = cc in omega arith)
 
 -- in a page out as it is read back nothing does
-counts_none : (a b : Bool) (n : ℕ) → pick a (fields_after 4) (pick b (fields_after 0) only_bytes) ≡ counted n → ⊥
+pub counts_none : (a b : Bool) (n : ℕ) → pick a (fields_after 4) (pick b (fields_after 0) only_bytes) ≡ counted n → ⊥
 counts_none true b n e = let z : ◌≡◌ {A = ℕ} 0 1 = cc in omega arith
 counts_none false true n e = let z : ◌≡◌ {A = ℕ} 0 1 = cc in omega arith
 counts_none false false n e = let z : ◌≡◌ {A = ℕ} 0 1 = cc in omega arith

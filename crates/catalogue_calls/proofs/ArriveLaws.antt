@@ -8,6 +8,8 @@ use native.Mathlib.Omega.{arith}
 use lib.Dec.{leb, eqb}
 use lib.ListN.{length, length-append}
 use Rattle.std.specs.Prelude.{Result}
+use Rattle.std.proofs.lemmas.Bool.{and_from, and_right as second_false}
+use borrow.Author.Tests.{le-leb, leb-true, eq-eqb, ne_eqb, lt-leb}
 use Rattle.field.specs.Bytes.{Bytes, AllBytes}
 use Rattle.field.specs.Put.{put}
 use Rattle.page.specs.Refusal.{Fine}
@@ -19,7 +21,7 @@ use Rattle.catalogue.specs.Catalogue.{pages, read_catalogue, page_then, row_size
 use Rattle.catalogue.specs.Shares.{Shares, unused_of_others, shares_right}
 use Rattle.catalogue.specs.Calls.{arrives, Outcome, refused, remain, unless, room, call_right, arrival, called, outcome, number, used_after, pages_after}
 use Rattle.catalogue.specs.Judged.{judge, project}
-use Rattle.catalogue.proofs.Tests.{both, le_true, eq_true, eq_false, and_left, and_right, true_le}
+use Rattle.catalogue.proofs.Tests.{and_left, and_right}
 use Rattle.catalogue.proofs.Keeps.{Taken, taken, covered}
 use Rattle.catalogue.proofs.Numbered.{judge_exactly}
 use Rattle.catalogue.proofs.Project as P
@@ -31,7 +33,7 @@ use Rattle.catalogue_calls.specs.declared.answer.Unkept.{Unkept}
 use Rattle.catalogue_calls.proofs.OutcomeLaws.{holds_of, held}
 use Rattle.catalogue_calls.proofs.RowedLaws.{down_none, size_is}
 use Rattle.catalogue_calls.proofs.LookLaws.{size_joined, size_more, size_none}
-use Rattle.catalogue_calls.proofs.RoomLaws.{others_are, lt_false}
+use Rattle.catalogue_calls.proofs.RoomLaws.{others_are}
 use Rattle.catalogue_calls.proofs.UsedLaws.{used_are}
 
 -- ---- the tests, one after the other
@@ -52,12 +54,12 @@ module _ (s : Shares) (p : Page) (b : Bytes) (ps : List Page) (h : read_catalogu
 
   pub page_refused : {e : ℕ} → judge p.body ≡ e → (e ≡ 0 → ⊥) → outcome housed s (arrives p) b ≡ refused e
   unfolding unless
-  page_refused {e} j n = all_tests ∙ ap (λ (i : ℕ). unless (eqb i 0) i o₁) j ∙ ap (λ (t : Bool). unless t e o₁) (eq_false e 0 n)
+  page_refused {e} j n = all_tests ∙ ap (λ (i : ℕ). unless (eqb i 0) i o₁) j ∙ ap (λ (t : Bool). unless t e o₁) (ne_eqb e 0 n)
 
   module _ (j : judge p.body ≡ 0) where
     page_passed : outcome housed s (arrives p) b ≡ o₁
     unfolding unless
-    page_passed = all_tests ∙ ap (λ (t : Bool). unless t (judge p.body) o₁) (eq_true (judge p.body) 0 j)
+    page_passed = all_tests ∙ ap (λ (t : Bool). unless t (judge p.body) o₁) (eq-eqb (judge p.body) 0 j)
 
     pub unshared : call_right A14 (length b) s p ≡ false → outcome housed s (arrives p) b ≡ refused 26
     unfolding unless
@@ -76,22 +78,18 @@ module _ (s : Shares) (p : Page) (b : Bytes) (ps : List Page) (h : read_catalogu
       unfolding unless
       roomed e = shared ∙ ap (λ (t : Bool). unless (not t) 21 o₃) e
 
-second_false : (a c : Bool) → c ≡ false → (a && c) ≡ false
-second_false true c e = e
-second_false false c e = refl
-
 -- the house and the shares
 pub house_low : (n : ℕ) (s : Shares) (p : Page) → p.house < 1 → call_right A14 n s p ≡ false
 house_low n s p l = let e : p.house ≡ 0 = omega arith in ap (λ (h : ℕ). (leb 1 h && leb h 16) && shares_right n s) e
 
 pub house_high : (n : ℕ) (s : Shares) (p : Page) → 16 < p.house → call_right A14 n s p ≡ false
-house_high n s p l = let e = lt_false p.house 16 l in ap (λ (t : Bool). t && shares_right n s) (second_false (leb 1 p.house) (leb p.house 16) e)
+house_high n s p l = let e = lt-leb p.house 16 l in ap (λ (t : Bool). t && shares_right n s) (second_false (leb 1 p.house) (leb p.house 16) e)
 
 pub shares_wrong : (n : ℕ) (s : Shares) (p : Page) → shares_right n s ≡ false → call_right A14 n s p ≡ false
 shares_wrong n s p e = second_false (leb 1 p.house && leb p.house 16) (shares_right n s) e
 
 pub call_is_right : (n : ℕ) (s : Shares) (p : Page) → 1 ≤ p.house → p.house ≤ 16 → shares_right n s ≡ true → call_right A14 n s p ≡ true
-call_is_right n s p l m e = both (leb 1 p.house && leb p.house 16) (shares_right n s) (both (leb 1 p.house) (leb p.house 16) (le_true 1 p.house l) (le_true p.house 16 m)) e
+call_is_right n s p l m e = and_from (leb 1 p.house && leb p.house 16) (shares_right n s) (and_from (leb 1 p.house) (leb p.house 16) (le-leb 1 p.house l) (le-leb p.house 16 m)) e
 
 -- the room that the code finds is the paper's
 pub room_is : (s : Shares) (p : Page) (b : Bytes) {ps : List Page} {n : ℕ} → AllBytes b → read_catalogue housed b ≡ pages ps → n ≡ row_size housed ps → (r : Result (Unit {0}) Unkept)
@@ -134,7 +132,7 @@ module _ {b : Bytes} {p : Page} {s : Shares} {count total_size forms : ℕ} (w :
 
   pub taken_house : p.house ≤ 16
   unfolding project
-  taken_house = true_le p.house 16 (and_right (leb 1 p.house) (leb p.house 16) (and_left (leb 1 p.house && leb p.house 16) (shares_right (length b) s) t.call_is_right))
+  taken_house = leb-true p.house 16 (and_right (leb 1 p.house) (leb p.house 16) (and_left (leb 1 p.house && leb p.house 16) (shares_right (length b) s) t.call_is_right))
 
   pub taken_fits : total_size + 14 + length p.body.templates + length p.body.page_out ≤ length b
   unfolding project

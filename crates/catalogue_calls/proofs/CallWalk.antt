@@ -12,6 +12,8 @@ use lib.ListN.{length, take, drop, get_or, length-append, length-drop, take-appe
 use lib.Seq.{take-add, drop-drop, length-take-le}
 use Rattle.std.specs.Prelude.{Option, Some, None}
 use Rattle.std.proofs.lemmas.List.{append_assoc}
+use Rattle.std.proofs.lemmas.Bool.{cases_Bool}
+use borrow.Author.Tests.{ne_eqb, eqb-false}
 use Rattle.field.specs.Bytes.{Bytes, pick}
 use Rattle.field.specs.Row.{bytes, only_bytes, fields_after, Next, next, next_of}
 use Rattle.field.specs.Header.{header_of, Within}
@@ -25,7 +27,6 @@ use Rattle.outs.specs.PageOut.{check_page_out}
 use Rattle.outs.proofs.StepLaws.{FrontIs, held_front, held_none}
 use Rattle.catalogue.specs.Catalogue.{four}
 use Rattle.catalogue.specs.Numbers.{changed, raised, full_turn}
-use Rattle.catalogue.proofs.Tests.{decide, eq_false, false_eq}
 use Rattle.catalogue_calls.specs.Flat.{calls_by, calls_in, further, raised_at, raised_by, calls_raised}
 use Rattle.catalogue_calls.specs.Next.{CallAt, NoCall}
 use Rattle.catalogue_calls.proofs.Four.{left_from, left_is, front_raised, behind_raised, length_raised_at}
@@ -109,7 +110,7 @@ module _ {s rest : Bytes} {at : ℕ} (p : Walked s at) (rest_is : rest ≡ drop 
     left_after k w = record { at = at + k; rest_is = left_is rest k ∙ ap (drop k) rest_is ∙ drop-drop k at s; walked = w }
 
     pub call_found : {j : ℕ} → held 4 h.tag ≡ fields_after j → j ≡ 4 → CallAt s (length s - length rest + 3)
-    call_found {j} k q = subst (λ (a : ℕ). CallAt s (a + 3)) (let z : at ≡ length s - length rest = omega (arith, ap length rest_is, length-drop at s, p.within) in z) (on (decide (eqb h.tag 0x90)))
+    call_found {j} k q = subst (λ (a : ℕ). CallAt s (a + 3)) (let z : at ≡ length s - length rest = omega (arith, ap length rest_is, length-drop at s, p.within) in z) (on (cases_Bool (eqb h.tag 0x90)))
       where
         f : FrontIs 4 h.tag j
         f = held_front 4 h.tag j k
@@ -124,12 +125,12 @@ module _ {s rest : Bytes} {at : ℕ} (p : Walked s at) (rest_is : rest ≡ drop 
           numbers_are = numbers_by true true y f.nests_is ∙ ap₂ (λ (c d : Bytes). four c ∷ calls_in d) (dropped 3) g;
           raised_is = λ n. bytes_by n true true y f.nests_is ∙ further_on 3 (further n (drop 3 b) ++ calls_raised n (drop 7 b)) ∙ ap₂ (λ (c d : Bytes). take (at + 3) s ++ (further n c ++ calls_raised n d)) (dropped 3) g;
         }
-        on (inr y) = absurd (let z : j ≡ 0 = f.of_other (false_eq h.tag 0x90 y) in omega arith)
+        on (inr y) = absurd (let z : j ≡ 0 = f.of_other (eqb-false h.tag 0x90 y) in omega arith)
 
     pub enters : {j : ℕ} → held 4 h.tag ≡ fields_after j → (j ≡ 4 → ⊥) → Left s (left_from rest 3)
     enters {j} k o =
         let f : FrontIs 4 h.tag j = held_front 4 h.tag j k in
-        let y : eqb h.tag 0x90 ≡ false = eq_false h.tag 0x90 (λ c. o (f.of_call c)) in
+        let y : eqb h.tag 0x90 ≡ false = ne_eqb h.tag 0x90 (λ c. o (f.of_call c)) in
         left_after 3 (record {
           within = omega (arith, ends);
           numbers_are = numbers_by false true y f.nests_is ∙ ap calls_in (dropped 3);
@@ -143,7 +144,7 @@ module _ {s rest : Bytes} {at : ℕ} (p : Walked s at) (rest_is : rest ≡ drop 
     pub passes : held 4 h.tag ≡ only_bytes → Left s (left_from rest h.end)
     passes k =
         let f = held_none 4 h.tag k in
-        let y : eqb h.tag 0x90 ≡ false = eq_false h.tag 0x90 f.0 in
+        let y : eqb h.tag 0x90 ≡ false = ne_eqb h.tag 0x90 f.0 in
         left_after h.end (record {
           within = omega (arith, ends);
           numbers_are = numbers_by false false y f.1 ∙ ap calls_in (dropped h.end);

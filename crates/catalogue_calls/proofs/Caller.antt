@@ -9,6 +9,8 @@ use mathlib.Core.Logic.{◌⊎◌, inl, inr, ◌↔◌}
 use native.Mathlib.Omega.{arith}
 use lib.Dec.{leb, eqb}
 use lib.ListN.{length, replicate, length-replicate}
+use Rattle.std.proofs.lemmas.Bool.{and_from, cases_Bool}
+use borrow.Author.Tests.{le-leb, eq-eqb, eqb-true, ne_eqb, eqb-false}
 use Rattle.field.specs.Bytes.{Bytes, AllBytes, pick}
 use Rattle.catalogue.specs.Page.{Page, A14, Sound}
 use Rattle.catalogue.specs.Catalogue.{most_bytes, size, row_size, Reading, no_row, pages, read_catalogue, present, Holds}
@@ -17,7 +19,6 @@ use Rattle.catalogue.specs.Calls as C
 use Rattle.catalogue.specs.Calls.{Outcome, refused, remain, unless, call_right, arrival, room, without, Call, arrives, leaves, called, judged, outcome, number, left_by, used_after, pages_after, answer, after_call, after_calls, listed, pages_of, Handed, AllHanded}
 use Rattle.catalogue.specs.Words.{remaining, Kept, since_empty, Room, OfAnother, Alike}
 use Rattle.catalogue.specs.Judged.{judge, project}
-use Rattle.catalogue.proofs.Tests.{decide, both, le_true, true_eq, eq_true, eq_false, false_eq}
 use Rattle.catalogue.proofs.Exact as E
 use Rattle.catalogue.proofs.Keeps as K
 use Rattle.catalogue.proofs.Project as P
@@ -146,29 +147,29 @@ module _ (n : ℕ) (s : Shares) (p : Page) (ps : List Page) where
 
   page_refused : (judge p.body ≡ 0 → ⊥) → number (arrival housed n s p ps) ≡ judge p.body
   unfolding project arrival number unless behind_page behind_shares
-  page_refused f = ap (λ (q : Bool). number (unless q (judge p.body) behind_page)) (eq_false (judge p.body) 0 f)
+  page_refused f = ap (λ (q : Bool). number (unless q (judge p.body) behind_page)) (ne_eqb (judge p.body) 0 f)
 
   page_passes : judge p.body ≡ 0 → number (arrival housed n s p ps) ≡ number behind_page
   unfolding project arrival unless behind_page behind_shares
-  page_passes e = ap (λ (q : Bool). number (unless q (judge p.body) behind_page)) (eq_true (judge p.body) 0 e)
+  page_passes e = ap (λ (q : Bool). number (unless q (judge p.body) behind_page)) (eq-eqb (judge p.body) 0 e)
 
   four_judged : number (arrival housed n s p ps) ≡ 4 → judge p.body ≡ 4
   unfolding behind_page
-  four_judged e = on (decide (eqb (judge p.body) 0))
+  four_judged e = on (cases_Bool (eqb (judge p.body) 0))
     where
       on : (eqb (judge p.body) 0 ≡ true) ⊎ (eqb (judge p.body) 0 ≡ false) → judge p.body ≡ 4
       on (inl t) =
           absurd (past 4 (call_right A14 n s p) 26 behind_shares (λ f. omega arith) (not_behind_shares 4 (λ f. omega arith) (λ f. omega arith) (λ f. omega arith) (λ f. omega arith))
-          (sym (page_passes (true_eq (judge p.body) 0 t)) ∙ e))
-      on (inr t) = sym (page_refused (false_eq (judge p.body) 0 t)) ∙ e
+          (sym (page_passes (eqb-true (judge p.body) 0 t)) ∙ e))
+      on (inr t) = sym (page_refused (eqb-false (judge p.body) 0 t)) ∙ e
 
   -- of a page that is sound
   shares_refused : judge p.body ≡ 0 → 1 ≤ p.house → p.house ≤ 16 → (number (arrival housed n s p ps) ≡ 26) ↔ (shares_right n s ≡ false)
   unfolding behind_page number unless
-  shares_refused j l m = (there (decide (shares_right n s)), λ e. page_passes j ∙ call_is false e)
+  shares_refused j l m = (there (cases_Bool (shares_right n s)), λ e. page_passes j ∙ call_is false e)
     where
       call_is : (t : Bool) → shares_right n s ≡ t → number behind_page ≡ number (unless t 26 behind_shares)
-      call_is t e = ap (λ (q : Bool). number (unless (q && shares_right n s) 26 behind_shares)) (both (leb 1 p.house) (leb p.house 16) (le_true 1 p.house l) (le_true p.house 16 m)) ∙ ap (λ (q : Bool). number (unless q 26 behind_shares)) e
+      call_is t e = ap (λ (q : Bool). number (unless (q && shares_right n s) 26 behind_shares)) (and_from (leb 1 p.house) (leb p.house 16) (le-leb 1 p.house l) (le-leb p.house 16 m)) ∙ ap (λ (q : Bool). number (unless q 26 behind_shares)) e
 
       there : (shares_right n s ≡ true) ⊎ (shares_right n s ≡ false) → number (arrival housed n s p ps) ≡ 26 → shares_right n s ≡ false
       there (inl t) e =
@@ -247,18 +248,18 @@ calls_of ns n _ _ (T.then ps b c a b' h k w) =
     }
 
 noted_call : (ns : List ℕ) (n : ℕ) (ps : List Page) (b : Bytes) (c : Call) (a : Answer) (b' : Bytes) → Noted n ps b → Handed housed c → Answered ns c b a b' → Noted n (noted c a ps) b'
-noted_call ns n ps b c a b' i k w = on (decide (eqb a.number 0))
+noted_call ns n ps b c a b' i k w = on (cases_Bool (eqb a.number 0))
   where
     g : Catalogues (outcome housed (shares_of ns) c b) b a.number a.used a.pages b'
     g = answered ns c b a b' w
 
     on : (eqb a.number 0 ≡ true) ⊎ (eqb a.number 0 ≡ false) → Noted n (noted c a ps) b'
     on (inl t) =
-        let z = P.accepted_kept A14 (shares_of ns) b ps i.0 c k (sym g.number_is ∙ true_eq a.number 0 t) in
+        let z = P.accepted_kept A14 (shares_of ns) b ps i.0 c k (sym g.number_is ∙ eqb-true a.number 0 t) in
         let y : Kept housed c b ps b' = subst (Kept housed c b ps) (sym g.bytes_are) z in
         subst (λ (q : List Page). Noted n q b') (ap (λ (q : Bool). pick q (remaining c ps) ps) (sym t)) (y.holds_them, y.length_kept ∙ i.1)
     on (inr t) =
-        let u = unkept_of_answer ns c b a b' w (false_eq a.number 0 t) in
+        let u = unkept_of_answer ns c b a b' w (eqb-false a.number 0 t) in
         subst (λ (q : List Page). Noted n q b') (ap (λ (q : Bool). pick q (remaining c ps) ps) (sym t)) (subst (Noted n ps) (sym u.as_found) i)
 
 -- what a caller notes of the answers is what the buffer holds

@@ -15,8 +15,10 @@ use Rattle.std.specs.List.Sorted.{IsPermutation, IsNonDecreasing, IsBinarySearch
 use Rattle.std.specs.Ordering.{nat_cmp}
 use Rattle.std.proofs.lemmas.List.Sums.{sum_by-cons}
 use Rattle.std.proofs.lemmas.List.Sorted.{sum_by-IsPermutation, list_any-IsPermutation, searched}
+use Rattle.std.proofs.lemmas.Bool.{and_from, not-true, not_from_false, cases_Bool}
+use borrow.Author.Tests.{eq-eqb, eqb-true, ne_eqb}
 use Rattle.field.specs.Bytes.{pick}
-use Rattle.catalogue.proofs.Tests.{decide, and_left, and_right, both, eq_true, true_eq, eq_false, eq_flip, not_true, not_false, not_both}
+use Rattle.catalogue.proofs.Tests.{and_left, and_right, eq_flip, not_both}
 use Rattle.catalogue_calls.specs.Standing.{among, all_differ}
 use Rattle.catalogue_calls.specs.Differ.{none_among}
 
@@ -88,12 +90,12 @@ present n (m ∷ ns) e = let z = on (eqb n m) e (present n ns) in omega (arith, 
 differ_once : (ns : List ℕ) → all_differ ns ≡ true → (n : ℕ) → sum_by (is n) ns ≤ 1
 unfolding all_differ is
 differ_once [] e n = omega arith
-differ_once (m ∷ ns) e n = let z = on (decide (eqb n m)) (differ_once ns (and_right (not (among m ns)) (all_differ ns) e) n) in omega (arith, sum_by-cons (is n) m ns)
+differ_once (m ∷ ns) e n = let z = on (cases_Bool (eqb n m)) (differ_once ns (and_right (not (among m ns)) (all_differ ns) e) n) in omega (arith, sum_by-cons (is n) m ns)
   where
     on : (eqb n m ≡ true) ⊎ (eqb n m ≡ false) → sum_by (is n) ns ≤ 1 → pick (eqb n m) 1 0 + sum_by (is n) ns ≤ 1
     on (inl t) h =
-        let q : n ≡ m = true_eq n m t in
-        let z : sum_by (is n) ns ≡ 0 = absent n ns (ap (λ (x : ℕ). among x ns) q ∙ not_true (among m ns) (and_left (not (among m ns)) (all_differ ns) e)) in
+        let q : n ≡ m = eqb-true n m t in
+        let z : sum_by (is n) ns ≡ 0 = absent n ns (ap (λ (x : ℕ). among x ns) q ∙ not-true (among m ns) (and_left (not (among m ns)) (all_differ ns) e)) in
         rw t (omega arith)
     on (inr t) h = rw t (omega arith)
 
@@ -101,11 +103,11 @@ once_differ : (ns : List ℕ) → ((n : ℕ) → sum_by (is n) ns ≤ 1) → all
 unfolding all_differ is
 once_differ [] f = refl
 once_differ (m ∷ ns) f =
-    both (not (among m ns)) (all_differ ns) (not_false (among m ns) (on (decide (among m ns)))) (once_differ ns (λ n. omega (arith, f n, sum_by-cons (is n) m ns)))
+    and_from (not (among m ns)) (all_differ ns) (not_from_false (among m ns) (on (cases_Bool (among m ns)))) (once_differ ns (λ n. omega (arith, f n, sum_by-cons (is n) m ns)))
   where
     on : (among m ns ≡ true) ⊎ (among m ns ≡ false) → among m ns ≡ false
     on (inl t) =
-        let one : is m m ≡ 1 = ap (λ (b : Bool). pick {A = ℕ} b 1 0) (eq_true m m refl) in
+        let one : is m m ≡ 1 = ap (λ (b : Bool). pick {A = ℕ} b 1 0) (eq-eqb m m refl) in
         absurd (omega (arith, present m ns t, f m, sum_by-cons (is m) m ns, one))
     on (inr t) = t
 
@@ -142,12 +144,12 @@ none_moved (n ∷ ns) xs ys p = ap₂ (λ (a b : Bool). not a && b) (among_moved
 nowhere : (n : ℕ) (ns : List ℕ) → ((k : ℕ) → k < length ns → get_or ns k 0 ≡ n → ⊥) → among n ns ≡ false
 unfolding among
 nowhere n [] f = refl
-nowhere n (m ∷ ns) f = rw (eq_false n m (λ e. f 0 (omega arith) (sym e))) (nowhere n ns (λ k l e. f (suc k) (omega arith) e))
+nowhere n (m ∷ ns) f = rw (ne_eqb n m (λ e. f 0 (omega arith) (sym e))) (nowhere n ns (λ k l e. f (suc k) (omega arith) e))
 
 somewhere : (n : ℕ) (ns : List ℕ) (k : ℕ) → k < length ns → get_or ns k 0 ≡ n → among n ns ≡ true
 unfolding among
 somewhere n [] k l e = absurd (omega arith)
-somewhere n (m ∷ ns) zero l e = rw (eq_true n m (sym e)) refl
+somewhere n (m ∷ ns) zero l e = rw (eq-eqb n m (sym e)) refl
 somewhere n (m ∷ ns) (suc k) l e = on (eqb n m) (somewhere n ns k (omega arith) e)
   where
     on : (b : Bool) → among n ns ≡ true → pick b true (among n ns) ≡ true
@@ -210,13 +212,13 @@ rises_differ : (ns : List ℕ) → Rises ns → all_differ ns ≡ true
 unfolding all_differ
 rises_differ [] f = refl
 rises_differ (n ∷ ns) f =
-    both (not (among n ns)) (all_differ ns) (not_false (among n ns) (nowhere n ns (λ k l e. omega (arith, above n ns f k l)))) (rises_differ ns (rises_behind n ns f))
+    and_from (not (among n ns)) (all_differ ns) (not_from_false (among n ns) (nowhere n ns (λ k l e. omega (arith, above n ns f k l)))) (rises_differ ns (rises_behind n ns f))
 
 differ_at : (ns : List ℕ) → all_differ ns ≡ true → (j k : ℕ) → j < k → k < length ns → get_or ns j 0 ≡ get_or ns k 0 → ⊥
 unfolding all_differ
 differ_at [] d j k l m e = absurd (omega arith)
 differ_at (n ∷ ns) d j zero l m e = absurd (omega arith)
-differ_at (n ∷ ns) d zero (suc k) l m e = not_both (among n ns) (somewhere n ns k (omega arith) (sym e)) (not_true (among n ns) (and_left (not (among n ns)) (all_differ ns) d))
+differ_at (n ∷ ns) d zero (suc k) l m e = not_both (among n ns) (somewhere n ns k (omega arith) (sym e)) (not-true (among n ns) (and_left (not (among n ns)) (all_differ ns) d))
 differ_at (n ∷ ns) d (suc j) (suc k) l m e = differ_at ns (and_right (not (among n ns)) (all_differ ns) d) j k (omega arith) (omega arith) e
 
 differ_rises : (ns : List ℕ) → IsNonDecreasing ns → all_differ ns ≡ true → Rises ns

@@ -11,6 +11,8 @@ use lib.Dec.{T, leb, eqb, le→leb}
 use lib.ListN.{length, take, drop, length-append, length-take, length-drop, drop_of_length-le}
 use lib.Seq.{take_all, take_at, drop_at, drop-drop}
 use Rattle.std.proofs.lemmas.List.{append_assoc, take-append-le, drop-append-le}
+use Rattle.std.proofs.lemmas.Bool.{cases_Bool}
+use borrow.Author.Tests.{le-leb, eqb-true, ne_eqb, eqb-false}
 use Rattle.field.specs.Bytes.{Bytes, AllBytes, pick}
 use Rattle.field.specs.Number.{big_endian, number_of}
 use Rattle.field.specs.Row.{Row, end, loose, field, field_bytes, bytes, Inside, only_bytes, fields_after, counted, Next, nothing, no_field, next, next_of}
@@ -20,16 +22,17 @@ use Rattle.field.proofs.Reading.{Opens, next_parts, next_sizes, next_nothing, al
 use Rattle.page.specs.Refusal.{Verdict, Fine, after, unless}
 use Rattle.page.specs.Tree.{choose}
 use Rattle.page.specs.declared.Refusal.TheVariants as R
-use Rattle.page.proofs.Verdicts.{refused, after_fine}
+use Rattle.page.proofs.Verdicts.{refused, after_fine, unless_true}
+use Rattle.catalogue.proofs.Rows.{counts_none}
 use Rattle.outs.specs.Held.{nests, held, read_out}
 use Rattle.outs.specs.PageOut.{left, within, front_right, check_leaf, good, check_page_out}
 use Rattle.outs.specs.declared.Expect.{Expect}
 use Rattle.outs.specs.declared.Expect.TheVariants as E
 use Rattle.outs.proofs.StepLaws.{FrontIs, held_front, held_none}
+use Rattle.convert.proofs.PageLaws.{rest_fine, nest_fine}
 use Rattle.catalogue.specs.Catalogue.{four}
 use Rattle.catalogue.specs.Numbers.{changed, raised, opposite, full_turn, up}
 use Rattle.catalogue.specs.Judged.{called_numbers}
-use Rattle.catalogue.proofs.Tests.{decide, le_true, true_eq, eq_false, false_eq}
 use Rattle.catalogue.proofs.Rows as Rows
 use Rattle.catalogue_calls.specs.Flat.{calls_by, calls_from, calls_in, further, raised_by, raised_from, calls_raised}
 
@@ -98,29 +101,7 @@ as_written : (s : Bytes) (t : ℕ) (w r v : Bytes) → next_of s ≡ next t w r 
 unfolding field_bytes
 as_written s t w r v e a = ap (λ (y : Bytes). y ++ v) (sym (all_parts s t w r e a).written) ∙ simp append_assoc
 
--- where its row is right, that of its body and of what follows it are
-rest_good : (c : Expect) (t : ℕ) (f : Bytes) (i r : Row) → good 4 c (field t f i r) ≡ Fine → good 4 (left c t) r ≡ Fine
-unfolding good
-rest_good c t f i r g = (after_fine _ _ (after_fine _ _ g).1).1
-
-fine_true : (b : Bool) → unless b R.Misplaced ≡ Fine → b ≡ true
-fine_true true e = refl
-fine_true false e = refused R.Misplaced e
-
-body_good : (c : Expect) (t : ℕ) (f : Bytes) (i r : Row) → good 4 c (field t f i r) ≡ Fine → nests t ≡ true → (front_right 4 t f ≡ true) × (good 4 (within t) i ≡ Fine)
-unfolding good choose
-body_good c t f i r g n =
-    let inner : Verdict = after (unless (front_right 4 t f) R.Misplaced) λ _. good 4 (within t) i in
-    let a : choose (nests t) (λ _. inner) (λ _. check_leaf t f) ≡ Fine = (after_fine _ _ (after_fine _ _ g).1).0 in
-    let b = after_fine (unless (front_right 4 t f) R.Misplaced) (λ _. good 4 (within t) i) (ap (λ (z : Bool). choose z (λ _. inner) (λ _. check_leaf t f)) (sym n) ∙ a) in
-    (fine_true (front_right 4 t f) b.0, b.1)
-
 -- what stands in front of the fields of a body: of a call four bytes, of any other none
-counts_none : (a b : Bool) (n : ℕ) → pick a (fields_after 4) (pick b (fields_after 0) only_bytes) ≡ counted n → ⊥
-counts_none true b n e = cc
-counts_none false true n e = cc
-counts_none false false n e = cc
-
 held_fields : (t n : ℕ) → held 4 t ≡ counted n → ⊥
 unfolding held
 held_fields t n e = counts_none (eqb t 0x90) (nests t) n e
@@ -136,7 +117,7 @@ opened_front t n w o = on (held 4 t) refl o
 -- as far as they stand there
 front_whole : (t n : ℕ) (w : Bytes) → eqb t 0x90 ≡ true → front_right 4 t (take n w) ≡ true → 4 ≤ length w
 front_whole t n w e g =
-    let h : length (take n w) ≡ 4 = true_eq (length (take n w)) 4 (ap (λ (u : Bool). pick u (eqb (length (take n w)) 4) true) (sym e) ∙ g) in
+    let h : length (take n w) ≡ 4 = eqb-true (length (take n w)) 4 (ap (λ (u : Bool). pick u (eqb (length (take n w)) 4) true) (sym e) ∙ g) in
     omega (arith, length-take n w)
 
 four_taken : (w v : Bytes) → 4 ≤ length w → four (w ++ v) ≡ four (take 4 w)
@@ -167,15 +148,15 @@ calls_leaf : (s : Bytes) (t : ℕ) (w r : Bytes) → next_of s ≡ next t w r �
 unfolding Numbered called_numbers
 calls_leaf s t w r e q hr c v g =
     let h = held_none 4 t q in
-    let n : eqb t 0x90 ≡ false = eq_false t 0x90 h.0 in
+    let n : eqb t 0x90 ≡ false = ne_eqb t 0x90 h.0 in
     calls_next s t w r v e
     ∙ ap₂ (λ (a b : Bool). pick a (four (drop 3 (s ++ v)) ∷ calls_in (drop 7 (s ++ v))) (pick b (calls_in (drop 3 (s ++ v))) (calls_in (r ++ v)))) n h.1
-    ∙ hr (left c t) v (rest_good c t w end (read_out 4 r) g) ∙ sym (called_row t w end (read_out 4 r) false (calls_in v) n)
+    ∙ hr (left c t) v (rest_fine 4 c t w end (read_out 4 r) g) ∙ sym (called_row t w end (read_out 4 r) false (calls_in v) n)
 
 calls_nest : (s : Bytes) (t : ℕ) (w r : Bytes) (n : ℕ) → next_of s ≡ next t w r → Opens (held 4 t) w n → Numbered (drop n w) (read_out 4 (drop n w)) → Numbered r (read_out 4 r)
     → Numbered s (field t (take n w) (read_out 4 (drop n w)) (read_out 4 r))
 unfolding Numbered
-calls_nest s t w r n e o hi hr c v g = on (decide (eqb t 0x90))
+calls_nest s t w r n e o hi hr c v g = on (cases_Bool (eqb t 0x90))
   where
     inner : Row
     inner = read_out 4 (drop n w)
@@ -187,23 +168,23 @@ calls_nest s t w r n e o hi hr c v g = on (decide (eqb t 0x90))
     f = opened_front t n w o
 
     b : (front_right 4 t (take n w) ≡ true) × (good 4 (within t) inner ≡ Fine)
-    b = body_good c t (take n w) inner rest g f.nests_is
+    b = nest_fine 4 c t (take n w) inner rest g f.nests_is
 
     both : calls_in (drop n w ++ (r ++ v)) ≡ called_numbers inner ++ (called_numbers rest ++ calls_in v)
-    both = hi (within t) (r ++ v) b.1 ∙ ap (λ (x : List ℕ). called_numbers inner ++ x) (hr (left c t) v (rest_good c t (take n w) inner rest g))
+    both = hi (within t) (r ++ v) b.1 ∙ ap (λ (x : List ℕ). called_numbers inner ++ x) (hr (left c t) v (rest_fine 4 c t (take n w) inner rest g))
 
     by : Bool → List ℕ
     by a = pick a (four (drop 3 (s ++ v)) ∷ calls_in (drop 7 (s ++ v))) (pick (nests t) (calls_in (drop 3 (s ++ v))) (calls_in (r ++ v)))
 
     on : (eqb t 0x90 ≡ true) ⊎ (eqb t 0x90 ≡ false) → calls_in (s ++ v) ≡ called_numbers (field t (take n w) inner rest) ++ calls_in v
     on (inl y) =
-        let q : n ≡ 4 = f.of_call (true_eq t 0x90 y) in
+        let q : n ≡ 4 = f.of_call (eqb-true t 0x90 y) in
         let l : 4 ≤ length w = front_whole t n w y b.0 in
         calls_next s t w r v e ∙ ap by y
         ∙ ap₂ (λ (m : ℕ) (x : Bytes). m ∷ calls_in x) (number_there s t n w r v e q l) (behind_number s t n w r v e q l)
         ∙ ap (λ (x : List ℕ). four (take n w) ∷ x) both ∙ sym (called_row t (take n w) inner rest true (calls_in v) y)
     on (inr z) =
-        let q : n ≡ 0 = f.of_other (false_eq t 0x90 z) in
+        let q : n ≡ 0 = f.of_other (eqb-false t 0x90 z) in
         calls_next s t w r v e ∙ ap by z
         ∙ ap (λ (a : Bool). pick a (calls_in (drop 3 (s ++ v))) (calls_in (r ++ v))) f.nests_is
         ∙ ap calls_in (behind_header s t w r v e ∙ ap (λ (k : ℕ). drop k w ++ (r ++ v)) (sym q))
@@ -250,7 +231,7 @@ module _ (n : ℕ) where
   call_front : (t : ℕ) (f : Bytes) → eqb t 0x90 ≡ true → length f ≡ 4 → m t f ≡ further n f
   unfolding raised
   call_front t f e l =
-      ap₂ (λ (a b : Bool). pick (a && b) (further n f ++ drop 4 f) f) e (le_true 4 (length f) (omega arith))
+      ap₂ (λ (a b : Bool). pick (a && b) (further n f ++ drop 4 f) f) e (le-leb 4 (length f) (omega arith))
       ∙ ap (λ (x : Bytes). further n f ++ x) (drop_of_length-le f {i = 4} (omega arith)) ∙ append-nil (further n f)
 
   header_there : (s : Bytes) (t : ℕ) (w r v : Bytes) → next_of s ≡ next t w r → AllBytes s → take 3 (s ++ v) ≡ head t (length w)
@@ -267,19 +248,19 @@ module _ (n : ℕ) where
   unfolding Raised changed bytes
   raised_leaf s t w r e q hr a c v g =
       let h = held_none 4 t q in
-      let z : eqb t 0x90 ≡ false = eq_false t 0x90 h.0 in
+      let z : eqb t 0x90 ≡ false = ne_eqb t 0x90 h.0 in
       let rest : Row = read_out 4 r in
       let x : Bytes = s ++ v in
       raised_next s t w r v e
       ∙ ap₂ (λ (a b : Bool). pick a (take 3 x ++ (further n (drop 3 x) ++ calls_raised n (drop 7 x))) (pick b (take 3 x ++ calls_raised n (drop 3 x)) (take (3 + length w) x ++ calls_raised n (r ++ v)))) z h.1
-      ∙ ap₂ (λ (a b : Bytes). a ++ b) (whole_there s t w r v e a) (hr (all_parts s t w r e a).behind_all (left c t) v (rest_good c t w end rest g))
+      ∙ ap₂ (λ (a b : Bytes). a ++ b) (whole_there s t w r v e a) (hr (all_parts s t w r e a).behind_all (left c t) v (rest_fine 4 c t w end rest g))
       ∙ append_assoc (head t (length w)) w (bytes (changed m rest) ++ calls_raised n v)
       ∙ sym (ap (λ (f : Bytes). bytes (field t f end (changed m rest)) ++ calls_raised n v) (other_front t w z) ∙ row_bytes t w end (changed m rest) (length w) (calls_raised n v) (ap length (append-nil w)))
 
   raised_nest : (s : Bytes) (t : ℕ) (w r : Bytes) (k : ℕ) → next_of s ≡ next t w r → Opens (held 4 t) w k → Raised (drop k w) (read_out 4 (drop k w)) → Raised r (read_out 4 r)
       → Raised s (field t (take k w) (read_out 4 (drop k w)) (read_out 4 r))
   unfolding Raised changed read_out up
-  raised_nest s t w r k e o hi hr a c v g = sym (by_row ∙ sym both ∙ sym (on (decide (eqb t 0x90))))
+  raised_nest s t w r k e o hi hr a c v g = sym (by_row ∙ sym both ∙ sym (on (cases_Bool (eqb t 0x90))))
     where
       inner : Row
       inner = read_out 4 (drop k w)
@@ -291,7 +272,7 @@ module _ (n : ℕ) where
       f = opened_front t k w o
 
       b : (front_right 4 t (take k w) ≡ true) × (good 4 (within t) inner ≡ Fine)
-      b = body_good c t (take k w) inner rest g f.nests_is
+      b = nest_fine 4 c t (take k w) inner rest g f.nests_is
 
       x : Bytes
       x = s ++ v
@@ -311,21 +292,21 @@ module _ (n : ℕ) where
       both =
           let p = all_parts s t w r e a in
           ap (λ (y : Bytes). head t (length w) ++ (front ++ y))
-          (hi (all_drop k w p.body_all) (within t) (r ++ v) b.1 ∙ ap (λ (y : Bytes). bytes (changed m inner) ++ y) (hr p.behind_all (left c t) v (rest_good c t (take k w) inner rest g)))
+          (hi (all_drop k w p.body_all) (within t) (r ++ v) b.1 ∙ ap (λ (y : Bytes). bytes (changed m inner) ++ y) (hr p.behind_all (left c t) v (rest_fine 4 c t (take k w) inner rest g)))
 
       by : Bool → Bytes
       by a = pick a (take 3 x ++ (further n (drop 3 x) ++ calls_raised n (drop 7 x))) (pick (nests t) (take 3 x ++ calls_raised n (drop 3 x)) (take (3 + length w) x ++ calls_raised n (r ++ v)))
 
       on : (eqb t 0x90 ≡ true) ⊎ (eqb t 0x90 ≡ false) → calls_raised n x ≡ head t (length w) ++ (front ++ calls_raised n (drop k w ++ (r ++ v)))
       on (inl y) =
-          let q : k ≡ 4 = f.of_call (true_eq t 0x90 y) in
+          let q : k ≡ 4 = f.of_call (eqb-true t 0x90 y) in
           let l : 4 ≤ length w = front_whole t k w y b.0 in
           raised_next s t w r v e ∙ ap by y
           ∙ ap₂ (λ (h y : Bytes). h ++ (further n (drop 3 x) ++ calls_raised n y)) (header_there s t w r v e a) (behind_number s t k w r v e q l)
           ∙ ap (λ (j : ℕ). head t (length w) ++ (big_endian 4 ((j + n) % full_turn) [] ++ calls_raised n (drop k w ++ (r ++ v)))) (number_there s t k w r v e q l)
           ∙ ap (λ (y : Bytes). head t (length w) ++ (y ++ calls_raised n (drop k w ++ (r ++ v)))) (sym (call_front t (take k w) y (omega (arith, length-take k w))))
       on (inr z) =
-          let q : k ≡ 0 = f.of_other (false_eq t 0x90 z) in
+          let q : k ≡ 0 = f.of_other (eqb-false t 0x90 z) in
           raised_next s t w r v e ∙ ap by z
           ∙ ap (λ (a : Bool). pick a (take 3 x ++ calls_raised n (drop 3 x)) (take (3 + length w) x ++ calls_raised n (r ++ v))) f.nests_is
           ∙ ap₂ (λ (h y : Bytes). h ++ calls_raised n y) (header_there s t w r v e a) (behind_header s t w r v e ∙ ap (λ (j : ℕ). drop j w ++ (r ++ v)) (sym q))

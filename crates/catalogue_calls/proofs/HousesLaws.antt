@@ -9,8 +9,9 @@ use lib.Dec.{eqb}
 use lib.ListN.{length, get_or, set}
 use Rattle.std.proofs.Math.ListN.{length-set}
 use Rattle.std.proofs.lemmas.List.{get_or-set_same, get_or-set_other}
+use Rattle.std.proofs.lemmas.Bool.{cases_Bool}
+use borrow.Author.Tests.{eqb-true, eqb-false}
 use Rattle.field.specs.Bytes.{Bytes, pick}
-use Rattle.catalogue.proofs.Tests.{decide, true_eq, false_eq}
 use Rattle.catalogue_calls.specs.Houses.{UsedIn}
 use Rattle.catalogue_calls.specs.Standing.{framed, IsPage, used_in}
 use Rattle.catalogue_calls.proofs.FrameLaws.{used_next, used_end}
@@ -30,22 +31,22 @@ using_one {s} {t} {p} {rest} {r} {used} {m} {h} u i n e =
     let l : h < length used = omega (arith, house_below i, u.houses) in
     record {
       houses = length-set used h n ∙ u.houses;
-      so_far = λ g k. omega (arith, u.so_far g k, used_next i g, at g l (decide (eqb g h)));
-      bounded = λ g. bound g l (decide (eqb g h));
+      so_far = λ g k. omega (arith, u.so_far g k, used_next i g, at g l (cases_Bool (eqb g h)));
+      bounded = λ g. bound g l (cases_Bool (eqb g h));
     }
   where
     at : (g : ℕ) → h < length used → (eqb g h ≡ true) ⊎ (eqb g h ≡ false) → get_or (set used h n) g 0 ≡ get_or used g 0 + pick (eqb g h) (14 + length t + length p) 0
     at g l (inl q) =
-        let f : g ≡ h = true_eq g h q in
+        let f : g ≡ h = eqb-true g h q in
         rw q (rw f (get_or-set_same used h n 0 l ∙ e))
-    at g l (inr q) = rw q (get_or-set_other used h g n 0 (false_eq g h q) ∙ omega arith)
+    at g l (inr q) = rw q (get_or-set_other used h g n 0 (eqb-false g h q) ∙ omega arith)
 
     bound : (g : ℕ) → h < length used → (eqb g h ≡ true) ⊎ (eqb g h ≡ false) → get_or (set used h n) g 0 + length r ≤ length s
     bound g l (inl q) =
         let a : get_or (set used h n) g 0 ≡ get_or used g 0 + (14 + length t + length p) = at g l (inl q) ∙ ap (λ (b : Bool). get_or used g 0 + pick b (14 + length t + length p) 0) q in
         omega (arith, a, u.bounded g, i.sizes)
     bound g l (inr q) =
-        let a : get_or (set used h n) g 0 ≡ get_or used g 0 = get_or-set_other used h g n 0 (false_eq g h q) in
+        let a : get_or (set used h n) g 0 ≡ get_or used g 0 = get_or-set_other used h g n 0 (eqb-false g h q) in
         omega (arith, a, u.bounded g, i.sizes)
 
 pub using_all : {s r : Bytes} {used : List ℕ} → Using s used r → framed r ≡ false → UsedIn s used

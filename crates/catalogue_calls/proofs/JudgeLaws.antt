@@ -11,6 +11,7 @@ use lib.Dec.{leb, eqb}
 use Rattle.std.specs.Prelude.{Result, Ok, Err, IsErr, IsErrAnd}
 use lib.ListN.{length, take, drop}
 use lib.Seq.{drop-drop}
+use borrow.Author.Tests.{eq-eqb, eqb-true, ne_eqb, eqb-false}
 use Rattle.field.specs.Bytes.{Bytes, AllBytes, pick}
 use Rattle.field.specs.Number.{big_endian, number_of}
 use Rattle.field.specs.Row.{Row, end, loose, field, bytes, counted_front, read, Ended}
@@ -40,7 +41,6 @@ use Rattle.catalogue.specs.Page.{Body, IsBytes}
 use Rattle.catalogue.specs.Catalogue.{four}
 use Rattle.catalogue.specs.Numbers.{full_turn, changed, raised, opposite, down}
 use Rattle.catalogue.specs.Judged.{all_agree, recorded_numbers, called_numbers, each_once, forms, numbered, first_of, judge, project}
-use Rattle.catalogue.proofs.Tests.{true_eq, eq_true, eq_false, false_eq}
 use Rattle.catalogue.proofs.Parts.{drop_four}
 use Rattle.catalogue.proofs.Rows.{length_raised, read_up}
 use Rattle.catalogue.proofs.Numbered.{nests_call}
@@ -102,7 +102,7 @@ module _ (n : ℕ) where
   strings_raised (suc k) (loose b) = refl
   strings_raised (suc k) (field t f i r) =
       if_passed (eqb t 0x81) R.Misplaced (after (check_text (raised 0x84 n t f)) λ _. check_strings k (changed (raised 0x84 n) r)) (after (check_text f) λ _. check_strings k r)
-      (λ e. ap₂ (λ (g : Bytes) (v : Verdict). after (check_text g) λ _. v) (text_raised t f (true_eq t 0x81 e)) (strings_raised k r))
+      (λ e. ap₂ (λ (g : Bytes) (v : Verdict). after (check_text g) λ _. v) (text_raised t f (eqb-true t 0x81 e)) (strings_raised k r))
 
   records_raised : (x : Row) → check_records New (changed (raised 0x84 n) x) ≡ check_records New x
   unfolding check_records check_strings_of changed
@@ -151,7 +151,7 @@ module _ (n : ℕ) where
       let nest : ℕ → Verdict → Verdict = λ l v. after (unless (pick (eqb t 0x90) (eqb l 4) true) R.Misplaced) λ _. v in
       let e = choose_same (nests t) (nest (length g) (good 4 (within t) (changed (raised 0x90 n) i))) (nest (length f) (good 4 (within t) i)) (check_leaf t g) (check_leaf t f)
       (ap₂ nest (length_raised 0x90 n t f) (page_raised (within t) i))
-      (λ q. ap (check_leaf t) (raised_other 0x90 t f (eq_false t 0x90 (λ z. nests_call t q (eq_true t 0x90 z))))) in
+      (λ q. ap (check_leaf t) (raised_other 0x90 t f (ne_eqb t 0x90 (λ z. nests_call t q (eq-eqb t 0x90 z))))) in
       ap₂ (λ (v w : Verdict). after (unless (allowed c t) R.Misplaced) λ _. after v λ _. w) e (page_raised (left c t) r)
 
 -- ---- a page as it arrived, by what stands there
@@ -204,14 +204,14 @@ module _ (m : ℕ) (x : Body) (a : IsBytes x) where
 
   pub templates_refused : {r : Refusal} → check_templates New x.templates ≡ Refused r → Judges x m (Err (U.Refused r))
   unfolding project judge y last page_then
-  templates_refused {r} e = (refused_first (check_templates New y.templates) r page_then (templates_down m x a ∙ e), false_eq (refusal_number r) 0 (number_some r))
+  templates_refused {r} e = (refused_first (check_templates New y.templates) r page_then (templates_down m x a ∙ e), eqb-false (refusal_number r) 0 (number_some r))
 
   module _ (h : check_templates New x.templates ≡ Fine) where
     pub page_refused : {r : Refusal} → check_page_out 4 x.page_out ≡ Refused r → Judges x m (Err (U.Refused r))
     unfolding project judge y last page_then
     page_refused {r} e = (
       fine_first (check_templates New y.templates) page_then (templates_down m x a ∙ h) ∙ refused_first (check_page_out 4 y.page_out) r last (page_out_down m x a ∙ e),
-      false_eq (refusal_number r) 0 (number_some r),
+      eqb-false (refusal_number r) 0 (number_some r),
     )
 
     module _ (p : check_page_out 4 x.page_out ≡ Fine) where
@@ -318,7 +318,7 @@ all_records end h = refl
 all_records (loose b) h = refl
 all_records (field t f i r) h =
     let d = record_of New t f i r h in
-    ap₂ (λ (b : Bool) (k : ℕ). bit b 1 + k) (eq_true t 0x84 d.tag_is) (all_records r d.rest_is) ∙ omega arith
+    ap₂ (λ (b : Bool) (k : ℕ). bit b 1 + k) (eq-eqb t 0x84 d.tag_is) (all_records r d.rest_is) ∙ omega arith
 
 pub forms_counted : (x : Body) → check_templates New x.templates ≡ Fine → fields_in (read x.templates) ≡ forms x
 unfolding check_templates forms

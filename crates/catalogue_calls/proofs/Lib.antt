@@ -20,9 +20,8 @@ pub mod Steps
 pub mod NamesLaws
 pub mod ZeroLaws
 pub mod ReadLaws
-pub mod RowLaws
-pub mod UsedLaws
 pub mod RowedLaws
+pub mod UsedLaws
 pub mod LookLaws
 pub mod PartLaws
 pub mod LowerLaws

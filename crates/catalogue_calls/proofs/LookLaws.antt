@@ -7,6 +7,8 @@ use mathlib.Core.List.{List, [], ◌∷◌, ◌++◌, append_assoc, append-nil}
 use native.Mathlib.Omega.{arith}
 use lib.Dec.{eqb}
 use lib.ListN.{length}
+use Rattle.std.proofs.lemmas.Bool.{or_parts, or_from}
+use borrow.Author.Tests.{eq-eqb, ne_eqb}
 use Rattle.field.specs.Bytes.{Bytes, pick}
 use Rattle.field.specs.Row.{read}
 use Rattle.convert.specs.Flat.{fields_in}
@@ -14,8 +16,7 @@ use Rattle.catalogue.specs.Page.{Body, Page, A14}
 use Rattle.catalogue.specs.Catalogue.{row_size, size, forms_of, present, Holds}
 use Rattle.catalogue.specs.Calls.{before, without}
 use Rattle.catalogue.specs.Judged.{project}
-use Rattle.catalogue.proofs.Tests.{eq_true, eq_false, or_none, none_or}
-use Rattle.catalogue.proofs.Lists.{size_append}
+use Rattle.catalogue.proofs.Lists.{size_append, present_last}
 use Rattle.catalogue.proofs.Project.{given}
 use Rattle.catalogue_calls.specs.Standing.{housed, framed, IsPage}
 use Rattle.catalogue_calls.specs.Leaves.{Rowed}
@@ -49,13 +50,6 @@ pub forms_none : forms_of housed [] ≡ 0
 unfolding forms_of
 forms_none = refl
 
-absent_more : (x : ℕ) (ps : List Page) (p : Page) → present x ps ≡ false → eqb x p.name ≡ false → present x (ps ++ (p ∷ [])) ≡ false
-unfolding present
-absent_more x [] p e f = none_or (eqb x p.name) false f refl
-absent_more x (q ∷ ps) p e f =
-    let o = or_none (eqb x q.name) (present x ps) e in
-    none_or (eqb x q.name) (present x (ps ++ (p ∷ []))) o.0 (absent_more x ps p o.1 f)
-
 record At (x : ℕ) (ps : List Page) (p : Page) (qs : List Page) : Type 0 where
   there : present x (ps ++ (p ∷ qs)) ≡ true
   in_front : before x (ps ++ (p ∷ qs)) ≡ ps
@@ -69,7 +63,7 @@ found_behind x [] p qs e f = record {
   others = ap (λ (b : Bool). pick b qs (p ∷ without x qs)) f;
 }
 found_behind x (q ∷ ps) p qs e f =
-    let o = or_none (eqb x q.name) (present x ps) e in
+    let o = or_parts (eqb x q.name) (present x ps) e in
     let h : At x ps p qs = found_behind x ps p qs o.1 f in
     record {
       there = ap (λ (b : Bool). b || present x (ps ++ (p ∷ qs))) o.0 ∙ h.there;
@@ -137,14 +131,14 @@ module _ {b r : Bytes} {x : ℕ} (k : Looking b x r) where
         let w = v.before_it in
         let p : Page = v.page in
         let f = front v.its_row in
-        let e : eqb x p.name ≡ false = eq_false x p.name (λ y. n (g.name_is ∙ f.name_is ∙ sym y)) in
+        let e : eqb x p.name ≡ false = ne_eqb x p.name (λ y. n (g.name_is ∙ f.name_is ∙ sym y)) in
         let m : forms_of housed w.gone + housed.forms p.body ≡ forms_of housed (w.gone ++ (p ∷ [])) = omega (arith, forms_joined w.gone (p ∷ []), forms_more p [], forms_none) in
         record {
           gone = w.gone ++ (p ∷ []);
           left = v.later;
           zeros = w.zeros;
           all_is = v.all_is ∙ sym (append_assoc w.gone (p ∷ []) v.later);
-          absent = absent_more x w.gone p w.absent e;
+          absent = present_last x w.gone p w.absent e;
           rowed = subst (λ (i : ℕ). Rowed s i v.later w.zeros) m (subst (λ (y : Bytes). Rowed y (forms_of housed w.gone + housed.forms p.body) v.later w.zeros) (sym g.behind_is) f.left);
           place = omega (arith, size_joined w.gone (p ∷ []), size_more p [], size_none, w.place, f.long, ap length g.behind_is);
         }
@@ -157,7 +151,7 @@ module _ {b r : Bytes} {x : ℕ} (k : Looking b x r) where
         let w = v.before_it in
         let p : Page = v.page in
         let f = front v.its_row in
-        let o = found_behind x w.gone p v.later w.absent (eq_true x p.name (sym n ∙ g.name_is ∙ f.name_is)) in
+        let o = found_behind x w.gone p v.later w.absent (eq-eqb x p.name (sym n ∙ g.name_is ∙ f.name_is)) in
         let c : forms ≡ housed.forms p.body =
         ef ∙ ap (λ (y : Bytes). fields_in (read y)) (g.templates_is ∙ ap (λ (y : Body). y.templates) f.body_is) ∙ raised_count (forms_of housed w.gone) p.body f.is_sound.of_bytes f.is_sound.judged in
         let i₀ = ap (row_size housed) v.all_is ∙ size_joined w.gone (p ∷ v.later) in

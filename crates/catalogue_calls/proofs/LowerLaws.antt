@@ -163,9 +163,6 @@ pub record Doing (f : ℕ) (s : Bytes) (at : ℕ) (z : ℕ) (b : Bytes) : Type 0
 abbrev pub Lowering : (b : Bytes) (f : ℕ) (s : Bytes) (at : ℕ) → Type 0
 Lowering b f s at = (n : ℕ) (ps : List Page) (z : ℕ) → Rowed b n ps z → Doing f s at z (lowered housed f n ps (replicate z 0))
 
-pub lowering : (b : Bytes) (f : ℕ) → Lowering b f b 0
-lowering b f n ps z w = record { before = n; left = ps; rowed = w; within = omega arith; becomes = refl }
-
 module _ {b s : Bytes} {f at : ℕ} (k : Lowering b f s at) where
   abbrev part : Bytes
   part = take (length s - at) (drop at s)

@@ -7,26 +7,15 @@ use mathlib.Core.Logic.{◌⊎◌, inl, inr}
 use native.Mathlib.Omega.{arith}
 use lib.Dec.{eqb}
 use lib.ListN.{length, drop}
+use Rattle.std.proofs.lemmas.Bool.{cases_Bool}
+use borrow.Author.Tests.{eqb-true, eqb-false}
 use Rattle.field.specs.Bytes.{Bytes, pick}
+use Rattle.catalogue.proofs.Exact.{no_pages, Added, added}
 use Rattle.catalogue.specs.Page.{Page}
 use Rattle.catalogue.specs.Catalogue.{Reading, no_row, pages, add, all_zero, four, behind_body, read_row, present, names_differ}
-use Rattle.catalogue.proofs.Tests.{decide, true_eq, false_eq}
 use Rattle.catalogue_calls.specs.Standing.{housed, framed, names_from, names_in, among, all_differ}
 use Rattle.catalogue_calls.proofs.PageLaws.{page_of}
 use Rattle.catalogue_calls.proofs.Steps.{read_behind, read_refused, read_end}
-
-no_pages : (ps : List Page) {A : Type 0} → no_row ≡ pages ps → A
-no_pages ps e = absurd (let z : ◌≡◌ {A = ℕ} 0 1 = cc in omega arith)
-
-record Added (p : Page) (o : Reading) (ps : List Page) : Type 0 where
-  rest : List Page
-  read_is : o ≡ pages rest
-  all_is : p ∷ rest ≡ ps
-
-added : (p : Page) (o : Reading) (ps : List Page) → add p o ≡ pages ps → Added p o ps
-unfolding add
-added p no_row ps e = no_pages ps e
-added p (pages qs) ps e = record { rest = qs; read_is = refl; all_is = cc }
 
 none_left : (s : Bytes) (ps : List Page) → pick (all_zero s) (pages []) no_row ≡ pages ps → [] ≡ ps
 none_left s ps e = on (all_zero s) e
@@ -42,7 +31,7 @@ names ps = map (λ (p : Page). p.name) ps
 pub names_are : (k n : ℕ) (s : Bytes) (ps : List Page) → read_row housed k n s ≡ pages ps → names_from k s ≡ names ps
 unfolding read_row names_from
 names_are zero n s ps e = no_pages ps e
-names_are (suc k) n s ps e = on (decide (framed s)) (names_are k)
+names_are (suc k) n s ps e = on (cases_Bool (framed s)) (names_are k)
   where
     p : Page
     p = page_of n s
@@ -63,11 +52,11 @@ names_are (suc k) n s ps e = on (decide (framed s)) (names_are k)
         ap (λ (b : Bool). pick b (four (drop 1 s) ∷ names_from k (behind_body (drop 6 s))) []) f ∙ ap (λ (xs : List ℕ). four (drop 1 s) ∷ xs) w ∙ ap names d.all_is
 
     on : (framed s ≡ true) ⊎ (framed s ≡ false) → Before → Goal
-    on (inl f) ih = judged (decide (eqb (housed.judge p.body) 0))
+    on (inl f) ih = judged (cases_Bool (eqb (housed.judge p.body) 0))
       where
         judged : (eqb (housed.judge p.body) 0 ≡ true) ⊎ (eqb (housed.judge p.body) 0 ≡ false) → Goal
-        judged (inl t) = one f (sym (read_behind k n s f (true_eq (housed.judge p.body) 0 t)) ∙ e) ih
-        judged (inr t) = no_pages ps (sym (read_refused k n s f (false_eq (housed.judge p.body) 0 t)) ∙ e)
+        judged (inl t) = one f (sym (read_behind k n s f (eqb-true (housed.judge p.body) 0 t)) ∙ e) ih
+        judged (inr t) = no_pages ps (sym (read_refused k n s f (eqb-false (housed.judge p.body) 0 t)) ∙ e)
     on (inr f) ih =
         let h : [] ≡ ps = none_left s ps (sym (read_end k n s f) ∙ e) in
         ap (λ (b : Bool). pick b (four (drop 1 s) ∷ names_from k (behind_body (drop 6 s))) []) f ∙ ap names h

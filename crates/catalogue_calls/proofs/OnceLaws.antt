@@ -8,13 +8,14 @@ use mathlib.Core.List.{List, [], ◌∷◌}
 use mathlib.Core.Logic.{◌⊎◌, inl, inr}
 use native.Mathlib.Omega.{arith}
 use lib.Dec.{eqb, leb}
-use borrow.Author.Tests.{leb-false}
+use borrow.Author.Tests.{leb-false, leb-true, eq-eqb, eqb-true, ne_eqb, eqb-false}
 use lib.ListN.{length, replicate}
 use Rattle.std.proofs.lemmas.List.{length-replicate}
+use Rattle.std.proofs.lemmas.Bool.{and_from, cases_Bool}
 use Rattle.catalogue.specs.Shares.{total}
 use Rattle.catalogue.specs.Judged.{occurrences, once, each_once}
 use Rattle.catalogue.specs.Numbers.{opposite}
-use Rattle.catalogue.proofs.Tests.{decide, both, true_le, true_eq, eq_true, eq_false, false_eq, and_left, and_right}
+use Rattle.catalogue.proofs.Tests.{and_left, and_right}
 use Rattle.catalogue_calls.specs.Once.{lowered_by, mark_at, Marked, within, Clear, Window}
 use Rattle.catalogue_calls.proofs.MarkLaws.{mark_below, no_mark}
 
@@ -22,11 +23,11 @@ use Rattle.catalogue_calls.proofs.MarkLaws.{mark_below, no_mark}
 
 one_more : (m : ℕ) (ks : List ℕ) → occurrences m (m ∷ ks) ≡ 1 + occurrences m ks
 unfolding occurrences
-one_more m ks = rw (eq_true m m refl)
+one_more m ks = rw (eq-eqb m m refl)
 
 as_many : (j m : ℕ) (ks : List ℕ) → (j ≡ m → ⊥) → occurrences j (m ∷ ks) ≡ occurrences j ks
 unfolding occurrences
-as_many j m ks n = let e : eqb m j ≡ false = eq_false m j (λ q. n (sym q)) in rw e (omega arith)
+as_many j m ks n = let e : eqb m j ≡ false = ne_eqb m j (λ q. n (sym q)) in rw e (omega arith)
 
 within_none : (n : ℕ) → within n [] ≡ 0
 unfolding within total occurrences
@@ -42,22 +43,22 @@ within_out (suc n) m ks (inr l) = omega (arith, within_out n m ks (inr (omega ar
 within_in : (n m : ℕ) (ks : List ℕ) → 0 < m → m ≤ n → within n (m ∷ ks) ≡ 1 + within n ks
 unfolding within total
 within_in zero m ks l h = absurd (omega arith)
-within_in (suc n) m ks l h = on (decide (eqb (suc n) m)) (within_in n m ks l)
+within_in (suc n) m ks l h = on (cases_Bool (eqb (suc n) m)) (within_in n m ks l)
   where
     on : (eqb (suc n) m ≡ true) ⊎ (eqb (suc n) m ≡ false) → (m ≤ n → within n (m ∷ ks) ≡ 1 + within n ks) → within n (m ∷ ks) + occurrences (suc n) (m ∷ ks) ≡ 1 + (within n ks + occurrences (suc n) ks)
     on (inl t) ih =
-        let e : suc n ≡ m = true_eq (suc n) m t in
+        let e : suc n ≡ m = eqb-true (suc n) m t in
         let f : occurrences (suc n) (m ∷ ks) ≡ 1 + occurrences (suc n) ks = ap (λ k. occurrences (suc n) (k ∷ ks)) (sym e) ∙ one_more (suc n) ks in
         omega (arith, within_out n m ks (inr (omega arith)), f)
-    on (inr t) ih = let d : suc n ≡ m → ⊥ = false_eq (suc n) m t in omega (arith, ih (omega arith), as_many (suc n) m ks d)
+    on (inr t) ih = let d : suc n ≡ m → ⊥ = eqb-false (suc n) m t in omega (arith, ih (omega arith), as_many (suc n) m ks d)
 
 within_most : (n : ℕ) (ks : List ℕ) → within n ks ≤ length ks
 within_most n [] = omega (arith, within_none n)
-within_most n (m ∷ ks) = on (decide (eqb m 0)) (decide (leb m n)) (within_most n ks)
+within_most n (m ∷ ks) = on (cases_Bool (eqb m 0)) (cases_Bool (leb m n)) (within_most n ks)
   where
     on : (eqb m 0 ≡ true) ⊎ (eqb m 0 ≡ false) → (leb m n ≡ true) ⊎ (leb m n ≡ false) → within n ks ≤ length ks → within n (m ∷ ks) ≤ suc (length ks)
-    on (inl e) l h = omega (arith, within_out n m ks (inl (true_eq m 0 e)))
-    on (inr e) (inl l) h = omega (arith, within_in n m ks (omega (arith, false_eq m 0 e)) (true_le m n l))
+    on (inl e) l h = omega (arith, within_out n m ks (inl (eqb-true m 0 e)))
+    on (inr e) (inl l) h = omega (arith, within_in n m ks (omega (arith, eqb-false m 0 e)) (leb-true m n l))
     on (inr e) (inr l) h = omega (arith, within_out n m ks (inr (leb-false m n l)))
 
 -- ---- each once
@@ -65,16 +66,16 @@ within_most n (m ∷ ks) = on (decide (eqb m 0)) (decide (leb m n)) (within_most
 once_within : (n : ℕ) (ks : List ℕ) → once n ks ≡ true → within n ks ≡ n
 unfolding within total once
 once_within zero ks e = refl
-once_within (suc n) ks e = omega (arith, true_eq (occurrences (suc n) ks) 1 (and_left (eqb (occurrences (suc n) ks) 1) (once n ks) e), once_within n ks (and_right (eqb (occurrences (suc n) ks) 1) (once n ks) e))
+once_within (suc n) ks e = omega (arith, eqb-true (occurrences (suc n) ks) 1 (and_left (eqb (occurrences (suc n) ks) 1) (once n ks) e), once_within n ks (and_right (eqb (occurrences (suc n) ks) 1) (once n ks) e))
 
 once_at : (n m : ℕ) (ks : List ℕ) → once n ks ≡ true → 0 < m → m ≤ n → occurrences m ks ≡ 1
 unfolding once
 once_at zero m ks e l h = absurd (omega arith)
-once_at (suc n) m ks e l h = on (decide (eqb m (suc n))) (once_at n m ks (and_right (eqb (occurrences (suc n) ks) 1) (once n ks) e) l)
+once_at (suc n) m ks e l h = on (cases_Bool (eqb m (suc n))) (once_at n m ks (and_right (eqb (occurrences (suc n) ks) 1) (once n ks) e) l)
   where
     on : (eqb m (suc n) ≡ true) ⊎ (eqb m (suc n) ≡ false) → (m ≤ n → occurrences m ks ≡ 1) → occurrences m ks ≡ 1
-    on (inl t) ih = ap (λ k. occurrences k ks) (true_eq m (suc n) t) ∙ true_eq (occurrences (suc n) ks) 1 (and_left (eqb (occurrences (suc n) ks) 1) (once n ks) e)
-    on (inr t) ih = let d : m ≡ suc n → ⊥ = false_eq m (suc n) t in ih (omega arith)
+    on (inl t) ih = ap (λ k. occurrences k ks) (eqb-true m (suc n) t) ∙ eqb-true (occurrences (suc n) ks) 1 (and_left (eqb (occurrences (suc n) ks) 1) (once n ks) e)
+    on (inr t) ih = let d : m ≡ suc n → ⊥ = eqb-false m (suc n) t in ih (omega arith)
 
 within_at_most : (n : ℕ) (ks : List ℕ) → ((m : ℕ) → 0 < m → m ≤ n → occurrences m ks ≤ 1) → within n ks ≤ n
 unfolding within total
@@ -88,21 +89,21 @@ once_from (suc n) ks e s =
     let before : (m : ℕ) → 0 < m → m ≤ n → occurrences m ks ≤ 1 = λ m l h. s m l (omega arith) in
     let here : occurrences (suc n) ks ≤ 1 = s (suc n) (omega arith) (omega arith) in
     let most : within n ks ≤ n = within_at_most n ks before in
-    both (eqb (occurrences (suc n) ks) 1) (once n ks) (eq_true (occurrences (suc n) ks) 1 (omega arith)) (once_from n ks (omega arith) before)
+    and_from (eqb (occurrences (suc n) ks) 1) (once n ks) (eq-eqb (occurrences (suc n) ks) 1 (omega arith)) (once_from n ks (omega arith) before)
 
 pub each_from : (n : ℕ) (ks : List ℕ) → length ks ≡ n → within n ks ≡ n → ((m : ℕ) → 0 < m → m ≤ n → occurrences m ks ≤ 1) → each_once n ks ≡ true
 unfolding each_once
-each_from n ks l e s = both (eqb (length ks) n) (once n ks) (eq_true (length ks) n l) (once_from n ks (omega arith) s)
+each_from n ks l e s = and_from (eqb (length ks) n) (once n ks) (eq-eqb (length ks) n l) (once_from n ks (omega arith) s)
 
 -- refused is what breaks one of these
 not_each : (n : ℕ) (ks : List ℕ) → (length ks ≡ n → within n ks ≡ n → ((m : ℕ) → 0 < m → m ≤ n → occurrences m ks ≡ 1) → ⊥) → each_once n ks ≡ false
 unfolding each_once
-not_each n ks f = on (decide (each_once n ks))
+not_each n ks f = on (cases_Bool (each_once n ks))
   where
     on : (each_once n ks ≡ true) ⊎ (each_once n ks ≡ false) → each_once n ks ≡ false
     on (inl e) =
         let o : once n ks ≡ true = and_right (eqb (length ks) n) (once n ks) e in
-        absurd (f (true_eq (length ks) n (and_left (eqb (length ks) n) (once n ks) e)) (once_within n ks o) (λ m l h. once_at n m ks o l h))
+        absurd (f (eqb-true (length ks) n (and_left (eqb (length ks) n) (once n ks) e)) (once_within n ks o) (λ m l h. once_at n m ks o l h))
     on (inr e) = e
 
 -- ---- numbers as they stood
@@ -154,15 +155,15 @@ passed_by {n} {low} {w} {words} {left} {m} {all} {rest} p l a b (inl o) = passed
 passed_by {n} {low} {w} {words} {left} {m} {all} {rest} p l a b (inr o) = passed_on p l a b refl (λ i h. omega (arith, as_many (low + 1 + i) m rest (λ q. omega arith)))
 
 pub passed_marked : {n low w : ℕ} {words words' : List ℕ} {left m : ℕ} {all rest : List ℕ} → Passed n low w words left all (m ∷ rest) → 0 < left → m ≤ n → low < m → length words' ≡ length words → Marked words (m - low - 1) words' → Passed n low w words' (left - 1) all rest
-passed_marked {n} {low} {w} {words} {words'} {left} {m} {all} {rest} p l b o e k = passed_on p l (omega arith) b e (λ i h. on i (decide (eqb i (m - low - 1))))
+passed_marked {n} {low} {w} {words} {words'} {left} {m} {all} {rest} p l b o e k = passed_on p l (omega arith) b e (λ i h. on i (cases_Bool (eqb i (m - low - 1))))
   where
     on : (i : ℕ) → (eqb i (m - low - 1) ≡ true) ⊎ (eqb i (m - low - 1) ≡ false) → mark_at words i + occurrences (low + 1 + i) (m ∷ rest) ≡ mark_at words' i + occurrences (low + 1 + i) rest
     on i (inl t) =
-        let q : i ≡ m - low - 1 = true_eq i (m - low - 1) t in
+        let q : i ≡ m - low - 1 = eqb-true i (m - low - 1) t in
         let r : low + 1 + i ≡ m = omega arith in
         omega (arith, ap (mark_at words) q, ap (mark_at words') q, k.unmarked, k.marked, ap (λ j. occurrences j (m ∷ rest)) r, ap (λ j. occurrences j rest) r, one_more m rest)
     on i (inr t) =
-        let d : i ≡ m - low - 1 → ⊥ = false_eq i (m - low - 1) t in
+        let d : i ≡ m - low - 1 → ⊥ = eqb-false i (m - low - 1) t in
         omega (arith, k.others i d, as_many (low + 1 + i) m rest (λ q. d (omega arith)))
 
 -- ---- what a walk answers
@@ -183,8 +184,8 @@ pub passed_end : {n low w : ℕ} {words : List ℕ} {left : ℕ} (b : ℕ) {all 
 passed_end {n} {low} {w} {words} {left} b {all} {xs} e p = on (eqb left 0) refl (subst (Passed n low w words left all) (lowered_none b e) p)
   where
     on : (t : Bool) → eqb left 0 ≡ t → Passed n low w words left all [] → Window n low w all t
-    on true t q = passed_all q (true_eq left 0 t)
-    on false t q = too_few q (false_eq left 0 t)
+    on true t q = passed_all q (eqb-true left 0 t)
+    on false t q = too_few q (eqb-false left 0 t)
 
 pub too_many : {n low w : ℕ} {words : List ℕ} {left m : ℕ} {all rest : List ℕ} → Passed n low w words left all (m ∷ rest) → left ≡ 0 → each_once n all ≡ false
 too_many {n} {low} {w} {words} {left} {m} {all} {rest} p e = not_each n all (λ l r s. absurd (omega (arith, p.count)))
@@ -209,12 +210,12 @@ singles_none n ks m l h = absurd (omega arith)
 
 pub singles_more : {n low w above : ℕ} {ks : List ℕ} → Clear n low w ks → above ≤ low + 64 * w → Singles n above ks → Singles n low ks
 unfolding Singles
-singles_more {n} {low} {w} {above} {ks} p a s m l h = on (decide (leb m above))
+singles_more {n} {low} {w} {above} {ks} p a s m l h = on (cases_Bool (leb m above))
   where
     on : (leb m above ≡ true) ⊎ (leb m above ≡ false) → occurrences m ks ≤ 1
     on (inl t) =
         let r : low + 1 + (m - low - 1) ≡ m = omega arith in
-        omega (arith, p.single (m - low - 1) (omega (arith, true_le m above t)), ap (λ j. occurrences j ks) r)
+        omega (arith, p.single (m - low - 1) (omega (arith, leb-true m above t)), ap (λ j. occurrences j ks) r)
     on (inr t) = s m (leb-false m above t) h
 
 pub singles_all : {n low w above : ℕ} {ks : List ℕ} → Clear n low w ks → above ≤ low + 64 * w → low ≡ 0 → Singles n above ks → each_once n ks ≡ true

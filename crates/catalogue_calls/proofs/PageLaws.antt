@@ -11,12 +11,14 @@ use lib.ListN.{length, take, drop, get_or, length-drop}
 use lib.Seq.{drop-drop, get_or-drop}
 use Rattle.std.specs.Int.{w32, from_be_bytes}
 use Rattle.std.specs.List.{IsFirstAndRest, IsSplitAt}
+use Rattle.std.proofs.lemmas.Bool.{and_from, cases_Bool}
+use borrow.Author.Tests.{le-leb, leb-true, eq-eqb, eqb-true}
 use Rattle.field.specs.Bytes.{Bytes}
 use Rattle.field.specs.Number.{number_from}
 use Rattle.catalogue.specs.Page.{Page, A14, house_right}
 use Rattle.catalogue.specs.Catalogue.{four, at_lengths, body_in, page_in, behind_body, behind, within, page_right}
 use Rattle.catalogue.specs.Judged.{project}
-use Rattle.catalogue.proofs.Tests.{decide, both, le_true, true_le, eq_true, true_eq, and_left, and_right}
+use Rattle.catalogue.proofs.Tests.{and_left, and_right}
 use Rattle.catalogue_calls.specs.Standing.{housed, framed, IsPage}
 
 -- ---- the frame, as numbers
@@ -43,12 +45,12 @@ frame (c ∷ b) e =
     let e₂ = and_right (leb 5 (length b)) (within d && house_right A14 h) e₁ in
     let w = and_left (within d) (house_right A14 h) e₂ in
     let r = and_right (within d) (house_right A14 h) e₂ in
-    let l : 5 ≤ length b = true_le 5 (length b) (and_left (leb 5 (length b)) (within d && house_right A14 h) e₁) in
-    let m : 8 + four d + four (drop 4 d) ≤ length d = true_le (8 + four d + four (drop 4 d)) (length d) (and_right (leb 8 (length d)) (leb (8 + four d + four (drop 4 d)) (length d)) w) in
+    let l : 5 ≤ length b = leb-true 5 (length b) (and_left (leb 5 (length b)) (within d && house_right A14 h) e₁) in
+    let m : 8 + four d + four (drop 4 d) ≤ length d = leb-true (8 + four d + four (drop 4 d)) (length d) (and_right (leb 8 (length d)) (leb (8 + four d + four (drop 4 d)) (length d)) w) in
     record {
-      begins = true_eq c 0x97 (and_left (eqb c 0x97) (leb 5 (length b) && (within d && house_right A14 h)) e);
-      house_least = true_le 1 h (and_left (leb 1 h) (leb h 16) r);
-      house_most = true_le h 16 (and_right (leb 1 h) (leb h 16) r);
+      begins = eqb-true c 0x97 (and_left (eqb c 0x97) (leb 5 (length b) && (within d && house_right A14 h)) e);
+      house_least = leb-true 1 h (and_left (leb 1 h) (leb h 16) r);
+      house_most = leb-true h 16 (and_right (leb 1 h) (leb h 16) r);
       inside = omega (arith, length_six c b l, ap four (ten (c ∷ b)));
     }
 
@@ -60,24 +62,24 @@ framed_by (c ∷ b) f =
     let h : ℕ = get_or b 4 0 in
     let l : 5 ≤ length b = omega (arith, f.inside) in
     let m : 8 + four d + four (drop 4 d) ≤ length d = omega (arith, f.inside, length_six c b l, ap four (ten (c ∷ b))) in
-    both (eqb c 0x97) (leb 5 (length b) && (within d && house_right A14 h)) (eq_true c 0x97 f.begins)
-    (both (leb 5 (length b)) (within d && house_right A14 h) (le_true 5 (length b) l)
-    (both (within d) (house_right A14 h)
-    (both (leb 8 (length d)) (leb (8 + four d + four (drop 4 d)) (length d)) (le_true 8 (length d) (omega arith)) (le_true (8 + four d + four (drop 4 d)) (length d) m))
-    (both (leb 1 h) (leb h 16) (le_true 1 h f.house_least) (le_true h 16 f.house_most))))
+    and_from (eqb c 0x97) (leb 5 (length b) && (within d && house_right A14 h)) (eq-eqb c 0x97 f.begins)
+    (and_from (leb 5 (length b)) (within d && house_right A14 h) (le-leb 5 (length b) l)
+    (and_from (within d) (house_right A14 h)
+    (and_from (leb 8 (length d)) (leb (8 + four d + four (drop 4 d)) (length d)) (le-leb 8 (length d) (omega arith)) (le-leb (8 + four d + four (drop 4 d)) (length d) m))
+    (and_from (leb 1 h) (leb h 16) (le-leb 1 h f.house_least) (le-leb h 16 f.house_most))))
 
 pub unframed : (s : Bytes) → (Frame s → ⊥) → framed s ≡ false
-unframed s f = on (decide (framed s))
+unframed s f = on (cases_Bool (framed s))
   where
     on : (framed s ≡ true) ⊎ (framed s ≡ false) → framed s ≡ false
     on (inl t) = absurd (f (frame s t))
     on (inr t) = t
 
 pub no_house : (s : Bytes) (h : ℕ) {b : Bool} → b ≡ house_right A14 h → b ≡ false → h ≡ get_or s 5 0 → Frame s → ⊥
-no_house s h e t k f = true≢false (sym (both (leb 1 h) (leb h 16) (le_true 1 h (omega (arith, f.house_least))) (le_true h 16 (omega (arith, f.house_most)))) ∙ sym e ∙ t)
+no_house s h e t k f = true≢false (sym (and_from (leb 1 h) (leb h 16) (le-leb 1 h (omega (arith, f.house_least))) (le-leb h 16 (omega (arith, f.house_most)))) ∙ sym e ∙ t)
 
 pub house_within : (h : ℕ) {b : Bool} → b ≡ house_right A14 h → b ≡ true → (1 ≤ h) × (h ≤ 16)
-house_within h e t = let r : (leb 1 h && leb h 16) ≡ true = sym e ∙ t in (true_le 1 h (and_left (leb 1 h) (leb h 16) r), true_le h 16 (and_right (leb 1 h) (leb h 16) r))
+house_within h e t = let r : (leb 1 h && leb h 16) ≡ true = sym e ∙ t in (leb-true 1 h (and_left (leb 1 h) (leb h 16) r), leb-true h 16 (and_right (leb 1 h) (leb h 16) r))
 
 -- ---- the parts, one behind the other
 

@@ -9,12 +9,13 @@ use lib.Dec.{leb}
 use lib.ListN.{length, drop}
 use Rattle.std.specs.Prelude.{Option, Some, None, Result, Ok, Err}
 use Rattle.std.specs.Result.{result_ok}
+use Rattle.std.proofs.lemmas.Bool.{cases_Bool}
+use borrow.Author.Tests.{le-leb, leb-true}
 use Rattle.field.specs.Bytes.{Bytes, AllBytes, pick}
 use Rattle.field.proofs.NumberLaws.{all_take, all_drop}
 use Rattle.catalogue.specs.Page.{Body, Page, IsBytes}
 use Rattle.catalogue.specs.Catalogue.{most_bytes, Reading, no_row, pages, add, all_zero, four, body_in, read_row, size, row_size, forms_of, no_name_twice, read_catalogue}
 use Rattle.catalogue.specs.Judged.{project}
-use Rattle.catalogue.proofs.Tests.{decide, le_true, true_le}
 use Rattle.catalogue.proofs.Numbered.{forms_few}
 use Rattle.catalogue.proofs.Rows.{down_templates, down_page_out}
 use Rattle.catalogue_calls.specs.Standing.{housed, framed, names_in, all_differ, IsPage}
@@ -198,7 +199,7 @@ module _ {b s : Bytes} {count m : ℕ} (v : Walked b s count m) where
       by_names : length b ≤ most_bytes → {d : Bool} → all_differ (names_in b) ≡ d → read_catalogue housed b ≡ pick d (pages v.passed) no_row
       unfolding read_catalogue no_name_twice
       by_names l {d} g =
-          ap (λ (q : Bool). pick q (no_name_twice (read_row housed (suc (length b)) 0 b)) no_row) (le_true (length b) most_bytes l)
+          ap (λ (q : Bool). pick q (no_name_twice (read_row housed (suc (length b)) 0 b)) no_row) (le-leb (length b) most_bytes l)
           ∙ ap no_name_twice all_read
           ∙ ap (λ (q : Bool). pick q (pages v.passed) no_row) (sym (differ_are b v.passed all_read) ∙ g)
 
@@ -217,8 +218,8 @@ module _ {b s : Bytes} {count m : ℕ} (v : Walked b s count m) where
 -- longer ones are none
 pub too_long : (b : Bytes) → most_bytes < length b → read_catalogue housed b ≡ no_row
 unfolding read_catalogue
-too_long b h = on (decide (leb (length b) most_bytes))
+too_long b h = on (cases_Bool (leb (length b) most_bytes))
   where
     on : (leb (length b) most_bytes ≡ true) ⊎ (leb (length b) most_bytes ≡ false) → read_catalogue housed b ≡ no_row
-    on (inl t) = absurd (omega (arith, true_le (length b) most_bytes t))
+    on (inl t) = absurd (omega (arith, leb-true (length b) most_bytes t))
     on (inr t) = ap (λ (q : Bool). pick q (no_name_twice (read_row housed (suc (length b)) 0 b)) no_row) t

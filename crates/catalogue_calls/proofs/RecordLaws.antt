@@ -10,6 +10,7 @@ use lib.Dec.{leb, eqb}
 use lib.ListN.{length, take, drop, length-append, length-drop, take-append-drop}
 use lib.Seq.{take-take}
 use Rattle.std.proofs.lemmas.List.{append_assoc, drop-append-le}
+use borrow.Author.Tests.{le-leb, leb-true, eq-eqb, eqb-true, ne_eqb}
 use Rattle.field.specs.Bytes.{Bytes, AllBytes, pick}
 use Rattle.field.specs.Number.{big_endian, number_of}
 use Rattle.field.specs.Row.{Row, end, loose, field, bytes, Inside, only_bytes, fields_after, counted, counted_front, inside, next, next_of, opened, built, read, Ended}
@@ -19,14 +20,14 @@ use Rattle.field.proofs.NumberLaws.{all_drop, length_big_endian}
 use Rattle.field.proofs.RowLaws.{Opens, read_step, read_ind, bytes_read, all_parts}
 use Rattle.page.specs.Refusal.{Fine}
 use Rattle.page.specs.declared.Refusal.TheVariants as R
-use Rattle.page.proofs.Verdicts.{refused, after_fine, unless_fine}
+use Rattle.page.proofs.Verdicts.{refused, after_fine, unless_fine, is_true}
 use Rattle.page.proofs.Steps.{front, inner, row_at}
 use Rattle.outs.specs.Templates.{count_of, front_of_record, check_strings, check_strings_of, check_records, check_templates}
 use Rattle.outs.specs.declared.Kind.TheVariants.{New}
 use Rattle.catalogue.specs.Catalogue.{four}
 use Rattle.catalogue.specs.Numbers.{changed, raised}
 use Rattle.catalogue.specs.Judged.{recorded_numbers}
-use Rattle.catalogue.proofs.Tests.{true_of, true_eq, eq_true, eq_false, true_le, le_true, and_left}
+use Rattle.catalogue.proofs.Tests.{and_left}
 use Rattle.catalogue_calls.specs.Flat.{further}
 use Rattle.catalogue_calls.proofs.FlatLaws.{field_written}
 
@@ -53,12 +54,12 @@ module _ {s : Bytes} {t : ℕ} {w r : Bytes} (f : IsFront s t w r) where
   pub recorded_next : t ≡ 0x84 → recorded_numbers (read s) ≡ four w ∷ recorded_numbers (read r)
   unfolding recorded_numbers
   recorded_next e =
-      ap recorded_numbers (row_at f) ∙ ap (λ (b : Bool). pick b (four (front (inside t) w) ∷ recorded_numbers (read r)) (recorded_numbers (read r))) (eq_true t 0x84 e)
+      ap recorded_numbers (row_at f) ∙ ap (λ (b : Bool). pick b (four (front (inside t) w) ∷ recorded_numbers (read r)) (recorded_numbers (read r))) (eq-eqb t 0x84 e)
       ∙ ap (λ (k : Inside). four (front k w) ∷ recorded_numbers (read r)) (record_inside t e) ∙ ap (λ (n : ℕ). n ∷ recorded_numbers (read r)) (four_front w)
 
   pub other_next : (t ≡ 0x84 → ⊥) → recorded_numbers (read s) ≡ recorded_numbers (read r)
   unfolding recorded_numbers
-  other_next n = ap recorded_numbers (row_at f) ∙ ap (λ (b : Bool). pick b (four (front (inside t) w) ∷ recorded_numbers (read r)) (recorded_numbers (read r))) (eq_false t 0x84 n)
+  other_next n = ap recorded_numbers (row_at f) ∙ ap (λ (b : Bool). pick b (four (front (inside t) w) ∷ recorded_numbers (read r)) (recorded_numbers (read r))) (ne_eqb t 0x84 n)
 
 -- ---- the bytes with their numbers raised
 
@@ -73,7 +74,7 @@ unfolding check_strings
 string_tag zero t f i r g = refused R.Misplaced g
 string_tag (suc k) t f i r g =
     let p = after_fine _ _ g in
-    (true_eq t 0x81 (true_of (eqb t 0x81) (unless_fine _ _ p.0)), (k, (after_fine _ _ p.1).1))
+    (eqb-true t 0x81 (is_true (eqb t 0x81) (unless_fine _ _ p.0)), (k, (after_fine _ _ p.1).1))
 
 opened_is : (k : Inside) (t : ℕ) (w r : Bytes) → opened k read t w r ≡ field t (front k w) (inner k w) (read r)
 unfolding opened
@@ -91,7 +92,7 @@ module _ (n : ℕ) where
 
   record_front : (t : ℕ) (f : Bytes) → t ≡ 0x84 → 4 ≤ length f → m t f ≡ further n f ++ drop 4 f
   unfolding raised
-  record_front t f e l = ap₂ (λ (a b : Bool). pick (a && b) (further n f ++ drop 4 f) f) (eq_true t 0x84 e) (le_true 4 (length f) l)
+  record_front t f e l = ap₂ (λ (a b : Bool). pick (a && b) (further n f ++ drop 4 f) f) (eq-eqb t 0x84 e) (le-leb 4 (length f) l)
 
   -- no record stands among strings
   Same : Bytes → Row → Type 0
@@ -101,7 +102,7 @@ module _ (n : ℕ) where
   unfolding Same changed
   same_leaf s t w r e q hr k g =
       let z = string_tag k t w end (read r) g in
-      ap₂ (λ (f : Bytes) (x : Row). field t f end x) (other_front t w (eq_false t 0x84 (λ y. omega (arith, z.0, y)))) (hr z.1.0 z.1.1)
+      ap₂ (λ (f : Bytes) (x : Row). field t f end x) (other_front t w (ne_eqb t 0x84 (λ y. omega (arith, z.0, y)))) (hr z.1.0 z.1.1)
 
   same_nest : (s : Bytes) (t : ℕ) (w r : Bytes) (j : ℕ) → next_of s ≡ next t w r → Opens (inside t) w j → Same (drop j w) (read (drop j w)) → Same r (read r) → Same s (field t (take j w) (read (drop j w)) (read r))
   unfolding Same inside
@@ -127,7 +128,7 @@ module _ (n : ℕ) where
 
     tag_is : t ≡ 0x84
     unfolding check_templates check_records
-    tag_is = true_eq t 0x84 (true_of (eqb t 0x84) (unless_fine _ _ (after_fine _ _ (ap (check_records New) (sym read_is) ∙ g)).0))
+    tag_is = eqb-true t 0x84 (is_true (eqb t 0x84) (unless_fine _ _ (after_fine _ _ (ap (check_records New) (sym read_is) ∙ g)).0))
 
     record_is : read b ≡ field t f (read strings) (read r)
     unfolding f strings
@@ -138,11 +139,11 @@ module _ (n : ℕ) where
     checked =
         let c = (after_fine _ _ (ap (check_records New) (sym record_is) ∙ g)).1 in
         let d = (after_fine _ _ c).1 in
-        (true_of (front_of_record New f) (unless_fine _ _ (after_fine _ _ c).0), (after_fine _ _ d).0, (after_fine _ _ d).1)
+        (is_true (front_of_record New f) (unless_fine _ _ (after_fine _ _ c).0), (after_fine _ _ d).0, (after_fine _ _ d).1)
 
     front_long : 6 ≤ length f
     unfolding front_of_record
-    front_long = true_le 6 (length f) (and_left _ _ checked.0)
+    front_long = leb-true 6 (length f) (and_left _ _ checked.0)
 
     parts_back : f ++ strings ≡ w
     unfolding f strings

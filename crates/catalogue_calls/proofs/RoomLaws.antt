@@ -9,12 +9,14 @@ use native.Mathlib.Omega.{arith}
 use lib.Dec.{leb, eqb}
 use lib.ListN.{length, get_or}
 use Rattle.std.specs.Prelude.{Ok, Err}
+use Rattle.std.proofs.lemmas.Bool.{cases_Bool}
+use borrow.Author.Tests.{le-leb, leb-true, eq-eqb, eqb-true, lt-leb}
 use Rattle.field.specs.Bytes.{Bytes, AllBytes, pick}
 use Rattle.catalogue.specs.Page.{Page}
 use Rattle.catalogue.specs.Catalogue.{pages, read_catalogue}
 use Rattle.catalogue.specs.Shares.{Shares, total, each, but, used, unused, unused_of_others, shares_right}
 use Rattle.catalogue.specs.Calls.{Outcome, unless}
-use Rattle.catalogue.proofs.Tests.{decide, le_true, true_le, eq_true, true_eq, not_both}
+use Rattle.catalogue.proofs.Tests.{not_both}
 use Rattle.catalogue.proofs.Sums.{total_but_same}
 use Rattle.catalogue_calls.specs.Standing.{housed, used_in}
 use Rattle.catalogue_calls.specs.Answer.{shares_of}
@@ -44,13 +46,13 @@ pub most_is : (ns : List ℕ) (h : ℕ) → length ns ≡ 32 → (shares_of ns).
 unfolding shares_of
 most_is ns h l =
     let i : h + h - 1 ≡ 2 * h - 1 = omega arith in
-    ap (λ (t : Bool). (pick {A = Shares} t (record { guarantee = λ k. get_or ns (k + k - 2) 0; most = λ k. get_or ns (k + k - 1) 0 }) (record { guarantee = λ k. 1; most = λ k. 0 })).most h) (eq_true (length ns) 32 l)
+    ap (λ (t : Bool). (pick {A = Shares} t (record { guarantee = λ k. get_or ns (k + k - 2) 0; most = λ k. get_or ns (k + k - 1) 0 }) (record { guarantee = λ k. 1; most = λ k. 0 })).most h) (eq-eqb (length ns) 32 l)
     ∙ ap (λ (j : ℕ). get_or ns j 0) i
 
 -- shares that are right are 32 numbers
 pub shares_long : (n : ℕ) (ns : List ℕ) → shares_right n (shares_of ns) ≡ true → length ns ≡ 32
 unfolding shares_right shares_of each
-shares_long n ns e = on (decide (eqb (length ns) 32))
+shares_long n ns e = on (cases_Bool (eqb (length ns) 32))
   where
     none : Shares
     none = record { guarantee = λ k. 1; most = λ k. 0 }
@@ -59,17 +61,10 @@ shares_long n ns e = on (decide (eqb (length ns) 32))
     some = record { guarantee = λ k. get_or ns (k + k - 2) 0; most = λ k. get_or ns (k + k - 1) 0 }
 
     on : (eqb (length ns) 32 ≡ true) ⊎ (eqb (length ns) 32 ≡ false) → length ns ≡ 32
-    on (inl t) = true_eq (length ns) 32 t
+    on (inl t) = eqb-true (length ns) 32 t
     on (inr t) = not_both (shares_right n none) (sym (ap (λ (b : Bool). shares_right n (pick b some none)) t) ∙ e) refl
 
 -- ---- the tests
-
-pub lt_false : (m n : ℕ) → n < m → leb m n ≡ false
-lt_false m n h = on (decide (leb m n))
-  where
-    on : (leb m n ≡ true) ⊎ (leb m n ≡ false) → leb m n ≡ false
-    on (inl t) = absurd (let l = true_le m n t in omega arith)
-    on (inr t) = t
 
 module _ (b : Bytes) (n h size : ℕ) (s : Shares) where
   abbrev others : ℕ
@@ -80,17 +75,17 @@ module _ (b : Bytes) (n h size : ℕ) (s : Shares) where
 
   pub over : s.most h < used_in h b + size → RoomIn b n h s size (Err U.OverMost)
   unfolding unless
-  over l o = ap (λ (t : Bool). unless t 24 (second o)) (lt_false (used_in h b + size) (s.most h) l)
+  over l o = ap (λ (t : Bool). unless t 24 (second o)) (lt-leb (used_in h b + size) (s.most h) l)
 
   module _ (f : used_in h b + size ≤ s.most h) where
     first : (o : Outcome) → unless (leb (used_in h b + size) (s.most h)) 24 o ≡ o
     unfolding unless
-    first o = ap (λ (t : Bool). unless t 24 o) (le_true (used_in h b + size) (s.most h) f)
+    first o = ap (λ (t : Bool). unless t 24 o) (le-leb (used_in h b + size) (s.most h) f)
 
     pub uncovered : length b < n + size + others → RoomIn b n h s size (Err U.Uncovered)
     unfolding unless
-    uncovered l o = first (second o) ∙ ap (λ (t : Bool). unless t 25 o) (lt_false (n + size + others) (length b) l)
+    uncovered l o = first (second o) ∙ ap (λ (t : Bool). unless t 25 o) (lt-leb (n + size + others) (length b) l)
 
     pub covered : n + size + others ≤ length b → RoomIn b n h s size (Ok tt)
     unfolding unless
-    covered l o = first (second o) ∙ ap (λ (t : Bool). unless t 25 o) (le_true (n + size + others) (length b) l)
+    covered l o = first (second o) ∙ ap (λ (t : Bool). unless t 25 o) (le-leb (n + size + others) (length b) l)

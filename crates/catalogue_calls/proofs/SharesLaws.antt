@@ -9,10 +9,12 @@ use native.Mathlib.Omega.{arith}
 use native.Mathlib.Decide.{dec_le}
 use lib.Dec.{eqb, leb}
 use lib.ListN.{length, get_or}
+use Rattle.std.proofs.lemmas.Bool.{and_from, cases_Bool}
+use borrow.Author.Tests.{le-leb, leb-true, eq-eqb, ne_eqb, lt-leb}
 use Rattle.field.specs.Bytes.{pick}
 use Rattle.catalogue.specs.Page.{Page}
 use Rattle.catalogue.specs.Shares.{Shares, total, each, used, unused, but, unused_of_others, shares_right}
-use Rattle.catalogue.proofs.Tests.{decide, and_left, and_right, both, not_both, le_true, true_le, eq_true, eq_false}
+use Rattle.catalogue.proofs.Tests.{and_left, and_right, not_both}
 use Rattle.catalogue_calls.specs.Answer.{shares_of}
 use Rattle.catalogue_calls.specs.Houses.{unused_by}
 use Rattle.catalogue_calls.specs.Standing.{housed}
@@ -28,7 +30,7 @@ module _ (ns : List ℕ) where
 
   shares_are : length ns ≡ 32 → shares_of ns ≡ handed
   unfolding shares_of
-  shares_are l = ap (λ (b : Bool). pick b handed none) (eq_true (length ns) 32 l)
+  shares_are l = ap (λ (b : Bool). pick b handed none) (eq-eqb (length ns) 32 l)
 
   pub sure : length ns ≡ 32 → (h i : ℕ) → i ≡ h + h - 2 → get_or ns i 0 ≡ (shares_of ns).guarantee h
   unfolding shares_of
@@ -44,7 +46,7 @@ module _ (ns : List ℕ) where
 
   pub no_shares : (n : ℕ) → (length ns ≡ 32 → ⊥) → shares_right n (shares_of ns) ≡ false
   unfolding shares_of
-  no_shares n f = ap (λ (b : Bool). shares_right n (pick b handed none)) (eq_false (length ns) 32 f) ∙ none_wrong n
+  no_shares n f = ap (λ (b : Bool). shares_right n (pick b handed none)) (ne_eqb (length ns) 32 f) ∙ none_wrong n
 
 -- ---- sums over the houses before h
 
@@ -71,13 +73,13 @@ summing_next {f} {sum} {h} s l x e b =
 pub summing_but : (f : ℕ → ℕ) (g : ℕ) {sum h : ℕ} → Summing (but g f) sum h → 1 ≤ h → h ≡ g → Summing (but g f) sum (h + 1)
 unfolding but
 summing_but f g {sum} {h} s l e =
-    let z : but g f h ≡ 0 = ap (λ (b : Bool). pick b 0 (f h)) (eq_true h g e) in
+    let z : but g f h ≡ 0 = ap (λ (b : Bool). pick b 0 (f h)) (eq-eqb h g e) in
     let q : h + 1 - 1 ≡ h = omega arith in
     record { sum_is = omega (arith, s.sum_is, total_to (but g f) h l, ap (total (but g f)) q, z); bounded = omega (arith, s.bounded) }
 
 pub summing_other : (f : ℕ → ℕ) (g : ℕ) {sum h : ℕ} → Summing (but g f) sum h → 1 ≤ h → (h ≡ g → ⊥) → (x : ℕ) → x ≡ f h → x < 4294967296 → Summing (but g f) (sum + x) (h + 1)
 unfolding but
-summing_other f g {sum} {h} s l d x e b = summing_next s l x (e ∙ sym (ap (λ (t : Bool). pick t 0 (f h)) (eq_false h g d))) b
+summing_other f g {sum} {h} s l d x e b = summing_next s l x (e ∙ sym (ap (λ (t : Bool). pick t 0 (f h)) (ne_eqb h g d))) b
 
 total_alike : (f g : ℕ → ℕ) (k : ℕ) → ((h : ℕ) → 1 ≤ h → h ≤ k → f h ≡ g h) → total f k ≡ total g k
 unfolding total
@@ -100,13 +102,6 @@ pub rights_none : (s : Shares) → Rights s 0 1
 unfolding each
 rights_none s = record { right = refl; summing = summing_none s.guarantee }
 
-le_false : (m n : ℕ) → n < m → leb m n ≡ false
-le_false m n h = on (decide (leb m n))
-  where
-    on : (leb m n ≡ true) ⊎ (leb m n ≡ false) → leb m n ≡ false
-    on (inl t) = let z : m ≤ n = true_le m n t in absurd (omega arith)
-    on (inr t) = t
-
 each_to : (f : ℕ → Bool) (h : ℕ) → 1 ≤ h → each f h ≡ (each f (h - 1) && f h)
 unfolding each
 each_to f zero l = absurd (omega arith)
@@ -122,7 +117,7 @@ each_down f j (suc k) l e = on (dec_le (suc k) j) (each_down f j k)
     on (no m) h = h (omega arith) (and_left (each f k) (f (suc k)) e)
 
 each_fails : (f : ℕ → Bool) (h k : ℕ) → 1 ≤ h → h ≤ k → f h ≡ false → each f k ≡ false
-each_fails f h k l m e = on (decide (each f k))
+each_fails f h k l m e = on (cases_Bool (each f k))
   where
     on : (each f k ≡ true) ⊎ (each f k ≡ false) → each f k ≡ false
     on (inl t) = not_both (f h) (and_right (each f (h - 1)) (f h) (sym (each_to f h l) ∙ each_down f h k m t)) e
@@ -133,14 +128,14 @@ rights_next {s} {sum} {h} r l g m e f le b =
     let t = λ (k : ℕ). leb (s.guarantee k) (s.most k) in
     let q : h + 1 - 1 ≡ h = omega arith in
     record {
-      right = ap (each t) q ∙ each_to t h l ∙ both (each t (h - 1)) (t h) r.right (le_true (s.guarantee h) (s.most h) (omega arith));
+      right = ap (each t) q ∙ each_to t h l ∙ and_from (each t (h - 1)) (t h) r.right (le-leb (s.guarantee h) (s.most h) (omega arith));
       summing = summing_next r.summing l g e b;
     }
 
 pub rights_fail : (s : Shares) (h : ℕ) → 1 ≤ h → h ≤ 16 → (g m : ℕ) → g ≡ s.guarantee h → m ≡ s.most h → m < g → (n : ℕ) → shares_right n s ≡ false
 unfolding shares_right
 rights_fail s h l k g m e f lt n =
-    ap (λ (b : Bool). b && leb (total s.guarantee 16) n) (each_fails (λ j. leb (s.guarantee j) (s.most j)) h 16 l k (le_false (s.guarantee h) (s.most h) (omega arith)))
+    ap (λ (b : Bool). b && leb (total s.guarantee 16) n) (each_fails (λ j. leb (s.guarantee j) (s.most j)) h 16 l k (lt-leb (s.guarantee h) (s.most h) (omega arith)))
 
 pub rights_all : {s : Shares} {sum : ℕ} → Rights s sum 17 → (n : ℕ) → shares_right n s ≡ leb sum n
 unfolding shares_right

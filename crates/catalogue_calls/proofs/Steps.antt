@@ -8,6 +8,8 @@ use mathlib.Core.Logic.{◌⊎◌, inl, inr}
 use native.Mathlib.Omega.{arith}
 use lib.Dec.{eqb}
 use lib.ListN.{drop}
+use Rattle.std.proofs.lemmas.Bool.{and_from, cases_Bool}
+use borrow.Author.Tests.{eq-eqb, eqb-true, ne_eqb}
 use Rattle.field.specs.Bytes.{Bytes, pick}
 use Rattle.field.specs.Row.{Row, end, loose, field, read}
 use Rattle.spec.specs.Transform.{bit}
@@ -16,7 +18,6 @@ use Rattle.catalogue.specs.Page.{Body, Page, IsBytes}
 use Rattle.catalogue.specs.Catalogue.{Reading, no_row, pages, add, all_zero, page_in, behind_body, behind, page_right, read_page, read_row}
 use Rattle.catalogue.specs.Numbers.{Change, changed, raised, opposite, down}
 use Rattle.catalogue.specs.Judged.{forms, project}
-use Rattle.catalogue.proofs.Tests.{decide, both, eq_true, eq_false, true_eq}
 use Rattle.catalogue.proofs.Rows.{read_up}
 use Rattle.catalogue_calls.specs.Standing.{housed, framed}
 use Rattle.catalogue_calls.proofs.PageLaws.{frame, page_of, page_in_is, behind_is, right_is}
@@ -38,26 +39,26 @@ pub read_behind : (k n : ℕ) (s : Bytes) → framed s ≡ true → housed.judge
     → read_row housed (suc k) n s ≡ add (page_of n s) (read_row housed k (n + housed.forms (page_of n s).body) (behind_body (drop 6 s)))
 read_behind k n [] f j = absurd (omega (arith, (frame [] f).inside))
 read_behind k n (c ∷ b) f j =
-    let q : (framed (c ∷ b) && eqb (housed.judge (page_of n (c ∷ b)).body) 0) ≡ true = both (framed (c ∷ b)) (eqb (housed.judge (page_of n (c ∷ b)).body) 0) f (eq_true (housed.judge (page_of n (c ∷ b)).body) 0 j) in
-    read_97 k n c b (eq_true c 0x97 (frame (c ∷ b) f).begins)
+    let q : (framed (c ∷ b) && eqb (housed.judge (page_of n (c ∷ b)).body) 0) ≡ true = and_from (framed (c ∷ b)) (eqb (housed.judge (page_of n (c ∷ b)).body) 0) f (eq-eqb (housed.judge (page_of n (c ∷ b)).body) 0 j) in
+    read_97 k n c b (eq-eqb c 0x97 (frame (c ∷ b) f).begins)
     ∙ ap (λ (x : Bool). pick x (add (page_of n (c ∷ b)) (read_row housed k (n + housed.forms (page_of n (c ∷ b)).body) (behind_body (drop 5 b)))) no_row) q
 
 pub read_refused : (k n : ℕ) (s : Bytes) → framed s ≡ true → (housed.judge (page_of n s).body ≡ 0 → ⊥) → read_row housed (suc k) n s ≡ no_row
 read_refused k n [] f j = absurd (omega (arith, (frame [] f).inside))
 read_refused k n (c ∷ b) f j =
-    let q : (framed (c ∷ b) && eqb (housed.judge (page_of n (c ∷ b)).body) 0) ≡ false = ap₂ (λ (x y : Bool). x && y) f (eq_false (housed.judge (page_of n (c ∷ b)).body) 0 j) in
-    read_97 k n c b (eq_true c 0x97 (frame (c ∷ b) f).begins)
+    let q : (framed (c ∷ b) && eqb (housed.judge (page_of n (c ∷ b)).body) 0) ≡ false = ap₂ (λ (x y : Bool). x && y) f (ne_eqb (housed.judge (page_of n (c ∷ b)).body) 0 j) in
+    read_97 k n c b (eq-eqb c 0x97 (frame (c ∷ b) f).begins)
     ∙ ap (λ (x : Bool). pick x (add (page_of n (c ∷ b)) (read_row housed k (n + housed.forms (page_of n (c ∷ b)).body) (behind_body (drop 5 b)))) no_row) q
 
 -- where no page stands, the row ends, and all that is left is zero
 pub read_end : (k n : ℕ) (s : Bytes) → framed s ≡ false → read_row housed (suc k) n s ≡ pick (all_zero s) (pages []) no_row
 unfolding read_row all_zero
 read_end k n [] f = refl
-read_end k n (c ∷ b) f = on (decide (eqb c 0x97))
+read_end k n (c ∷ b) f = on (cases_Bool (eqb c 0x97))
   where
     on : (eqb c 0x97 ≡ true) ⊎ (eqb c 0x97 ≡ false) → read_row housed (suc k) n (c ∷ b) ≡ pick (eqb c 0 && all_zero b) (pages []) no_row
     on (inl t) =
-        let z : eqb c 0 ≡ false = ap (λ (x : ℕ). eqb x 0) (true_eq c 0x97 t) in
+        let z : eqb c 0 ≡ false = ap (λ (x : ℕ). eqb x 0) (eqb-true c 0x97 t) in
         read_97 k n c b t
         ∙ ap (λ (x : Bool). pick (x && eqb (housed.judge (page_of n (c ∷ b)).body) 0) (add (page_of n (c ∷ b)) (read_row housed k (n + housed.forms (page_of n (c ∷ b)).body) (behind_body (drop 5 b)))) no_row) f
         ∙ sym (ap (λ (x : Bool). pick (x && all_zero b) (pages []) no_row) z)

@@ -1,51 +1,35 @@
 -- What a house has used of a catalogue that is read, as its bytes are walked, is what its pages take. Main statement: `used_are`. Assumes nothing.
 use Prim.Native.Nat.{ℕ, ◌+◌}
-use mathlib.Core.Path.{◌≡◌, refl, sym, ap, ap₂, ◌∙◌}
-use mathlib.Core.List.{List, [], ◌∷◌, ◌++◌, append-nil}
+use mathlib.Core.Path.{◌≡◌, ap, ap₂, ◌∙◌}
+use mathlib.Core.List.{List, [], ◌∷◌}
 use native.Mathlib.Omega.{arith}
 use lib.Dec.{eqb}
-use lib.ListN.{drop}
-use Rattle.std.proofs.Common.{append_assoc}
+use lib.ListN.{length, drop}
 use Rattle.field.specs.Bytes.{Bytes, AllBytes, pick}
 use Rattle.catalogue.specs.Page.{A14, Body, Page}
-use Rattle.catalogue.specs.Catalogue.{pages, read_catalogue, size, row_size, body_in}
+use Rattle.catalogue.specs.Catalogue.{pages, read_catalogue, size, row_size, body_in, behind_body}
 use Rattle.catalogue.specs.Shares.{used}
 use Rattle.catalogue.specs.Judged.{project}
-use Rattle.catalogue.proofs.Lists.{size_append}
-use Rattle.catalogue.proofs.Project.{given}
+use Rattle.catalogue.proofs.Project.{read_exactly}
 use Rattle.catalogue.proofs.Rows.{up_templates, up_page_out}
 use Rattle.catalogue_calls.specs.Standing.{housed, framed, used_in}
+use Rattle.catalogue_calls.specs.Leaves.{Rowed}
 use Rattle.catalogue_calls.proofs.FrameLaws.{counted, used_framed, used_end}
-use Rattle.catalogue_calls.proofs.RowLaws.{Placed, stands_there, none_behind}
+use Rattle.catalogue_calls.proofs.RowedLaws.{front, row_none, holds_row}
 
 -- the page in front counts with its size
 counts : (g n : ℕ) (p : Page) → counted g p.house (housed.up n p.body) ≡ pick (eqb g p.house) (size housed p) 0
 unfolding size project
 counts g n p = ap (λ (k : ℕ). pick (eqb g p.house) k 0) (omega (arith, up_templates n p.body, up_page_out n p.body))
 
-placed_counts : {s r : Bytes} {n : ℕ} {p : Page} → Placed s n p r → (g : ℕ) → used_in g s ≡ pick (eqb g p.house) (size housed p) 0 + used_in g r
-placed_counts {s} {r} {n} {p} w g =
-    used_framed s w.is_framed g
-    ∙ ap₂ (λ (k : ℕ) (b : Bytes). counted g k (body_in (drop 6 s)) + used_in g b) w.house_is w.behind_is
-    ∙ ap (λ (x : Body). counted g p.house x + used_in g r) w.body_is
-    ∙ ap (λ (k : ℕ). k + used_in g r) (counts g n p)
+used_row : (g : ℕ) (ps : List Page) {s : Bytes} {n z : ℕ} → Rowed s n ps z → used_in g s ≡ used housed g ps
+unfolding used
+used_row g [] {s} w = used_end s (row_none w) g
+used_row g (p ∷ ps) {s} {n} w =
+    let f = front w in
+    used_framed s f.is_framed g
+    ∙ ap₂ (λ (k : ℕ) (x : Body). counted g k x + used_in g (behind_body (drop 6 s))) f.house_is f.body_is
+    ∙ ap₂ (λ (k m : ℕ). k + m) (counts g n p) (used_row g ps f.left)
 
-passed : (before : List Page) (p : Page) → row_size housed (before ++ (p ∷ [])) ≡ row_size housed before + size housed p
-unfolding row_size project
-passed before p = omega (arith, size_append (given A14) before (p ∷ []))
-
-module _ (b : Bytes) (ps : List Page) (a : AllBytes b) (e : read_catalogue housed b ≡ pages ps) (g : ℕ) where
-  used_there : (before after : List Page) → ps ≡ before ++ after → used_in g (drop (row_size housed before) b) ≡ used housed g after
-  unfolding used
-  used_there before [] s =
-      let q : ps ≡ before = s ∙ append-nil before in
-      used_end (drop (row_size housed before) b) (ap (λ (l : List Page). framed (drop (row_size housed l) b)) (sym q) ∙ none_behind b ps a e) g
-  used_there before (p ∷ later) s =
-      let k : row_size housed (before ++ (p ∷ [])) ≡ row_size housed before + size housed p = passed before p in
-      placed_counts (stands_there b ps a e before p later s) g
-      ∙ ap (λ (m : ℕ). pick (eqb g p.house) (size housed p) 0 + used_in g (drop m b)) (sym k)
-      ∙ ap (λ (m : ℕ). pick (eqb g p.house) (size housed p) 0 + m) (used_there (before ++ (p ∷ [])) later (s ∙ sym (append_assoc before (p ∷ []) later)))
-
-  pub used_are : used_in g b ≡ used housed g ps
-  unfolding row_size
-  used_are = used_there [] ps refl
+pub used_are : (b : Bytes) (ps : List Page) → AllBytes b → read_catalogue housed b ≡ pages ps → (g : ℕ) → used_in g b ≡ used housed g ps
+used_are b ps a e g = used_row g ps (holds_row b ps ((read_exactly A14 b ps a).0 e))

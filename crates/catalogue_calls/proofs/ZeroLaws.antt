@@ -11,16 +11,17 @@ use lib.Seq.{take_all}
 use Rattle.std.specs.Int.Bits.{bit_or, or_zero_l}
 use Rattle.std.proofs.lemmas.Nat.{le_or_l}
 use Rattle.std.proofs.lemmas.List.{take_more}
+use Rattle.std.proofs.lemmas.Bool.{cases_Bool}
+use borrow.Author.Tests.{eqb-true, ne_eqb, eqb-false}
 use Rattle.field.specs.Bytes.{Bytes}
 use Rattle.catalogue.specs.Catalogue.{all_zero}
-use Rattle.catalogue.proofs.Tests.{decide, eq_false, true_eq, false_eq}
 
 joined : (m n : ℕ) → eqb (bit_or m n) 0 ≡ (eqb m 0 && eqb n 0)
-joined m n = on (decide (eqb m 0)) (decide (eqb n 0))
+joined m n = on (cases_Bool (eqb m 0)) (cases_Bool (eqb n 0))
   where
     on : (eqb m 0 ≡ true) ⊎ (eqb m 0 ≡ false) → (eqb n 0 ≡ true) ⊎ (eqb n 0 ≡ false) → eqb (bit_or m n) 0 ≡ (eqb m 0 && eqb n 0)
-    on (inl a) b = ap (λ (k : ℕ). eqb (bit_or k n) 0) (true_eq m 0 a) ∙ ap (λ (k : ℕ). eqb k 0) (or_zero_l n) ∙ sym (ap (λ (x : Bool). x && eqb n 0) a)
-    on (inr a) b = eq_false (bit_or m n) 0 (λ e. false_eq m 0 a (omega (arith, le_or_l m n))) ∙ sym (ap (λ (x : Bool). x && eqb n 0) a)
+    on (inl a) b = ap (λ (k : ℕ). eqb (bit_or k n) 0) (eqb-true m 0 a) ∙ ap (λ (k : ℕ). eqb k 0) (or_zero_l n) ∙ sym (ap (λ (x : Bool). x && eqb n 0) a)
+    on (inr a) b = ne_eqb (bit_or m n) 0 (λ e. eqb-false m 0 a (omega (arith, le_or_l m n))) ∙ sym (ap (λ (x : Bool). x && eqb n 0) a)
 
 and_assoc : (a b c : Bool) → (a && (b && c)) ≡ ((a && b) && c)
 and_assoc true b c = refl

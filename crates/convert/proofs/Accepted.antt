@@ -9,6 +9,7 @@ use mathlib.Core.List.{List, [], ◌∷◌}
 use lib.Dec.{T, leb}
 use lib.ListN.{length}
 use borrow.Author.Tests.{le-leb}
+use Rattle.page.proofs.Verdicts.{is_true}
 use Rattle.field.specs.Bytes.{Bytes, AllBytes}
 use Rattle.field.specs.Number.{big_endian, number_of}
 use Rattle.field.specs.Row.{Row, bytes, long_body, read}
@@ -30,7 +31,6 @@ use Rattle.spec.specs.Answer as A
 use Rattle.spec.specs.Answer.{page_given, outcome}
 use Rattle.spec.specs.Transform.{templates_row}
 use Rattle.spec.specs.Words.{by_bytes, AllFit}
-use Rattle.spec.proofs.Markup.{is_true}
 use Rattle.spec.proofs.Good.{Sound, AllSound}
 use Rattle.spec.proofs.Ledger.{called_row}
 use Rattle.spec.proofs.Called.{numbers, balance}
@@ -195,12 +195,9 @@ module _ (page options : Bytes) (scratch tr pr : ℕ) (w : A.Written) (all : All
   unfolding below narrowed
   down_is tr' pr' = down_by w.templates_out w.page_out tr' pr' (low_row ts) (renumbered 2 (flat row)) (flat row) templates_fine page_fine (ap lowered templates_are ∙ lowered_given ts all_lower) row_read narrow refl
 
-  reads_two : (n : ℕ) → n ≤ 65535 → number_of (big_endian 2 n []) ≡ n
-  reads_two n h = two_read n h
-
   narrowed_read : read_out 2 (bytes narrowed) ≡ narrowed
   unfolding read_out narrowed
-  narrowed_read = back (held 2) (renumbered 2 (flat row)) (rows_shaped 4 2 reads_two (flat row) (flat_shaped E.Whole row row_formed)) narrowed_is_short
+  narrowed_read = back (held 2) (renumbered 2 (flat row)) (rows_shaped 4 2 two_read (flat row) (flat_shaped E.Whole row row_formed)) narrowed_is_short
 
   below_fine : check_templates Old (bytes below) ≡ Fine
   unfolding check_templates below
@@ -220,7 +217,7 @@ module _ (page options : Bytes) (scratch tr pr : ℕ) (w : A.Written) (all : All
   module _ (all_page : AllBytes w.page_out) where
     row_returns : renumbered 4 narrowed ≡ flat row
     unfolding narrowed
-    row_returns = rows_return 4 2 reads_two E.Whole (flat row) (subst (SaneBy (held 4)) row_read row_sane) flat_is_good narrow
+    row_returns = rows_return 4 2 two_read E.Whole (flat row) (subst (SaneBy (held 4)) row_read row_sane) flat_is_good narrow
       where
         row_sane : SaneBy (held 4) (read_out 4 w.page_out)
         row_sane = unfold read_out in sane (held 4) w.page_out all_page

@@ -20,7 +20,8 @@ use Rattle.page.specs.Number.{render}
 use Rattle.page.specs.Check.{check_text, check_empty, check_boolean, name_start, name_parts, no_hyphen, is_name, check_name, check_members, at_least, check_name_by}
 use Rattle.page.specs.Encode.{texts_row}
 use Rattle.page.specs.Limits.{MembersOk, ElementNameOk}
-use Rattle.page.proofs.Verdicts.{fine_after, fine_unless, fine_header, and_both}
+use Rattle.page.proofs.Verdicts.{fine_unless, refused}
+use Rattle.page.proofs.Bodies.{members_at, members_read, member_fine}
 use Rattle.page.specs.Refusal.{Fine, after, unless}
 use Rattle.page.specs.declared.Refusal.TheVariants as R
 use Rattle.page.specs.Tree.{choose}
@@ -39,7 +40,7 @@ use Rattle.spec.specs.Visit.{visit_exprs, visit_after, visit_found, visit_only_c
 use Rattle.spec.specs.Transform.{element_of, fragment_of, element_raw}
 use Rattle.spec.proofs.Characters.{Text, escape_text}
 use Rattle.spec.proofs.Texts.{name_text, two_names_text, text_append, text_cons, text_nil, jsx_text_stays, normalize_stays, render_text, serialized_text}
-use Rattle.convert.proofs.Formed.{refused_never, true_never, false_never, FormedRaw, Leaf, Formed, Stands, formed_none, formed_leaf, formed_nest, one_then, one_alone, takes_elements, takes_one, takes_first, takes_key, formed_append, FormedPass, pass_pure, pass_map, pass_raise, pass_both, raw_leave, raw_null, visit_formed, FormedParts, parts_append, template_formed}
+use Rattle.convert.proofs.Formed.{true_never, false_never, FormedRaw, Leaf, Formed, Stands, formed_none, formed_leaf, formed_nest, one_then, one_alone, takes_elements, takes_one, takes_first, takes_key, formed_append, FormedPass, pass_pure, pass_map, pass_raise, pass_both, raw_leave, raw_null, visit_formed, FormedParts, parts_append, template_formed}
 
 -- ---- leaves
 
@@ -334,7 +335,7 @@ as_item x = one_alone takes_elements refl x
 
 single_one : (m : Mid) → Formed E.One m → Single m
 unfolding Formed Single
-single_one none h = refused_never h
+single_one none h = refused _ h
 single_one (node t f i none) h = tt
 single_one (node t f i (node u g j r)) h = false_never h.3.0
 single_one (node t f i (raw q r)) h = false_never (h.3.0 0x90 refl).0
@@ -350,7 +351,7 @@ stills_by (raw q r) h = ((record { formed = (h.0, h.1, refl) }, tt), stills_by r
 
 found_by : (m : Mid) → Formed E.One m → FoundOk (found_of m)
 unfolding Formed found_of FoundOk ExprOk
-found_by none h = refused_never h
+found_by none h = refused _ h
 found_by (node t f i r) h = on (eqb t 0x76) refl
   where
     on : (b : Bool) → eqb t 0x76 ≡ b → FoundOk (pick b (array_found (stills i)) (one_found (still (node t f i r))))
@@ -505,46 +506,12 @@ unfolding members_row texts_row visit_exprs both pure
 members_still [] n = refl
 members_still (m ∷ ns) n = rw (members_still ns (n + 0)) (ap (λ (k : ℕ). record { value = field 0x40 m end (texts_row 0x40 ns); taken = k; templates = []; flags = no_flags }) (omega arith))
 
-members_fine : (ns : List Bytes) (k d : ℕ) → length ns ≤ k → MembersOk d ns → check_members k 1 (texts_row 0x40 ns) ≡ Fine
-unfolding check_members texts_row MembersOk
-members_fine [] k d l h = refl
-members_fine (n ∷ ns) zero d l h = absurd (omega arith)
-members_fine (n ∷ ns) (suc k) d l h = fine_after _ _ (fine_header true 1 tt tt) (fine_after _ _ (fine_unless (is_name n && no_hyphen n) R.BadName h.1) (members_fine ns k d (omega arith) h.2))
-
-at_least_texts : (k : ℕ) (ns : List Bytes) → k ≤ length ns → T (at_least k (texts_row 0x40 ns))
-unfolding at_least texts_row
-at_least_texts zero ns h = tt
-at_least_texts (suc k) [] h = absurd (omega arith)
-at_least_texts (suc k) (n ∷ ns) h = at_least_texts k ns (omega arith)
-
-members_shaped : (ns : List Bytes) → Shaped (texts_row 0x40 ns)
-unfolding Shaped texts_row FrontFits inside
-members_shaped [] = tt
-members_shaped (n ∷ ns) = (tt, tt, members_shaped ns)
-
-name_short : (n : Bytes) → T (is_name n) → length n ≤ 128
-unfolding is_name
-name_short [] h = absurd h
-name_short (c ∷ n) h = leb→le (length (c ∷ n)) 128 (and_both (leb (length (c ∷ n)) 128) (name_start c && name_parts n) h).0
-
-members_short : (ns : List Bytes) (d : ℕ) → MembersOk d ns → T (not (long_body (texts_row 0x40 ns)))
-unfolding MembersOk texts_row long_body bytes
-members_short [] d h = tt
-members_short (n ∷ ns) d h =
-    let l : length n ≤ 128 = name_short n (and_both (is_name n) (no_hyphen n) h.1).0 in
-    let e : ltb 65535 (length (n ++ [])) ≡ false = le-ltb 65535 (length (n ++ [])) (omega (arith, length-append n [])) in
-    rw e (members_short ns d h.2)
-
 members_leaf : (d : ℕ) (ns : List Bytes) → 2 ≤ length ns → length ns ≤ 8 → MembersOk d ns → Leaf 0x41 [] (members_row ns)
 unfolding check_leaf choose check_name_by
 members_leaf d ns l h g =
-    let x : Row = texts_row 0x40 ns in
-    let e : read (bytes x) ≡ x = read_back x (members_shaped ns) (members_short ns d g) in
-    record {
-      row = x;
-      still = members_still ns;
-      fine = ap (λ (y : Row). after (check_members 8 1 y) λ _. unless (at_least 2 y) R.Misplaced) e ∙ fine_after _ _ (members_fine ns 8 d h g) (fine_unless (at_least 2 x) R.Misplaced (at_least_texts 2 ns l));
-    }
+    let k : MembersOk 1 ns = members_at ns d 1 tt g in
+    let f : Bytes = bytes (texts_row 0x40 ns) in
+    record { row = texts_row 0x40 ns; still = members_still ns; fine = ap (check_name_by 0x41 1 f) (members_read ns 1 k) ∙ member_fine 1 f ns l h k }
 
 name_then : (d : ℕ) (n : Name) {y : Mid} → ElementNameOk d n → Stands E.Props y → Stands E.Callee (name_expr n +++ y)
 unfolding ElementNameOk name_expr ◌+++◌ Formed

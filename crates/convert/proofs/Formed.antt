@@ -7,6 +7,8 @@ use mathlib.Core.Bool.{Bool, true, false, ◌||◌, not}
 use mathlib.Core.List.{List, [], ◌∷◌, ◌++◌, append-nil}
 use lib.Dec.{T, eqb}
 use lib.ListN.{length}
+use Rattle.std.proofs.Math.Facts.{or_no}
+use Rattle.std.proofs.lemmas.Bool.{or_right, or_left}
 use Rattle.field.specs.Bytes.{Bytes, pick}
 use Rattle.field.specs.Row.{Row, end, loose, field, bytes}
 use Rattle.field.proofs.NumberLaws.{length_big_endian}
@@ -14,6 +16,7 @@ use Rattle.page.specs.Tree.{choose}
 use Rattle.page.specs.Check.{check_empty}
 use Rattle.page.specs.Refusal.{Fine, Refused}
 use Rattle.page.specs.declared.Refusal.{Refusal}
+use Rattle.page.proofs.Verdicts.{refused}
 use Rattle.outs.specs.Held.{nests}
 use Rattle.outs.specs.PageOut.{expression, allowed, left, closed, within, check_leaf}
 use Rattle.outs.specs.declared.Expect.{Expect}
@@ -21,12 +24,8 @@ use Rattle.outs.specs.declared.Expect.TheVariants as E
 use Rattle.spec.specs.Pass.{Template, Done, Pass, pure, both, bind, raise, map, long_if, Raw, Mid, none, node, raw, ◌+++◌, ◌⧺◌, Part, chars, gap, mark}
 use Rattle.spec.specs.Output.{gen_template, dynamic_exprs, strings_after}
 use Rattle.spec.specs.Visit.{visit_exprs, visit_inside, visit_after, leave}
-use Rattle.spec.proofs.Ledger.{neither}
 use Rattle.spec.proofs.Characters.{Text, AllText}
 use Rattle.spec.proofs.Texts.{text_append, text_nil}
-
-pub refused_never : {C : Type 0} {n : Refusal} → Refused n ≡ Fine → C
-refused_never {C} {n} h = absurd (let z : ◌≡◌ {A = ℕ} 0 1 = cc in omega arith)
 
 pub true_never : {C : Type 0} → true ≡ false → C
 true_never h = absurd (let z : ◌≡◌ {A = ℕ} 0 1 = cc in omega arith)
@@ -100,7 +99,7 @@ formed_nest t a n z x y = record { formed = (a, (λ k. (sym z, x.formed)), (λ k
 
 one_by : (c : Expect) → Takes c → (m y : Mid) → Formed E.One m → Formed (left c 0x90) y → Formed c (m +++ y)
 unfolding Formed ◌+++◌
-one_by c k none y h g = refused_never h
+one_by c k none y h g = refused _ h
 one_by c k (node t f i none) y h g = let e = k t h.0 in (e.0, h.1, h.2, subst (λ (x : Expect). Formed x y) (sym e.1) g)
 one_by c k (node t f i (node u f' i' r)) y h g = false_never h.3.0
 one_by c k (node t f i (raw q r)) y h g = false_never (h.3.0 0x90 refl).0
@@ -110,7 +109,7 @@ one_by c k (raw q (raw s r)) y h g = false_never (h.2.0 0x90 refl).0
 
 alone_by : (c : Expect) → Takes c → closed (left c 0x90) ≡ Fine → (m : Mid) → Formed E.One m → Formed c m
 unfolding Formed
-alone_by c k z none h = refused_never h
+alone_by c k z none h = refused _ h
 alone_by c k z (node t f i none) h = let e = k t h.0 in (e.0, h.1, h.2, ap closed e.1 ∙ z)
 alone_by c k z (node t f i (node u f' i' r)) h = false_never h.3.0
 alone_by c k z (node t f i (raw q r)) h = false_never (h.3.0 0x90 refl).0
@@ -124,14 +123,6 @@ one_then {c} {m} {y} k h g = record { formed = one_by c k m y h.formed g.formed 
 
 pub one_alone : {c : Expect} {m : Mid} → Takes c → closed (left c 0x90) ≡ Fine → Stands E.One m → Stands c m
 one_alone {c} {m} k z h = record { formed = alone_by c k z m h.formed }
-
-pub or_right : (a b : Bool) → b ≡ true → (a || b) ≡ true
-or_right true b h = refl
-or_right false b h = h
-
-pub or_left : (a b : Bool) → a ≡ true → (a || b) ≡ true
-or_left true b h = refl
-or_left false b h = false_never h
 
 pub takes_pieces : Takes E.Pieces
 takes_pieces u h = (or_right (eqb u 0x20) (expression u) h, refl)
@@ -193,12 +184,9 @@ record VisitedRow (c : Expect) (d : Done Row) : Type 0 where
   texts : AllTexts d.templates
   row : T (not d.flags.left) → FormedRow c d.value
 
-not_either : (a b : Bool) → T (not (a || b)) → T (not a) × T (not b)
-not_either a b h = neither a b h
-
 one_row : (c : Expect) → Takes c → (x y : Row) → FormedRow E.One x → FormedRow (left c 0x90) y → FormedRow c (x ⧺ y)
 unfolding FormedRow ◌⧺◌
-one_row c k end y h g = refused_never h
+one_row c k end y h g = refused _ h
 one_row c k (loose b) y h g = absurd h
 one_row c k (field t f i end) y h g = let e = k t h.0 in (e.0, h.1, h.2, subst (λ (x : Expect). FormedRow x y) (sym e.1) g)
 one_row c k (field t f i (loose b)) y h g = absurd h.3
@@ -213,7 +201,7 @@ visited_node c t f i d e a nest leaf v n =
       texts = texts_append d.templates e.templates (inner_texts (nests t) refl) v.texts;
       row =
           λ h.
-          let p = not_either d.flags.left e.flags.left h in
+          let p = or_no d.flags.left e.flags.left h in
           (a, (λ k. ((nest k).0, (nest k).1.row p.0)), (λ k. ap (λ (x : Row). check_leaf t (f ++ bytes x)) (leaf k).1 ∙ (leaf k).0.fine), v.row p.1);
     }
   where
@@ -240,7 +228,7 @@ visited_mid c (raw q r) h n =
     let v = visited_mid (left c 0x90) r h.2 (n + d.taken) in
     record {
       texts = texts_append d.templates e.templates (h.1.texts n) v.texts;
-      row = λ k. let p = not_either d.flags.left e.flags.left k in one_row c h.0 d.value e.value (h.1.row n p.0) (v.row p.1);
+      row = λ k. let p = or_no d.flags.left e.flags.left k in one_row c h.0 d.value e.value (h.1.row n p.0) (v.row p.1);
     }
 
 -- a row of expressions, visited
@@ -260,7 +248,7 @@ raw_null = record { texts = λ n. tt; row = λ n k. (refl, (λ q. false_never q)
 
 inside_visited : (m : Mid) → Formed E.One m → (n : ℕ) → VisitedRow E.One (visit_inside m n)
 unfolding Formed visit_inside both visit_exprs
-inside_visited none h n = refused_never h
+inside_visited none h n = refused _ h
 inside_visited (node t f i r) h n = visited_mid E.One (node t f i r) h n
 inside_visited (raw q r) h n = record { texts = raw_leave.texts n; row = raw_leave.row n }
 
@@ -270,7 +258,7 @@ unfolding visit_after bind
 visit_formed {p} g =
     record {
       texts = λ n. texts_append (p n).templates (visit_inside (p n).value (n + (p n).taken)).templates (g.texts n) (inside_visited (p n).value (g.value n).formed (n + (p n).taken)).texts;
-      row = λ n k. (inside_visited (p n).value (g.value n).formed (n + (p n).taken)).row (not_either (p n).flags.left (visit_inside (p n).value (n + (p n).taken)).flags.left k).1;
+      row = λ n k. (inside_visited (p n).value (g.value n).formed (n + (p n).taken)).row (or_no (p n).flags.left (visit_inside (p n).value (n + (p n).taken)).flags.left k).1;
     }
 
 -- ---- templates

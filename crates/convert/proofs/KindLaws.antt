@@ -26,6 +26,7 @@ use Rattle.field.specs.declared.reader.Fields.{Fields}
 use Rattle.std.specs.Iterator.{Drains}
 use Rattle.std.specs.Prelude.{Option, Some, None}
 use Rattle.std.specs.Option.{option_eq}
+use Rattle.std.proofs.Math.Bool.{and-false}
 use Rattle.convert.specs.declared.kinds.Markup.{Markup}
 use Rattle.convert.specs.declared.kinds.Markup.TheVariants as M
 
@@ -174,10 +175,6 @@ module _ {o s out : Bytes} {at gaps i a : ℕ} {x : Gaps} (k : Marking o at gaps
 
 -- ---- kinds compared
 
-and_false : (b : Bool) → (b && false) ≡ false
-and_false true = refl
-and_false false = refl
-
 denied : (c b : Bool) → c ≡ not b → b ≡ not c
 denied true true e = e
 denied true false e = refl
@@ -191,7 +188,7 @@ module _ (a : Bytes) (i : ℕ) (l : i < length a) (v : ℕ) (w : Bytes) where
 
   same_kinds_off : (get_or a i 0 ≡ v → ⊥) → same_kinds (drop i a) (v ∷ w) ≡ false
   unfolding same_kinds same
-  same_kinds_off e = rw (drop-cons a i 0 l, ne_eqb (get_or a i 0) v e) (and_false (all_clear (v ∷ w)))
+  same_kinds_off e = rw (drop-cons a i 0 l, ne_eqb (get_or a i 0) v e) (and-false (all_clear (v ∷ w)))
 
 -- the kinds before i are those of the strings
 pub record Comparing (a s : Bytes) (x : Gaps) (i : ℕ) : Type 0 where

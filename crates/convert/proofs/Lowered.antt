@@ -9,6 +9,7 @@ use mathlib.Core.List.{List, [], ◌∷◌, ◌++◌}
 use lib.Dec.{T, leb, ltb, nltb→le}
 use lib.ListN.{length, take, drop, length-append}
 use borrow.Author.Tests.{eq-eqb, le-leb, le-ltb}
+use Rattle.std.proofs.Math.Facts.{or_no}
 use Rattle.field.specs.Bytes.{Bytes, pick, same}
 use Rattle.field.specs.Number.{big_endian, number_of}
 use Rattle.field.specs.Row.{Row, end, field, bytes, long_body, inside, read}
@@ -16,6 +17,7 @@ use Rattle.field.proofs.NumberLaws.{length_big_endian, two_read, four_read}
 use Rattle.field.proofs.RowLaws.{Shaped, read_back}
 use Rattle.page.specs.Refusal.{Fine}
 use Rattle.page.proofs.Verdicts.{fine_after}
+use Rattle.page.proofs.TightRows.{short_field, short_parts}
 use Rattle.outs.specs.Templates.{count_of, all_kinds, front_of_record, check_strings, check_any_strings, check_some_strings, check_strings_of, check_records}
 use Rattle.outs.specs.declared.Kind.TheVariants.{Old, New}
 use Rattle.spec.specs.Pass.{Template}
@@ -23,7 +25,6 @@ use Rattle.spec.specs.Output.{kind_bytes, layout_80, layout_84, strings_row, rec
 use Rattle.spec.specs.Words.{places}
 use Rattle.spec.specs.Transform.{templates_row}
 use Rattle.spec.specs.Demand.{strings_in, kinds_behind}
-use Rattle.spec.proofs.Ledger.{neither}
 use Rattle.spec.proofs.Markup.{same_refl}
 use Rattle.spec.proofs.Records.{kinds_few, rest_short, record_shaped, front_length, front_count, front_kinds}
 use Rattle.spec.proofs.RowDemand.{strings_back}
@@ -31,7 +32,7 @@ use Rattle.spec.proofs.Characters.{AllText}
 use Rattle.convert.specs.Kinds.{kinds_by_strings}
 use Rattle.convert.specs.Convert.{before, raised, agrees, lowered}
 use Rattle.convert.proofs.EveryTag.{text_fine}
-use Rattle.convert.proofs.RowFormed.{not_either, unless_true}
+use Rattle.convert.proofs.RowFormed.{unless_true}
 
 -- a template whose strings are texts, give the kinds of their places and are one more than those, and whose number two bytes hold
 pub record Lowers (t : Template) : Type 0 where
@@ -147,9 +148,6 @@ unfolding low_row Shaped inside
 low_shaped [] = tt
 low_shaped (t ∷ ts) = record_shaped inside refl layout_80 refl t.number [] t.strings (low_row ts) (λ h. absurd h) (low_shaped ts)
 
-pub is_low : (n : ℕ) → n ≤ 65535 → T (not (ltb 65535 n))
-is_low n h = subst (λ (b : Bool). T (not b)) (sym (le-ltb 65535 n h)) tt
-
 -- each body is shorter by the count, the kinds and two bytes of the number
 pub low_short : (ts : List Template) → Short (templates_row ts) → Short (low_row ts)
 unfolding low_row templates_row template_row record_row long_body
@@ -158,13 +156,10 @@ low_short (t ∷ ts) l =
     let i : Row = strings_row t.strings in
     let f : Bytes = record_front layout_84 t.number (places t.strings) in
     let g : Bytes = record_front layout_80 t.number [] in
-    let p = neither (ltb 65535 (length (f ++ bytes i))) (long_body i || long_body (templates_row ts)) l in
-    let q = neither (long_body i) (long_body (templates_row ts)) p.1 in
-    let n : length (f ++ bytes i) ≤ 65535 = nltb→le 65535 (length (f ++ bytes i)) p.0 in
+    let p = short_parts 0x84 f i (templates_row ts) l in
+    let n : length (f ++ bytes i) ≤ 65535 = p.0 in
     let m : length g ≡ 2 = low_front t in
-    not_either (ltb 65535 (length (g ++ bytes i))) (long_body i || long_body (low_row ts))
-    (is_low (length (g ++ bytes i)) (omega (arith, length-append f (bytes i), length-append g (bytes i), front_length t.number (places t.strings))))
-    (not_either (long_body i) (long_body (low_row ts)) q.0 (low_short ts q.1))
+    short_field 0x80 g i (low_row ts) (omega (arith, length-append f (bytes i), length-append g (bytes i), front_length t.number (places t.strings))) p.1 (low_short ts p.2)
   where
     low_front : (t : Template) → length (record_front layout_80 t.number []) ≡ 2
     low_front t = unfold record_front in (length_big_endian 2 t.number [] ∙ omega arith)

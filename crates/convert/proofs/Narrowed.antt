@@ -8,6 +8,7 @@ use mathlib.Core.List.{List, [], ◌∷◌, ◌++◌}
 use lib.Dec.{T, eqb, ltb, nltb→le}
 use lib.ListN.{length, length-append}
 use borrow.Author.Tests.{eqb-true, eq-eqb, le-ltb}
+use Rattle.std.proofs.Math.Facts.{or_no}
 use Rattle.field.specs.Bytes.{Bytes, pick}
 use Rattle.field.specs.Number.{big_endian, number_of}
 use Rattle.field.specs.Row.{Row, end, loose, field, bytes, long_body}
@@ -16,20 +17,19 @@ use Rattle.field.proofs.Reading.{ShapedBy, length_bytes}
 use Rattle.page.specs.Tree.{choose}
 use Rattle.page.specs.Refusal.{Fine, Verdict, after, unless}
 use Rattle.page.specs.declared.Refusal.TheVariants as R
-use Rattle.page.proofs.Verdicts.{fine_after}
+use Rattle.page.proofs.Verdicts.{fine_after, after_fine}
+use Rattle.page.proofs.TightRows.{short_field, short_parts}
 use Rattle.outs.specs.Held.{nests, held}
 use Rattle.outs.specs.PageOut.{allowed, left, within, front_right, check_leaf, good}
 use Rattle.outs.specs.Renumber.{renumbered_front, renumbered, has_wide}
 use Rattle.outs.specs.declared.Expect.{Expect}
 use Rattle.spec.specs.Pass.{Template}
 use Rattle.spec.specs.Transform.{bit}
-use Rattle.spec.proofs.Ledger.{Test, recorded, called_row, neither}
+use Rattle.spec.proofs.Ledger.{Test, recorded, called_row}
 use Rattle.spec.proofs.Counts.{AllWithin}
 use Rattle.convert.proofs.Formed.{true_never, FormedRow}
 use Rattle.convert.proofs.PageLaws.{leaf_alone, leaf_grows, rest_fine, nest_fine}
-use Rattle.convert.proofs.RowFormed.{flat, flat_nest, flat_leaf, unless_true, not_either}
-use Rattle.convert.proofs.RecordLaws.{after_fine}
-use Rattle.convert.proofs.Lowered.{is_low}
+use Rattle.convert.proofs.RowFormed.{flat, flat_nest, flat_leaf, unless_true}
 
 -- ---- as good
 
@@ -90,18 +90,14 @@ unfolding renumbered
 shorter_end = record { bytes_less = omega arith; stays_short = λ h. h }
 
 shorter_field : (t : ℕ) (f g : Bytes) (i j r s : Row) → length g ≤ length f → Shorter j i → Shorter s r → Shorter (field t g j s) (field t f i r)
-unfolding long_body
 shorter_field t f g i j r s l x y =
     record {
       bytes_less = omega (arith, length_bytes t f i r, length_bytes t g j s, x.bytes_less, y.bytes_less);
       stays_short =
           λ h.
-          let p = neither (ltb 65535 (length (f ++ bytes i))) (long_body i || long_body r) h in
-          let q = neither (long_body i) (long_body r) p.1 in
-          let n : length (f ++ bytes i) ≤ 65535 = nltb→le 65535 (length (f ++ bytes i)) p.0 in
-          not_either (ltb 65535 (length (g ++ bytes j))) (long_body j || long_body s)
-          (is_low (length (g ++ bytes j)) (omega (arith, length-append f (bytes i), length-append g (bytes j), x.bytes_less)))
-          (not_either (long_body j) (long_body s) (x.stays_short q.0) (y.stays_short q.1));
+          let p = short_parts t f i r h in
+          let n : length (f ++ bytes i) ≤ 65535 = p.0 in
+          short_field t g j s (omega (arith, length-append f (bytes i), length-append g (bytes j), x.bytes_less)) (x.stays_short p.1) (y.stays_short p.2);
     }
 
 shorter : (c : Expect) (y : Row) → ShapedBy (held 4) y → good 4 c y ≡ Fine → Shorter (renumbered 2 y) y

@@ -5,6 +5,7 @@ use mathlib.Core.Path.{◌≡◌, refl, sym, ap, ◌∙◌, subst}
 use mathlib.Core.Bool.{Bool, true, false, not}
 use mathlib.Core.List.{[], ◌∷◌}
 use lib.Dec.{T, eqb}
+use Rattle.page.proofs.Verdicts.{is_true}
 use Rattle.field.specs.Bytes.{Bytes, pick}
 use Rattle.utf8.specs.Utf8.{utf8}
 use Rattle.page.specs.Check.{check_text, check_empty, check_boolean}
@@ -22,7 +23,6 @@ use Rattle.outs.specs.declared.Expect.{Expect}
 use Rattle.outs.specs.declared.Expect.TheVariants as E
 use Rattle.spec.specs.Pass.{Raw, Mid, none, node, raw}
 use Rattle.spec.specs.Transform.{transform, shape_of, child, raw_tag, attributes, value, children, expr, items, pieces, module_items}
-use Rattle.spec.proofs.Markup.{is_true}
 use Rattle.spec.proofs.Characters.{Text}
 use Rattle.spec.proofs.Texts.{attr_name_text}
 use Rattle.convert.proofs.Formed.{FormedRow, AllTexts, FormedRaw, Takes, Formed, Stands, formed_none, formed_leaf, formed_nest, takes_pieces, takes_elements, takes_one, visits_texts, visits_row}

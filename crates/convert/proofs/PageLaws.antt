@@ -15,12 +15,13 @@ use Rattle.field.proofs.Reading.{FrontFits, ShapedBy, shaped, written, length_by
 use Rattle.page.specs.Refusal.{Verdict, Fine, after, unless}
 use Rattle.page.specs.Tree.{choose}
 use Rattle.page.specs.declared.Refusal.TheVariants as R
+use Rattle.page.proofs.Verdicts.{after_fine, unless_true}
 use Rattle.outs.specs.Held.{nests, held, read_out}
 use Rattle.outs.specs.PageOut.{allowed, left, within, front_right, check_leaf, good, check_page_out}
 use Rattle.outs.specs.Renumber.{renumbered_front, renumbered}
 use Rattle.outs.specs.declared.Expect.{Expect}
 use Rattle.outs.specs.declared.Expect.TheVariants as E
-use Rattle.convert.proofs.RecordLaws.{after_fine, unless_fine, text_by}
+use Rattle.convert.proofs.RecordLaws.{text_by}
 
 -- a leaf holds no field
 pub leaf_held : (from t : ℕ) → nests t ≡ false → held from t ≡ only_bytes
@@ -55,7 +56,7 @@ module _ (from : ℕ) (c : Expect) (t : ℕ) (f : Bytes) (i r : Row) (h : good f
   nest_fine q =
       let a : after (unless (front_right from t f) R.Misplaced) (λ _. good from (within t) i) ≡ Fine = subst (λ (b : Bool). choose b (λ _. after (unless (front_right from t f) R.Misplaced) λ _. good from (within t) i) (λ _. check_leaf t f) ≡ Fine) q inside_fine in
       let b = after_fine (unless (front_right from t f) R.Misplaced) (λ _. good from (within t) i) a in
-      (unless_fine (front_right from t f) R.Misplaced b.0, b.1)
+      (unless_true (front_right from t f) R.Misplaced b.0, b.1)
 
 -- the number of a call has its width; every other front stays
 front_grows : (from to t : ℕ) (f : Bytes) → to ≤ 4 → 2 ≤ from → (b : Bool) → eqb t 0x90 ≡ b → front_right from t f ≡ true → 3 + length (renumbered_front to t f) ≤ 2 * (3 + length f)

@@ -9,19 +9,16 @@ use native.Mathlib.Numerals.{add-one}
 use lib.Dec.{eqb}
 use lib.ListN.{length, take, drop, get_or, length-append, length-drop, take-append-drop, drop_of_length-le}
 use lib.Seq.{take_all, drop-cons}
+use Rattle.std.proofs.Math.Bool.{and_assoc}
+use Rattle.std.proofs.lemmas.Bool.{not-true, and_parts}
 use Rattle.field.specs.Bytes.{Bytes, pick}
 use Rattle.convert.specs.Kinds.{passed, all_passed}
 use Rattle.convert.specs.Flat.{plain, PassesOver}
 use Rattle.convert.specs.declared.kinds.Markup.{Markup}
 use Rattle.convert.specs.declared.kinds.Markup.TheVariants as M
 use Rattle.convert.proofs.KindLaws.{passes_on}
-use Rattle.convert.proofs.RecordLaws.{both_true}
 
 -- ---- a block, byte by byte
-
-and_assoc : (a b c : Bool) → ((a && b) && c) ≡ (a && (b && c))
-and_assoc true b c = refl
-and_assoc false b c = refl
 
 module _ (s : Bytes) (i : ℕ) where
   pub plain_on : i < length s → (is : Bool) → ((is && (not (eqb (get_or s i 0) 60) && not (eqb (get_or s i 0) 62))) && plain (drop (i + 1) s)) ≡ (is && plain (drop i s))
@@ -37,10 +34,6 @@ module _ (s : Bytes) (i : ℕ) where
       and_true false = refl
 
 -- ---- in front of others
-
-not_sign : (b : Bool) → not b ≡ true → b ≡ false
-not_sign true e = sym e
-not_sign false e = refl
 
 -- one byte
 module _ (x c : ℕ) (r : Bytes) (e : eqb x 60 ≡ false) (f : eqb x 62 ≡ false) where
@@ -66,12 +59,12 @@ module _ (m : Markup) (n : m ≡ M.Entered → ⊥) (c : ℕ) (r : Bytes) where
   unfolding plain
   all_over [] h = refl
   all_over (x ∷ []) h =
-      let p = both_true (not (eqb x 60)) (not (eqb x 62)) (both_true (not (eqb x 60) && not (eqb x 62)) true h).0 in
-      one_over x c r (not_sign (eqb x 60) p.0) (not_sign (eqb x 62) p.1) m n
+      let p = and_parts (not (eqb x 60)) (not (eqb x 62)) (and_parts (not (eqb x 60) && not (eqb x 62)) true h).0 in
+      one_over x c r (not-true (eqb x 60) p.0) (not-true (eqb x 62) p.1) m n
   all_over (x ∷ y ∷ b) h =
-      let q = both_true (not (eqb x 60) && not (eqb x 62)) (plain (y ∷ b)) h in
-      let p = both_true (not (eqb x 60)) (not (eqb x 62)) q.0 in
-      one_over x y (b ++ (c ∷ r)) (not_sign (eqb x 60) p.0) (not_sign (eqb x 62) p.1) m n ∙ all_over (y ∷ b) q.1
+      let q = and_parts (not (eqb x 60) && not (eqb x 62)) (plain (y ∷ b)) h in
+      let p = and_parts (not (eqb x 60)) (not (eqb x 62)) q.0 in
+      one_over x y (b ++ (c ∷ r)) (not-true (eqb x 60) p.0) (not-true (eqb x 62) p.1) m n ∙ all_over (y ∷ b) q.1
 
 pub over_none : (m : Markup) (s : Bytes) → PassesOver m s s
 over_none m s = record { same_end = refl; no_longer = omega arith }

@@ -1,7 +1,7 @@
 -- What the check of templates says of each record, and what is written of it: the total form of the code against `raised` and `lowered`.
 -- Main statements: `record_of`, `fits`, `room`, `raised_is`, `lowered_is`, `bytes_are`, `long_is`. Assumes nothing.
 use mathlib.Core.Path.{◌≡◌, refl, sym, ap, ap₂, ◌∙◌, subst}
-use mathlib.Core.Bool.{Bool, true, false, ◌&&◌, ◌||◌, not}
+use mathlib.Core.Bool.{Bool, true, false, ◌&&◌, ◌||◌, not, false≢true}
 use mathlib.Core.Option.{Option, none, some}
 use Prim.Native.Nat.{ℕ, zero, suc, ◌+◌, ◌-◌, ◌*◌, ◌≤◌}
 use native.Mathlib.Omega.{arith}
@@ -10,6 +10,10 @@ use lib.Dec.{T, eqb, leb, ltb, nltb→le}
 use lib.ListN.{length, take, drop, length-append, length-drop}
 use lib.Seq.{take_at, drop_at}
 use borrow.Author.Tests.{eqb-true, leb-true}
+use Rattle.std.proofs.Math.Facts.{or_no}
+use Rattle.std.proofs.lemmas.Bool.{and_parts}
+use Rattle.std.proofs.lemmas.List.{drop-append-le, take-append-le}
+use Rattle.page.proofs.Verdicts.{is_false, refused, after_fine, unless_true}
 use Rattle.field.specs.Bytes.{Bytes, pick, same}
 use Rattle.field.specs.Number.{big_endian, number_of}
 use Rattle.field.specs.Row.{Row, end, loose, field, field_bytes, bytes, long_body, only_bytes, counted_front, inside, read}
@@ -23,32 +27,18 @@ use Rattle.page.specs.Check.{check_text}
 use Rattle.page.specs.Refusal.{Verdict, Fine, Refused, after, unless}
 use Rattle.page.specs.declared.Refusal.{Refusal}
 use Rattle.page.specs.declared.Refusal.TheVariants as R
+use Rattle.page.proofs.TightRows.{short_parts}
 use Rattle.outs.specs.Templates.{record_tag, count_of, all_kinds, front_of_record, check_strings, check_any_strings, check_some_strings, check_strings_of, check_records}
 use Rattle.outs.specs.declared.Kind.{Kind}
 use Rattle.outs.specs.declared.Kind.TheVariants.{Old, New}
 use Rattle.spec.specs.Output.{kind_byte, kind_bytes, layout_80, layout_84, strings_row, record_front, record_row}
 use Rattle.spec.specs.Demand.{strings_in, kinds_behind}
-use Rattle.spec.proofs.Ledger.{neither}
 use Rattle.convert.specs.Kinds.{all_passed, kind_there, kinds_from}
 use Rattle.convert.specs.Convert.{before, raised, agrees, lowered}
 use Rattle.convert.specs.Flat.{kind_number, kind_marks, all_clear, same_kinds, fields_in, gaps_in, raised_front, strings_at, kinds_at, body_agrees, rewritten_body, body_clear, rewritten_tag, BodyFits, rewritten_bytes, all_bodies_clear, some_body_long}
 use Rattle.convert.proofs.KindLaws.{length_marks}
 use Rattle.convert.specs.declared.kinds.Markup.{Markup}
 use Rattle.convert.specs.declared.kinds.Markup.TheVariants as M
-
--- ---- verdicts
-
-pub after_fine : (v : Verdict) (f : Unit {0} → Verdict) → after v f ≡ Fine → (v ≡ Fine) × (f tt ≡ Fine)
-unfolding after
-after_fine Fine f h = (refl, h)
-after_fine (Refused n) f h = absurd (let z : ◌≡◌ {A = ℕ} 0 1 = cc in omega arith)
-
-pub unless_fine : (b : Bool) (n : Refusal) → unless b n ≡ Fine → b ≡ true
-unless_fine true n h = refl
-unless_fine false n h = absurd (let k : Refused n ≡ Fine = h in let z : ◌≡◌ {A = ℕ} 0 1 = cc in omega arith)
-
-refused_not : {n : Refusal} → Refused n ≡ Fine → ⊥
-refused_not {n} h = let z : ◌≡◌ {A = ℕ} 0 1 = cc in omega arith
 
 -- ---- strings that are fine
 
@@ -57,7 +47,7 @@ unfolding check_any_strings
 any_of t f i r h =
     let a = after_fine (unless (eqb t 0x81) R.Misplaced) (λ _. after (check_text f) λ _. check_any_strings r) h in
     let b = after_fine (check_text f) (λ _. check_any_strings r) a.1 in
-    (eqb-true t 0x81 (unless_fine (eqb t 0x81) R.Misplaced a.0), b.1)
+    (eqb-true t 0x81 (unless_true (eqb t 0x81) R.Misplaced a.0), b.1)
 
 any_more : (k t : ℕ) (f : Bytes) (i r : Row) → check_strings (suc k) (field t f i r) ≡ Fine → check_any_strings r ≡ Fine → check_any_strings (field t f i r) ≡ Fine
 unfolding check_strings check_any_strings after
@@ -75,18 +65,18 @@ rest_strings k t f i r h =
 counted_strings : (k : ℕ) (x : Row) → check_strings k x ≡ Fine → (check_any_strings x ≡ Fine) × (fields_in x ≡ k)
 unfolding check_strings check_any_strings fields_in
 counted_strings zero end h = (refl, refl)
-counted_strings zero (loose b) h = absurd (refused_not h)
-counted_strings zero (field t f i r) h = absurd (refused_not h)
-counted_strings (suc k) end h = absurd (refused_not h)
-counted_strings (suc k) (loose b) h = absurd (refused_not h)
+counted_strings zero (loose b) h = refused _ h
+counted_strings zero (field t f i r) h = refused _ h
+counted_strings (suc k) end h = refused _ h
+counted_strings (suc k) (loose b) h = refused _ h
 counted_strings (suc k) (field t f i r) h =
     let g = counted_strings k r (rest_strings k t f i r h) in
     (any_more k t f i r h g.0, ap suc g.1)
 
 some_strings : (x : Row) → check_some_strings x ≡ Fine → (check_any_strings x ≡ Fine) × (1 ≤ fields_in x)
 unfolding check_some_strings fields_in
-some_strings end h = absurd (refused_not h)
-some_strings (loose b) h = absurd (refused_not h)
+some_strings end h = refused _ h
+some_strings (loose b) h = refused _ h
 some_strings (field t f i r) h = (h, omega arith)
 
 -- ---- a record that is fine
@@ -116,8 +106,8 @@ module _ (k : Kind) (t : ℕ) (f : Bytes) (i r : Row) (h : check_records k (fiel
   record_of =
       let s = strings_of k f i parts.2 in
       record {
-        tag_is = eqb-true t (record_tag k) (unless_fine (eqb t (record_tag k)) R.Misplaced parts.0);
-        front_is = unless_fine (front_of_record k f) R.Misplaced parts.1;
+        tag_is = eqb-true t (record_tag k) (unless_true (eqb t (record_tag k)) R.Misplaced parts.0);
+        front_is = unless_true (front_of_record k f) R.Misplaced parts.1;
         strings_are = s.0;
         some = s.1;
         rest_is = parts.3;
@@ -127,10 +117,6 @@ module _ (k : Kind) (t : ℕ) (f : Bytes) (i r : Row) (h : check_records k (fiel
   strings_checked = parts.2
 
 -- ---- the front of a record that is fine
-
-pub both_true : (a b : Bool) → (a && b) ≡ true → (a ≡ true) × (b ≡ true)
-both_true true b h = (refl, h)
-both_true false b h = absurd (let k : false ≡ true = h in let z : ◌≡◌ {A = ℕ} 0 1 = cc in omega arith)
 
 pub old_front : (f : Bytes) → front_of_record Old f ≡ true → length f ≡ 2
 unfolding front_of_record
@@ -143,26 +129,16 @@ pub record NewFront (f : Bytes) : Type 0 where
 pub new_front : (f : Bytes) → front_of_record New f ≡ true → NewFront f
 unfolding front_of_record
 new_front f h =
-    let a = both_true (leb 6 (length f)) (eqb (length f) (6 + count_of f) && all_kinds (drop 6 f)) h in
-    let b = both_true (eqb (length f) (6 + count_of f)) (all_kinds (drop 6 f)) a.1 in
+    let a = and_parts (leb 6 (length f)) (eqb (length f) (6 + count_of f) && all_kinds (drop 6 f)) h in
+    let b = and_parts (eqb (length f) (6 + count_of f)) (all_kinds (drop 6 f)) a.1 in
     record { long_enough = leb-true 6 (length f) a.0; length_is = eqb-true (length f) (6 + count_of f) b.0 }
-
-drop_front : (n : ℕ) (a b : Bytes) → n ≤ length a → drop n (a ++ b) ≡ drop n a ++ b
-drop_front zero a b h = refl
-drop_front (suc n) [] b h = absurd (omega arith)
-drop_front (suc n) (x ∷ a) b h = drop_front n a b (omega arith)
-
-take_front : (n : ℕ) (a b : Bytes) → n ≤ length a → take n (a ++ b) ≡ take n a
-take_front zero a b h = refl
-take_front (suc n) [] b h = absurd (omega arith)
-take_front (suc n) (x ∷ a) b h = ap (λ (y : Bytes). x ∷ y) (take_front n a b (omega arith))
 
 -- the body of an 84, in front and strings
 module _ (f b : Bytes) (n : NewFront f) where
   new_counted : counted_front 4 (f ++ b) ≡ length f
   new_counted =
-      let p : drop 4 (f ++ b) ≡ drop 4 f ++ b = drop_front 4 f b (omega (arith, n.long_enough)) in
-      let q : take 2 (drop 4 f ++ b) ≡ take 2 (drop 4 f) = take_front 2 (drop 4 f) b (omega (arith, length-drop 4 f, n.long_enough)) in
+      let p : drop 4 (f ++ b) ≡ drop 4 f ++ b = drop-append-le 4 f b (omega (arith, n.long_enough)) in
+      let q : take 2 (drop 4 f ++ b) ≡ take 2 (drop 4 f) = take-append-le 2 (drop 4 f) b (omega (arith, length-drop 4 f, n.long_enough)) in
       let e : counted_front 4 (f ++ b) ≡ 6 + count_of f = ap (λ (x : Bytes). 6 + number_of x) (ap (take 2) p ∙ q) in
       e ∙ sym n.length_is
 
@@ -171,11 +147,11 @@ module _ (f b : Bytes) (n : NewFront f) where
 
   new_kinds : kinds_at (f ++ b) ≡ drop 6 f
   new_kinds =
-      let p : drop 6 (f ++ b) ≡ drop 6 f ++ b = drop_front 6 f b n.long_enough in
+      let p : drop 6 (f ++ b) ≡ drop 6 f ++ b = drop-append-le 6 f b n.long_enough in
       ap₂ (λ (x : ℕ) (y : Bytes). take (x - 6) y) new_counted p ∙ take_at (drop 6 f) b (length f - 6) (length-drop 6 f)
 
   new_number : take 4 (f ++ b) ≡ take 4 f
-  new_number = take_front 4 f b (omega (arith, n.long_enough))
+  new_number = take-append-le 4 f b (omega (arith, n.long_enough))
 
 module _ (f b : Bytes) (l : length f ≡ 2) where
   old_strings : drop 2 (f ++ b) ≡ b
@@ -246,18 +222,17 @@ text_of : (t : ℕ) (f : Bytes) (j r : Row) → Strings (field t f j r) → Text
 unfolding long_body
 text_of t f j r s =
     let a = any_of t f j r s.fine in
-    let p = neither (ltb 65535 (length (f ++ bytes j))) (long_body j || long_body r) s.short in
-    let q = neither (long_body j) (long_body r) p.1 in
+    let p = short_parts t f j r s.short in
     record {
       tag_is = a.0;
       alone = text_alone t f j a.0 s.shaped.0;
-      body_short = nltb→le 65535 (length (f ++ bytes j)) p.0;
-      rest = record { fine = a.1; shaped = s.shaped.2; short = q.1 };
+      body_short = p.0;
+      rest = record { fine = a.1; shaped = s.shaped.2; short = p.2 };
     }
 
 loose_not : (b : Bytes) → check_any_strings (loose b) ≡ Fine → ⊥
 unfolding check_any_strings
-loose_not b h = refused_not h
+loose_not b h = refused _ h
 
 row_again : (i : Row) → Strings i → strings_row (strings_in i) ≡ i
 unfolding strings_row strings_in
@@ -332,24 +307,21 @@ kinds_are m (s ∷ t ∷ ss) =
     let b : Bytes = by_marks (all_passed m s) (t ∷ ss) in
     ap₂ joined (there n) (kinds_are (all_passed m s) (t ∷ ss)) ∙ joined_is (leb 1 (kind_number n)) (all_clear b) (eqb (kind_number n) 1) (kinds_of b)
 
-false_not : false ≡ true → ⊥
-false_not h = let z : ◌≡◌ {A = ℕ} 0 1 = cc in omega arith
-
 kind_one : (m : Markup) → leb 1 (kind_number m) ≡ true → kind_byte (eqb (kind_number m) 1) ≡ kind_number m
 unfolding kind_number
 kind_one M.Outside h = refl
-kind_one M.Entered h = absurd (false_not h)
-kind_one M.Opening h = absurd (false_not h)
+kind_one M.Entered h = absurd (false≢true h)
+kind_one M.Opening h = absurd (false≢true h)
 kind_one M.Spaced h = refl
-kind_one M.Closing h = absurd (false_not h)
-kind_one M.Crossed h = absurd (false_not h)
+kind_one M.Closing h = absurd (false≢true h)
+kind_one M.Crossed h = absurd (false≢true h)
 
 kind_back : (m : Markup) (ss : List Bytes) → all_clear (by_marks m ss) ≡ true → kind_bytes (kinds_of (by_marks m ss)) ≡ by_marks m ss
 unfolding by_marks all_clear kinds_of kind_bytes
 kind_back m [] h = refl
 kind_back m (s ∷ []) h = refl
 kind_back m (s ∷ t ∷ ss) h =
-    let p = both_true (leb 1 (kind_number (all_passed m s))) (all_clear (by_marks (all_passed m s) (t ∷ ss))) h in
+    let p = and_parts (leb 1 (kind_number (all_passed m s))) (all_clear (by_marks (all_passed m s) (t ∷ ss))) h in
     ap₂ (λ (x : ℕ) (y : Bytes). x ∷ y) (kind_one (all_passed m s) p.0) (kind_back (all_passed m s) (t ∷ ss) p.1)
 
 abbrev agreed : Bytes → Option (List Bool) → Bool
@@ -380,9 +352,8 @@ pub rest_sound : (k : Kind) (t : ℕ) (f : Bytes) (i r : Row) → Sound k (field
 unfolding long_body
 rest_sound k t f i r s =
     let d = record_of k t f i r s.fine in
-    let p = neither (ltb 65535 (length (f ++ bytes i))) (long_body i || long_body r) s.short in
-    let q = neither (long_body i) (long_body r) p.1 in
-    (record { fine = d.rest_is; shaped = s.shaped.2; short = q.1 }, record { fine = d.strings_are; shaped = s.shaped.1; short = q.0 })
+    let p = short_parts t f i r s.short in
+    (record { fine = d.rest_is; shaped = s.shaped.2; short = p.2 }, record { fine = d.strings_are; shaped = s.shaped.1; short = p.1 })
 
 module _ (i : Row) (s : Strings i) where
   strings_back : read (bytes i) ≡ i
@@ -427,7 +398,7 @@ body_is New t f i r s = new_body i (rest_sound New t f i r s).1 f (new_front f (
 
 pub records_not : (k : Kind) (b : Bytes) → check_records k (loose b) ≡ Fine → ⊥
 unfolding check_records
-records_not k b h = refused_not h
+records_not k b h = refused _ h
 
 pub bytes_are : (k : Kind) (x : Row) → Sound k x → bytes (rewritten k x) ≡ rewritten_bytes k x
 unfolding bytes rewritten rewritten_bytes
@@ -435,17 +406,13 @@ bytes_are k end s = refl
 bytes_are k (loose b) s = refl
 bytes_are k (field t f i r) s = ap₂ (λ (x y : Bytes). field_bytes (rewritten_tag k) x ++ y) (sym (body_is k t f i r s)) (bytes_are k r (rest_sound k t f i r s).0)
 
-not_long : (b : Bool) → T (not b) → b ≡ false
-not_long true h = absurd h
-not_long false h = refl
-
 pub long_is : (k : Kind) (x : Row) → Sound k x → long_body (rewritten k x) ≡ some_body_long k x
 unfolding long_body rewritten some_body_long
 long_is k end s = refl
 long_is k (loose b) s = refl
 long_is k (field t f i r) s =
     let p = rest_sound k t f i r s in
-    rw (body_is k t f i r s, not_long (long_body i) p.1.short, long_is k r p.0)
+    rw (body_is k t f i r s, is_false (long_body i) p.1.short, long_is k r p.0)
 
 -- ---- up
 

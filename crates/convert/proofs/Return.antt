@@ -1,7 +1,7 @@
 -- 02, A7: templates and page out, unchanged, come back byte for byte by up and down, and by down and up, wherever both are given.
 -- Main statements: `up_and_down`, `down_and_up`; on rows `templates_down`, `templates_up`, `page_returns`. Assumes nothing.
 use mathlib.Core.Path.{◌≡◌, refl, sym, ap, ap₂, ◌∙◌, subst}
-use mathlib.Core.Bool.{Bool, true, false, ◌&&◌, ◌||◌, not}
+use mathlib.Core.Bool.{Bool, true, false, ◌&&◌, ◌||◌, not, false≢true}
 use mathlib.Core.Option.{Option, none, some}
 use Prim.Native.Nat.{ℕ, zero, suc, ◌+◌, ◌≤◌}
 use native.Mathlib.Omega.{arith}
@@ -10,6 +10,9 @@ use lib.Dec.{T, eqb, leb, ltb, nltb→le}
 use lib.ListN.{length, take, drop, length-append, length-drop, take-append-drop}
 use lib.Seq.{length-take-le}
 use borrow.Author.Tests.{eqb-true, eqb-false, leb-true, ltb-false, le-ltb}
+use Rattle.std.proofs.Math.Facts.{or_no}
+use Rattle.std.proofs.lemmas.Bool.{and_parts, or_parts, not-true}
+use Rattle.std.proofs.lemmas.Float.{T_from_false}
 use Rattle.field.specs.Bytes.{Bytes, AllBytes, pick, same}
 use Rattle.field.specs.Number.{big_endian, number_from, number_of}
 use Rattle.field.specs.Row.{Row, end, loose, field, bytes, long_body, Inside, only_bytes, fields_after, counted, counted_front, inside, read}
@@ -17,6 +20,8 @@ use Rattle.field.proofs.NumberLaws.{length_big_endian, big_endian_append, big_en
 use Rattle.field.proofs.Reading.{FrontFits, ShapedBy, SaneBy, front_full, front_counted, back, shaped, sane, written}
 use Rattle.field.proofs.RowLaws.{Shaped, Sane, read_back, read_shaped, read_sane, bytes_read}
 use Rattle.page.specs.Refusal.{Verdict, Fine, Refused, refusal_number}
+use Rattle.page.proofs.TightRows.{short_parts}
+use Rattle.names.proofs.CompareLaws.{same_eq}
 use Rattle.outs.specs.Held.{nests, held, read_out}
 use Rattle.outs.specs.PageOut.{left, within, front_right, good, check_page_out}
 use Rattle.outs.specs.Renumber.{renumbered_front, renumbered, has_wide}
@@ -30,14 +35,10 @@ use Rattle.convert.specs.Convert.{Written, Outcome, refused, converted, past, ve
 use Rattle.convert.specs.Convert as C
 use Rattle.convert.specs.Flat.{same_kinds, all_clear, all_bodies_clear, body_clear}
 use Rattle.convert.specs.declared.kinds.Markup.TheVariants as M
-use Rattle.convert.proofs.RecordLaws.{Sound, NewFront, by_marks, rewritten_front, rewritten, rest_sound, record_of, old_front, new_front, new_clear, new_counts, agrees_is, both_true, raised_is, lowered_is, records_not}
+use Rattle.convert.proofs.RecordLaws.{Sound, NewFront, by_marks, rewritten_front, rewritten, rest_sound, record_of, old_front, new_front, new_clear, new_counts, agrees_is, raised_is, lowered_is, records_not}
 use Rattle.convert.proofs.TemplateLaws.{sound_read}
 use Rattle.convert.proofs.AnswerLaws.{number_some}
 use Rattle.convert.proofs.PageLaws.{leaf_alone, leaf_grows, rest_fine, nest_fine}
-use Rattle.spec.proofs.Ledger.{neither}
-
-false_true : false ≡ true → ⊥
-false_true h = let z : ◌≡◌ {A = ℕ} 0 1 = cc in omega arith
 
 -- ---- numbers of calls
 
@@ -48,10 +49,6 @@ two_low [] h a = absurd (omega arith)
 two_low (x ∷ []) h a = absurd (omega arith)
 two_low (x ∷ y ∷ []) h a = omega (arith, a.0, a.1.0)
 two_low (x ∷ y ∷ z ∷ f) h a = absurd (omega arith)
-
-pub or_false : (a b : Bool) → (a || b) ≡ false → (a ≡ false) × (b ≡ false)
-or_false true b h = absurd (false_true (sym h))
-or_false false b h = (refl, h)
 
 -- a page out with numbers of two bytes has no wide one
 narrow_front : (t : ℕ) (f : Bytes) (b : Bool) → eqb t 0x90 ≡ b → front_right 2 t f ≡ true → AllBytes f → (eqb t 0x90 && ltb 65535 (number_of f)) ≡ false
@@ -64,7 +61,7 @@ narrow_leaf : (t : ℕ) (f : Bytes) → nests t ≡ false → (eqb t 0x90 && ltb
 narrow_leaf t f h = on (eqb t 0x90) refl
   where
     on : (b : Bool) → eqb t 0x90 ≡ b → (eqb t 0x90 && ltb 65535 (number_of f)) ≡ false
-    on true q = absurd (false_true (sym h ∙ ap nests (eqb-true t 0x90 q)))
+    on true q = absurd (false≢true (sym h ∙ ap nests (eqb-true t 0x90 q)))
     on false q = rw q
 
 narrow_field : (t : ℕ) (f : Bytes) (i r : Row) (c : Expect) → FrontFits (held 2 t) f i → AllBytes f → good 2 c (field t f i r) ≡ Fine → (good 2 (within t) i ≡ Fine → has_wide i ≡ false) → (b : Bool) → nests t ≡ b → ((eqb t 0x90 && ltb 65535 (number_of f)) || has_wide i) ≡ false
@@ -79,8 +76,8 @@ narrow_field t f i r c s a g ih false q =
     none_wide = unfold has_wide in refl
 
 or_or : (a b c : Bool) → (a || b) ≡ false → c ≡ false → (a || (b || c)) ≡ false
-or_or true b c h g = absurd (false_true (sym h))
-or_or false true c h g = absurd (false_true (sym h))
+or_or true b c h g = absurd (false≢true (sym h))
+or_or false true c h g = absurd (false≢true (sym h))
 or_or false false c h g = g
 
 pub narrow : (c : Expect) (y : Row) → SaneBy (held 2) y → good 2 c y ≡ Fine → has_wide y ≡ false
@@ -118,8 +115,8 @@ module _ (from to : ℕ) (reads : (n : ℕ) → n ≤ 65535 → number_of (big_e
   rows_return c end s g n = refl
   rows_return c (loose b) s g n = refl
   rows_return c (field t f i r) s g n =
-      let a = or_false (eqb t 0x90 && ltb 65535 (number_of f)) (has_wide i || has_wide r) n in
-      let b = or_false (has_wide i) (has_wide r) a.1 in
+      let a = or_parts (eqb t 0x90 && ltb 65535 (number_of f)) (has_wide i || has_wide r) n in
+      let b = or_parts (has_wide i) (has_wide r) a.1 in
       let p = field_returns t f i r c s.0 s.1 g a.0 (λ z. rows_return (within t) i s.2 z b.0) (nests t) refl in
       let rest : renumbered from (renumbered to r) ≡ r = rows_return (left c t) r s.3 (rest_fine from c t f i r g) b.1 in
       ap₂ (λ (x : Bytes) (z : Row). field t x z (renumbered from (renumbered to r))) p.0 p.1 ∙ ap (field t f i) rest
@@ -212,15 +209,6 @@ front_parts f n a =
     six (a ∷ b ∷ c ∷ []) = refl
     six (a ∷ b ∷ c ∷ d ∷ g) = refl
 
-same_is : (a b : Bytes) → same a b ≡ true → a ≡ b
-unfolding same
-same_is [] [] h = refl
-same_is [] (y ∷ b) h = absurd (false_true h)
-same_is (x ∷ a) [] h = absurd (false_true h)
-same_is (x ∷ a) (y ∷ b) h =
-    let p = both_true (eqb x y) (same a b) h in
-    ap₂ (λ (u : ℕ) (v : Bytes). u ∷ v) (eqb-true x y p.0) (same_is a b p.1)
-
 -- what is clear of an 84: its number and its kinds
 new_front_returns : (t : ℕ) (f : Bytes) (i r : Row) → Sound New (field t f i r) → AllBytes f → body_clear New (f ++ bytes i) ≡ true → rewritten_front Old (rewritten_front New f i) i ≡ f
 unfolding rewritten_front same_kinds
@@ -230,9 +218,9 @@ new_front_returns t f i r s a c =
     let str = (rest_sound New t f i r s).1 in
     let b : Bytes = by_marks M.Outside (strings_in i) in
     let m : ℕ = number_of (take 4 f) in
-    let p = both_true (leb m 65535) (C.agrees f (strings_in i)) (sym (new_clear i str f n (new_counts t f i r s)) ∙ c) in
+    let p = and_parts (leb m 65535) (C.agrees f (strings_in i)) (sym (new_clear i str f n (new_counts t f i r s)) ∙ c) in
     let low : number_of (big_endian 2 m []) ≡ m = two_read m (leb-true m 65535 p.0) in
-    let k : drop 6 f ≡ b = same_is (drop 6 f) b (both_true (all_clear b) (same (drop 6 f) b) (sym (agrees_is f (strings_in i)) ∙ p.1)).1 in
+    let k : drop 6 f ≡ b = same_eq (drop 6 f) b (and_parts (all_clear b) (same (drop 6 f) b) (sym (agrees_is f (strings_in i)) ∙ p.1)).1 in
     let l : length b ≡ count_of f = ap length (sym k) ∙ omega (arith, length-drop 6 f, n.length_is) in
     ap₂ (λ (x y : ℕ). big_endian 4 x (big_endian 2 y b)) low l ∙ ap (λ (x : Bytes). big_endian 4 m (big_endian 2 (count_of f) x)) (sym k) ∙ front_parts f n a
 
@@ -242,7 +230,7 @@ new_returns end s a c = refl
 new_returns (loose b) s a c = absurd (records_not New b s.fine)
 new_returns (field t f i r) s a c =
     let d = record_of New t f i r s.fine in
-    let p = both_true (body_clear New (f ++ bytes i)) (all_bodies_clear New r) c in
+    let p = and_parts (body_clear New (f ++ bytes i)) (all_bodies_clear New r) c in
     ap₂ (λ (x : Bytes) (y : Row). field 0x84 x i y) (new_front_returns t f i r s a.1 p.0) (new_returns r (rest_sound New t f i r s).0 a.3 p.1) ∙ ap (λ (x : ℕ). field x f i r) (sym d.tag_is)
 
 -- ---- what is written reads back
@@ -267,16 +255,13 @@ row_shaped k end s l = tt
 row_shaped k (loose b) s l = tt
 row_shaped Old (field t f i r) s l =
     let w : Bytes = rewritten_front Old f i ++ bytes i in
-    let p = neither (ltb 65535 (length w)) (long_body i || long_body (rewritten Old r)) l in
-    let q = neither (long_body i) (long_body (rewritten Old r)) p.1 in
-    let h : length w ≤ 65535 = nltb→le 65535 (length w) p.0 in
+    let p = short_parts 0x84 (rewritten_front Old f i) i (rewritten Old r) l in
+    let h : length w ≤ 65535 = p.0 in
     let few : length (by_marks M.Outside (strings_in i)) ≤ 65535 = omega (arith, old_length f i, length-append (rewritten_front Old f i) (bytes i)) in
-    (old_shaped f i few, s.shaped.1, row_shaped Old r (rest_sound Old t f i r s).0 q.1)
+    (old_shaped f i few, s.shaped.1, row_shaped Old r (rest_sound Old t f i r s).0 p.2)
 row_shaped New (field t f i r) s l =
-    let w : Bytes = rewritten_front New f i ++ bytes i in
-    let p = neither (ltb 65535 (length w)) (long_body i || long_body (rewritten New r)) l in
-    let q = neither (long_body i) (long_body (rewritten New r)) p.1 in
-    (front_full 2 (rewritten_front New f i) i (new_length f i), s.shaped.1, row_shaped New r (rest_sound New t f i r s).0 q.1)
+    let p = short_parts 0x80 (rewritten_front New f i) i (rewritten New r) l in
+    (front_full 2 (rewritten_front New f i) i (new_length f i), s.shaped.1, row_shaped New r (rest_sound New t f i r s).0 p.2)
   where
     new_length : (f : Bytes) (i : Row) → length (rewritten_front New f i) ≡ 2
     new_length f i = unfold rewritten_front in (length_big_endian 2 (number_of (take 4 f)) [] ∙ omega arith)
@@ -322,10 +307,6 @@ unless_given : (b : Bool) (n : ℕ) → number_unless b (suc n) ≡ 0 → b ≡ 
 unless_given true n h = refl
 unless_given false n h = absurd (omega arith)
 
-not_given : (b : Bool) → not b ≡ true → b ≡ false
-not_given true h = absurd (false_true h)
-not_given false h = refl
-
 -- both that were written
 pub record Given (o : Option Row) (narrow : Bool) (y : Row) (w : Written) : Type 0 where
   pub row : Row
@@ -353,7 +334,7 @@ written_given tr pr (some x) narrow y w h =
       row = x;
       row_is = refl;
       narrow_is = unless_given narrow 16 a.0;
-      short = not_given (long_body x || long_body y) (unless_given (not (long_body x || long_body y)) 10 b.0);
+      short = not-true (long_body x || long_body y) (unless_given (not (long_body x || long_body y)) 10 b.0);
       templates_is = ap (λ (v : Written). v.templates_out) (sym z);
       page_is = ap (λ (v : Written). v.page_out) (sym z);
     }
@@ -380,10 +361,6 @@ picked : (c : Bool) (x z : Row) → pick c (some x) none ≡ some z → (c ≡ t
 picked true x z h = (refl, cc)
 picked false x z h = absurd (let k : ◌≡◌ {A = Option Row} none (some z) = h in let j : ◌≡◌ {A = ℕ} 0 1 = cc in omega arith)
 
-pub down_not : (b : Bool) → b ≡ false → T (not b)
-down_not true h = absurd (false_true (sym h))
-down_not false h = tt
-
 -- what was written is sound again where it is fine
 sound_again : (k l : Kind) (x : Row) → Sound k x → T (not (long_body (rewritten k x))) → check_templates l (bytes (rewritten k x)) ≡ Fine → Sound l (read (bytes (rewritten k x)))
 unfolding check_templates Shaped
@@ -401,8 +378,8 @@ module _ (t p : Bytes) (a : AllBytes t) (b : AllBytes p) (tr pr tr' pr' : ℕ) (
       let y : Row = read_out 2 p in
       let s = sound_read Old t a u.0 in
       let z = picked (all_bodies_clear Old x) (rewritten Old x) g.row (sym (raised_is x s) ∙ g.row_is) in
-      let l = or_false (long_body g.row) (long_body (renumbered 4 y)) g.short in
-      let lt : T (not (long_body (rewritten Old x))) = down_not (long_body (rewritten Old x)) (ap long_body z.1 ∙ l.0) in
+      let l = or_parts (long_body g.row) (long_body (renumbered 4 y)) g.short in
+      let lt : T (not (long_body (rewritten Old x))) = T_from_false (long_body (rewritten Old x)) (ap long_body z.1 ∙ l.0) in
       let t₁ : Bytes = bytes (rewritten Old x) in
       let p₁ : Bytes = bytes (renumbered 4 y) in
       let e : w.templates_out ≡ t₁ = g.templates_is ∙ ap bytes (sym z.1) in
@@ -411,7 +388,7 @@ module _ (t p : Bytes) (a : AllBytes t) (b : AllBytes p) (tr pr tr' pr' : ℕ) (
       let s₁ = sound_again Old New x s lt d.0 in
       let z₁ = picked (all_bodies_clear New (read t₁)) (rewritten New (read t₁)) k.row (sym (lowered_is (read t₁) s₁) ∙ k.row_is) in
       let wide : has_wide y ≡ false = narrow E.Whole y (sane (held 2) p b) u.1 in
-      (k.templates_is ∙ ap bytes (sym z₁.1) ∙ templates_down t a u.0 lt, k.page_is ∙ page_returns 2 4 (λ n m. four_read n (omega arith)) p b u.1 wide (down_not (long_body (renumbered 4 y)) l.1))
+      (k.templates_is ∙ ap bytes (sym z₁.1) ∙ templates_down t a u.0 lt, k.page_is ∙ page_returns 2 4 (λ n m. four_read n (omega arith)) p b u.1 wide (T_from_false (long_body (renumbered 4 y)) l.1))
 
   pub down_and_up : downgraded t p tr pr ≡ converted w → upgraded w.templates_out w.page_out tr' pr' ≡ converted w' → (w'.templates_out ≡ t) × (w'.page_out ≡ p)
   down_and_up h h' =
@@ -421,8 +398,8 @@ module _ (t p : Bytes) (a : AllBytes t) (b : AllBytes p) (tr pr tr' pr' : ℕ) (
       let y : Row = read_out 4 p in
       let s = sound_read New t a u.0 in
       let z = picked (all_bodies_clear New x) (rewritten New x) g.row (sym (lowered_is x s) ∙ g.row_is) in
-      let l = or_false (long_body g.row) (long_body (renumbered 2 y)) g.short in
-      let lt : T (not (long_body (rewritten New x))) = down_not (long_body (rewritten New x)) (ap long_body z.1 ∙ l.0) in
+      let l = or_parts (long_body g.row) (long_body (renumbered 2 y)) g.short in
+      let lt : T (not (long_body (rewritten New x))) = T_from_false (long_body (rewritten New x)) (ap long_body z.1 ∙ l.0) in
       let t₁ : Bytes = bytes (rewritten New x) in
       let p₁ : Bytes = bytes (renumbered 2 y) in
       let e : w.templates_out ≡ t₁ = g.templates_is ∙ ap bytes (sym z.1) in
@@ -430,5 +407,5 @@ module _ (t p : Bytes) (a : AllBytes t) (b : AllBytes p) (tr pr tr' pr' : ℕ) (
       let k = d.2 in
       let s₁ = sound_again New Old x s lt d.0 in
       let z₁ = picked (all_bodies_clear Old (read t₁)) (rewritten Old (read t₁)) k.row (sym (raised_is (read t₁) s₁) ∙ k.row_is) in
-      let wide : has_wide y ≡ false = not_given (has_wide y) g.narrow_is in
-      (k.templates_is ∙ ap bytes (sym z₁.1) ∙ templates_up t a u.0 lt z.0, k.page_is ∙ page_returns 4 2 (λ n m. two_read n m) p b u.1 wide (down_not (long_body (renumbered 2 y)) l.1))
+      let wide : has_wide y ≡ false = not-true (has_wide y) g.narrow_is in
+      (k.templates_is ∙ ap bytes (sym z₁.1) ∙ templates_up t a u.0 lt z.0, k.page_is ∙ page_returns 4 2 (λ n m. two_read n m) p b u.1 wide (T_from_false (long_body (renumbered 2 y)) l.1))

@@ -8,6 +8,8 @@ use mathlib.Core.List.{List, [], ◌∷◌, ◌++◌, append-nil}
 use lib.Dec.{T, eqb, leb, ltb, nltb→le}
 use lib.ListN.{length}
 use borrow.Author.Tests.{eqb-true, eqb-false, eq-eqb, leb-true, le-leb, ne_eqb}
+use Rattle.std.proofs.Math.Facts.{or_no}
+use Rattle.std.proofs.lemmas.Bool.{or_parts, or_right}
 use Rattle.field.specs.Bytes.{Bytes, ascii, pick}
 use Rattle.field.specs.Row.{Row, end, loose, field, field_bytes, bytes, long_body, Inside, only_bytes, fields_after, next}
 use Rattle.field.proofs.Reading.{FrontFits, ShapedBy, front_full, back, next_written}
@@ -19,16 +21,16 @@ use Rattle.page.specs.Refusal.{Fine, after, unless}
 use Rattle.page.specs.Tree.{choose}
 use Rattle.page.specs.declared.Refusal.TheVariants as R
 use Rattle.page.proofs.Verdicts.{fine_after}
+use Rattle.page.proofs.TightRows.{short_field, short_parts}
 use Rattle.outs.specs.Held.{nests, held, read_out}
 use Rattle.outs.specs.PageOut.{statement, declaration, allowed, left, within, front_right, check_sum, check_import, check_leaf, good}
 use Rattle.outs.specs.declared.Expect.{Expect}
 use Rattle.outs.specs.declared.Expect.TheVariants as E
 use Rattle.spec.specs.Pass.{Template, Done}
 use Rattle.spec.specs.Transform.{bit, stands, is_statement, has_statement, before_statement, with_templates, helper_sum, with_import, page_out_row}
-use Rattle.spec.proofs.Ledger.{neither}
 use Rattle.spec.proofs.Characters.{Text}
 use Rattle.spec.proofs.Texts.{text_append}
-use Rattle.convert.proofs.Formed.{or_right, true_never, false_never, front_size, FormedRow}
+use Rattle.convert.proofs.Formed.{true_never, false_never, front_size, FormedRow}
 use Rattle.convert.proofs.EveryTag.{text_fine}
 use Rattle.convert.proofs.PageLaws.{leaf_held}
 
@@ -57,26 +59,21 @@ flat_bytes (field t f i r) = on (nests t) refl (flat_bytes i) (flat_bytes r)
     on true q h g = ap bytes (flat_nest t f i r q) ∙ ap₂ (λ (x y : Bytes). field_bytes t (f ++ x) ++ y) h g
     on false q h g = ap bytes (flat_leaf t f i r q) ∙ ap₂ (λ (x y : Bytes). field_bytes t x ++ y) (append-nil (f ++ bytes i)) g
 
-pub not_either : (a b : Bool) → T (not a) → T (not b) → T (not (a || b))
-not_either true b t u = absurd t
-not_either false b t u = u
-
 pub flat_short : (x : Row) → T (not (long_body x)) → T (not (long_body (flat x)))
-unfolding long_body bytes
-flat_short end l = unfold flat in tt
-flat_short (loose b) l = unfold flat in tt
+unfolding bytes long_body
+flat_short end l = unfold flat in l
+flat_short (loose b) l = unfold flat in l
 flat_short (field t f i r) l =
-    let p = neither (ltb 65535 (length (f ++ bytes i))) (long_body i || long_body r) l in
-    let q = neither (long_body i) (long_body r) p.1 in
-    on (nests t) refl p.0 (flat_short i q.0) (flat_short r q.1)
+    let p = short_parts t f i r l in
+    on (nests t) refl p.0 (flat_short i p.1) (flat_short r p.2)
   where
-    on : (b : Bool) → nests t ≡ b → T (not (ltb 65535 (length (f ++ bytes i)))) → T (not (long_body (flat i))) → T (not (long_body (flat r))) → T (not (long_body (flat (field t f i r))))
+    on : (b : Bool) → nests t ≡ b → length (f ++ bytes i) ≤ 65535 → T (not (long_body (flat i))) → T (not (long_body (flat r))) → T (not (long_body (flat (field t f i r))))
     on true q s h g =
-        let e : T (not (ltb 65535 (length (f ++ bytes (flat i))))) = subst (λ (x : Bytes). T (not (ltb 65535 (length (f ++ x))))) (sym (flat_bytes i)) s in
-        subst (λ (x : Row). T (not (long_body x))) (sym (flat_nest t f i r q)) (not_either (ltb 65535 (length (f ++ bytes (flat i)))) (long_body (flat i) || long_body (flat r)) e (not_either (long_body (flat i)) (long_body (flat r)) h g))
+        let e : length (f ++ bytes (flat i)) ≤ 65535 = subst (λ (x : Bytes). length (f ++ x) ≤ 65535) (sym (flat_bytes i)) s in
+        subst (λ (x : Row). T (not (long_body x))) (sym (flat_nest t f i r q)) (short_field t f (flat i) (flat r) e h g)
     on false q s h g =
-        let e : T (not (ltb 65535 (length ((f ++ bytes i) ++ [])))) = subst (λ (x : Bytes). T (not (ltb 65535 (length x)))) (sym (append-nil (f ++ bytes i))) s in
-        subst (λ (x : Row). T (not (long_body x))) (sym (flat_leaf t f i r q)) (not_either (ltb 65535 (length ((f ++ bytes i) ++ []))) (long_body (flat r)) e g)
+        let e : length ((f ++ bytes i) ++ bytes end) ≤ 65535 = subst (λ (x : Bytes). length x ≤ 65535) (sym (append-nil (f ++ bytes i))) s in
+        subst (λ (x : Row). T (not (long_body x))) (sym (flat_leaf t f i r q)) (short_field t (f ++ bytes i) end (flat r) e tt g)
 
 held_nest : (t : ℕ) → nests t ≡ true → held 4 t ≡ fields_after (front_size t)
 unfolding held
@@ -208,10 +205,6 @@ declared t h s = on (leb 0x10 t) refl (leb t 0x13) refl (eqb t 0x10) refl (eqb t
     on true pa false pb false pu false pv false px false py h s = false_never h
     on true pa true pb false pu false pv false px false py h s = absurd (let e : (t ≡ 0x10 → ⊥) = eqb-false t 0x10 pu in let g : (t ≡ 0x11 → ⊥) = eqb-false t 0x11 px in let k : (t ≡ 0x12 → ⊥) = eqb-false t 0x12 pv in let m : (t ≡ 0x13 → ⊥) = eqb-false t 0x13 py in omega (arith, leb-true 0x10 t pa, leb-true t 0x13 pb))
 
-no_either : (a b : Bool) → (a || b) ≡ false → (a ≡ false) × (b ≡ false)
-no_either true b h = true_never h
-no_either false b h = (refl, h)
-
 -- no statement stands there
 as_no_statement : (r : Row) → has_statement r ≡ false → FormedRow E.Rest r → FormedRow E.NoStatement r
 unfolding has_statement
@@ -219,7 +212,7 @@ as_no_statement end s h = unfold FormedRow in refl
 as_no_statement (loose b) s h = absurd (unfold FormedRow in h)
 as_no_statement (field t f i r) s h =
     let p = front_of t f i r h in
-    let n = no_either (is_statement t) (has_statement r) s in
+    let n = or_parts (is_statement t) (has_statement r) s in
     front_in E.Rest E.NoStatement t f i r h (declared t p.0 n.0) (as_no_statement r n.1 p.1)
 
 -- behind the place of the templates
@@ -229,7 +222,7 @@ as_placed end s h = unfold FormedRow in refl
 as_placed (loose b) s h = absurd (unfold FormedRow in h)
 as_placed (field t f i r) s h =
     let p = front_of t f i r h in
-    let n = no_either (is_statement t) (has_statement r) s in
+    let n = or_parts (is_statement t) (has_statement r) s in
     front_in E.Rest E.Placed t f i r h p.0 (chosen (statement t) E.Rest E.NoStatement r (λ _. p.1) (λ _. as_no_statement r n.1 p.1))
 
 -- the place in front of a statement
@@ -338,11 +331,8 @@ import_formed source sum r h low high l g = (refl, (λ q. false_never q), (λ q.
   where
     source_short : T (not (long_body (field 0x82 [] (field 0x81 source end (loose (sum ∷ []))) r))) → length (source ++ []) ≤ 65535
     source_short l =
-        unfold long_body in
         let i : Row = field 0x81 source end (loose (sum ∷ [])) in
-        let p = neither (ltb 65535 (length ([] ++ bytes i))) (long_body i || long_body r) l in
-        let q = neither (long_body i) (long_body r) p.1 in
-        nltb→le 65535 (length (source ++ [])) (neither (ltb 65535 (length (source ++ bytes end))) (long_body end || long_body (loose (sum ∷ []))) q.0).0
+        (short_parts 0x81 source end (loose (sum ∷ [])) (short_parts 0x82 [] i r l).1).0
 
 pub whole_formed : (o : Options) (d : Done Row) → Text o.import_source → T (not (long_body (page_out_row o d))) → FormedRow E.Rest d.value → FormedRow E.Whole (page_out_row o d)
 unfolding page_out_row with_import

@@ -22,9 +22,12 @@ use Rattle.page.specs.Refusal.{Fine}
 use Rattle.outs.specs.Templates.{check_records, check_templates}
 use Rattle.outs.specs.declared.Kind.{Kind}
 use Rattle.outs.specs.declared.Kind.TheVariants.{Old, New}
+use Rattle.outs.proofs.Parts.{two_fifth}
 use Rattle.convert.specs.Flat.{kind_marks, all_clear, same_kinds, gaps_in, strings_at, kinds_at, rewritten_body, body_clear, rewritten_tag, BodyFits, rewritten_bytes, all_bodies_clear, some_body_long, WroteBody, RewritesBody, WroteAll}
 use Rattle.std.specs.Prelude.{Option}
-use Rattle.std.specs.Int.{w16, w32, from_be_bytes}
+use Rattle.std.specs.Int.{w16, from_be_bytes}
+use Rattle.std.proofs.lemmas.Float.{T_from_false}
+use Rattle.std.proofs.Math.Bool.{or_assoc}
 use Rattle.convert.specs.declared.templates.Rewritten.{Rewritten}
 use Rattle.convert.specs.declared.kinds.Markup.{Markup}
 use Rattle.convert.specs.declared.kinds.Markup.TheVariants as M
@@ -54,13 +57,9 @@ in_front s t e h a = on (inside t) (read_at s t e h)
     on (fields_after n) q = record { front = take n w; inner = read (drop n w); read_is = q; body_is = split n }
     on (counted n) q = record { front = take (counted_front n w) w; inner = read (drop (counted_front n w) w); read_is = q; body_is = split (counted_front n w) }
 
-not_true : (b : Bool) → b ≡ false → T (not b)
-not_true true h = absurd (let z : ◌≡◌ {A = ℕ} 0 1 = cc in omega arith)
-not_true false h = tt
-
 pub sound_read : (k : Kind) (s : Bytes) → AllBytes s → check_templates k s ≡ Fine → Sound k (read s)
 unfolding check_templates Shaped
-sound_read k s a h = record { fine = h; shaped = read_shaped s; short = not_true (long_body (read s)) (not_long s a) }
+sound_read k s a h = record { fine = h; shaped = read_shaped s; short = T_from_false (long_body (read s)) (not_long s a) }
 
 -- ---- the loop
 
@@ -88,10 +87,6 @@ keeps_begins k s o a h l =
       clear_left = refl;
       low = omega (arith, room k (read s) (sound_read k s a h), ap length (bytes_read s a));
     }
-
-or_assoc : (a b c : Bool) → ((a || b) || c) ≡ (a || (b || c))
-or_assoc true b c = refl
-or_assoc false b c = refl
 
 module _ {k : Kind} {s o t out : Bytes} {n : ℕ} {long : Bool} (g : Keeps k s o t out n long) where
   module _ {u : ℕ} (e : u ≡ tag_of_front t) (h : u ≡ 256 → ⊥) where
@@ -229,25 +224,10 @@ module _ (w : Bytes) where
       let es : take (length w - 2) (drop 2 w) ≡ drop 2 w = part_rest 2 w in
       sym (ap₂ (λ (x : ℕ) (y : Bytes). all_clear (kind_marks x M.Outside y)) (eg ∙ ap gaps_in es) es) ∙ h
 
--- numbers read
-pub two_first : (s : Bytes) → 2 ≤ length s → {n : ℕ} → n ≡ from_be_bytes w16 (get_or s 0 0 ∷ get_or s 1 0 ∷ []) → n ≡ number_of (take 2 s)
-unfolding number_from
-two_first (a ∷ b ∷ s) l e = omega arith
-two_first _ l e = absurd (omega arith)
-
-two_at : (s : Bytes) → 6 ≤ length s → {n : ℕ} → n ≡ from_be_bytes w16 (get_or s 4 0 ∷ get_or s 5 0 ∷ []) → n ≡ number_of (take 2 (drop 4 s))
-two_at (a ∷ b ∷ c ∷ d ∷ s) l e = two_first s (omega arith) e
-two_at _ l e = absurd (omega arith)
-
-pub four_first : (s : Bytes) → 4 ≤ length s → {n : ℕ} → n ≡ from_be_bytes w32 (get_or s 0 0 ∷ get_or s 1 0 ∷ get_or s 2 0 ∷ get_or s 3 0 ∷ []) → n ≡ number_of (take 4 s)
-unfolding number_from
-four_first (a ∷ b ∷ c ∷ d ∷ s) l e = omega arith
-four_first _ l e = absurd (omega arith)
-
 -- 84 to 80
 module _ (w : Bytes) where
   pub front_at : 6 ≤ length w → {n : ℕ} → n ≡ from_be_bytes w16 (get_or w 4 0 ∷ get_or w 5 0 ∷ []) → 6 + n ≡ counted_front 4 w
-  front_at l e = ap (λ (x : ℕ). 6 + x) (two_at w l e)
+  front_at l e = ap (λ (x : ℕ). 6 + x) (two_fifth w l e)
 
   pub lower_room : (at : ℕ) → at + length (field_bytes 0x80 (rewritten_body New w)) < 2 ^ 64 → (f : ℕ) → f ≡ counted_front 4 w → at + (5 + length (take (length w - f) (drop f w))) < 2 ^ 64
   lower_room at h f q =
@@ -290,8 +270,5 @@ module _ (w : Bytes) where
         }
 
 -- by what a record comes from
-pub room_of : {k l : Kind} (w : Bytes) (at : ℕ) → k ≡ l → BodyFits k w × (at + length (field_bytes (rewritten_tag k) (rewritten_body k w)) < 2 ^ 64) → BodyFits l w × (at + length (field_bytes (rewritten_tag l) (rewritten_body l w)) < 2 ^ 64)
-room_of {k} {l} w at e p = subst (λ (x : Kind). BodyFits x w × (at + length (field_bytes (rewritten_tag x) (rewritten_body x w)) < 2 ^ 64)) e p
-
 pub rewrites_of : {k l : Kind} (w o : Bytes) (n : ℕ) (o' : Bytes) (r : Option Rewritten) → k ≡ l → RewritesBody k w o n o' r → RewritesBody l w o n o' r
 rewrites_of w o n o' r e q = subst (λ (x : Kind). RewritesBody x w o n o' r) e q

@@ -224,14 +224,6 @@ passed_on o t p t' p' (Err v) e h q l m = record { reason_is = q ∙ ap (λ (u :
 pub refused_on : (n m : Refusal) {o : Outcome} → n ≡ m → o ≡ refused (refusal_number n) → o ≡ refused (unconverted_number (U.Refused m))
 refused_on n m e q = q ∙ ap (λ (x : Refusal). refused (refusal_number x)) e
 
-pub short_by : (b : Bool) → not b ≡ true → b ≡ false
-short_by false e = refl
-short_by true e = sym e
-
-pub long_by : (b : Bool) → not b ≡ false → b ≡ true
-long_by true e = refl
-long_by false e = sym e
-
 -- a refusal as it is answered
 pub refusal_answered : {o : Outcome} {t p t' p' t₂ p₂ : Bytes} {e : Unconverted} {n : ℕ} → Fails o t p e t' p' → n ≡ unconverted_number e → t₂ ≡ replicate (length t') 0 → p₂ ≡ replicate (length p') 0 → Converts o t p (record { number = n; templates_bytes = 0; page_bytes = 0 }) t₂ p₂
 unfolding number bytes_of_templates bytes_of_page templates_left page_left

@@ -10,6 +10,8 @@ use lib.Dec.{T, eqb}
 use lib.ListN.{length, take}
 use lib.Seq.{take_all}
 use borrow.Author.Tests.{eqb-true, le-leb}
+use Rattle.std.proofs.lemmas.Bool.{or_parts}
+use Rattle.std.proofs.lemmas.Float.{T_from_false}
 use Rattle.field.specs.Bytes.{Bytes, AllBytes, pick}
 use Rattle.field.specs.Number.{big_endian, number_of}
 use Rattle.field.specs.Row.{Row, end, loose, field, long_body, inside, read}
@@ -35,7 +37,7 @@ use Rattle.convert.specs.Words.{Recorded, recorded, records_in, recorded_with, C
 use Rattle.convert.proofs.RecordLaws.{Sound, rest_sound, record_of, old_front, records_not}
 use Rattle.convert.proofs.TemplateLaws.{sound_read}
 use Rattle.convert.proofs.PageLaws.{leaf_alone, rest_fine, nest_fine}
-use Rattle.convert.proofs.Return.{two_low, up_given, or_false, down_not, rows_shaped}
+use Rattle.convert.proofs.Return.{two_low, up_given, rows_shaped}
 
 -- ---- templates
 
@@ -212,11 +214,11 @@ module _ (t p : Bytes) (a : AllBytes t) (b : AllBytes p) (tr pr : ℕ) (w : Writ
       let u = up_given t p tr pr w h in
       let g = u.2 in
       let y : Row = read_out 2 p in
-      let l = or_false (long_body g.row) (long_body (renumbered 4 y)) g.short in
+      let l = or_parts (long_body g.row) (long_body (renumbered 4 y)) g.short in
       let s = sound_read Old t a u.0 in
-      let k = templates_kept (read t) s (read_sane t a) g.row g.row_is (down_not (long_body g.row) l.0) in
-      let e : read w.templates_out ≡ g.row = ap read g.templates_is ∙ read_back g.row (raised_shaped (read t) s g.row g.row_is (down_not (long_body g.row) l.0)) (down_not (long_body g.row) l.0) in
-      let there : read_out 4 w.page_out ≡ renumbered 4 y = ap (read_out 4) g.page_is ∙ back (held 4) (renumbered 4 y) (rows_shaped 2 4 (λ n m. four_read n (omega arith)) y (shaped (held 2) p)) (down_not (long_body (renumbered 4 y)) l.1) in
+      let k = templates_kept (read t) s (read_sane t a) g.row g.row_is (T_from_false (long_body g.row) l.0) in
+      let e : read w.templates_out ≡ g.row = ap read g.templates_is ∙ read_back g.row (raised_shaped (read t) s g.row g.row_is (T_from_false (long_body g.row) l.0)) (T_from_false (long_body g.row) l.0) in
+      let there : read_out 4 w.page_out ≡ renumbered 4 y = ap (read_out 4) g.page_is ∙ back (held 4) (renumbered 4 y) (rows_shaped 2 4 (λ n m. four_read n (omega arith)) y (shaped (held 2) p)) (T_from_false (long_body (renumbered 4 y)) l.1) in
       let c = calls_kept E.Whole y (sane (held 2) p b) u.1 in
       record {
         same_records = ap (records_in layout_84) e ∙ k.same_records;

@@ -7,6 +7,7 @@ use mathlib.Core.List.{List, []}
 use lib.Dec.{eqb, leb}
 use lib.ListN.{length, get_or}
 use borrow.Author.Tests.{ne_eqb, eq-eqb, leb-true}
+use Rattle.std.proofs.lemmas.Bool.{and_parts}
 use Rattle.field.specs.Bytes.{Bytes, pick}
 use Rattle.field.specs.Row.{read}
 use Rattle.page.specs.Refusal.{Verdict, Fine, Refused, refusal_number}
@@ -17,7 +18,7 @@ use Rattle.find.specs.Answer.{Answered, Nothing}
 use Rattle.find.specs.Words.{Taken, LookedUp}
 use Rattle.find.proofs.FindLaws.{number_some}
 use Rattle.find.proofs.Counted.{count_is_steps}
-use Rattle.find.proofs.Kept.{and_both, behind_absent}
+use Rattle.find.proofs.Kept.{behind_absent}
 use Rattle.find.proofs.Firsts.{place_is_first}
 use Rattle.find.proofs.ReadUpTo.{records_are}
 
@@ -41,7 +42,7 @@ module _ (t : Bytes) (ns : List ℕ) {number records : ℕ} {places : List ℕ} 
   pub answer_is : number ≡ 0 → LookedUp t ns records places
   answer_is e =
       let s : length t ≤ absent = omega (arith, a.in_memory) in
-      let both = and_both (leb (length ns) 256) (rising ns) (accepted e).1 in
+      let both = and_parts (leb (length ns) 256) (rising ns) (accepted e).1 in
       let h : length ns ≤ 256 = leb-true (length ns) 256 both.0 in
       let p : places ≡ (walk ns 0 (read t) (none_met ns)).places = a.places_is ∙ ap (λ (m : Met). m.places) (walk_found e) in
       let c : records ≡ (walk ns 0 (read t) (none_met ns)).records = a.records_is ∙ ap (λ (m : Met). m.records) (walk_found e) in

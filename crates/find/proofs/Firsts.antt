@@ -9,15 +9,16 @@ use lib.Dec.{eqb, ltb}
 use lib.ListN.{length, take, get_or, set, replicate, length-set, length-replicate, get_or-replicate}
 use lib.Seq.{get_or-set_same, get_or-set_other}
 use borrow.Author.Tests.{eqb-true, eqb-false, ltb-true, lt-ltb, eq-eqb, ne_eqb}
+use Rattle.std.proofs.lemmas.Bool.{and_parts}
 use Rattle.field.specs.Bytes.{Bytes, pick}
 use Rattle.field.specs.Number.{number_of}
 use Rattle.field.specs.Row.{Row, end, loose, field, bytes, read}
 use Rattle.field.proofs.RowLaws.{length_bytes}
+use Rattle.page.proofs.TightRows.{length_read}
 use Rattle.find.specs.Find.{Met, rising, index_of, wanted, step, walk, none_met, absent}
 use Rattle.find.specs.Words.{place_of}
 use Rattle.find.proofs.SearchLaws.{rises, index_present}
-use Rattle.find.proofs.Kept.{and_both, walk_keeps}
-use Rattle.find.proofs.RecordLaws.{length_read}
+use Rattle.find.proofs.Kept.{walk_keeps}
 
 -- how many of the first j places are absent
 pub unmet : ℕ → List ℕ → ℕ
@@ -86,7 +87,7 @@ module _ (ns : List ℕ) (r : rising ns ≡ true) (h : length ns ≤ 256) where
 
   pub both : (n : ℕ) (m : Met) → wanted ns n m ≡ true → (index_of n ns < length ns) × (get_or m.places (index_of n ns) 0 ≡ absent)
   both n m e =
-      let z = and_both (ltb (index_of n ns) (length ns)) (eqb (get_or m.places (index_of n ns) 0) absent) e in
+      let z = and_parts (ltb (index_of n ns) (length ns)) (eqb (get_or m.places (index_of n ns) 0) absent) e in
       (ltb-true (index_of n ns) (length ns) z.0, eqb-true (get_or m.places (index_of n ns) 0) absent z.1)
 
   pub step_waits : (n p : ℕ) (m : Met) → Waits ns m → (p ≡ absent → ⊥) → Waits ns (step ns n p m)

@@ -10,14 +10,11 @@ use lib.Dec.{eqb, ltb}
 use lib.ListN.{length, take, get_or, set, get_or-replicate}
 use lib.Seq.{get_or-set_other}
 use borrow.Author.Tests.{eqb-true, ltb-true}
+use Rattle.std.proofs.lemmas.Bool.{and_parts}
 use Rattle.field.specs.Bytes.{Bytes, pick}
 use Rattle.field.specs.Number.{number_of}
 use Rattle.field.specs.Row.{Row, end, loose, field, bytes, read}
 use Rattle.find.specs.Find.{Met, index_of, wanted, step, walk, none_met, absent}
-
-pub and_both : (a b : Bool) → (a && b) ≡ true → (a ≡ true) × (b ≡ true)
-and_both true b e = (refl, e)
-and_both false b e = absurd (let z : ◌≡◌ {A = ℕ} 0 1 = cc in omega arith)
 
 -- not asked for, or found already
 abbrev pub Settled : List ℕ → ℕ → Met → Type 0
@@ -26,7 +23,7 @@ Settled ns k m = (length ns ≤ k) ⊎ (get_or m.places k 0 ≡ absent → ⊥)
 module _ (ns : List ℕ) (k : ℕ) where
   not_here : (n : ℕ) (m : Met) → Settled ns k m → wanted ns n m ≡ true → k ≡ index_of n ns → ⊥
   not_here n m s e h =
-      let both = and_both (ltb (index_of n ns) (length ns)) (eqb (get_or m.places (index_of n ns) 0) absent) e in
+      let both = and_parts (ltb (index_of n ns) (length ns)) (eqb (get_or m.places (index_of n ns) 0) absent) e in
       by s (ltb-true (index_of n ns) (length ns) both.0) (ap (λ (x : ℕ). get_or m.places x 0) h ∙ eqb-true (get_or m.places (index_of n ns) 0) absent both.1)
     where
       by : Settled ns k m → index_of n ns < length ns → get_or m.places k 0 ≡ absent → ⊥

@@ -13,13 +13,13 @@ use Rattle.field.specs.Bytes.{Bytes, pick}
 use Rattle.field.specs.Number.{number_of}
 use Rattle.field.specs.Row.{Row, end, loose, field, bytes, read}
 use Rattle.field.proofs.RowLaws.{length_bytes}
+use Rattle.page.proofs.TightRows.{length_read}
 use Rattle.find.specs.Find.{Met, rising, index_of, wanted, step, walk, none_met, absent}
 use Rattle.find.specs.Words.{position_of, read_up_to}
 use Rattle.find.proofs.Counted.{step_counts}
 use Rattle.find.proofs.Kept.{step_keeps}
 use Rattle.find.proofs.Firsts.{unmet_some, unmet_at, unmet_all, index_hits, Waits, stepped, both, step_waits, step_here, step_away}
 use Rattle.find.proofs.Positions.{position_here, position_further, reads_each, reads_below}
-use Rattle.find.proofs.RecordLaws.{length_read}
 
 -- ---- the walk's count
 

@@ -19,29 +19,12 @@ use Rattle.page.specs.Refusal.{Verdict, Fine, after, unless}
 use Rattle.page.specs.declared.Refusal.TheVariants as R
 use Rattle.page.proofs.Steps.{front, inner, row_at}
 use Rattle.page.proofs.Verdicts.{after_fine, unless_fine, and_both}
+use Rattle.page.proofs.TightRows.{part_size, length_read}
 use Rattle.outs.specs.Templates.{check_templates, check_records, check_strings_of, front_of_record, all_kinds, count_of}
 use Rattle.outs.specs.declared.Kind.TheVariants.{New}
+pub use Rattle.outs.proofs.Parts.{four_first as number_four}
 use Rattle.find.specs.Find.{Met, index_of, wanted, step, walk, none_met, absent}
 use Rattle.find.specs.Answer.{Walked}
-
--- ---- the number in four bytes
-
-pub number_four : (w : Bytes) → 4 ≤ length w → {n : ℕ} → n ≡ from_be_bytes w32 (get_or w 0 0 ∷ get_or w 1 0 ∷ get_or w 2 0 ∷ get_or w 3 0 ∷ []) → n ≡ number_of (take 4 w)
-unfolding number_from
-number_four (x0 ∷ x1 ∷ x2 ∷ x3 ∷ w) l e = omega arith
-number_four _ l e = absurd (omega arith)
-
--- ---- bytes are as many as those of the row that they read as
-
-part_size : (n : ℕ) (w : Bytes) → length (take n w) + length (drop n w) ≡ length w
-part_size n w = sym (length-append (take n w) (drop n w)) ∙ ap length (take-append-drop n w)
-
-pub length_read : (s : Bytes) → length (bytes (read s)) ≡ length s
-unfolding bytes
-length_read =
-    read_ind (λ s x. length (bytes x) ≡ length s) (λ s e. ap length (sym (next_nothing s e))) (λ s e. refl)
-    (λ s t w r e q hr. omega (arith, length_bytes t w end (read r), hr, next_sizes s t w r e))
-    (λ s t w r n e q hi hr. omega (arith, length_bytes t (take n w) (read (drop n w)) (read r), hi, hr, part_size n w, next_sizes s t w r e))
 
 -- ---- a record that is fine
 

@@ -22,7 +22,7 @@ use Rattle.page.specs.Refusal.{Fine, after}
 use Rattle.page.specs.declared.Refusal.TheVariants as R
 use Rattle.page.proofs.Verdicts.{fine_after, fine_unless, fine_header, or_left}
 use Rattle.page.proofs.NumberLaws.{whole_back, scaled_back}
-use Rattle.page.proofs.Complete.{fine_text, texts_back}
+use Rattle.page.proofs.Bodies.{fine_text, boolean_whole, texts_back, member_fine, members_read}
 use Rattle.outs.specs.PageOut.{expression, allowed, left, within, check_leaf, good}
 use Rattle.outs.specs.Tree.{Callee, tag_name, identifier, member, Expr, string_literal, number_literal, boolean_literal, null_literal, other_literal, minus_literal, array_literal, other_expr, template_call, attr_call, escape_call, boolean_choice, jsx_call, Exprs, no_exprs, expr, Elements, no_elements, element, spread_element, hole, Pieces, no_pieces, source_piece, expr_piece, Props, null_props, object, Properties, no_properties, property, spread_property, Key, no_key, key, PartsOk, CalleeOk, ExprOk, ExprsOk, ElementsOk, PiecesOk, PropsOk, PropertiesOk, KeyOk}
 use Rattle.outs.specs.Encode.{callee_row, expr_row, exprs_row, elements_row, pieces_row, props_row, properties_row, key_row}
@@ -30,29 +30,7 @@ use Rattle.outs.specs.declared.Expect.{Expect}
 use Rattle.outs.specs.declared.Expect.TheVariants as E
 use Rattle.outs.proofs.OutReading.{callee_by, front_in, front_behind, expr_by, exprs_in, elements_in, pieces_in, properties_in, expr_in, second_in, call_in, props_in, key_behind, key_in}
 use Rattle.outs.proofs.OutSound.{body}
-use Rattle.outs.proofs.OutRow.{names_shaped, names_sayable}
-
--- ---- leaves
-
-boolean_whole : (b : Bool) → (check_boolean (boolean_byte b ∷ []) ≡ Fine) × (boolean_in (boolean_byte b ∷ []) ≡ b)
-unfolding check_boolean boolean_in
-boolean_whole true = (refl, refl)
-boolean_whole false = (refl, refl)
-
-at_least_texts : (t k : ℕ) (ns : List Bytes) → k ≤ length ns → T (at_least k (texts_row t ns))
-unfolding at_least texts_row
-at_least_texts t zero ns h = tt
-at_least_texts t (suc k) [] h = absurd (omega arith)
-at_least_texts t (suc k) (n ∷ ns) h = at_least_texts t k ns (omega arith)
-
-members_fine : (ns : List Bytes) (k : ℕ) → length ns ≤ k → PartsOk ns → check_members k 1 (texts_row 0x40 ns) ≡ Fine
-unfolding check_members texts_row PartsOk
-members_fine [] k l h = refl
-members_fine (n ∷ ns) zero l h = absurd (omega arith)
-members_fine (n ∷ ns) (suc k) l h = fine_after _ _ (fine_header true 1 tt tt) (fine_after _ _ (fine_unless (is_name n && no_hyphen n) R.BadName h.0) (members_fine ns k (omega arith) h.1))
-
-members_read : (ns : List Bytes) → PartsOk ns → read (bytes (texts_row 0x40 ns)) ≡ texts_row 0x40 ns
-members_read ns h = read_back (texts_row 0x40 ns) (names_shaped ns) (names_sayable ns h)
+use Rattle.outs.proofs.Parts.{members_of}
 
 -- ---- a field that is taken
 
@@ -132,9 +110,9 @@ module _ (width : ℕ) where
   callee_whole (identifier n) r h e = (field_good width E.Callee 0x40 n end r tt (fine_unless (is_name n) R.BadName h) e, refl)
   callee_whole (member ns) r h e =
       let f : Bytes = bytes (texts_row 0x40 ns) in
-      let i = members_read ns h.2 in (
-        field_good width E.Callee 0x41 f end r tt
-            (fine_after _ _ (ap (check_members 8 1) i ∙ members_fine ns 8 h.1 h.2) (fine_unless (at_least 2 (read f)) R.Misplaced (subst (λ (x : Row). T (at_least 2 x)) (sym i) (at_least_texts 0x40 2 ns h.0)))) e,
+      let k = members_of ns h.2 in
+      let i = members_read ns 1 k in (
+        field_good width E.Callee 0x41 f end r tt (ap (check_name_by 0x41 1 f) i ∙ member_fine 1 f ns h.0 h.1 k) e,
         ap (λ (x : List Bytes). jsx_call (member x) (props_in r) (key_behind r)) (ap (texts_in 0x40) i ∙ texts_back 0x40 ns),
       )
 

@@ -15,13 +15,13 @@ use Rattle.page.specs.Check.{check_text}
 use Rattle.page.specs.Refusal.{Fine, after, unless}
 use Rattle.page.specs.declared.Refusal.TheVariants as R
 use Rattle.page.proofs.Verdicts.{refused, after_fine, unless_fine, and_both, or_either}
-use Rattle.page.proofs.Sound.{leaf_row, node_row, text_ok, empty_is}
+use Rattle.page.proofs.Tags.{ModuleItemTag, export_tag, declaration_tag, statement_tag, empty_item_tag, tag_or, module_item_tag}
+use Rattle.page.proofs.Bodies.{leaf_row, node_row, text_ok, empty_is}
 use Rattle.outs.specs.Held.{held}
 use Rattle.outs.specs.PageOut.{statement, declaration, allowed, among_items, left, within, check_sum, check_import, check_leaf, good}
 use Rattle.outs.specs.Tree.{Item, export_item, declaration_item, statement_item, empty_item, Import, PageOut, ItemOk, ItemsOk, ImportOk, ProperPageOut}
 use Rattle.outs.specs.Encode.{item_row, items_row, is_statement, has_statement, before_statement, placed_row, import_bytes, import_row, page_out_row}
 use Rattle.outs.specs.declared.Expect.TheVariants as E
-use Rattle.outs.proofs.OutTags.{ItemTag, export_tag, declaration_tag, statement_tag, empty_item_tag, item_tag}
 use Rattle.outs.proofs.OutSound.{body, good_field, Sound, sound}
 
 -- ---- the import
@@ -59,7 +59,7 @@ module _ (width : ℕ) where
     proper : ItemOk item width
     states : is_statement item ≡ statement t
 
-  item_sound : (t : ℕ) (f : Bytes) (i : Row) → ItemTag t → FrontFits (held width t) f i → Sound width i → body width t f i ≡ Fine → ItemAt t f i
+  item_sound : (t : ℕ) (f : Bytes) (i : Row) → ModuleItemTag t → FrontFits (held width t) f i → Sound width i → body width t f i ≡ Fine → ItemAt t f i
   unfolding held choose after within check_leaf item_row ItemOk is_statement
   item_sound t f i export_tag h s e = let n = s.pieces_are e in record { item = export_item n.0; row_is = λ r. ap (λ (x : Row). field 0x10 [] x r) n.1 ∙ node_row 0x10 f i r h; proper = n.2; states = refl }
   item_sound t f i declaration_tag h s e = let n = s.pieces_are e in record { item = declaration_item n.0; row_is = λ r. ap (λ (x : Row). field 0x11 [] x r) n.1 ∙ node_row 0x11 f i r h; proper = n.2; states = refl }
@@ -102,29 +102,27 @@ module _ (width : ℕ) where
     unfolding ItemsOk
     rest_at e =
         let p = good_field width E.Rest t f i r e in
-        let n = item_sound t f i (item_tag t p.0) fits inner p.1 in
+        let n = item_sound t f i (module_item_tag t p.0) fits inner p.1 in
         let m = rest.rest_are p.2 in
         (n.item ∷ m.0, items_more t f i r n m.0 m.1, (n.proper, m.2))
 
     -- a declaration, and a statement
     no_statement : T (declaration t) → T (leb 0x10 t && leb t 0x13) × (statement t ≡ false)
     no_statement h =
-        or_either (eqb t 0x11) (eqb t 0x13) h
-        (λ k. subst (λ (u : ℕ). T (leb 0x10 u && leb u 0x13) × (statement u ≡ false)) (sym (eqb→eq t 0x11 k)) (tt, refl))
-        (λ k. subst (λ (u : ℕ). T (leb 0x10 u && leb u 0x13) × (statement u ≡ false)) (sym (eqb→eq t 0x13 k)) (tt, refl))
+        tag_or (λ (u : ℕ). T (leb 0x10 u && leb u 0x13) × (statement u ≡ false)) t 0x11 (tt, refl) λ a.
+        tag_or (λ (u : ℕ). T (leb 0x10 u && leb u 0x13) × (statement u ≡ false)) t 0x13 (tt, refl) λ b. absurd (rw (a, b) at h)
 
     a_statement : T (statement t) → T (leb 0x10 t && leb t 0x13) × (statement t ≡ true)
     a_statement h =
-        or_either (eqb t 0x10) (eqb t 0x12) h
-        (λ k. subst (λ (u : ℕ). T (leb 0x10 u && leb u 0x13) × (statement u ≡ true)) (sym (eqb→eq t 0x10 k)) (tt, refl))
-        (λ k. subst (λ (u : ℕ). T (leb 0x10 u && leb u 0x13) × (statement u ≡ true)) (sym (eqb→eq t 0x12 k)) (tt, refl))
+        tag_or (λ (u : ℕ). T (leb 0x10 u && leb u 0x13) × (statement u ≡ true)) t 0x10 (tt, refl) λ a.
+        tag_or (λ (u : ℕ). T (leb 0x10 u && leb u 0x13) × (statement u ≡ true)) t 0x12 (tt, refl) λ b. absurd (rw (a, b) at h)
 
     no_statement_at : good width E.NoStatement (field t f i r) ≡ Fine → (is : List Item) × (items_row is width ≡ field t f i r) × ItemsOk is width × (has_statement is ≡ false)
     unfolding ItemsOk has_statement
     no_statement_at e =
         let p = good_field width E.NoStatement t f i r e in
         let q = no_statement p.0 in
-        let n = item_sound t f i (item_tag t q.0) fits inner p.1 in
+        let n = item_sound t f i (module_item_tag t q.0) fits inner p.1 in
         let m = rest.no_statement_are p.2 in
         (n.item ∷ m.0, items_more t f i r n m.0 m.1, (n.proper, m.2), ap₂ (λ (x y : Bool). x || y) (n.states ∙ q.1) m.3)
 
@@ -142,7 +140,7 @@ module _ (width : ℕ) where
     statement_at e =
         let p = good_field width E.Statement t f i r e in
         let q = a_statement p.0 in
-        let n = item_sound t f i (item_tag t q.0) fits inner p.1 in
+        let n = item_sound t f i (module_item_tag t q.0) fits inner p.1 in
         let m = rest.rest_are p.2 in
         let s : is_statement n.item ≡ true = n.states ∙ q.1 in
         (n.item ∷ m.0, place_first n s m.0 m.1, (n.proper, m.2), ap (λ (x : Bool). x || has_statement m.0) s)
@@ -153,7 +151,7 @@ module _ (width : ℕ) where
     among_declarations h e g = on (statement t) n.states g
       where
         n : ItemAt t f i
-        n = item_sound t f i (item_tag t h) fits inner e
+        n = item_sound t f i (module_item_tag t h) fits inner e
 
         more : is_statement n.item ≡ false → (b : Bool) (is : List Item) → between_row b is ≡ r → ItemsOk is width → Stated b is → (b : Bool) × (is : List Item) × (between_row b is ≡ field t f i r) × ItemsOk is width × Stated b is
         more s false is p k z = (false, n.item ∷ is, unfold between_row in items_more t f i r n is (unfold between_row in p), unfold ItemsOk in (n.proper, k), tt)
@@ -186,7 +184,7 @@ module _ (width : ℕ) where
         p = good_field width E.Placed t f i r e
 
         n : ItemAt t f i
-        n = item_sound t f i (item_tag t p.0) fits inner p.1
+        n = item_sound t f i (module_item_tag t p.0) fits inner p.1
 
         on : (c : Bool) → is_statement n.item ≡ c → good width (pick c E.Rest E.NoStatement) r ≡ Fine → (is : List Item) × (placed_row true is width ≡ field 0x83 [] end (field t f i r)) × ItemsOk is width
         on true s g = let m = rest.rest_are g in (n.item ∷ m.0, placed_first n s m.0 m.1, proper_more n m.0 m.2)

@@ -14,7 +14,7 @@ use Rattle.field.specs.Row.{Row, end, loose, field, bytes, inside, read}
 use Rattle.field.proofs.Reading.{FrontFits, SaneBy}
 use Rattle.field.proofs.RowLaws.{Sane, bytes_read, read_sane}
 use Rattle.page.specs.Number.{number_tag, minus_tag, number_in}
-use Rattle.page.specs.Tree.{choose}
+use Rattle.page.specs.Tree.{choose, texts_in, boolean_in}
 use Rattle.page.specs.Check.{check_boolean, check_name_by, check_name, check_members, at_least, is_name, no_hyphen}
 use Rattle.page.specs.Encode.{boolean_byte, texts_row}
 use Rattle.page.specs.Limits.{Utf8Ok}
@@ -22,49 +22,15 @@ use Rattle.page.specs.Refusal.{Verdict, Fine, after, unless}
 use Rattle.page.specs.declared.Refusal.TheVariants as R
 use Rattle.page.proofs.Verdicts.{refused, after_fine, unless_fine, header_fine}
 use Rattle.page.proofs.NumberLaws.{whole_sound, scaled_sound}
-use Rattle.page.proofs.Sound.{leaf_row, node_row, tag_is, text_ok, empty_is}
+use Rattle.page.proofs.Bodies.{leaf_row, node_row, text_ok, empty_is, boolean_sound, member_sound}
 use Rattle.outs.specs.Held.{nests, held}
 use Rattle.outs.specs.PageOut.{allowed, left, within, front_right, check_leaf, good}
 use Rattle.outs.specs.Tree.{Callee, tag_name, identifier, member, Expr, string_literal, number_literal, boolean_literal, null_literal, other_literal, minus_literal, array_literal, other_expr, template_call, attr_call, escape_call, boolean_choice, jsx_call, Exprs, no_exprs, expr, Elements, no_elements, element, spread_element, hole, Pieces, no_pieces, source_piece, expr_piece, Props, null_props, object, Properties, no_properties, property, spread_property, Key, no_key, key, PartsOk, CalleeOk, ExprOk, ExprsOk, ElementsOk, PiecesOk, PropsOk, PropertiesOk, KeyOk}
 use Rattle.outs.specs.Encode.{callee_row, expr_row, exprs_row, elements_row, pieces_row, props_row, properties_row, key_row}
 use Rattle.outs.specs.declared.Expect.{Expect}
 use Rattle.outs.specs.declared.Expect.TheVariants as E
-use Rattle.outs.proofs.Parts.{number_below, number_back}
+use Rattle.outs.proofs.Parts.{parts_of, number_below, number_back}
 use Rattle.outs.proofs.OutTags.{ExprTag, string_tag, whole_tag, boolean_tag, null_tag, other_literal_tag, minus_whole_tag, array_tag, other_expr_tag, scaled_tag, minus_scaled_tag, template_tag, attr_tag, escape_tag, choice_tag, jsx_tag, ElementTag, expr_element_tag, spread_element_tag, hole_tag, PieceTag, source_tag, expr_piece_tag, PropertyTag, property_tag, spread_property_tag, CalleeTag, tag_name_tag, identifier_tag, member_tag, PropsTag, null_props_tag, object_tag, expr_tag, element_tag, piece_tag, a_property_tag, callee_tag, props_tag}
-
--- ---- leaves
-
-bit_sound : (c : ℕ) → c ≤ 1 → (b : Bool) × (boolean_byte b ≡ c)
-bit_sound c l = on (eqb c 1) refl
-  where
-    on : (b : Bool) → eqb c 1 ≡ b → (b : Bool) × (boolean_byte b ≡ c)
-    on true e = (true, sym (eqb-true c 1 e))
-    on false e = let z : 0 ≡ c = omega (arith, eqb-false c 1 e) in (false, z)
-
-boolean_sound : (f : Bytes) → check_boolean f ≡ Fine → (b : Bool) × (boolean_byte b ∷ [] ≡ f)
-unfolding check_boolean
-boolean_sound [] e = refused R.Misplaced e
-boolean_sound (c ∷ []) e = let m = bit_sound c (leb→le c 1 (unless_fine (leb c 1) R.Misplaced e)) in (m.0, ap (λ (x : ℕ). x ∷ []) m.1)
-boolean_sound (c ∷ d ∷ f) e = refused R.Misplaced e
-
-members_sound : (x : Row) (k d : ℕ) → Sane x → check_members k d x ≡ Fine → (ns : List Bytes) × (texts_row 0x40 ns ≡ x) × PartsOk ns × (length ns ≤ k)
-unfolding check_members texts_row PartsOk Sane inside
-members_sound end k d s e = ([], refl, tt, omega arith)
-members_sound (loose b) k d s e = refused R.Truncated e
-members_sound (field t f i r) zero d s e = refused R.Misplaced e
-members_sound (field t f i r) (suc k) d s e =
-    let a = after_fine _ _ e in
-    let h = header_fine (eqb t 0x40) d a.0 in
-    let b = after_fine _ _ a.1 in
-    let m = members_sound r k d s.3 b.1 in
-    let l = m.3 in
-    (f ∷ m.0, ap (λ (x : Row). field 0x40 f end x) m.1 ∙ tag_is t 0x40 f i r (field 0x40 f end r) h.0 (leaf_row 0x40 f i r) s.0, (unless_fine (is_name f && no_hyphen f) R.BadName b.0, m.2), omega arith)
-
-at_least_long : (t k : ℕ) (ns : List Bytes) → T (at_least k (texts_row t ns)) → k ≤ length ns
-unfolding at_least texts_row
-at_least_long t zero ns h = omega arith
-at_least_long t (suc k) [] h = absurd h
-at_least_long t (suc k) (n ∷ ns) h = let l = at_least_long t k ns h in omega arith
 
 -- ---- a field that is taken
 
@@ -116,7 +82,7 @@ module _ (width : ℕ) where
   unfolding held choose after within check_leaf expr_row ExprOk number_tag minus_tag number_in
   expr_sound t f i string_tag h a s e = (string_literal f, λ r. leaf_row 0x70 f i r h, text_ok f e)
   expr_sound t f i whole_tag h a s e = let n = whole_sound 0x71 f a e refl in (number_literal (number_in 0x71 f), λ r. ap (λ (x : Bytes). field 0x71 x end r) n.0 ∙ leaf_row 0x71 f i r h, n.1)
-  expr_sound t f i boolean_tag h a s e = let n = boolean_sound f e in (boolean_literal n.0, λ r. ap (λ (x : Bytes). field 0x72 x end r) n.1 ∙ leaf_row 0x72 f i r h, tt)
+  expr_sound t f i boolean_tag h a s e = (boolean_literal (boolean_in f), λ r. ap (λ (x : Bytes). field 0x72 x end r) (boolean_sound f e) ∙ leaf_row 0x72 f i r h, tt)
   expr_sound t f i null_tag h a s e = (null_literal, λ r. ap (λ (x : Bytes). field 0x73 x end r) (empty_is f e) ∙ leaf_row 0x73 f i r h, tt)
   expr_sound t f i other_literal_tag h a s e = (other_literal f, λ r. leaf_row 0x74 f i r h, text_ok f e)
   expr_sound t f i minus_whole_tag h a s e = let n = whole_sound 0x75 f a e refl in (minus_literal (number_in 0x75 f), λ r. ap (λ (x : Bytes). field 0x75 x end r) n.0 ∙ leaf_row 0x75 f i r h, n.1)
@@ -167,10 +133,10 @@ module _ (width : ℕ) where
   callee_sound t f i tag_name_tag h a e = (tag_name f, λ r. leaf_row 0x81 f i r h, text_ok f e)
   callee_sound t f i identifier_tag h a e = (identifier f, λ r. leaf_row 0x40 f i r h, unless_fine (is_name f) R.BadName e)
   callee_sound t f i member_tag h a e =
-      let p = after_fine _ _ e in
-      let m = members_sound (read f) 8 1 (read_sane f a) p.0 in
-      let l = at_least_long 0x40 2 m.0 (subst (λ (x : Row). T (at_least 2 x)) (sym m.1) (unless_fine (at_least 2 (read f)) R.Misplaced p.1)) in
-      (member m.0, λ r. ap (λ (x : Bytes). field 0x41 x end r) (ap bytes m.1 ∙ bytes_read f a) ∙ leaf_row 0x41 f i r h, (l, m.3, m.2))
+      let x : Row = read f in
+      let ns : List Bytes = texts_in 0x40 x in
+      let m = member_sound 1 f x (read_sane f a) e in
+      (member ns, λ r. ap (λ (y : Bytes). field 0x41 y end r) (ap bytes m.0 ∙ bytes_read f a) ∙ leaf_row 0x41 f i r h, (m.1, m.2, parts_of ns 1 m.3))
 
   -- ---- a field in each of its places: header, body, then what follows
 

@@ -17,13 +17,13 @@ use Rattle.page.specs.Check.{check_empty}
 use Rattle.page.specs.Refusal.{Fine, after}
 use Rattle.page.specs.declared.Refusal.TheVariants as R
 use Rattle.page.proofs.Verdicts.{fine_after, fine_unless, both_and}
-use Rattle.page.proofs.Complete.{fine_text}
+use Rattle.page.proofs.TightRows.{short_parts}
+use Rattle.page.proofs.Bodies.{fine_text}
 use Rattle.outs.specs.PageOut.{allowed, left, within, check_sum, check_import, check_leaf, good}
 use Rattle.outs.specs.Tree.{Pieces, Item, export_item, declaration_item, statement_item, empty_item, Import, PageOut, PiecesOk, ItemOk, ItemsOk, ImportOk, ProperPageOut}
 use Rattle.outs.specs.Encode.{Sayable, pieces_row, item_row, items_row, is_statement, has_statement, before_statement, placed_row, import_bytes, import_row, page_out_row}
 use Rattle.outs.specs.declared.Expect.{Expect}
 use Rattle.outs.specs.declared.Expect.TheVariants as E
-use Rattle.outs.proofs.Parts.{sayable_parts}
 use Rattle.outs.proofs.OutSound.{body}
 use Rattle.outs.proofs.OutItems.{no_import}
 use Rattle.outs.proofs.OutReading.{pieces_in}
@@ -272,7 +272,7 @@ module _ (width : ℕ) where
   -- the import's body by the lengths that can be said
   import_short : (m : Import) (r : Row) → Sayable (import_row (Some m) r) → length (import_bytes m) ≤ 65535
   unfolding import_row
-  import_short m r l = omega (arith, (sayable_parts 0x82 (import_bytes m) end r l).0, length-append (import_bytes m) (bytes end))
+  import_short m r l = omega (arith, (short_parts 0x82 (import_bytes m) end r l).0, length-append (import_bytes m) (bytes end))
 
   import_good : (m : Import) (r : Row) → length (import_bytes m) ≤ 65535 → ImportOk (Some m) → good width E.Items r ≡ Fine → good width E.Whole (import_row (Some m) r) ≡ Fine
   unfolding import_row

@@ -1,47 +1,39 @@
--- What both outs' trees want of rows and numbers. Main statements: `sayable_parts`, `sayable_field`, `sayable`, `number_below`,
--- `number_back`. Assumes nothing.
+-- What both outs' trees want of rows, names and numbers. Main statements: `sayable`, `members_of`, `parts_of`, `number_below`, `number_back`,
+-- `two_first`, `two_fifth`, `four_first`. Assumes nothing.
 use mathlib.Core.Path.{◌≡◌, sym, ap, ◌∙◌, subst}
-use mathlib.Core.Bool.{Bool, true, false, ◌||◌, not}
+use mathlib.Core.Bool.{Bool, false, not}
 use Prim.Native.Nat.{ℕ, ◌^◌, ◌%◌, ◌≤◌, ◌<◌}
-use native.Mathlib.Nat.{one-le-pow, zero-lt-suc}
 use native.Mathlib.Omega.{arith}
-use mathlib.Core.List.{[], ◌++◌}
-use lib.Dec.{T, ltb, ltb→lt, nltb→le}
-use lib.ListN.{length}
+use native.Mathlib.Nat.{one-le-pow, zero-lt-suc}
+use mathlib.Core.List.{List, [], ◌∷◌}
+use lib.Dec.{T}
+use lib.ListN.{length, take, drop, get_or}
+use Rattle.std.specs.Int.{w16, w32, from_be_bytes}
 use Rattle.std.proofs.lemmas.Nat.{mod_below}
 use Rattle.field.specs.Bytes.{Bytes, AllBytes}
-use Rattle.field.specs.Number.{big_endian, number_of}
-use Rattle.field.specs.Row.{Row, field, bytes, long_body}
+use Rattle.field.specs.Number.{big_endian, number_of, number_from}
+use Rattle.field.specs.Row.{Row, long_body}
 use Rattle.field.proofs.NumberLaws.{big_endian_read, big_endian_back}
+use Rattle.page.specs.Limits.{MembersOk}
+use Rattle.outs.specs.Tree.{PartsOk}
 use Rattle.outs.specs.Encode.{Sayable}
 
 -- ---- lengths
 
-neither : (a b : Bool) → T (not (a || b)) → T (not a) × T (not b)
-neither true b t = absurd t
-neither false b t = (tt, t)
-
-pub sayable_parts : (t : ℕ) (f : Bytes) (i r : Row) → Sayable (field t f i r) → (length (f ++ bytes i) ≤ 65535) × Sayable i × Sayable r
-unfolding long_body
-sayable_parts t f i r h =
-    let p = neither (ltb 65535 (length (f ++ bytes i))) (long_body i || long_body r) h in
-    let q = neither (long_body i) (long_body r) p.1 in
-    (nltb→le 65535 (length (f ++ bytes i)) p.0, q.0, q.1)
-
-either : (n : ℕ) (a b : Bool) → n ≤ 65535 → T (not a) → T (not b) → T (not (ltb 65535 n || (a || b)))
-either n a b h p q = on (ltb 65535 n) (ltb→lt 65535 n) a p
-  where
-    on : (c : Bool) → (T c → 65535 < n) → (a : Bool) → T (not a) → T (not (c || (a || b)))
-    on true e a p = absurd (let l = e tt in omega arith)
-    on false e true p = absurd p
-    on false e false p = q
-
-pub sayable_field : (t : ℕ) (f : Bytes) (i r : Row) → length (f ++ bytes i) ≤ 65535 → Sayable i → Sayable r → Sayable (field t f i r)
-unfolding long_body
-sayable_field t f i r h p q = either (length (f ++ bytes i)) (long_body i) (long_body r) h p q
-
 pub sayable : (x : Row) → long_body x ≡ false → Sayable x
 sayable x e = subst (λ (b : Bool). T (not b)) (sym e) tt
+
+-- ---- the 40s of a 41, whose depth in a page out is 1
+
+pub members_of : (ns : List Bytes) → PartsOk ns → MembersOk 1 ns
+unfolding PartsOk MembersOk
+members_of [] h = tt
+members_of (n ∷ ns) h = (tt, h.0, members_of ns h.1)
+
+pub parts_of : (ns : List Bytes) (d : ℕ) → MembersOk d ns → PartsOk ns
+unfolding PartsOk MembersOk
+parts_of [] d h = tt
+parts_of (n ∷ ns) d h = (h.1, parts_of ns d h.2)
 
 -- ---- numbers
 
@@ -52,3 +44,18 @@ number_below f k a l =
 
 pub number_back : (f : Bytes) (k : ℕ) → AllBytes f → length f ≡ k → big_endian k (number_of f) [] ≡ f
 number_back f k a l = subst (λ (m : ℕ). big_endian m (number_of f) [] ≡ f) l (big_endian_back f a)
+
+-- of the first bytes, as code takes them one by one
+pub two_first : (s : Bytes) → 2 ≤ length s → {n : ℕ} → n ≡ from_be_bytes w16 (get_or s 0 0 ∷ get_or s 1 0 ∷ []) → n ≡ number_of (take 2 s)
+unfolding number_from
+two_first (a ∷ b ∷ s) l e = omega arith
+two_first _ l e = absurd (omega arith)
+
+pub two_fifth : (s : Bytes) → 6 ≤ length s → {n : ℕ} → n ≡ from_be_bytes w16 (get_or s 4 0 ∷ get_or s 5 0 ∷ []) → n ≡ number_of (take 2 (drop 4 s))
+two_fifth (a ∷ b ∷ c ∷ d ∷ s) l e = two_first s (omega arith) e
+two_fifth _ l e = absurd (omega arith)
+
+pub four_first : (s : Bytes) → 4 ≤ length s → {n : ℕ} → n ≡ from_be_bytes w32 (get_or s 0 0 ∷ get_or s 1 0 ∷ get_or s 2 0 ∷ get_or s 3 0 ∷ []) → n ≡ number_of (take 4 s)
+unfolding number_from
+four_first (a ∷ b ∷ c ∷ d ∷ s) l e = omega arith
+four_first _ l e = absurd (omega arith)

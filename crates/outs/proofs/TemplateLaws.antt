@@ -93,10 +93,6 @@ one_less n i b = let e : n - i - 1 ≡ n - (i + 1) = omega arith in ap (λ (k : 
 
 -- ---- kinds
 
-both : (a b : Bool) → (a && b) ≡ true → (a ≡ true) × (b ≡ true)
-both true b e = (refl, e)
-both false b e = absurd (let k : ◌≡◌ {A = ℕ} 0 1 = cc in omega arith)
-
 abbrev pub is_kind : ℕ → Bool
 is_kind k = leb 1 k && leb k 2
 

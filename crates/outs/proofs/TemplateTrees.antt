@@ -21,15 +21,14 @@ use Rattle.page.specs.Limits.{TextsOk}
 use Rattle.page.specs.Refusal.{Fine}
 use Rattle.page.specs.declared.Refusal.TheVariants as R
 use Rattle.page.proofs.Verdicts.{refused, after_fine, unless_fine, fine_after, fine_unless, and_both, both_and}
-use Rattle.page.proofs.Sound.{leaf_row, tag_is, text_ok}
-use Rattle.page.proofs.Complete.{fine_text, texts_back}
-use Rattle.page.proofs.Letters.{utf8_bytes}
+use Rattle.page.proofs.TightRows.{tight_sane, short_parts}
+use Rattle.page.proofs.Bodies.{leaf_row, tag_is, text_ok, fine_text, texts_back, texts_tight}
 use Rattle.outs.specs.Templates.{record_tag, count_of, all_kinds, front_of_record, check_strings, check_any_strings, check_some_strings, check_strings_of, check_records, check_templates}
 use Rattle.outs.specs.Tree.{Gap, attribute_gap, child_gap, OldTemplate, NewTemplate, Template, ProperTemplate, ProperTemplates}
 use Rattle.outs.specs.Encode.{Sayable, gap_byte, gap_bytes, template_row, templates_row, encode_templates, TemplatesOk}
 use Rattle.outs.specs.declared.Kind.{Kind}
 use Rattle.outs.specs.declared.Kind.TheVariants.{Old, New}
-use Rattle.outs.proofs.Parts.{sayable_parts, sayable, number_below, number_back}
+use Rattle.outs.proofs.Parts.{sayable, number_below, number_back}
 
 -- ---- strings
 
@@ -91,9 +90,7 @@ counted_fine (suc k) [] l h = absurd (omega arith)
 counted_fine (suc k) (x ∷ xs) l h = fine_after _ _ refl (fine_after _ _ (fine_text x h.0) (counted_fine k xs (omega arith) h.1))
 
 strings_sane : (xs : List Bytes) → TextsOk xs → Sane (texts_row 0x81 xs)
-unfolding texts_row TextsOk Sane inside FrontFits
-strings_sane [] h = tt
-strings_sane (x ∷ xs) h = let z : 0x81 < 256 = omega arith in (tt, utf8_bytes x h.0, tt, strings_sane xs h.1, z)
+strings_sane xs h = unfold Sane in tight_sane inside (texts_row 0x81 xs) (texts_tight 0x81 (λ x. unfold FrontFits inside in tt) tt xs h)
 
 strings_shaped : (xs : List Bytes) → Shaped (texts_row 0x81 xs)
 unfolding texts_row Shaped inside FrontFits
@@ -252,7 +249,7 @@ record_fine Old x r h l e =
     fine_after _ _ refl (fine_after _ _ (fine_unless (front_of_record Old f) R.Misplaced k) (fine_after _ _ (some_fine x.strings h.1 h.2) e))
 record_fine New x r h l e =
     let f : Bytes = new_front x.number x.gaps in
-    let p = sayable_parts 0x84 f (texts_row 0x81 x.strings) r l in
+    let p = short_parts 0x84 f (texts_row 0x81 x.strings) r l in
     let m : length f ≤ 65535 = omega (arith, p.0, length-append f (bytes (texts_row 0x81 x.strings))) in
     fine_after _ _ refl (fine_after _ _ (fine_unless (front_of_record New f) R.Misplaced (front_fine x.number x.gaps m))
     (fine_after _ _ (counted_fine (suc (count_of f)) x.strings (h.1 ∙ ap suc (sym (count_is x.number x.gaps m))) h.2) e))
@@ -262,7 +259,7 @@ unfolding template_row Shaped inside
 record_fits Old x r l s = (front_full 2 (big_endian 2 x.number []) (texts_row 0x81 x.strings) (length_big_endian 2 x.number []), strings_shaped x.strings, s)
 record_fits New x r l s =
     let f : Bytes = new_front x.number x.gaps in
-    let p = sayable_parts 0x84 f (texts_row 0x81 x.strings) r l in
+    let p = short_parts 0x84 f (texts_row 0x81 x.strings) r l in
     let m : length f ≤ 65535 = omega (arith, p.0, length-append f (bytes (texts_row 0x81 x.strings))) in
     let c : length f ≡ 4 + 2 + count_of f = length_new x.number x.gaps ∙ ap (λ (n : ℕ). 6 + n) (sym (count_is x.number x.gaps m)) in
     (front_counted 4 f (texts_row 0x81 x.strings) c, strings_shaped x.strings, s)
@@ -298,8 +295,8 @@ record_back New x r h =
 
 behind_record : (k : Kind) (x : Template k) (r : Row) → Sayable (template_row k x r) → Sayable r
 unfolding template_row
-behind_record Old x r l = (sayable_parts 0x80 (big_endian 2 x.number []) (texts_row 0x81 x.strings) r l).2
-behind_record New x r l = (sayable_parts 0x84 (new_front x.number x.gaps) (texts_row 0x81 x.strings) r l).2
+behind_record Old x r l = (short_parts 0x80 (big_endian 2 x.number []) (texts_row 0x81 x.strings) r l).2
+behind_record New x r l = (short_parts 0x84 (new_front x.number x.gaps) (texts_row 0x81 x.strings) r l).2
 
 templates_sound : (k : Kind) (x : Row) → Sane x → check_records k x ≡ Fine → (ts : List (Template k)) × (templates_row k ts ≡ x) × ProperTemplates k ts
 unfolding check_records templates_row ProperTemplates Sane

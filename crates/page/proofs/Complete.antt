@@ -26,37 +26,10 @@ use Rattle.page.specs.Refusal.{Fine}
 use Rattle.page.proofs.NumberLaws.{whole_back, scaled_back}
 use Rattle.page.proofs.Verdicts.{refused, after_fine, header_fine, fine_after, fine_unless, fine_header, or_left}
 use Rattle.page.proofs.Tags.{ChildTag, text_tag, container_tag, element_child_tag, fragment_child_tag, spread_child_tag, child_tag}
-use Rattle.page.proofs.Sound.{texts_here, expr_of, check_expr_of, fragment_children}
-
--- ---- leaves
-
-pub fine_text : (b : Bytes) → Utf8Ok b → check_text b ≡ Fine
-unfolding check_text
-fine_text b h = fine_unless (utf8 b) R.NotUtf8 h
-
-boolean_whole : (b : Bool) → (check_boolean (boolean_byte b ∷ []) ≡ Fine) × (boolean_in (boolean_byte b ∷ []) ≡ b)
-unfolding check_boolean boolean_in
-boolean_whole true = (refl, refl)
-boolean_whole false = (refl, refl)
+use Rattle.page.proofs.Bodies.{fine_text, boolean_whole, texts_back, member_fine}
+use Rattle.page.proofs.Sound.{expr_of, check_expr_of, fragment_children}
 
 -- ---- names
-
-pub texts_back : (t : ℕ) (ns : List Bytes) → texts_in t (texts_row t ns) ≡ ns
-unfolding texts_row
-texts_back t [] = unfold texts_in in refl
-texts_back t (n ∷ ns) = texts_here t t n end (texts_row t ns) (eqb_refl t) ∙ ap (λ (x : List Bytes). n ∷ x) (texts_back t ns)
-
-at_least_texts : (t k : ℕ) (ns : List Bytes) → k ≤ length ns → T (at_least k (texts_row t ns))
-unfolding at_least texts_row
-at_least_texts t zero ns h = tt
-at_least_texts t (suc k) [] h = absurd (omega arith)
-at_least_texts t (suc k) (n ∷ ns) h = at_least_texts t k ns (omega arith)
-
-members_fine : (ns : List Bytes) (k d : ℕ) → length ns ≤ k → MembersOk d ns → check_members k d (texts_row 0x40 ns) ≡ Fine
-unfolding check_members texts_row MembersOk
-members_fine [] k d l h = refl
-members_fine (n ∷ ns) zero d l h = absurd (omega arith)
-members_fine (n ∷ ns) (suc k) d l h = fine_after _ _ (fine_header true d tt h.0) (fine_after _ _ (fine_unless (is_name n && no_hyphen n) R.BadName h.1) (members_fine ns k d (omega arith) h.2))
 
 pair_fine : (n m : Bytes) (d : ℕ) → Deep d → NameOk n → NameOk m → check_ident d (texts_row 0x40 (n ∷ m ∷ [])) (λ r. check_ident d r check_end) ≡ Fine
 unfolding check_ident check_name check_end texts_row
@@ -70,8 +43,7 @@ name_whole : (n : Name) (d : ℕ) (x : Row) → ElementNameOk d n → check_attr
 unfolding check_element element_in name_row ElementNameOk check_name_by check_name name_by choose
 name_whole (identifier n) d x h e = (fine_after _ _ (fine_header true d tt h.0) (fine_after _ _ (fine_unless (is_name n) R.BadName h.1) e), refl)
 name_whole (member ns) d x h e = (
-  fine_after _ _ (fine_header true d tt h.0) (fine_after _ _ (fine_after _ _ (members_fine ns 8 (suc d) (leb→le (length ns) 8 h.2) h.3)
-      (fine_unless (at_least 2 (texts_row 0x40 ns)) R.Misplaced (at_least_texts 0x40 2 ns (leb→le 2 (length ns) h.1)))) e),
+  fine_after _ _ (fine_header true d tt h.0) (fine_after _ _ (member_fine (suc d) [] ns (leb→le 2 (length ns) h.1) (leb→le (length ns) 8 h.2) h.3) e),
   ap (λ (y : List Bytes). element (member y) (attributes_in x) (children_in x)) (texts_back 0x40 ns),
 )
 name_whole (namespaced n m) d x h e = (

@@ -18,7 +18,7 @@ use Rattle.page.specs.Limits.{Deep}
 use Rattle.page.specs.Jsx as J
 use Rattle.page.specs.Jsx.{JsxIdentifier, start, and_letter, and_digit, and_hyphen, JsxNamespacedName, namespaced, JsxMemberExpression, member, and_member, Short, NoHyphen, Each, Idents, none, one_more, IdentsOf, ElementName, element_name_tag, ElementNameBody, AttributeName, as_element_name, Attribute, attribute_body, AttributeValue, ValueTaken, value_body, Child, child_body, OneOf}
 use Rattle.page.specs.declared.Refusal.TheVariants as R
-use Rattle.page.proofs.Verdicts.{refused, after_fine, unless_fine, header_fine, fine_after, fine_unless, fine_header, and_both, both_and, or_either, or_left}
+use Rattle.page.proofs.Verdicts.{refused, after_fine, unless_fine, header_fine, fine_after, fine_unless, fine_header, and_both, both_and, or_either, or_left, or_right}
 use Rattle.page.proofs.Complete.{children_behind}
 use Rattle.page.proofs.Tags as K
 use Rattle.page.proofs.Tags.{ChildTag, NameTag, AttrNameTag, ValueTag, AttributeTag}
@@ -38,10 +38,6 @@ Shape (c ∷ cs) = T (name_start c) × T (name_parts cs)
 shape_more : (n : Bytes) (c : ℕ) → Shape n → T (name_part c) → Shape (n ++ c ∷ [])
 shape_more [] c h k = absurd h
 shape_more (x ∷ n) c h k = (h.0, parts_more n c h.1 k)
-
-or_right : (a b : Bool) → T b → T (a || b)
-or_right true b t = tt
-or_right false b t = t
 
 shape_of : (b : Bytes) → JsxIdentifier b → Shape b
 unfolding name_parts

@@ -3,10 +3,12 @@
 pub mod Verdicts
 pub mod Tags
 pub mod NumberLaws
+pub mod Letters
+pub mod TightRows
+pub mod Bodies
 pub mod Sound
 pub mod Complete
 pub mod Options
-pub mod Letters
 pub mod PageRow
 pub mod Exact
 pub mod Jsx

@@ -23,8 +23,7 @@ use Rattle.page.specs.Limits.{Utf8Ok, TextsOk, OptionsOk}
 use Rattle.page.specs.declared.Refusal.TheVariants as R
 use Rattle.page.specs.Refusal.{Fine}
 use Rattle.page.proofs.Verdicts.{refused, after_fine, unless_fine, header_fine, fine_after, fine_unless, fine_header, and_both, both_and}
-use Rattle.page.proofs.Sound.{leaf_row, node_row, tag_is, text_ok, empty_is, texts_here}
-use Rattle.page.proofs.Complete.{fine_text, texts_back}
+use Rattle.page.proofs.Bodies.{leaf_row, node_row, tag_is, text_ok, fine_text, empty_is, texts_here, texts_back}
 
 -- ---- options as they are written
 

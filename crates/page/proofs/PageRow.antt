@@ -21,72 +21,46 @@ use Rattle.page.specs.Limits.{MembersOk, ElementNameOk, AttrNameOk, TagOk, Attri
 use Rattle.page.proofs.NumberLaws.{number_all}
 use Rattle.page.proofs.Verdicts.{and_both}
 use Rattle.page.proofs.Letters.{utf8_bytes, name_bytes}
+use Rattle.page.proofs.TightRows.{Tight, tight_shaped, tight_sane, short_field}
+use Rattle.page.proofs.Bodies.{boolean_all, texts_tight, members_tight}
 use Rattle.page.proofs.Options.{Given, given_list, given_sums, given_source, given_row, ListOk, SourceOk, GivenOk}
-
--- no loose bytes, fronts as the tags want them, and nothing but bytes
-unfoldable pub Tight : Row → Type 0
-Tight end = Unit {0}
-Tight (loose b) = ⊥
-Tight (field t f i r) = FrontFits (inside t) f i × AllBytes f × T (ltb t 256) × Tight i × Tight r
-
-tight_shaped : (x : Row) → Tight x → Shaped x
-unfolding Tight Shaped
-tight_shaped end h = tt
-tight_shaped (loose b) h = absurd h
-tight_shaped (field t f i r) h = (h.0, tight_shaped i h.3, tight_shaped r h.4)
-
-tight_sane : (x : Row) → Tight x → Sane x
-unfolding Tight Sane
-tight_sane end h = tt
-tight_sane (loose b) h = absurd h
-tight_sane (field t f i r) h = (h.0, h.1, tight_sane i h.3, tight_sane r h.4, ltb→lt t 256 h.2)
 
 -- ---- names
 
-members_tight : (ns : List Bytes) (d : ℕ) → MembersOk d ns → Tight (texts_row 0x40 ns)
-unfolding texts_row MembersOk Tight inside FrontFits
-members_tight [] d h = tt
-members_tight (n ∷ ns) d h = (tt, name_bytes n (and_both (is_name n) (no_hyphen n) h.1).0, tt, tt, members_tight ns d h.2)
-
-name_tight : (n : Name) (d : ℕ) (r : Row) → ElementNameOk d n → Tight r → Tight (name_row n r)
+name_tight : (n : Name) (d : ℕ) (r : Row) → ElementNameOk d n → Tight inside r → Tight inside (name_row n r)
 unfolding name_row texts_row ElementNameOk Tight inside FrontFits AllBytes
 name_tight (identifier n) d r h k = (tt, name_bytes n h.1, tt, tt, k)
 name_tight (member ns) d r h k = (tt, tt, tt, members_tight ns (suc d) h.3, k)
 name_tight (namespaced n m) d r h k = (tt, tt, tt, (tt, name_bytes n h.2, tt, tt, (tt, name_bytes m h.3, tt, tt, tt)), k)
 
-attr_name_tight : (n : AttrName) (d : ℕ) (r : Row) → AttrNameOk d n → Tight r → Tight (attr_name_row n r)
+attr_name_tight : (n : AttrName) (d : ℕ) (r : Row) → AttrNameOk d n → Tight inside r → Tight inside (attr_name_row n r)
 unfolding attr_name_row texts_row AttrNameOk Tight inside FrontFits AllBytes
 attr_name_tight (A.ident n) d r h k = (tt, name_bytes n h.1, tt, tt, k)
 attr_name_tight (A.namespaced n m) d r h k = (tt, tt, tt, (tt, name_bytes n h.2, tt, tt, (tt, name_bytes m h.3, tt, tt, tt)), k)
 
 -- ---- tags, expressions and their series
 
-boolean_all : (b : Bool) → AllBytes (boolean_byte b ∷ [])
-unfolding AllBytes
-boolean_all true = (ltb→lt 1 256 tt, tt)
-boolean_all false = (ltb→lt 0 256 tt, tt)
-
 mutual
   unfolding tag_row TagOk Tight inside FrontFits AllBytes number_tag minus_tag
 
-  tag_tight : (t : Tag) (d : ℕ) (r : Row) → TagOk t d → Tight r → Tight (tag_row t r)
+  tag_tight : (t : Tag) (d : ℕ) (r : Row) → TagOk t d → Tight inside r → Tight inside (tag_row t r)
   tag_tight (element n as' cs) d r h k =
       (tt, tt, tt, name_tight n (suc d) (attributes_row as' (children_row cs)) h.1 (attributes_tight as' (suc d) (children_row cs) h.2 (children_tight cs (suc d) h.3)), k)
   tag_tight (fragment cs) d r h k = (tt, tt, tt, children_tight cs (suc d) h.1, k)
 
-  attributes_tight : (as' : Attributes) (d : ℕ) (r : Row) → AttributesOk as' d → Tight r → Tight (attributes_row as' r)
+  attributes_tight : (as' : Attributes) (d : ℕ) (r : Row) → AttributesOk as' d → Tight inside r → Tight inside (attributes_row as' r)
   attributes_tight no_attributes d r h k = k
   attributes_tight (attribute n v as') d r h k = (tt, tt, tt, attr_name_tight n (suc d) (value_row v) h.1 (value_tight v (suc d) h.2), attributes_tight as' d r h.3 k)
   attributes_tight (spread_attribute e as') d r h k = (tt, tt, tt, expr_tight e (suc d) end h.1 tt, attributes_tight as' d r h.2 k)
 
-  value_tight : (v : Value) (d : ℕ) → ValueOk v d → Tight (value_row v)
+  value_tight : (v : Value) (d : ℕ) → ValueOk v d → Tight inside (value_row v)
   value_tight absent d h = tt
   value_tight (string_value b) d h = (tt, utf8_bytes b h.1, tt, tt, tt)
   value_tight empty_value d h = (tt, tt, tt, tt, tt)
   value_tight (container_value e) d h = (tt, tt, tt, expr_tight e (suc d) end h.1 tt, tt)
   value_tight (tag_value t) d h = tag_tight t d end h tt
 
-  children_tight : (cs : Children) (d : ℕ) → ChildrenOk cs d → Tight (children_row cs)
+  children_tight : (cs : Children) (d : ℕ) → ChildrenOk cs d → Tight inside (children_row cs)
   children_tight no_children d h = tt
   children_tight (text_child b cs) d h = (tt, utf8_bytes b h.1, tt, tt, children_tight cs d h.2)
   children_tight (empty_child cs) d h = (tt, tt, tt, tt, children_tight cs d h.1)
@@ -94,7 +68,7 @@ mutual
   children_tight (tag_child t cs) d h = tag_tight t d (children_row cs) h.0 (children_tight cs d h.1)
   children_tight (spread_child e cs) d h = (tt, tt, tt, expr_tight e (suc d) end h.1 tt, children_tight cs d h.2)
 
-  expr_tight : (e : Expr) (d : ℕ) (r : Row) → ExprOk e d → Tight r → Tight (expr_row e r)
+  expr_tight : (e : Expr) (d : ℕ) (r : Row) → ExprOk e d → Tight inside r → Tight inside (expr_row e r)
   expr_tight (string_literal b) d r h k = (tt, utf8_bytes b h.1, tt, tt, k)
   expr_tight (number_literal (whole n)) d r h k = (tt, number_all (whole n), tt, tt, k)
   expr_tight (number_literal (scaled n p)) d r h k = (tt, number_all (scaled n p), tt, tt, k)
@@ -107,20 +81,20 @@ mutual
   expr_tight (other_expr ps) d r h k = (tt, tt, tt, pieces_tight ps (suc d) h.1, k)
   expr_tight (tag_expr t) d r h k = tag_tight t d r h k
 
-  items_tight : (is : Items) (d : ℕ) → ItemsOk is d → Tight (items_row is)
+  items_tight : (is : Items) (d : ℕ) → ItemsOk is d → Tight inside (items_row is)
   items_tight no_items d h = tt
   items_tight (item e is) d h = expr_tight e d (items_row is) h.0 (items_tight is d h.1)
   items_tight (spread_item e is) d h = (tt, tt, tt, expr_tight e (suc d) end h.1 tt, items_tight is d h.2)
   items_tight (hole_item is) d h = (tt, tt, tt, tt, items_tight is d h.1)
 
-  pieces_tight : (ps : Pieces) (d : ℕ) → PiecesOk ps d → Tight (pieces_row ps)
+  pieces_tight : (ps : Pieces) (d : ℕ) → PiecesOk ps d → Tight inside (pieces_row ps)
   pieces_tight no_pieces d h = tt
   pieces_tight (source_piece b ps) d h = (tt, utf8_bytes b h.1, tt, tt, pieces_tight ps d h.2)
   pieces_tight (tag_piece t ps) d h = tag_tight t d (pieces_row ps) h.0 (pieces_tight ps d h.1)
 
 -- ---- the page and its options
 
-module_items_tight : (is : Page) → ModuleItemsOk is → Tight (module_items_row is)
+module_items_tight : (is : Page) → ModuleItemsOk is → Tight inside (module_items_row is)
 unfolding module_items_row ModuleItemsOk Tight inside FrontFits AllBytes
 module_items_tight [] h = tt
 module_items_tight (export_item ps ∷ is) h = (tt, tt, tt, pieces_tight ps 3 h.0, module_items_tight is h.1)
@@ -128,57 +102,44 @@ module_items_tight (declaration_item ps ∷ is) h = (tt, tt, tt, pieces_tight ps
 module_items_tight (statement_item ps ∷ is) h = (tt, tt, tt, pieces_tight ps 3 h.0, module_items_tight is h.1)
 module_items_tight (empty_item ∷ is) h = (tt, tt, tt, tt, module_items_tight is h)
 
-page_tight : (p : Page) → ModuleItemsOk p → Tight (page_row p)
+page_tight : (p : Page) → ModuleItemsOk p → Tight inside (page_row p)
 unfolding page_row Tight inside FrontFits AllBytes
 page_tight p h = (tt, tt, tt, module_items_tight p h, tt)
 
 pub page_shaped : (p : Page) → ModuleItemsOk p → Shaped (page_row p)
-page_shaped p h = tight_shaped (page_row p) (page_tight p h)
+page_shaped p h = unfold Shaped in tight_shaped inside (page_row p) (page_tight p h)
 
 pub page_sane : (p : Page) → ModuleItemsOk p → Sane (page_row p)
-page_sane p h = tight_sane (page_row p) (page_tight p h)
+page_sane p h = unfold Sane in tight_sane inside (page_row p) (page_tight p h)
 
-texts_tight : (xs : List Bytes) → TextsOk xs → Tight (texts_row 0x20 xs)
-unfolding texts_row TextsOk Tight inside FrontFits
-texts_tight [] h = tt
-texts_tight (x ∷ xs) h = (tt, utf8_bytes x h.0, tt, tt, texts_tight xs h.1)
-
-list_tight : (t : ℕ) (a : Option (List Bytes)) (r : Row) → ((i : Row) → FrontFits (inside t) [] i) → T (ltb t 256) → ListOk a → Tight r → Tight (given_list t a r)
+list_tight : (t : ℕ) (a : Option (List Bytes)) (r : Row) → ((i : Row) → FrontFits (inside t) [] i) → T (ltb t 256) → ListOk a → Tight inside r → Tight inside (given_list t a r)
 unfolding given_list ListOk Tight AllBytes
 list_tight t none r f l h k = k
-list_tight t (some xs) r f l h k = (f (texts_row 0x20 xs), tt, l, texts_tight xs h, k)
+list_tight t (some xs) r f l h k = (f (texts_row 0x20 xs), tt, l, texts_tight 0x20 (λ x. unfold FrontFits inside in tt) tt xs h, k)
 
-sums_tight : (w : Bool) → Tight (given_sums w)
+sums_tight : (w : Bool) → Tight inside (given_sums w)
 unfolding given_sums Tight inside FrontFits AllBytes
 sums_tight false = tt
 sums_tight true = (tt, tt, tt, tt, tt)
 
-source_tight : (c : Option Bytes) (w : Bool) → SourceOk c → Tight (given_source c (given_sums w))
+source_tight : (c : Option Bytes) (w : Bool) → SourceOk c → Tight inside (given_source c (given_sums w))
 unfolding given_source SourceOk Tight inside FrontFits
 source_tight none w h = sums_tight w
 source_tight (some b) w h = (tt, utf8_bytes b h.0, tt, tt, sums_tight w)
 
-given_tight : (g : Given) → GivenOk g → Tight (given_row g)
+given_tight : (g : Given) → GivenOk g → Tight inside (given_row g)
 unfolding given_row GivenOk inside FrontFits
 given_tight g h =
     let r : Row = given_source g.source (given_sums g.sums) in
     list_tight 0x02 g.elements (given_list 0x03 g.attributes r) (λ i. tt) tt h.0 (list_tight 0x03 g.attributes r (λ i. tt) tt h.1 (source_tight g.source g.sums h.2))
 
 pub given_shaped : (g : Given) → GivenOk g → Shaped (given_row g)
-given_shaped g h = tight_shaped (given_row g) (given_tight g h)
+given_shaped g h = unfold Shaped in tight_shaped inside (given_row g) (given_tight g h)
 
 pub given_sane : (g : Given) → GivenOk g → Sane (given_row g)
-given_sane g h = tight_sane (given_row g) (given_tight g h)
+given_sane g h = unfold Sane in tight_sane inside (given_row g) (given_tight g h)
 
 -- ---- lengths
-
-no_long : (n : ℕ) (a b : Bool) → n ≤ 65535 → T (not a) → T (not b) → T (not (ltb 65535 n || (a || b)))
-no_long n a b h p q = on (ltb 65535 n) (ltb→lt 65535 n) a p
-  where
-    on : (c : Bool) → (T c → 65535 < n) → (a : Bool) → T (not a) → T (not (c || (a || b)))
-    on true e a p = absurd (let l = e tt in omega arith)
-    on false e true p = absurd p
-    on false e false p = q
 
 -- a row of at most 65,535 bytes has no longer body
 pub short_row : (x : Row) → length (bytes x) ≤ 65535 → T (not (long_body x))
@@ -188,4 +149,4 @@ short_row (loose b) h = tt
 short_row (field t f i r) h =
     let z = length_bytes t f i r in
     let m = length-append f (bytes i) in
-    no_long (length (f ++ bytes i)) (long_body i) (long_body r) (omega arith) (short_row i (omega arith)) (short_row r (omega arith))
+    short_field t f i r (omega arith) (short_row i (omega arith)) (short_row r (omega arith))

@@ -24,83 +24,10 @@ use Rattle.page.specs.Limits.{Deep, NameOk, Utf8Ok, MembersOk, ElementNameOk, At
 use Rattle.page.specs.declared.Refusal.TheVariants as R
 use Rattle.page.proofs.Verdicts.{refused, after_fine, unless_fine, header_fine}
 use Rattle.page.proofs.NumberLaws.{whole_sound, scaled_sound}
+use Rattle.page.proofs.Bodies.{chosen, leaf_row, node_row, tag_is, ended, text_ok, empty_is, boolean_sound, member_sound}
 use Rattle.page.proofs.Tags.{ExprTag, string_tag, whole_tag, scaled_tag, boolean_tag, null_tag, other_literal_tag, minus_whole_tag, minus_scaled_tag, array_tag, other_expr_tag, element_expr_tag, fragment_expr_tag, ChildTag, text_tag, container_tag, element_child_tag, fragment_child_tag, spread_child_tag, AttributeTag, named_attribute_tag, spread_attribute_tag, child_behind_tag, ValueTag, string_value_tag, container_value_tag, element_value_tag, fragment_value_tag, NameTag, identifier_tag, member_tag, namespaced_tag, AttrNameTag, ident_attr_tag, namespaced_attr_tag, ItemTag, expr_item_tag, spread_item_tag, hole_item_tag, PieceTag, source_tag, element_piece_tag, fragment_piece_tag, ModuleItemTag, export_tag, declaration_tag, statement_tag, empty_item_tag, expr_tag, child_tag, attribute_tag, value_tag, name_tag, attr_name_tag, item_tag, piece_tag, module_item_tag}
 
--- the first of two, where the test holds
-chosen : {A : Type 0} (b : Bool) (f g : Unit {0} → A) → T b → choose b f g ≡ f tt
-unfolding choose
-chosen true f g h = refl
-chosen false f g h = absurd h
-
--- ---- leaves
-
--- a field of text has no fields, and a field of fields no front
-pub leaf_row : (t : ℕ) (f : Bytes) (i r : Row) → FrontFits only_bytes f i → field t f end r ≡ field t f i r
-unfolding FrontFits
-leaf_row t f end r h = refl
-leaf_row t f (loose b) r h = absurd h
-leaf_row t f (field u g i q) r h = absurd h
-
-pub node_row : (t : ℕ) (f : Bytes) (i r : Row) → FrontFits (fields_after 0) f i → field t [] i r ≡ field t f i r
-unfolding FrontFits
-node_row t [] i r h = refl
-node_row t (c ∷ f) i r h = absurd (let e = eqb→eq (suc (length f)) 0 h in omega arith)
-
--- where one tag alone is allowed
-pub tag_is : (t u : ℕ) (f : Bytes) (i r x : Row) → T (eqb t u) → (FrontFits (inside u) f i → x ≡ field u f i r) → FrontFits (inside t) f i → x ≡ field t f i r
-tag_is t u f i r x e = subst (λ (v : ℕ). (FrontFits (inside v) f i → x ≡ field v f i r) → FrontFits (inside t) f i → x ≡ field t f i r) (eqb→eq t u e) (λ h. h)
-
-pub ended : (x : Row) → check_end x ≡ Fine → end ≡ x
-unfolding check_end
-ended end e = refl
-ended (loose b) e = refused R.Truncated e
-ended (field t f i r) e = refused R.Misplaced e
-
-pub text_ok : (f : Bytes) → check_text f ≡ Fine → Utf8Ok f
-unfolding check_text
-text_ok f e = unless_fine (utf8 f) R.NotUtf8 e
-
-pub empty_is : (f : Bytes) → check_empty f ≡ Fine → [] ≡ f
-unfolding check_empty
-empty_is [] e = refl
-empty_is (c ∷ f) e = absurd (let z = eqb→eq (suc (length f)) 0 (unless_fine (eqb (suc (length f)) 0) R.Misplaced e) in omega arith)
-
-bit_sound : (c : ℕ) (b : Bool) → c ≤ 1 → eqb c 1 ≡ b → boolean_byte b ≡ c
-bit_sound c true l e = sym (eqb-true c 1 e)
-bit_sound c false l e = omega (arith, eqb-false c 1 e)
-
-boolean_sound : (f : Bytes) → check_boolean f ≡ Fine → boolean_byte (boolean_in f) ∷ [] ≡ f
-unfolding check_boolean boolean_in
-boolean_sound [] e = refused R.Misplaced e
-boolean_sound (c ∷ []) e = ap (λ (x : ℕ). x ∷ []) (bit_sound c (eqb c 1) (leb→le c 1 (unless_fine (leb c 1) R.Misplaced e)) refl)
-boolean_sound (c ∷ d ∷ f) e = refused R.Misplaced e
-
 -- ---- names
-
--- a field with the tag that is asked for is read
-pub texts_here : (u t : ℕ) (f : Bytes) (i r : Row) → T (eqb t u) → texts_in u (field t f i r) ≡ f ∷ texts_in u r
-unfolding texts_in
-texts_here u t f i r h = chosen (eqb t u) _ _ h
-
-members_sound : (x : Row) (k d : ℕ) → Sane x → check_members k d x ≡ Fine → (texts_row 0x40 (texts_in 0x40 x) ≡ x) × MembersOk d (texts_in 0x40 x) × (length (texts_in 0x40 x) ≤ k)
-unfolding check_members texts_row MembersOk Sane inside
-members_sound end k d s e = unfold texts_in in (refl, tt, omega arith)
-members_sound (loose b) k d s e = refused R.Truncated e
-members_sound (field t f i r) zero d s e = refused R.Misplaced e
-members_sound (field t f i r) (suc k) d s e =
-    let a = after_fine _ _ e in
-    let h = header_fine (eqb t 0x40) d a.0 in
-    let b = after_fine _ _ a.1 in
-    let m = members_sound r k d s.3 b.1 in
-    let l = m.2 in
-    subst (λ (ns : List Bytes). (texts_row 0x40 ns ≡ field t f i r) × MembersOk d ns × (length ns ≤ suc k)) (sym (texts_here 0x40 t f i r h.0))
-    (ap (λ (x : Row). field 0x40 f end x) m.0 ∙ tag_is t 0x40 f i r (field 0x40 f end r) h.0 (leaf_row 0x40 f i r) s.0, (h.1, unless_fine (is_name f && no_hyphen f) R.BadName b.0, m.1), omega arith)
-
-at_least_long : (t k : ℕ) (ns : List Bytes) → T (at_least k (texts_row t ns)) → k ≤ length ns
-unfolding at_least texts_row
-at_least_long t zero ns h = omega arith
-at_least_long t (suc k) [] h = absurd h
-at_least_long t (suc k) (n ∷ ns) h = let l = at_least_long t k ns h in omega arith
 
 -- a 40, and what follows it
 record Ident (d : ℕ) (x : Row) (v : Row → Verdict) : Type 0 where
@@ -146,10 +73,8 @@ name_sound : (t d : ℕ) (f : Bytes) (i : Row) → NameTag t → FrontFits (insi
 unfolding check_name_by check_name name_by choose name_row ElementNameOk inside
 name_sound t d f i identifier_tag h s g e = (λ r. leaf_row 0x40 f i r h, (g, unless_fine (is_name f) R.BadName e))
 name_sound t d f i member_tag h s g e =
-    let a = after_fine _ _ e in
-    let m = members_sound i 8 (suc d) s a.0 in
-    let l = at_least_long 0x40 2 (texts_in 0x40 i) (subst (λ (x : Row). T (at_least 2 x)) (sym m.0) (unless_fine (at_least 2 i) R.Misplaced a.1)) in
-    (λ r. ap (λ (x : Row). field 0x41 [] x r) m.0 ∙ node_row 0x41 f i r h, (g, le→leb 2 (length (texts_in 0x40 i)) l, le→leb (length (texts_in 0x40 i)) 8 m.2, m.1))
+    let m = member_sound (suc d) f i s e in
+    (λ r. ap (λ (x : Row). field 0x41 [] x r) m.0 ∙ node_row 0x41 f i r h, (g, le→leb 2 (length (texts_in 0x40 i)) m.1, le→leb (length (texts_in 0x40 i)) 8 m.2, m.3))
 name_sound t d f i namespaced_tag h s g e =
     let p = pair_sound i (suc d) s e in
     (λ r. ap (λ (x : Row). field 0x42 [] x r) p.0 ∙ node_row 0x42 f i r h, (g, p.1, p.2, p.3))

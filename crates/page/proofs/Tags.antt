@@ -1,10 +1,10 @@
 -- The tags that a check allows in a place, as a kind for each: a proof goes by the kinds, and at each the tag is a numeral, so that
 -- checks and readings compute.
--- Main statements: `expr_tag`, `child_tag`, `attribute_tag`, `value_tag`, `name_tag`, `attr_name_tag`, `piece_tag`, `module_item_tag`.
+-- Main statements: `tag_or`, `in_order`; `expr_tag`, `child_tag`, `attribute_tag`, `value_tag`, `name_tag`, `attr_name_tag`, `piece_tag`, `module_item_tag`.
 -- Assumes nothing.
 use mathlib.Core.Path.{◌≡◌, refl, sym, subst}
 use mathlib.Core.Bool.{Bool, true, false, ◌&&◌, ◌||◌}
-use Prim.Native.Nat.{ℕ, suc, ◌≤◌}
+use Prim.Native.Nat.{ℕ, zero, suc, ◌+◌, ◌≤◌}
 use native.Mathlib.Omega.{arith}
 use lib.Dec.{T, leb, eqb, leb→le}
 use borrow.Author.Tests.{eqb-true, eqb-false}
@@ -68,113 +68,85 @@ pub data ModuleItemTag : ℕ → Type 0 where
   statement_tag : ModuleItemTag 0x12
   empty_item_tag : ModuleItemTag 0x13
 
--- ---- from a test to the kinds
+-- ---- from a test to the kinds, of any sort K
 
--- t is one of the tags, or all tests fail
-is_or : {C : Type 0} (t u : ℕ) → (t ≡ u → C) → (eqb t u ≡ false → C) → C
-is_or {C} t u p q = on (eqb t u) refl
+-- t is the tag, or its test fails
+pub tag_or : (K : ℕ → Type 0) (t u : ℕ) → K u → (eqb t u ≡ false → K t) → K t
+tag_or K t u x q = on (eqb t u) refl
   where
-    on : (b : Bool) → eqb t u ≡ b → C
-    on true e = p (eqb-true t u e)
+    on : (b : Bool) → eqb t u ≡ b → K t
+    on true e = subst K (sym (eqb-true t u e)) x
     on false e = q e
 
--- t is the least of what it may be, or more
-least_or : {C : Type 0} (t u : ℕ) → u ≤ t → (t ≡ u → C) → (suc u ≤ t → C) → C
-least_or t u l p q = is_or t u p λ e. q (omega (arith, eqb-false t u e))
+-- what holds of n tags in order, from the least on, and of no other
+unfoldable pub Each : (ℕ → Type 0) → ℕ → ℕ → Type 0
+Each K u zero = K u
+Each K u (suc n) = K u × Each K (suc u) n
 
--- what holds of u holds of t
-at : (P : ℕ → Type 0) (t u : ℕ) → P u → t ≡ u → P t
-at P t u x e = subst P (sym e) x
+from_least : (K : ℕ → Type 0) (t u n : ℕ) → u ≤ t → t ≤ n + u → Each K u n → K t
+unfolding Each
+from_least K t u zero l m k = let e : u ≡ t = omega arith in subst K e k
+from_least K t u (suc n) l m k = tag_or K t u k.0 λ e. from_least K t (suc u) n (omega (arith, eqb-false t u e)) (omega arith) k.1
+
+pub in_order : (K : ℕ → Type 0) (t u n : ℕ) → T (leb u t && leb t (n + u)) → Each K u n → K t
+in_order K t u n h k =
+    let p = and_both (leb u t) (leb t (n + u)) h in
+    from_least K t u n (leb→le u t p.0) (leb→le t (n + u) p.1) k
 
 pub child_tag : (t : ℕ) → T (is_child t) → ChildTag t
 child_tag t h =
-    is_or t 0x60 (at ChildTag t 0x60 text_tag) λ a.
-    is_or t 0x52 (at ChildTag t 0x52 container_tag) λ b.
-    is_or t 0x30 (at ChildTag t 0x30 element_child_tag) λ c.
-    is_or t 0x31 (at ChildTag t 0x31 fragment_child_tag) λ d.
-    is_or t 0x61 (at ChildTag t 0x61 spread_child_tag) λ e. absurd (rw (a, b, c, d, e) at h)
-
--- 70 to 76 by their order
-literal_tag : (t : ℕ) → T (leb 0x70 t && leb t 0x76) → ExprTag t
-literal_tag t h =
-    let k = and_both (leb 0x70 t) (leb t 0x76) h in
-    let l = leb→le 0x70 t k.0 in
-    let m = leb→le t 0x76 k.1 in
-    least_or t 0x70 l (at ExprTag t 0x70 string_tag) λ l.
-    least_or t 0x71 l (at ExprTag t 0x71 whole_tag) λ l.
-    least_or t 0x72 l (at ExprTag t 0x72 boolean_tag) λ l.
-    least_or t 0x73 l (at ExprTag t 0x73 null_tag) λ l.
-    least_or t 0x74 l (at ExprTag t 0x74 other_literal_tag) λ l.
-    least_or t 0x75 l (at ExprTag t 0x75 minus_whole_tag) λ l.
-    least_or t 0x76 l (at ExprTag t 0x76 array_tag) λ l.
-    absurd (omega arith)
-
--- 79 to 7B
-later_tag : (t : ℕ) → T (leb 0x79 t && leb t 0x7b) → ExprTag t
-later_tag t h =
-    let k = and_both (leb 0x79 t) (leb t 0x7b) h in
-    let l = leb→le 0x79 t k.0 in
-    let m = leb→le t 0x7b k.1 in
-    least_or t 0x79 l (at ExprTag t 0x79 other_expr_tag) λ l.
-    least_or t 0x7a l (at ExprTag t 0x7a scaled_tag) λ l.
-    least_or t 0x7b l (at ExprTag t 0x7b minus_scaled_tag) λ l.
-    absurd (omega arith)
+    tag_or ChildTag t 0x60 text_tag λ a.
+    tag_or ChildTag t 0x52 container_tag λ b.
+    tag_or ChildTag t 0x30 element_child_tag λ c.
+    tag_or ChildTag t 0x31 fragment_child_tag λ d.
+    tag_or ChildTag t 0x61 spread_child_tag λ e. absurd (rw (a, b, c, d, e) at h)
 
 pub expr_tag : (t : ℕ) → T (is_expr t) → ExprTag t
+unfolding Each
 expr_tag t h =
-    is_or t 0x30 (at ExprTag t 0x30 element_expr_tag) λ b.
-    is_or t 0x31 (at ExprTag t 0x31 fragment_expr_tag) λ c.
+    tag_or ExprTag t 0x30 element_expr_tag λ b.
+    tag_or ExprTag t 0x31 fragment_expr_tag λ c.
     or_either ((leb 0x70 t && leb t 0x76) || (leb 0x79 t && leb t 0x7b)) (is_tag t) h
-    (λ k. or_either (leb 0x70 t && leb t 0x76) (leb 0x79 t && leb t 0x7b) k (literal_tag t) (later_tag t))
+    (λ k. or_either (leb 0x70 t && leb t 0x76) (leb 0x79 t && leb t 0x7b) k
+    (λ l. in_order ExprTag t 0x70 6 l (string_tag, (whole_tag, (boolean_tag, (null_tag, (other_literal_tag, (minus_whole_tag, array_tag)))))))
+    (λ l. in_order ExprTag t 0x79 2 l (other_expr_tag, (scaled_tag, minus_scaled_tag))))
     (λ k. absurd (rw (b, c) at k))
 
 pub attribute_tag : (t : ℕ) → T (is_attribute t || is_child t) → AttributeTag t
 attribute_tag t h =
-    is_or t 0x50 (at AttributeTag t 0x50 named_attribute_tag) λ a.
-    is_or t 0x53 (at AttributeTag t 0x53 spread_attribute_tag) λ b. child_behind_tag (child_tag t (rw (a, b) at h)) a b
+    tag_or AttributeTag t 0x50 named_attribute_tag λ a.
+    tag_or AttributeTag t 0x53 spread_attribute_tag λ b. child_behind_tag (child_tag t (rw (a, b) at h)) a b
 
 pub value_tag : (t : ℕ) → T (eqb t 0x51 || eqb t 0x52 || is_tag t) → ValueTag t
 value_tag t h =
-    is_or t 0x51 (at ValueTag t 0x51 string_value_tag) λ a.
-    is_or t 0x52 (at ValueTag t 0x52 container_value_tag) λ b.
-    is_or t 0x30 (at ValueTag t 0x30 element_value_tag) λ c.
-    is_or t 0x31 (at ValueTag t 0x31 fragment_value_tag) λ d. absurd (rw (a, b, c, d) at h)
+    tag_or ValueTag t 0x51 string_value_tag λ a.
+    tag_or ValueTag t 0x52 container_value_tag λ b.
+    tag_or ValueTag t 0x30 element_value_tag λ c.
+    tag_or ValueTag t 0x31 fragment_value_tag λ d. absurd (rw (a, b, c, d) at h)
 
 pub name_tag : (t : ℕ) → T (is_name_tag t) → NameTag t
-name_tag t h =
-    let k = and_both (leb 0x40 t) (leb t 0x42) h in
-    let l = leb→le 0x40 t k.0 in
-    let m = leb→le t 0x42 k.1 in
-    least_or t 0x40 l (at NameTag t 0x40 identifier_tag) λ l.
-    least_or t 0x41 l (at NameTag t 0x41 member_tag) λ l.
-    least_or t 0x42 l (at NameTag t 0x42 namespaced_tag) λ l. absurd (omega arith)
+unfolding Each
+name_tag t h = in_order NameTag t 0x40 2 h (identifier_tag, (member_tag, namespaced_tag))
 
 pub attr_name_tag : (t : ℕ) → T (eqb t 0x40 || eqb t 0x42) → AttrNameTag t
 attr_name_tag t h =
-    is_or t 0x40 (at AttrNameTag t 0x40 ident_attr_tag) λ a.
-    is_or t 0x42 (at AttrNameTag t 0x42 namespaced_attr_tag) λ b. absurd (rw (a, b) at h)
+    tag_or AttrNameTag t 0x40 ident_attr_tag λ a.
+    tag_or AttrNameTag t 0x42 namespaced_attr_tag λ b. absurd (rw (a, b) at h)
 
 pub item_tag : (t : ℕ) → T (is_expr t || eqb t 0x77 || eqb t 0x78) → ItemTag t
 item_tag t h =
-    is_or t 0x77 (at ItemTag t 0x77 spread_item_tag) λ a.
-    is_or t 0x78 (at ItemTag t 0x78 hole_item_tag) λ b.
+    tag_or ItemTag t 0x77 spread_item_tag λ a.
+    tag_or ItemTag t 0x78 hole_item_tag λ b.
     or_either (is_expr t || eqb t 0x77) (eqb t 0x78) h
     (λ k. or_either (is_expr t) (eqb t 0x77) k (λ l. expr_item_tag (expr_tag t l) a b) (λ l. absurd (rw a at l)))
     (λ k. absurd (rw b at k))
 
 pub piece_tag : (t : ℕ) → T (eqb t 0x20 || is_tag t) → PieceTag t
 piece_tag t h =
-    is_or t 0x20 (at PieceTag t 0x20 source_tag) λ a.
-    is_or t 0x30 (at PieceTag t 0x30 element_piece_tag) λ b.
-    is_or t 0x31 (at PieceTag t 0x31 fragment_piece_tag) λ c. absurd (rw (a, b, c) at h)
+    tag_or PieceTag t 0x20 source_tag λ a.
+    tag_or PieceTag t 0x30 element_piece_tag λ b.
+    tag_or PieceTag t 0x31 fragment_piece_tag λ c. absurd (rw (a, b, c) at h)
 
 pub module_item_tag : (t : ℕ) → T (leb 0x10 t && leb t 0x13) → ModuleItemTag t
-module_item_tag t h =
-    let k = and_both (leb 0x10 t) (leb t 0x13) h in
-    let l = leb→le 0x10 t k.0 in
-    let m = leb→le t 0x13 k.1 in
-    least_or t 0x10 l (at ModuleItemTag t 0x10 export_tag) λ l.
-    least_or t 0x11 l (at ModuleItemTag t 0x11 declaration_tag) λ l.
-    least_or t 0x12 l (at ModuleItemTag t 0x12 statement_tag) λ l.
-    least_or t 0x13 l (at ModuleItemTag t 0x13 empty_item_tag) λ l.
-    absurd (omega arith)
+unfolding Each
+module_item_tag t h = in_order ModuleItemTag t 0x10 3 h (export_tag, (declaration_tag, (statement_tag, empty_item_tag)))

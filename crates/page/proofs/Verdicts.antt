@@ -2,10 +2,11 @@
 -- Main statements: `after_fine`, `fine_after`, `header_fine`, `fine_header`, `refused_by`, `fine_by`.
 -- Assumes nothing.
 use mathlib.Core.Path.{◌≡◌, refl, sym, ap, ◌∙◌}
-use mathlib.Core.Bool.{Bool, true, false, ◌&&◌, ◌||◌}
+use mathlib.Core.Bool.{Bool, true, false, ◌||◌, not}
 use Prim.Native.Nat.{ℕ}
 use native.Mathlib.Omega.{arith}
 use lib.Dec.{T, leb}
+pub use Rattle.std.proofs.Math.Facts.{and_yes as and_both, yes_and as both_and}
 use Rattle.page.specs.Refusal.{Verdict, Fine, Refused, after, unless}
 use Rattle.page.specs.Check.{check_header}
 use Rattle.page.specs.Limits.{Deep}
@@ -27,13 +28,13 @@ pub unless_fine : (b : Bool) (n : Refusal) → unless b n ≡ Fine → T b
 unless_fine true n e = tt
 unless_fine false n e = refused n e
 
+pub unless_true : (b : Bool) (n : Refusal) → unless b n ≡ Fine → b ≡ true
+unless_true true n e = refl
+unless_true false n e = refused n e
+
 -- what one test says behind a `?`
 pub fine_by : {b : Bool} {v : Verdict} (n : Refusal) → v ≡ unless b n → v ≡ Fine → b ≡ true
-fine_by {b} n u i = on b (sym u ∙ i)
-  where
-    on : (c : Bool) → unless c n ≡ Fine → c ≡ true
-    on true q = refl
-    on false q = refused n q
+fine_by {b} n u i = unless_true b n (sym u ∙ i)
 
 pub refused_by : {b : Bool} {v : Verdict} {n e : Refusal} → v ≡ unless b n → v ≡ Refused e → (b ≡ false) × (n ≡ e)
 refused_by {b} {v} {n} {e} u i = on b (sym u ∙ i)
@@ -64,17 +65,25 @@ fine_header ok d t h = fine_after (unless ok R.Misplaced) (λ _. unless (leb d 4
 
 -- ---- Booleans
 
-pub and_both : (a b : Bool) → T (a && b) → T a × T b
-and_both true b t = (tt, t)
-and_both false b t = absurd t
+pub is_true : (b : Bool) → T b → b ≡ true
+is_true true t = refl
+is_true false t = absurd t
 
-pub both_and : (a b : Bool) → T a → T b → T (a && b)
-both_and true b t u = u
-both_and false b t u = absurd t
+pub is_false : (b : Bool) → T (not b) → b ≡ false
+is_false true t = absurd t
+is_false false t = refl
 
 pub or_left : (a b : Bool) → T a → T (a || b)
 or_left true b t = tt
 or_left false b t = absurd t
+
+pub or_right : (a b : Bool) → T b → T (a || b)
+or_right true b t = tt
+or_right false b t = t
+
+pub not_either : (a b : Bool) → T (not a) → T (not b) → T (not (a || b))
+not_either true b t u = absurd t
+not_either false b t u = u
 
 pub or_either : {C : Type 0} (a b : Bool) → T (a || b) → (T a → C) → (T b → C) → C
 or_either true b t p q = p t

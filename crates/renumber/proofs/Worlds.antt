@@ -8,6 +8,7 @@ use mathlib.Core.List.{◌++◌}
 use lib.Dec.{ltb, eqb}
 use lib.ListN.{length, length-append}
 use borrow.Author.Tests.{ne_eqb, le-ltb}
+use Rattle.std.proofs.Math.Bool.{or-false}
 use Rattle.field.specs.Bytes.{Bytes}
 use Rattle.field.specs.Row.{Row, end, loose, field, field_bytes, bytes, long_body}
 use Rattle.field.specs.Number.{big_endian, number_of}
@@ -65,10 +66,6 @@ leaves t m w =
 
 -- ---- tests
 
-or_false : (l : Bool) → l || false ≡ l
-or_false true = refl
-or_false false = refl
-
 or_row : (l a b c : Bool) → l || (a || (b || c)) ≡ ((l || b) || a) || c
 or_row true a b c = refl
 or_row false true true c = refl
@@ -86,11 +83,11 @@ or_four false false false c = refl
 
 pub does_end : (to : ℕ) (w : World) → does to end w ≡ w
 unfolding does renumbered bytes long_body has_wide
-does_end to w = world_is (put_nil w.out w.at) (omega arith) (or_false w.long) (or_false w.wide)
+does_end to w = world_is (put_nil w.out w.at) (omega arith) (or-false w.long) (or-false w.wide)
 
 pub does_loose : (to : ℕ) (b : Bytes) (w : World) → does to (loose b) w ≡ writes b w
 unfolding does writes renumbered bytes long_body has_wide
-does_loose to b w = world_is refl refl (or_false w.long) (or_false w.wide)
+does_loose to b w = world_is refl refl (or-false w.long) (or-false w.wide)
 
 -- a field, whatever its body: entered, its fields, left, and what follows
 pub does_field : (to t : ℕ) (f : Bytes) (i r : Row) (w : World) → does to (field t f i r) w ≡ does to r (leaves t w.at (does to i (enters to t f w)))
@@ -120,12 +117,12 @@ does_leaf to t b r w q s =
     let n : ℕ = w.at in
     let no : eqb t 0x90 ≡ false = ne_eqb t 0x90 q in
     let l : n + 3 + length b - n - 3 ≡ length b = omega arith in
-    let e : enters to t b w ≡ record { out = put o (n + 3) b; at = n + 3 + length b; long = w.long; wide = w.wide } = rw no (world_is refl refl refl (or_false w.wide)) in
+    let e : enters to t b w ≡ record { out = put o (n + 3) b; at = n + 3 + length b; long = w.long; wide = w.wide } = rw no (world_is refl refl refl (or-false w.wide)) in
     let a : leaves t n (enters to t b w) ≡ writes (field_bytes t b) w =
     ap (leaves t n) e
     ∙ world_is (ap (λ (x : ℕ). put (put o (n + 3) b) n (head t x)) l ∙ put_back o n (head t (length b)) b)
     (omega (arith, length_field_bytes t b))
-    (ap (λ (x : ℕ). w.long || ltb 65535 x) l ∙ ap (λ (x : Bool). w.long || x) (le-ltb 65535 (length b) s) ∙ or_false w.long) refl in
+    (ap (λ (x : ℕ). w.long || ltb 65535 x) l ∙ ap (λ (x : Bool). w.long || x) (le-ltb 65535 (length b) s) ∙ or-false w.long) refl in
     does_field to t b end r w ∙ ap (λ (x : World). does to r (leaves t n x)) (does_end to (enters to t b w)) ∙ ap (does to r) a
 
 -- all is done

@@ -10,6 +10,7 @@ use mathlib.Core.Bool.{Bool, true, false, ◌||◌, not}
 use native.Mathlib.Omega.{arith}
 use lib.Dec.{T, leb, leb→le, nleb→lt}
 use lib.ListN.{length}
+use Rattle.std.proofs.lemmas.Bool.{or_from}
 use Rattle.field.specs.Bytes.{Bytes, AllBytes}
 use Rattle.field.specs.Row.{Row, read, bytes}
 use Rattle.page.specs.Page.{Options, Page}
@@ -28,7 +29,7 @@ use Rattle.spec.specs.Answer.{Written, Outcome, refused, accepted, check_outputs
 use Rattle.spec.specs.Acceptance.{has_fragment}
 use Rattle.spec.specs.Kept.{Repeated, Mixed}
 use Rattle.spec.specs.Late.{written, templates_need, page_need, over_long, Unmarked, Late, tag_left, repeated, mixed, too_long, templates_small, page_small, taken}
-use Rattle.spec.proofs.Ledger.{or_false, never}
+use Rattle.spec.proofs.Ledger.{never}
 use Rattle.spec.proofs.Weight.{page_weight}
 use Rattle.spec.proofs.Closure.{Visited}
 use Rattle.spec.proofs.PageOut.{page_stands}
@@ -209,7 +210,7 @@ module _ (p : Page) (h : WithinLimits p) (options : Bytes) (short : length optio
       on false x y =
           let e = page_stands 0x30 refl refl refl listed (transform listed (given options p)) ∙ x tt in
           let f = page_stands 0x31 refl refl refl listed (transform listed (given options p)) ∙ y tt in
-          subst T (or_false (stands 0x30 (page_out_row listed (transform listed (given options p)))) (stands 0x31 (page_out_row listed (transform listed (given options p)))) e f) s
+          subst T (or_from (stands 0x30 (page_out_row listed (transform listed (given options p)))) (stands 0x31 (page_out_row listed (transform listed (given options p)))) e f) s
 
   pub tag_left_stands : outcome (encode p) options scratch tr pr ≡ refused R.TagLeft → T (stands 0x30 (page_out_row (options_in (read options)) (transform (options_in (read options)) (given options p))))
   tag_left_stands e = left_stands listed (given options p) (late_tag_left answer_late e)

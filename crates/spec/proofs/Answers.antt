@@ -6,6 +6,7 @@ use mathlib.Core.Bool.{Bool, true, false, ◌&&◌, ◌||◌, not}
 use native.Mathlib.Omega.{arith}
 use lib.Dec.{T, leb, leb→le, le→leb}
 use lib.ListN.{length}
+use Rattle.std.proofs.Math.Facts.{or_no}
 use Rattle.field.specs.Bytes.{Bytes}
 use Rattle.field.specs.Row.{Row, read, bytes, long_body}
 use Rattle.page.specs.Page.{Options}
@@ -19,16 +20,6 @@ use Rattle.spec.specs.Pass.{Done}
 use Rattle.spec.specs.Transform.{transform, templates_row, page_out_row}
 use Rattle.spec.specs.Late.{written}
 use Rattle.spec.specs.Answer.{Written, Outcome, accepted, check_outputs, decided, transformed, check_inputs, page_given, outcome}
-
--- ---- Booleans
-
-neither : (a b : Bool) → T (not (a || b)) → T (not a) × T (not b)
-neither true b t = absurd t
-neither false b t = (tt, t)
-
-not_either : (a b : Bool) → T (not a) → T (not b) → T (not (a || b))
-not_either true b t u = absurd t
-not_either false b t u = u
 
 -- ---- the checks of the inputs
 
@@ -102,7 +93,7 @@ fine_outputs tr pr f t p h =
 
 -- neither output has a long body
 pub short_outputs : (f : Flags) (t p : Row) → T (not (f.long || (long_body t || long_body p))) → T (not (long_body t)) × T (not (long_body p))
-short_outputs f t p h = neither (long_body t) (long_body p) (neither f.long (long_body t || long_body p) h).1
+short_outputs f t p h = or_no (long_body t) (long_body p) (or_no f.long (long_body t || long_body p) h).1
 
 -- ---- an accepted answer
 

@@ -8,6 +8,8 @@ use mathlib.Core.List.{List, [], ◌∷◌}
 use lib.Dec.{T, eqb, ltb}
 use lib.ListN.{length, length-append}
 use borrow.Author.Tests.{lt-ltb}
+use Rattle.std.proofs.Math.Facts.{or_no}
+use Rattle.page.proofs.Verdicts.{is_false}
 use Rattle.field.specs.Bytes.{Bytes}
 use Rattle.field.specs.Row.{Row, end, loose, field}
 use Rattle.page.specs.Page.{Options, Page}
@@ -18,9 +20,10 @@ use Rattle.spec.specs.Transform.{transform, bit, stands, module_items}
 use Rattle.spec.specs.Demand.{kinds_in}
 use Rattle.spec.proofs.Good.{OneField}
 use Rattle.spec.proofs.Ledger as G
-use Rattle.spec.proofs.Ledger.{Test, recorded, called_row, numbered, span, neither, is_false, recorded_append, numbered_append, span_add, span_first, called_append, one_behind, then}
+use Rattle.spec.proofs.Ledger.{Test, recorded, called_row, numbered, span, recorded_append, numbered_append, span_add, span_first, called_append, one_behind, then}
 use Rattle.spec.proofs.Invariant.{Split, Alone}
 use Rattle.spec.proofs.Counting.{None, nothing_marked, Counting, every_page}
+use Rattle.spec.proofs.Weighed.{Raws, raws_append}
 
 -- ---- numbers: as many templates as numbers taken, each number once
 
@@ -52,16 +55,14 @@ module _ (p : Test) where
     visited : Visited 0 n d
     one : OneField d.value
 
-  unfoldable Raws : Mid → Type 0
-  Raws none = Unit {0}
-  Raws (node t f i r) = Raws i × Raws r
-  Raws (raw q r) = ((n : ℕ) → TagVisited n (q n)) × Raws r
+  abbrev Tags : Mid → Type 0
+  Tags = Raws (λ q. (n : ℕ) → TagVisited n (q n))
 
   -- expressions with k calls; nothing in them weighs
   record Holds (k : ℕ) (m : Mid) (w : ℕ) : Type 0 where
     weightless : w ≡ 0
     balance : G.called p m ≡ k
-    raws : Raws m
+    raws : Tags m
 
   record First (n : ℕ) (d : Done Mid) (w : ℕ) : Type 0 where
     ledger : Numbered n d
@@ -73,12 +74,6 @@ module _ (p : Test) where
   unfolding G.called
   uncalled t f i r h = rw (is_false (eqb t 0x90) h) (omega arith)
 
-  raws_append : (x y : Mid) → Raws x → Raws y → Raws (x +++ y)
-  unfolding Raws ◌+++◌
-  raws_append none y g h = h
-  raws_append (node t f i r) y g h = (g.0, raws_append r y g.1 h)
-  raws_append (raw q r) y g h = (g.0, raws_append r y g.1 h)
-
   holds_node : (t : ℕ) (f : Bytes) {i r : Mid} {j k l a b w : ℕ} → T (not (eqb t 0x90)) → j + k ≡ l → a + b ≡ w → Holds j i a → Holds k r b → Holds l (node t f i r) w
   unfolding Raws
   holds_node t f {i} {r} h d e x y = record { weightless = omega (arith, e, x.weightless, y.weightless); balance = omega (arith, d, uncalled t f i r h, x.balance, y.balance); raws = (x.raws, y.raws) }
@@ -89,10 +84,10 @@ module _ (p : Test) where
 
   holds_append : {x y : Mid} {j k l a b w : ℕ} → j + k ≡ l → a + b ≡ w → Holds j x a → Holds k y b → Holds l (x +++ y) w
   holds_append {x} {y} d e g h =
-      record { weightless = omega (arith, e, g.weightless, h.weightless); balance = omega (arith, d, called_append p x y, g.balance, h.balance); raws = raws_append x y g.raws h.raws }
+      record { weightless = omega (arith, e, g.weightless, h.weightless); balance = omega (arith, d, called_append p x y, g.balance, h.balance); raws = raws_append _ x y g.raws h.raws }
 
   -- a part that holds no call, of a row that holds none
-  part : {m : Mid} → G.called p m ≡ 0 → Raws m → Holds 0 m 0
+  part : {m : Mid} → G.called p m ≡ 0 → Tags m → Holds 0 m 0
   part e g = record { weightless = refl; balance = e; raws = g }
 
   inner_holds : {t : ℕ} {f : Bytes} {i : Mid} {w : ℕ} → Holds 0 (node t f i none) w → Holds 0 i w
@@ -118,7 +113,7 @@ module _ (p : Test) where
     visited : Visited (G.called p m) n d
     kinds : kinds_in d.value ≡ kinds_of m
 
-  visits : (m : Mid) → Raws m → (n : ℕ) → RowVisited m n (visit_exprs m n)
+  visits : (m : Mid) → Tags m → (n : ℕ) → RowVisited m n (visit_exprs m n)
   unfolding Raws G.called called_row recorded visit_exprs both pure kinds_in kinds_of
   visits none g n = record { visited = record { ledger = none_numbered end n; balance = refl }; kinds = refl }
   visits (node t f i r) g n =
@@ -143,10 +138,10 @@ module _ (p : Test) where
       }
 
   -- a tag that is left has no calls behind it
-  inside : (m : Mid) → Raws m → Alone m → (n : ℕ) → Visited (G.called p m) n (visit_inside m n) × OneField (visit_inside m n).value
+  inside : (m : Mid) → Tags m → Alone m → (n : ℕ) → Visited (G.called p m) n (visit_inside m n) × OneField (visit_inside m n).value
   unfolding visit_inside visit_exprs both leave raise pure G.called called_row recorded Alone OneField
   inside none g a n = absurd a
-  inside (node t f i none) g a n = ((visits (node t f i none) g n).visited, is_false (eqb t 0x91 || eqb t 0x93) (neither (eqb t 0x20) (eqb t 0x91 || eqb t 0x93) a).1)
+  inside (node t f i none) g a n = ((visits (node t f i none) g n).visited, is_false (eqb t 0x91 || eqb t 0x93) (or_no (eqb t 0x20) (eqb t 0x91 || eqb t 0x93) a).1)
   inside (node t f i (node u h j r)) g a n = absurd a
   inside (node t f i (raw q r)) g a n = absurd a
   inside (raw q none) g a n = (record { ledger = record { count = (none_numbered end n).count; each = (none_numbered end n).each }; balance = refl }, refl)
@@ -208,7 +203,7 @@ module _ (p : Test) where
         PassOk = λ q w. (n : ℕ) → First n (q n) w;
         VisitOk = λ q w. (w ≡ 0) × ((n : ℕ) → TagVisited n (q n));
         mid_none = holds_none;
-        mid_node = λ t f h d e x y. holds_node t f (neither (eqb t 0x90) (eqb t 0x74 || eqb t 0x79) h).0 d e x y;
+        mid_node = λ t f h d e x y. holds_node t f (or_no (eqb t 0x90) (eqb t 0x74 || eqb t 0x79) h).0 d e x y;
         mid_literal = λ b e x. holds_node 0x74 b tt (omega arith) e holds_none x;
         mid_other = λ i e x y. holds_node 0x79 [] tt (omega arith) (omega (arith, e)) x y;
         mid_raw = raw_holds;

@@ -8,6 +8,7 @@ use mathlib.Core.List.{List, [], ◌∷◌, ◌++◌, reverse, reverse-append}
 use mathlib.Core.Option.{Option, none, some}
 use lib.Dec.{leb, ltb, eqb}
 use borrow.Author.Tests.{leb-true, ltb-true, ltb-false, lt-ltb, le-ltb, eqb-true, ne_eqb}
+use Rattle.std.proofs.lemmas.Bool.{and_parts}
 use Rattle.field.specs.Bytes.{Bytes, pick}
 use Rattle.field.specs.Bytes as A
 use Rattle.utf8.specs.Utf8.{Range, ◌to◌, within, tail, Form, ◌then◌, forms, begun, utf8_behind, utf8, ascii}
@@ -27,9 +28,6 @@ Text b = utf8 b ≡ true
 unfoldable pub AllText : List Bytes → Type 0
 AllText [] = Unit {0}
 AllText (l ∷ ls) = Text l × AllText ls
-
-and_parts : (a b : Bool) → (a && b) ≡ true → (a ≡ true) × (b ≡ true)
-and_parts a b h = (and-eq-true_iff a b).0 h
 
 -- ---- behind its first byte a character has none below 80
 

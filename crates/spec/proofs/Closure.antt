@@ -8,6 +8,8 @@ use mathlib.Core.Bool.{Bool, true, false, not}
 use mathlib.Core.List.{List, [], ◌∷◌, ◌++◌}
 use lib.Dec.{T, eqb, eqb→eq}
 use lib.ListN.{length}
+use Rattle.std.proofs.Math.Facts.{or_no}
+use Rattle.page.proofs.Verdicts.{not_either}
 use Rattle.field.specs.Bytes.{Bytes}
 use Rattle.field.specs.Number.{big_endian}
 use Rattle.field.specs.Row.{Row, end, field, Inside, only_bytes, fields_after, counted, counted_front, inside}
@@ -19,7 +21,7 @@ use Rattle.spec.specs.Visit.{visit_exprs, visit_inside, visit_after, leave}
 use Rattle.spec.specs.Transform.{stands}
 use Rattle.spec.proofs.Good.{Sound, AllSound, Kept, GoodVisit, Clean, GoodDone, GoodPass, GoodGap, GoodParts, FormedBy, no_tag, OneNode, OneField, Piece, literal, hole, piece_strings, piece_kinds}
 use Rattle.spec.proofs.Nested.{Neutral, sound_pieces}
-use Rattle.spec.proofs.Ledger.{or_either, neither, never, down_both, sound_append, kinds_append, stands_node, one_behind, then, kept_pure, kept_raised, kept_then}
+use Rattle.spec.proofs.Ledger.{or_either, never, sound_append, kinds_append, stands_node, one_behind, then, kept_pure, kept_raised, kept_then}
 pub use Rattle.spec.proofs.Passes.{clean_weaken, still_weaken, still_none, still_node, still_raw, still_append, good_weaken, good_pure, good_both, good_raise}
 
 -- one expression: a field that is neither a jsxAttr call nor a choice, or a tag still to be visited
@@ -109,14 +111,14 @@ module _ (Fragments : Type 0) where
       }
   parts_give (mark f ∷ ps) qs w g =
       let r = parts_give ps qs w g.1 in
-      record { good = r.good; kinds = r.kinds; strings = r.strings; none_left = down_both f.left (marks ps).left g.0 r.none_left }
+      record { good = r.good; kinds = r.kinds; strings = r.strings; none_left = not_either f.left (marks ps).left g.0 r.none_left }
 
   -- the pass of a template, by that of its dynamic expressions and by its marks
   template_kept : (d : Done Mid) (f : Flags) (t : Template) (v : Mid) → T (not f.left) → (T (not f.mixed) → Sound t) → Kept Fragments d → Kept Fragments (record { value = v; taken = 1 + d.taken; templates = d.templates ++ (t ∷ []); flags = join f d.flags })
   unfolding AllSound
   template_kept d f t v l s k =
       record {
-        sound = λ m. let u = neither f.mixed d.flags.mixed m in sound_append d.templates (t ∷ []) (k.sound u.1) (s u.0, tt);
+        sound = λ m. let u = or_no f.mixed d.flags.mixed m in sound_append d.templates (t ∷ []) (k.sound u.1) (s u.0, tt);
         fragments = or_either f.left d.flags.left (λ x. absurd (never f.left l x)) k.fragments;
       }
 
@@ -162,13 +164,13 @@ module _ (Fragments : Type 0) where
       let y' = e.value in
       let l = d.flags.left in
       let l' = e.flags.left in
-      let tags = neither (eqb t 0x30) (eqb t 0x31) k in
+      let tags = or_no (eqb t 0x30) (eqb t 0x31) k in
       record {
         kept = kept_then Fragments (field t f x' y') d e x.kept y.kept;
         bound = omega arith;
         shaped = (s, x.shaped, y.shaped);
-        no_element = λ m. stands_node 0x30 t f x' y' tags.0 (x.no_element (neither l l' m).0) (y.no_element (neither l l' m).1);
-        no_fragment = λ m. stands_node 0x31 t f x' y' tags.1 (x.no_fragment (neither l l' m).0) (y.no_fragment (neither l l' m).1);
+        no_element = λ m. stands_node 0x30 t f x' y' tags.0 (x.no_element (or_no l l' m).0) (y.no_element (or_no l l' m).1);
+        no_fragment = λ m. stands_node 0x31 t f x' y' tags.1 (x.no_fragment (or_no l l' m).0) (y.no_fragment (or_no l l' m).1);
       }
 
   visited_raw : (a b w : ℕ) (d e : Done Row) → a + b ≤ w → GoodVisit Fragments a d → Visited b e → Visited w (then (d.value ⧺ e.value) d e)
@@ -182,8 +184,8 @@ module _ (Fragments : Type 0) where
         kept = kept_then Fragments (x' ⧺ y') d e x.kept y.kept;
         bound = omega arith;
         shaped = o.shaped x.shaped y.shaped;
-        no_element = λ m. o.stands_not 0x30 (x.no_element (neither l l' m).0) (y.no_element (neither l l' m).1);
-        no_fragment = λ m. o.stands_not 0x31 (x.no_fragment (neither l l' m).0) (y.no_fragment (neither l l' m).1);
+        no_element = λ m. o.stands_not 0x30 (x.no_element (or_no l l' m).0) (y.no_element (or_no l l' m).1);
+        no_fragment = λ m. o.stands_not 0x31 (x.no_fragment (or_no l l' m).0) (y.no_fragment (or_no l l' m).1);
       }
 
   pub good_visits : (m : Mid) {w : ℕ} → Clean Fragments m w → (n : ℕ) → Visited w (visit_exprs m n)
@@ -208,8 +210,8 @@ module _ (Fragments : Type 0) where
         bound = omega arith;
         one = o;
         shaped = v.shaped;
-        no_element = λ m. v.no_element (neither l l' m).1;
-        no_fragment = λ m. v.no_fragment (neither l l' m).1;
+        no_element = λ m. v.no_element (or_no l l' m).1;
+        no_fragment = λ m. v.no_fragment (or_no l l' m).1;
       }
 
   inside_field : (m : Mid) {w : ℕ} → Clean Fragments m w → OneNode false m → (n : ℕ) → Visited w (visit_inside m n) × OneField (visit_inside m n).value

@@ -6,6 +6,8 @@ use mathlib.Core.Path.{◌≡◌, refl, sym, subst}
 use mathlib.Core.Bool.{Bool, ◌||◌, not}
 use mathlib.Core.List.{List, [], ◌∷◌, ◌++◌}
 use lib.Dec.{T, eqb}
+use Rattle.std.proofs.Math.Facts.{or_no}
+use Rattle.page.proofs.Verdicts.{not_either}
 use Rattle.field.specs.Bytes.{Bytes}
 use Rattle.field.specs.Row.{Row, end, field}
 use Rattle.page.specs.Page.{Options, Page}
@@ -16,7 +18,6 @@ use Rattle.spec.specs.Attributes.{Attribute, tag_flags}
 use Rattle.spec.specs.Visit.{visit_after, leave}
 use Rattle.spec.specs.Transform.{module_items}
 use Rattle.spec.specs.Kept.{in_page}
-use Rattle.spec.proofs.Ledger.{neither, down_both}
 use Rattle.spec.proofs.Invariant.{Split, Alone, sources, Invariant}
 use Rattle.spec.proofs.Shapes.{field_alone}
 use Rattle.spec.proofs.EveryPage.{page_ok}
@@ -111,7 +112,7 @@ module _ (C : Counting) where
       record { rest = g.first + r.rest; sum = omega (arith, g.sum, g.spare, r.sum); exprs = pass_both refl g.one r.exprs; none_left = r.none_left }
   shared (mark f ∷ ps) w g =
       let r = shared ps g.1.second g.1.rest in
-      record { rest = r.rest; sum = omega (arith, g.1.sum, g.1.spare, g.1.one, r.sum); exprs = r.exprs; none_left = down_both f.left (marks ps).left g.0 r.none_left }
+      record { rest = r.rest; sum = omega (arith, g.1.sum, g.1.spare, g.1.one, r.sum); exprs = r.exprs; none_left = not_either f.left (marks ps).left g.0 r.none_left }
 
   -- an element's parts behind its mark
   mark_parts : (n : Bytes) (as' : List Attribute) (ps : List Part) (v w : ℕ) → own (tag_flags n as') + v ≡ w → PartsOk ps v → PartsOk (mark (tag_flags n as') ∷ ps) w
@@ -142,7 +143,7 @@ module _ (C : Counting) where
         content_spare = λ {ps} e s x. exactly (PartsOk ps) e s x;
         visit_spare = λ {p} e s x. exactly (VisitOk p) e s x;
         mid_none = mid_none;
-        mid_node = λ t f h g d e x y. mid_node t f (neither (eqb t 0x30 || eqb t 0x31) (eqb t 0x90 || (eqb t 0x74 || eqb t 0x79)) h).1 d e x y;
+        mid_node = λ t f h g d e x y. mid_node t f (or_no (eqb t 0x30 || eqb t 0x31) (eqb t 0x90 || (eqb t 0x74 || eqb t 0x79)) h).1 d e x y;
         mid_literal = mid_literal;
         mid_other = mid_other;
         mid_raw = mid_raw;

@@ -10,6 +10,7 @@ use lib.Dec.{T, eqb, eqb→eq, eqb_refl}
 use Rattle.field.specs.Number.{big_endian}
 use Rattle.field.specs.Row.{Row, end, loose, field}
 use Rattle.field.proofs.NumberLaws.{four_read}
+use borrow.Author.Tests.{ne_eqb}
 use Rattle.spec.specs.Pass.{Template}
 use Rattle.spec.specs.Output.{template_row, record_row}
 use Rattle.spec.specs.Words.{places}
@@ -36,12 +37,8 @@ pub bit_no : (b : Bool) → bit b 1 ≡ 0 → T b → ⊥
 bit_no true e t = omega arith
 bit_no false e t = t
 
-bit_not : (a b : ℕ) → (a ≡ b → ⊥) → bit (eqb a b) 1 ≡ 0
-bit_not a b f = on (eqb a b) (eqb→eq a b)
-  where
-    on : (c : Bool) → (T c → a ≡ b) → bit c 1 ≡ 0
-    on true e = absurd (f (e tt))
-    on false e = refl
+pub bit_not : (a b : ℕ) → (a ≡ b → ⊥) → bit (eqb a b) 1 ≡ 0
+bit_not a b f = ap (λ (x : Bool). bit x 1) (ne_eqb a b f)
 
 -- ---- the numbers that are taken, each once
 

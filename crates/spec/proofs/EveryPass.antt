@@ -6,6 +6,8 @@ use mathlib.Core.Path.{◌≡◌, refl}
 use mathlib.Core.Bool.{Bool, true, false, ◌&&◌, ◌||◌, not}
 use mathlib.Core.List.{List, [], ◌∷◌, ◌++◌}
 use lib.Dec.{T, eqb}
+use Rattle.std.proofs.Math.Facts.{or_no}
+use Rattle.page.proofs.Verdicts.{or_left, or_right}
 use Rattle.field.specs.Bytes.{Bytes, ascii, pick, same, among}
 use Rattle.field.specs.Row.{inside}
 use Rattle.text.specs.Escape.{escape_html}
@@ -25,9 +27,8 @@ use Rattle.spec.specs.Transform.{element_of, fragment_of, element_raw}
 use Rattle.spec.specs.Kept.{is_tag, has_value, listed, reads_key, key_follows, is_void, own_flags}
 use Rattle.spec.proofs.Nested.{escape_free, boolean_free, attr_free}
 use Rattle.spec.proofs.Good.{FormedBy, OneNode}
-use Rattle.spec.proofs.Ledger.{neither}
 use Rattle.spec.proofs.Invariant.{Split, Alone, AloneField, plain, Invariant}
-use Rattle.spec.proofs.Shapes.{chosen, or_left, or_right, and_right, is_text, Items, is_bare, FreeTexts, free_nil, merge_free}
+use Rattle.spec.proofs.Shapes.{chosen, and_right, is_text, Items, is_bare, FreeTexts, free_nil, merge_free}
 
 module _ (I : Invariant) where
   open I use {literal, other, own, tag, Spare, Left, NameOk, MidOk, PassOk, Content, Opening, VisitOk, spare_sum, spare_none, spare_tag, mid_spare, pass_spare, content_spare, visit_spare, mid_none, mid_node, mid_literal, mid_other, mid_raw, mid_append, mid_nothing, mid_inner, mid_field, mid_tag, pass_pure, pass_both, pass_map, pass_raise, pass_template, content_none, content_text, content_gap, content_append, content_void, content_element, opening_none, opening_text, opening_gap, opening_append, visit_done, visit_any, visit_left, visit_null}
@@ -245,7 +246,7 @@ module _ (I : Invariant) where
   attrs_ok o norm [] v w g h = opening_none g.0
   attrs_ok o norm (A.attribute n x ∷ as') v w g h =
       opening_append g.in_opening g.opening_spare (on (listed o n))
-      (attrs_ok o norm as' g.opening g.call g.rest (neither (same (get_attr_name n false) (ascii "dangerouslySetInnerHTML")) (keeps_from_serializing as') h).1)
+      (attrs_ok o norm as' g.opening g.call g.rest (or_no (same (get_attr_name n false) (ascii "dangerouslySetInnerHTML")) (keeps_from_serializing as') h).1)
     where
       on : (b : Bool) → Opening (pick b (listed_attr (get_attr_name n false) x) (plain_attr (get_attr_name n true) x)) (pick (not b && is_tag x) 0 g.own)
       on true = listed_ok (get_attr_name n false) x g.own g.holds

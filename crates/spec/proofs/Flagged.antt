@@ -7,6 +7,7 @@ use mathlib.Core.Path.{◌≡◌, refl, sym, subst}
 use mathlib.Core.Bool.{Bool, true, false, ◌||◌, not}
 use mathlib.Core.List.{List, [], ◌∷◌}
 use lib.Dec.{T, ltb, ltb→lt, lt→ltb}
+use Rattle.std.proofs.Math.Facts.{or_no}
 use Rattle.field.specs.Bytes.{Bytes}
 use Rattle.field.specs.Row.{Row}
 use Rattle.page.specs.Page.{Options, Page}
@@ -16,9 +17,10 @@ use Rattle.spec.specs.Output.{dynamic_exprs, gen_template}
 use Rattle.spec.specs.Visit.{visit_exprs, visit_inside, visit_after, leave}
 use Rattle.spec.specs.Transform.{transform, bit}
 use Rattle.spec.specs.Kept.{in_page, Repeated, Mixed}
-use Rattle.spec.proofs.Ledger.{or_either, neither}
-use Rattle.spec.proofs.Invariant.{Split, Alone}
-use Rattle.spec.proofs.Counting.{None, marked, Counting, every_page}
+use Rattle.spec.proofs.Ledger.{or_either}
+use Rattle.spec.proofs.Invariant.{Alone}
+use Rattle.spec.proofs.Counting.{marked, Counting, every_page}
+use Rattle.spec.proofs.Weighed.{Holds, none_holds, node_holds, raw_holds, holds_node, holds_append, nothing_holds, inner_holds, field_holds, tag_holds}
 use Rattle.spec.proofs.Kept.{Unflagged, unflagged_left, unflagged_right}
 
 -- ---- a flag that is up exactly where something is counted
@@ -38,7 +40,7 @@ exact_either : (b c : Bool) (v w u : ℕ) → v + w ≡ u → Exact b v → Exac
 exact_either b c v w u e x y =
     record {
       up = or_either b c (λ t. let k = x.up t in omega (arith, e, k)) (λ t. let k = y.up t in omega (arith, e, k));
-      down = λ t. let k = neither b c t in omega (arith, e, x.down k.0, y.down k.1);
+      down = λ t. let k = or_no b c t in omega (arith, e, x.down k.0, y.down k.1);
     }
 
 exactly : (b : Bool) (w : ℕ) → Exact b w → (T b → T (ltb 0 w)) × (T (ltb 0 w) → T b)
@@ -69,49 +71,23 @@ module _ (flag : Flags → Bool) (joined : (f g : Flags) → flag (join f g) ≡
   abbrev Visits : Pass Row → ℕ → Type 0
   Visits p w = (n : ℕ) → Unflagged (p n).flags → Exact (flag (p n).flags) w
 
-  data Holds : Mid → ℕ → Type 0 where
-    none_holds : {w : ℕ} → w ≡ 0 → Holds none w
-    node_holds : {t : ℕ} {f : Bytes} {i r : Mid} {w : ℕ} (a b : ℕ) → a + b ≡ w → Holds i a → Holds r b → Holds (node t f i r) w
-    raw_holds : {q : Raw} {r : Mid} {w : ℕ} (a b : ℕ) → a + b ≡ w → ((n : ℕ) → Unflagged (q n).flags → Exact (flag (q n).flags) a) → Holds r b → Holds (raw q r) w
+  abbrev Held : Mid → ℕ → Type 0
+  Held = Holds (λ t f i. 0) (λ q w. (n : ℕ) → Unflagged (q n).flags → Exact (flag (q n).flags) w)
 
-  holds_node : {t : ℕ} {f : Bytes} {i r : Mid} {w : ℕ} (a b : ℕ) → a + b ≡ w → Holds i a → Holds r b → Holds (node t f i r) w
-  holds_node a b e x y = node_holds a b e x y
-
-  holds_raw : {q : Raw} {r : Mid} {w : ℕ} (a b : ℕ) → a + b ≡ w → ((n : ℕ) → Unflagged (q n).flags → Exact (flag (q n).flags) a) → Holds r b → Holds (raw q r) w
-  holds_raw a b e x y = raw_holds a b e x y
-
-  holds_append : {x y : Mid} {a b w : ℕ} → a + b ≡ w → Holds x a → Holds y b → Holds (x +++ y) w
-  unfolding ◌+++◌
-  holds_append {y = y} {b = b} {w = w} e (none_holds h) z = subst (Holds y) (let k : b ≡ w = omega arith in k) z
-  holds_append {b = b} e (node_holds u v h x r) z = holds_node u (v + b) (omega arith) x (holds_append refl r z)
-  holds_append {b = b} e (raw_holds u v h x r) z = holds_raw u (v + b) (omega arith) x (holds_append refl r z)
-
-  nothing_holds : {w : ℕ} → Holds none w → w ≡ 0
-  nothing_holds (none_holds e) = e
-
-  inner_holds : {t : ℕ} {f : Bytes} {i : Mid} {w : ℕ} → Holds (node t f i none) w → Holds i w
-  inner_holds {i = i} {w = w} (node_holds a b e x y) = subst (Holds i) (let k : a ≡ w = omega (arith, e, nothing_holds y) in k) x
-
-  field_holds : {t : ℕ} {f : Bytes} {i r : Mid} {w : ℕ} → Holds (node t f i r) w → Split None (Holds (node t f i none)) (Holds r) w
-  field_holds (node_holds a b e x y) = record { first = a; second = b; spared = 0; sum = omega arith; spare = refl; one = holds_node a 0 (omega arith) x (none_holds refl); rest = y }
-
-  tag_holds : {q : Raw} {r : Mid} {w : ℕ} → Holds (raw q r) w → Split None (Holds (raw q none)) (Holds r) w
-  tag_holds (raw_holds a b e x y) = record { first = a; second = b; spared = 0; sum = omega arith; spare = refl; one = holds_raw a 0 (omega arith) x (none_holds refl); rest = y }
-
-  visits : {m : Mid} {w : ℕ} → Holds m w → (n : ℕ) → Unflagged (visit_exprs m n).flags → Exact (flag (visit_exprs m n).flags) w
+  visits : {m : Mid} {w : ℕ} → Held m w → (n : ℕ) → Unflagged (visit_exprs m n).flags → Exact (flag (visit_exprs m n).flags) w
   unfolding visit_exprs both pure
   visits (none_holds e) n c = subst (Exact (flag (long_if false))) (sym e) (exact_long false)
   visits (node_holds {i = i} {r = r} {w = w} a b e x y) n c =
       let d = visit_exprs i n in
       let s = visit_exprs r (n + d.taken) in
-      exact_join d.flags s.flags a b w e (visits x n (unflagged_left d.flags s.flags c)) (visits y (n + d.taken) (unflagged_right d.flags s.flags c))
+      exact_join d.flags s.flags a b w (omega (arith, e)) (visits x n (unflagged_left d.flags s.flags c)) (visits y (n + d.taken) (unflagged_right d.flags s.flags c))
   visits (raw_holds {q = q} {r = r} {w = w} a b e x y) n c =
       let d = q n in
       let s = visit_exprs r (n + d.taken) in
       exact_join d.flags s.flags a b w e (x n (unflagged_left d.flags s.flags c)) (visits y (n + d.taken) (unflagged_right d.flags s.flags c))
 
   -- where a tag is left the page is refused as 10
-  inside : (m : Mid) {w : ℕ} → Holds m w → Alone m → (n : ℕ) → Unflagged (visit_inside m n).flags → Exact (flag (visit_inside m n).flags) w
+  inside : (m : Mid) {w : ℕ} → Held m w → Alone m → (n : ℕ) → Unflagged (visit_inside m n).flags → Exact (flag (visit_inside m n).flags) w
   unfolding visit_inside visit_exprs leave raise Alone
   inside none x a n c = absurd a
   inside (node t f i r) x a n c = visits x n c
@@ -124,7 +100,7 @@ module _ (flag : Flags → Bool) (joined : (f g : Flags) → flag (join f g) ≡
     later : ℕ
     sum : found + later ≡ w
     exact : Exact (flag d.flags) found
-    held : Holds d.value later
+    held : Held d.value later
 
   abbrev Firsts : Pass Mid → ℕ → Type 0
   Firsts p w = (n : ℕ) → Unflagged (p n).flags → First (p n) w
@@ -144,7 +120,7 @@ module _ (flag : Flags → Bool) (joined : (f g : Flags) → flag (join f g) ≡
         held = holds_append refl x.held y.held;
       }
 
-  map_first : {p : Pass Mid} {v w : ℕ} (f : Mid → Mid) (a : ℕ) → ((m : Mid) (k b c : ℕ) → a + b ≡ c → Holds m b → Holds (f m) c) → a + v ≡ w → Firsts p v → Firsts (map f p) w
+  map_first : {p : Pass Mid} {v w : ℕ} (f : Mid → Mid) (a : ℕ) → ((m : Mid) (k b c : ℕ) → a + b ≡ c → Held m b → Held (f m) c) → a + v ≡ w → Firsts p v → Firsts (map f p) w
   unfolding map
   map_first {p} f a k e g n c = let x = g n c in record { found = x.found; later = a + x.later; sum = omega (arith, e, x.sum); exact = x.exact; held = k (p n).value 0 x.later _ refl x.held }
 
@@ -179,17 +155,17 @@ module _ (flag : Flags → Bool) (joined : (f g : Flags) → flag (join f g) ≡
         literal = λ b. 0;
         other = λ bs. 0;
         own = own;
-        MidOk = λ k m w. Holds m w;
+        MidOk = λ k m w. Held m w;
         PassOk = Firsts;
         VisitOk = Visits;
         mid_none = none_holds refl;
-        mid_node = λ t f {i} {r} {j} {k} {l} {a} {b} h d e x y. holds_node a b e x y;
+        mid_node = λ t f {i} {r} {j} {k} {l} {a} {b} h d e x y. holds_node a b (omega (arith, e)) x y;
         mid_literal = λ b {r} {v} e x. holds_node 0 v (omega (arith, e)) (none_holds refl) x;
         mid_other = λ i {r} {a} {b} e x y. holds_node a b (omega (arith, e)) x y;
         mid_raw = λ {q} {r} {a} {b} e x y. raw_holds a b e x y;
         mid_append = λ d e x y. holds_append e x y;
         mid_nothing = nothing_holds;
-        mid_inner = λ h x. inner_holds x;
+        mid_inner = λ h x. inner_holds refl x;
         mid_field = field_holds;
         mid_tag = tag_holds;
         pass_pure = λ {m} {w} x. unfold pure in λ n c. record { found = 0; later = w; sum = omega arith; exact = exact_long false; held = x };

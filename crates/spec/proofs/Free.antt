@@ -4,6 +4,7 @@ use mathlib.Core.Path.{◌≡◌, refl, sym, ap, ◌∙◌, subst}
 use mathlib.Core.Bool.{Bool, true, false, ◌&&◌, ◌||◌, not, false≢true}
 use mathlib.Core.List.{List, [], ◌∷◌, ◌++◌}
 use lib.Dec.{T, eqb, eqb→eq}
+use Rattle.std.proofs.Math.Facts.{and_yes}
 use Rattle.field.specs.Bytes.{Bytes, same, among}
 use Rattle.names.specs.Names.{is_boolean_attr, boolean_names, is_void_element, void_names, small_letter, small_letters}
 use Rattle.text.specs.Escape.{escape_byte, escape_html}
@@ -13,7 +14,7 @@ use Rattle.page.specs.Check.{name_part, name_parts, is_name}
 use Rattle.page.proofs.NumberLaws.{render_escaped}
 use Rattle.spec.specs.Attributes.{serialize_attr, void_when_lowered}
 use Rattle.spec.specs.Words.{Comparison, in_small_letters, by_bytes, compared, WellNestedBy, free}
-use Rattle.spec.proofs.Markup.{NameFront, read_free_outside, both_true, free_front, not_name_byte, name_has_parts, name_front}
+use Rattle.spec.proofs.Markup.{NameFront, read_free_outside, free_front, not_name_byte, name_has_parts, name_front}
 
 -- 01, Well nested: text with neither sign is well nested, the empty text too
 pub free_nested : (how : Comparison) (b : Bytes) → T (free b) → WellNestedBy how b
@@ -77,7 +78,7 @@ same_equal [] [] h = refl
 same_equal [] (d ∷ y) h = absurd h
 same_equal (c ∷ x) [] h = absurd h
 same_equal (c ∷ x) (d ∷ y) h =
-    let f = both_true (eqb c d) (same x y) h in
+    let f = and_yes (eqb c d) (same x y) h in
     let e = eqb→eq c d f.0 in
     let g = same_equal x y f.1 in
     cc
@@ -89,7 +90,7 @@ all_free (y ∷ ys) = free y && all_free ys
 among_free : (x : Bytes) (ys : List Bytes) → T (all_free ys) → among x ys ≡ true → T (free x)
 unfolding among all_free
 among_free x [] h e = absurd (false≢true e)
-among_free x (y ∷ ys) h e = let f = both_true (free y) (all_free ys) h in on (same x y) (same_equal x y) f.0 (among_free x ys f.1) e
+among_free x (y ∷ ys) h e = let f = and_yes (free y) (all_free ys) h in on (same x y) (same_equal x y) f.0 (among_free x ys f.1) e
   where
     on : (b : Bool) → (T b → x ≡ y) → T (free y) → (among x ys ≡ true → T (free x)) → (b || among x ys) ≡ true → T (free x)
     on true g first rest e = rw (g tt) first
@@ -108,7 +109,7 @@ all_small (y ∷ ys) = same (small_letters y) y && all_small ys
 among_small : (x : Bytes) (ys : List Bytes) → T (all_small ys) → among x ys ≡ true → small_letters x ≡ x
 unfolding among all_small
 among_small x [] h e = absurd (false≢true e)
-among_small x (y ∷ ys) h e = let f = both_true (same (small_letters y) y) (all_small ys) h in on (same x y) (same_equal x y) (same_equal (small_letters y) y f.0) (among_small x ys f.1) e
+among_small x (y ∷ ys) h e = let f = and_yes (same (small_letters y) y) (all_small ys) h in on (same x y) (same_equal x y) (same_equal (small_letters y) y f.0) (among_small x ys f.1) e
   where
     on : (b : Bool) → (T b → x ≡ y) → small_letters y ≡ y → (among x ys ≡ true → small_letters x ≡ x) → (b || among x ys) ≡ true → small_letters x ≡ x
     on true g first rest e = rw (g tt) first

@@ -6,6 +6,8 @@ use mathlib.Core.Path.{◌≡◌, refl, ap}
 use mathlib.Core.Bool.{true, false, ◌||◌, not}
 use mathlib.Core.List.{List, [], ◌∷◌, ◌++◌}
 use lib.Dec.{T, eqb}
+use Rattle.std.proofs.Math.Facts.{or_no}
+use Rattle.page.proofs.Verdicts.{not_either, is_false}
 use Rattle.field.specs.Bytes.{Bytes}
 use Rattle.field.specs.Row.{Row, inside}
 use Rattle.text.specs.Escape.{escape_html}
@@ -15,7 +17,7 @@ use Rattle.spec.specs.Pass.{Done, Pass, map, Raw, Mid, none, node, raw, Part, ch
 use Rattle.spec.specs.Attributes.{Attribute, void_when_lowered, tag_flags}
 use Rattle.spec.specs.Words.{free}
 use Rattle.spec.proofs.Good.{GoodVisit, Clean, Still, GoodPass, GoodGap, GoodParts, FormedBy, OneNode, Piece, literal, hole}
-use Rattle.spec.proofs.Ledger.{neither, down_both, is_false, kept_valued}
+use Rattle.spec.proofs.Ledger.{kept_valued}
 use Rattle.spec.proofs.Nested.{Neutral, InTag, neutral_nil, neutral_append, neutral_text, neutral_hole, neutral_void, neutral_element, in_tag_nil, in_tag_append, in_tag_text, in_tag_hole, escape_name, void_compared, unmixed_compared}
 use Rattle.spec.proofs.Closure.{OneExpr, still_weaken, still_none, still_node, still_raw, still_append, good_weaken, good_pure, good_both, good_raise, good_template, parts_weaken, parts_append, good_after, good_after_any, good_leave, good_null}
 use Rattle.spec.proofs.Invariant.{Alone, AloneField, Invariant}
@@ -24,7 +26,7 @@ use Rattle.spec.proofs.Invariant.{Alone, AloneField, Invariant}
 pub field_node : (m : Mid) → AloneField m → OneNode false m
 unfolding AloneField OneNode
 field_node none h = absurd h
-field_node (node t f i none) h = is_false (eqb t 0x91 || eqb t 0x93) (neither (eqb t 0x20) (eqb t 0x91 || eqb t 0x93) h).1
+field_node (node t f i none) h = is_false (eqb t 0x91 || eqb t 0x93) (or_no (eqb t 0x20) (eqb t 0x91 || eqb t 0x93) h).1
 field_node (node t f i (node u g j r)) h = absurd h
 field_node (node t f i (raw q r)) h = absurd h
 field_node (raw q r) h = absurd h
@@ -32,7 +34,7 @@ field_node (raw q r) h = absurd h
 pub alone_expr : (m : Mid) → Alone m → OneExpr m
 unfolding Alone OneExpr OneNode
 alone_expr none h = absurd h
-alone_expr (node t f i none) h = is_false (eqb t 0x91 || eqb t 0x93) (neither (eqb t 0x20) (eqb t 0x91 || eqb t 0x93) h).1
+alone_expr (node t f i none) h = is_false (eqb t 0x91 || eqb t 0x93) (or_no (eqb t 0x20) (eqb t 0x91 || eqb t 0x93) h).1
 alone_expr (node t f i (node u g j r)) h = absurd h
 alone_expr (node t f i (raw q r)) h = absurd h
 alone_expr (raw q none) h = tt
@@ -49,9 +51,9 @@ unmixed_append [] qs m = (tt, m)
 unmixed_append (chars b ∷ ps) qs m = unmixed_append ps qs m
 unmixed_append (gap p ∷ ps) qs m = unmixed_append ps qs m
 unmixed_append (mark f ∷ ps) qs m =
-    let u = neither f.mixed (marks (ps ++ qs)).mixed m in
+    let u = or_no f.mixed (marks (ps ++ qs)).mixed m in
     let v = unmixed_append ps qs u.1 in
-    (down_both f.mixed (marks ps).mixed u.0 v.0, v.1)
+    (not_either f.mixed (marks ps).mixed u.0 v.0, v.1)
 
 module _ (Fragments : Type 0) where
   -- ---- parts
@@ -136,7 +138,7 @@ module _ (Fragments : Type 0) where
         good = (tt, (ap (λ (b : Bytes). 60 ∷ b) (escape_name n ok), parts_append Fragments ps (chars (62 ∷ []) ∷ (qs ++ close)) x.pieces (literal (62 ∷ []) ∷ (y.pieces ++ closed)) a c x.good (refl, back)));
         neutral =
             λ m.
-            let u = neither (void_when_lowered n) (marks (ps ++ (chars (62 ∷ []) ∷ (qs ++ close)))).mixed m in
+            let u = or_no (void_when_lowered n) (marks (ps ++ (chars (62 ∷ []) ∷ (qs ++ close)))).mixed m in
             let v = unmixed_append qs close (unmixed_append ps (chars (62 ∷ []) ∷ (qs ++ close)) u.1).1 in
             neutral_element n ok (unmixed_compared n e u.0) x.in_tag (y.neutral v.0);
       }
@@ -212,7 +214,7 @@ module _ (Fragments : Type 0) where
         content_spare = λ e s x. content_weaken (omega (arith, e)) x;
         visit_spare = λ e s x n. visit_weaken (omega (arith, e)) (x n);
         mid_none = still_none Fragments 0;
-        mid_node = λ t f h g d e x y. still_weaken Fragments (omega (arith, e)) (still_node Fragments t f (neither (eqb t 0x30 || eqb t 0x31) (eqb t 0x90 || (eqb t 0x74 || eqb t 0x79)) h).0 g x y);
+        mid_node = λ t f h g d e x y. still_weaken Fragments (omega (arith, e)) (still_node Fragments t f (or_no (eqb t 0x30 || eqb t 0x31) (eqb t 0x90 || (eqb t 0x74 || eqb t 0x79)) h).0 g x y);
         mid_literal = λ b e x. still_weaken Fragments (omega (arith, e)) (still_node Fragments 0x74 b tt tt (still_none Fragments 0) x);
         mid_other = λ i e x y. still_weaken Fragments (omega (arith, e)) (still_node Fragments 0x79 [] tt tt x y);
         mid_raw = λ e x y. still_weaken Fragments (omega (arith, e)) (still_raw Fragments (record { visits = x }) y);

@@ -203,7 +203,7 @@ pub expr_growth : (o : Options) (e : P.Expr) (n : ℕ) → written_size (visit_e
 expr_growth o e n = omega (arith, visit_costs (expr_cost o e none nothing_behind) n)
 
 -- the place of the templates is three bytes
-with_templates_growth : (ts : List Template) (r : Row) → size (with_templates ts r) ≤ size r + 3
+pub with_templates_growth : (ts : List Template) (r : Row) → size (with_templates ts r) ≤ size r + 3
 unfolding bytes
 with_templates_growth ts r =
     templates_related (λ (r s : Row). size s ≤ size r + 3) (λ r. omega arith) (λ r. omega (arith, length_bytes 0x83 [] end r)) (λ t f i r s h. omega (arith, length_bytes t f i r, length_bytes t f i s)) ts r

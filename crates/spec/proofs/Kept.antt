@@ -6,6 +6,7 @@ use mathlib.Core.Path.{◌≡◌, refl, sym, ap, ap₂, ◌∙◌, subst}
 use mathlib.Core.Bool.{Bool, true, false, ◌||◌, not}
 use mathlib.Core.List.{List, [], ◌∷◌, ◌++◌}
 use lib.Dec.{T, eqb, eqb→eq}
+use Rattle.std.proofs.Math.Facts.{or_no}
 use Rattle.field.specs.Bytes.{Bytes, AllBytes, ascii, pick, same}
 use Rattle.field.specs.Row.{Row, end, loose, field, read}
 use Rattle.page.specs.Page.{Options, Page}
@@ -20,9 +21,9 @@ use Rattle.spec.specs.Kept.{at_field, in_row, in_page, same_pieces, KeptBytes}
 use Rattle.spec.proofs.PageOut.{templates_related, import_row, import_related}
 use Rattle.spec.proofs.Answers.{accepted_says}
 use Rattle.spec.proofs.Lent.{page_read}
-use Rattle.spec.proofs.Ledger.{neither}
-use Rattle.spec.proofs.Invariant.{Split, Alone, sources}
-use Rattle.spec.proofs.Counting.{None, uncounted, nothing_marked, Counting, every_page}
+use Rattle.spec.proofs.Invariant.{Alone, sources}
+use Rattle.spec.proofs.Counting.{uncounted, nothing_marked, Counting, every_page}
+use Rattle.spec.proofs.Weighed.{Holds, none_holds, node_holds, raw_holds, holds_node, holds_append, nothing_holds, inner_holds, field_holds, tag_holds}
 
 -- ---- pages in which no tag is left
 
@@ -30,10 +31,10 @@ abbrev pub Unflagged : Flags → Type 0
 Unflagged f = T (not f.left)
 
 pub unflagged_left : (f g : Flags) → Unflagged (join f g) → Unflagged f
-unflagged_left f g c = (neither f.left g.left c).0
+unflagged_left f g c = (or_no f.left g.left c).0
 
 pub unflagged_right : (f g : Flags) → Unflagged (join f g) → Unflagged g
-unflagged_right f g c = (neither f.left g.left c).1
+unflagged_right f g c = (or_no f.left g.left c).1
 
 -- ---- source pieces of a row
 
@@ -81,34 +82,8 @@ module _ (literal : Bytes → ℕ) (other : List Bytes → ℕ) where
   Visits : Pass Row → ℕ → Type 0
   Visits p w = (n : ℕ) → Unflagged (p n).flags → Visited w (p n)
 
-  data Holds : Mid → ℕ → Type 0 where
-    none_holds : {w : ℕ} → w ≡ 0 → Holds none w
-    node_holds : {t : ℕ} {f : Bytes} {i r : Mid} {w : ℕ} (a b : ℕ) → at_field literal other t f (sources i) + (a + b) ≡ w → Holds i a → Holds r b → Holds (node t f i r) w
-    raw_holds : {q : Raw} {r : Mid} {w : ℕ} (a b : ℕ) → a + b ≡ w → ((n : ℕ) → Unflagged (q n).flags → Visited a (q n)) → Holds r b → Holds (raw q r) w
-
-  holds_node : {t : ℕ} {f : Bytes} {i r : Mid} {w : ℕ} (a b : ℕ) → at_field literal other t f (sources i) + (a + b) ≡ w → Holds i a → Holds r b → Holds (node t f i r) w
-  holds_node a b e x y = node_holds a b e x y
-
-  holds_raw : {q : Raw} {r : Mid} {w : ℕ} (a b : ℕ) → a + b ≡ w → ((n : ℕ) → Unflagged (q n).flags → Visited a (q n)) → Holds r b → Holds (raw q r) w
-  holds_raw a b e x y = raw_holds a b e x y
-
-  holds_append : {x y : Mid} {a b w : ℕ} → a + b ≡ w → Holds x a → Holds y b → Holds (x +++ y) w
-  unfolding ◌+++◌
-  holds_append {y = y} {b = b} {w = w} e (none_holds h) z = subst (Holds y) (let k : b ≡ w = omega arith in k) z
-  holds_append {b = b} e (node_holds u v h x r) z = holds_node u (v + b) (omega arith) x (holds_append refl r z)
-  holds_append {b = b} e (raw_holds u v h x r) z = holds_raw u (v + b) (omega arith) x (holds_append refl r z)
-
-  nothing_holds : {w : ℕ} → Holds none w → w ≡ 0
-  nothing_holds (none_holds e) = e
-
-  inner_holds : {t : ℕ} {f : Bytes} {i : Mid} {w : ℕ} → T (eqb t 0x76 || eqb t 0x77) → Holds (node t f i none) w → Holds i w
-  inner_holds {t} {f} {i} {w} h (node_holds a b e x y) = subst (Holds i) (let k : a ≡ w = omega (arith, e, array_counts t f (sources i) h, nothing_holds y) in k) x
-
-  field_holds : {t : ℕ} {f : Bytes} {i r : Mid} {w : ℕ} → Holds (node t f i r) w → Split None (Holds (node t f i none)) (Holds r) w
-  field_holds {t} {f} {i} (node_holds a b e x y) = record { first = at_field literal other t f (sources i) + a; second = b; spared = 0; sum = omega arith; spare = refl; one = holds_node a 0 (omega arith) x (none_holds refl); rest = y }
-
-  tag_holds : {q : Raw} {r : Mid} {w : ℕ} → Holds (raw q r) w → Split None (Holds (raw q none)) (Holds r) w
-  tag_holds (raw_holds a b e x y) = record { first = a; second = b; spared = 0; sum = omega arith; spare = refl; one = holds_raw a 0 (omega arith) x (none_holds refl); rest = y }
+  abbrev Held : Mid → ℕ → Type 0
+  Held = Holds (λ t f i. at_field literal other t f (sources i)) (λ q w. (n : ℕ) → Unflagged (q n).flags → Visited w (q n))
 
   -- ---- visits
 
@@ -124,7 +99,7 @@ module _ (literal : Bytes → ℕ) (other : List Bytes → ℕ) where
       on true = ap (λ (xs : List Bytes). f ∷ xs) e
       on false = e
 
-  visits : {m : Mid} {w : ℕ} → Holds m w → (n : ℕ) → Unflagged (visit_exprs m n).flags → RowVisited m w (visit_exprs m n)
+  visits : {m : Mid} {w : ℕ} → Held m w → (n : ℕ) → Unflagged (visit_exprs m n).flags → RowVisited m w (visit_exprs m n)
   unfolding visit_exprs both pure in_row texts_in sources
   visits (none_holds e) n c = record { count = sym e; pieces = refl }
   visits (node_holds {t = t} {f = f} {i = i} {r = r} a b e x y) n c =
@@ -142,12 +117,12 @@ module _ (literal : Bytes → ℕ) (other : List Bytes → ℕ) where
       record { count = omega (arith, e, row_append d.value s.value, u.count, v.count); pieces = pieces_append d.value s.value ∙ ap₂ (λ (a b : List Bytes). a ++ b) u.no_pieces v.pieces }
 
   -- where a tag is left the page is refused
-  inside : (m : Mid) {w : ℕ} → Holds m w → Alone m → (n : ℕ) → Unflagged (visit_inside m n).flags → Visited w (visit_inside m n)
+  inside : (m : Mid) {w : ℕ} → Held m w → Alone m → (n : ℕ) → Unflagged (visit_inside m n).flags → Visited w (visit_inside m n)
   unfolding visit_inside visit_exprs leave raise Alone sources
   inside none x a n c = absurd a
   inside (node t f i none) x a n c =
       let v = visits x n c in
-      record { count = v.count; no_pieces = v.pieces ∙ on (eqb t 0x20) (neither (eqb t 0x20) (eqb t 0x91 || eqb t 0x93) a).0 }
+      record { count = v.count; no_pieces = v.pieces ∙ on (eqb t 0x20) (or_no (eqb t 0x20) (eqb t 0x91 || eqb t 0x93) a).0 }
     where
       on : (b : Bool) → T (not b) → pick b (f ∷ []) [] ≡ []
       on true h = absurd h
@@ -162,8 +137,8 @@ module _ (literal : Bytes → ℕ) (other : List Bytes → ℕ) where
         literal = literal;
         other = other;
         own = λ f. 0;
-        MidOk = λ k m w. Holds m w;
-        PassOk = λ p w. (n : ℕ) → Unflagged (p n).flags → Holds (p n).value w;
+        MidOk = λ k m w. Held m w;
+        PassOk = λ p w. (n : ℕ) → Unflagged (p n).flags → Held (p n).value w;
         VisitOk = λ p w. (n : ℕ) → Unflagged (p n).flags → Visited w (p n);
         mid_none = none_holds refl;
         mid_node = λ t f {i} {r} {j} {k} {l} {a} {b} h d e x y. holds_node a b (omega (arith, e, plain_counts t f (sources i) h)) x y;
@@ -172,7 +147,7 @@ module _ (literal : Bytes → ℕ) (other : List Bytes → ℕ) where
         mid_raw = λ {q} {r} {a} {b} e x y. raw_holds a b e x y;
         mid_append = λ d e x y. holds_append e x y;
         mid_nothing = nothing_holds;
-        mid_inner = inner_holds;
+        mid_inner = λ {t} {f} {i} h x. inner_holds (array_counts t f (sources i) h) x;
         mid_field = field_holds;
         mid_tag = tag_holds;
         pass_pure = λ x. unfold pure in λ n c. x;

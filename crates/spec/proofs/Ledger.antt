@@ -7,6 +7,9 @@ use mathlib.Core.Path.{◌≡◌, refl, ap}
 use mathlib.Core.Bool.{Bool, true, false, ◌&&◌, ◌||◌, not}
 use mathlib.Core.List.{List, [], ◌∷◌, ◌++◌}
 use lib.Dec.{T, eqb}
+use Rattle.std.proofs.lemmas.Bool.{or_from}
+use Rattle.std.proofs.Math.Facts.{or_no}
+use Rattle.page.proofs.Verdicts.{is_false}
 use Rattle.field.specs.Bytes.{Bytes}
 use Rattle.field.specs.Number.{big_endian}
 use Rattle.field.specs.Row.{Row, end, loose, field}
@@ -24,26 +27,10 @@ pub or_either : {C : Type 0} (a b : Bool) → (T a → C) → (T b → C) → T 
 or_either true b f g t = f tt
 or_either false b f g t = g t
 
-pub or_false : (a b : Bool) → a ≡ false → b ≡ false → a || b ≡ false
-or_false true b p q = p
-or_false false b p q = q
-
-pub neither : (a b : Bool) → T (not (a || b)) → T (not a) × T (not b)
-neither true b t = absurd t
-neither false b t = (tt, t)
-
--- a flag that is down is not up, and two that are down are down together
+-- a flag that is down is not up
 pub never : (b : Bool) → T (not b) → T b → ⊥
 never true l t = l
 never false l t = t
-
-pub down_both : (a b : Bool) → T (not a) → T (not b) → T (not (a || b))
-down_both true b x y = absurd x
-down_both false b x y = y
-
-pub is_false : (a : Bool) → T (not a) → a ≡ false
-is_false true t = absurd t
-is_false false t = refl
 
 -- ---- templates recorded, templates called
 
@@ -129,7 +116,7 @@ kinds_append (raw q r) y = ap (λ (k : List Bool). false ∷ k) (kinds_append r 
 
 pub stands_node : (u t : ℕ) (f : Bytes) (x y : Row) → T (not (eqb t u)) → stands u x ≡ false → stands u y ≡ false → stands u (field t f x y) ≡ false
 unfolding stands
-stands_node u t f x y k p q = or_false (eqb t u) (stands u x || stands u y) (is_false (eqb t u) k) (or_false (stands u x) (stands u y) p q)
+stands_node u t f x y k p q = or_from (eqb t u) (stands u x || stands u y) (is_false (eqb t u) k) (or_from (stands u x) (stands u y) p q)
 
 -- a row behind one field
 pub record Behind (x y : Row) : Type 0 where
@@ -179,11 +166,11 @@ module _ (Fragments : Type 0) where
   kept_valued v d k = record { sound = k.sound; fragments = k.fragments }
 
   pub kept_raised : {A : Type 0} (f : Flags) (d : Done A) → (T f.left → Fragments) → Kept Fragments d → Kept Fragments (raised f d)
-  kept_raised f d r k = record { sound = λ m. k.sound (neither f.mixed d.flags.mixed m).1; fragments = or_either f.left d.flags.left r k.fragments }
+  kept_raised f d r k = record { sound = λ m. k.sound (or_no f.mixed d.flags.mixed m).1; fragments = or_either f.left d.flags.left r k.fragments }
 
   pub kept_then : {A B C : Type 0} (v : C) (d : Done A) (e : Done B) → Kept Fragments d → Kept Fragments e → Kept Fragments (then v d e)
   kept_then v d e k l =
       record {
-        sound = λ m. let u = neither d.flags.mixed e.flags.mixed m in sound_append d.templates e.templates (k.sound u.0) (l.sound u.1);
+        sound = λ m. let u = or_no d.flags.mixed e.flags.mixed m in sound_append d.templates e.templates (k.sound u.0) (l.sound u.1);
         fragments = or_either d.flags.left e.flags.left k.fragments l.fragments;
       }

@@ -20,6 +20,8 @@ use Rattle.page.specs.Page as P
 use Rattle.page.specs.Page.{Options}
 use Rattle.page.specs.Encode.{boolean_byte, texts_row, name_row, attr_name_row, tag_row, attributes_row, value_row, children_row, expr_row, items_row, pieces_row}
 use Rattle.page.specs.Tree.{choose, texts_in, first_in, second_in, name_by, attr_name_by, boolean_in, expr_by, Contained, nothing_contained, contained, contained_value, contained_child, value_by, child_by, element_in, fragment_in, attributes_in, attr_name_in, value_in, value_behind, children_in, contained_in, expr_in, items_in, pieces_in}
+pub use Rattle.page.proofs.TightRows.{length_read}
+use Rattle.page.proofs.Tags.{tag_or}
 use Rattle.spec.specs.Pass.{none}
 use Rattle.spec.specs.Visit.{visit_exprs}
 use Rattle.spec.specs.Transform.{templates_row, expr}
@@ -29,18 +31,10 @@ use Rattle.spec.proofs.Growth.{size, tag_body, tag_front, expr_front, two_names,
 -- ---- by a tag
 
 -- whichever is taken
-chosen : {A : Type 0} (P : A → Type 0) (b : Bool) (f g : Unit {0} → A) → P (f tt) → P (g tt) → P (choose b f g)
+pub chosen : {A : Type 0} (P : A → Type 0) (b : Bool) (f g : Unit {0} → A) → P (f tt) → P (g tt) → P (choose b f g)
 unfolding choose
 chosen P true f g x y = x
 chosen P false f g x y = y
-
--- one numeral for a tag, or not that one
-by_tag : (P : ℕ → Type 0) (t k : ℕ) → P k → (eqb t k ≡ false → P t) → P t
-by_tag P t k x y = on (eqb t k) refl
-  where
-    on : (b : Bool) → eqb t k ≡ b → P t
-    on true e = subst P (sym (eqb-true t k e)) x
-    on false e = y e
 
 -- ---- names
 
@@ -179,8 +173,8 @@ unfolding attributes_in children_in child_by choose attributes_row bytes
 body_at t f i r a b =
     let fit : ℕ → Type 0 = λ t. size (attributes_row (attributes_in (field t f i r)) (children_row (children_in (field t f i r)))) ≤ 4 * size (field t f i r) in
     let rest = attributes_row (attributes_in r) (children_row (children_in r)) in
-    by_tag fit t 0x50 (omega (arith, all 0x50 f i r a b, length_bytes 0x50 [] (attr_name_row (attr_name_in i) (value_row (value_in i))) rest, a.attribute_fits, b.body_fits)) λ p.
-    by_tag fit t 0x53 (omega (arith, all 0x53 f i r a b, length_bytes 0x53 [] (expr_row (expr_in i) end) rest, a.expr_fits, b.body_fits)) λ q.
+    tag_or fit t 0x50 (omega (arith, all 0x50 f i r a b, length_bytes 0x50 [] (attr_name_row (attr_name_in i) (value_row (value_in i))) rest, a.attribute_fits, b.body_fits)) λ p.
+    tag_or fit t 0x53 (omega (arith, all 0x53 f i r a b, length_bytes 0x53 [] (expr_row (expr_in i) end) rest, a.expr_fits, b.body_fits)) λ q.
     rw (p, q) (this_children_fit t f i r a b)
 
 -- ---- every row
@@ -229,15 +223,6 @@ fits (field t f i r) =
       items_fit = this_items_fit t f i r a b;
       pieces_fit = this_pieces_fit t f i r a b;
     }
-
--- ---- bytes
-
--- a row is as long as what it was read from
-pub length_read : (c : Bytes) → size (read c) ≡ length c
-unfolding bytes
-length_read =
-    read_ind (λ s x. size x ≡ length s) (λ s e. omega (arith, ap length (next_nothing s e))) (λ s e. refl) (λ s t w r e q hr. omega (arith, length_bytes t w end (read r), next_sizes s t w r e))
-    (λ s t w r n e q hi hr. omega (arith, length_bytes t (take n w) (read (drop n w)) (read r), next_sizes s t w r e, length-append (take n w) (drop n w), ap length (take-append-drop n w)))
 
 -- ---- the law
 

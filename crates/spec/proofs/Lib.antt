@@ -17,6 +17,7 @@ pub mod Shapes
 pub mod EveryPass
 pub mod EveryPage
 pub mod Counting
+pub mod Weighed
 pub mod Called
 pub mod GoodInvariant
 pub mod PageGood

@@ -8,6 +8,7 @@ use mathlib.Core.Bool.{Bool, false, ◌||◌}
 use mathlib.Core.List.{List, [], ◌∷◌, ◌++◌, append-nil}
 use lib.Dec.{T, ltb, ltb→lt, lt→ltb}
 use lib.ListN.{length, length-append}
+use Rattle.page.proofs.Verdicts.{or_left, or_right}
 use Rattle.field.specs.Bytes.{Bytes}
 use Rattle.field.specs.Row.{Row, end, loose, field, bytes, long_body}
 use Rattle.spec.specs.Pass.{Template, pure, both, Mid, none, node, raw, ◌+++◌, ◌⧺◌, Part, chars, gap, mark, over}
@@ -19,7 +20,6 @@ use Rattle.spec.specs.Words.{places}
 use Rattle.spec.specs.Visit.{visit_exprs}
 use Rattle.spec.specs.Transform.{templates_row}
 use Rattle.spec.proofs.Ledger.{or_either}
-use Rattle.spec.proofs.Shapes.{or_left, or_right}
 
 -- ---- in a template
 

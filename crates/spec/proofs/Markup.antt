@@ -8,6 +8,9 @@ use mathlib.Core.Logic.{◌⊎◌, inl, inr}
 use lib.Dec.{T, leb, eqb, eqb→eq, eqb_refl}
 use lib.ListN.{length}
 use native.Mathlib.Omega.{arith}
+use Rattle.std.proofs.Math.Facts.{and_yes}
+use borrow.Author.Tests.{ne_eqb}
+use Rattle.page.proofs.Verdicts.{is_true, is_false}
 use Rattle.field.specs.Bytes.{Bytes, pick, same}
 use Rattle.names.specs.Names.{is_void_element}
 use Rattle.page.specs.Check.{name_start, name_part, name_parts, is_name}
@@ -19,25 +22,6 @@ read_append how m [] y = refl
 read_append how m (c ∷ x) y = read_append how (read_byte how m c) x y
 
 -- ---- tests
-
-pub both_true : (a b : Bool) → T (a && b) → T a × T b
-both_true true b h = (tt, h)
-both_true false b h = absurd h
-
-pub is_true : (b : Bool) → T b → b ≡ true
-is_true true h = refl
-is_true false h = absurd h
-
-pub is_false : (b : Bool) → T (not b) → b ≡ false
-is_false true h = absurd h
-is_false false h = refl
-
-pub eqb_false : (c k : ℕ) → (c ≡ k → ⊥) → eqb c k ≡ false
-eqb_false c k f = on (eqb c k) (eqb→eq c k)
-  where
-    on : (b : Bool) → (T b → c ≡ k) → b ≡ false
-    on true e = absurd (f (e tt))
-    on false e = refl
 
 pub same_refl : (x : Bytes) → same x x ≡ true
 unfolding same
@@ -54,8 +38,8 @@ pub record FreeFront (c : ℕ) (x : Bytes) : Type 0 where
 pub free_front : (c : ℕ) (x : Bytes) → T (free (c ∷ x)) → FreeFront c x
 unfolding free
 free_front c x h =
-    let f = both_true (not (eqb c 60)) (not (eqb c 62) && free x) h in
-    let g = both_true (not (eqb c 62)) (free x) f.1 in
+    let f = and_yes (not (eqb c 60)) (not (eqb c 62) && free x) h in
+    let g = and_yes (not (eqb c 62)) (free x) f.1 in
     record { not_less = is_false (eqb c 60) f.0; not_greater = is_false (eqb c 62) g.0; rest = g.1 }
 
 pub read_free_outside : (how : Comparison) (ns : List Bytes) (x : Bytes) → T (free x) → read_markup how (outside ns) x ≡ outside ns
@@ -142,13 +126,13 @@ read_nested how ns w h = on (read_within how ns w (outside []))
 
 -- a byte that no name has is not in a name
 pub not_name_byte : (k : ℕ) → (T (name_part k) → ⊥) → (c : ℕ) → T (name_part c) → eqb c k ≡ false
-not_name_byte k f c h = eqb_false c k (λ e. f (rw e at h))
+not_name_byte k f c h = ne_eqb c k (λ e. f (rw e at h))
 
 pub name_has_parts : (n : Bytes) → T (is_name n) → T (name_parts n)
 unfolding is_name name_parts
 name_has_parts [] h = absurd h
 name_has_parts (c ∷ n) h =
-    let f = both_true (name_start c) (name_parts n) (both_true (leb (length (c ∷ n)) 128) (name_start c && name_parts n) h).1 in
+    let f = and_yes (name_start c) (name_parts n) (and_yes (leb (length (c ∷ n)) 128) (name_start c && name_parts n) h).1 in
     rw (is_true (name_start c) f.0) f.1
 
 pub record NameFront (c : ℕ) (n : Bytes) : Type 0 where
@@ -157,7 +141,7 @@ pub record NameFront (c : ℕ) (n : Bytes) : Type 0 where
 
 pub name_front : (c : ℕ) (n : Bytes) → T (name_parts (c ∷ n)) → NameFront c n
 unfolding name_parts
-name_front c n h = let f = both_true (name_part c) (name_parts n) h in record { part = f.0; rest = f.1 }
+name_front c n h = let f = and_yes (name_part c) (name_parts n) h in record { part = f.0; rest = f.1 }
 
 pub name_free : (n : Bytes) → T (name_parts n) → T (free n)
 unfolding free

@@ -5,6 +5,7 @@ use mathlib.Core.Path.{◌≡◌, refl}
 use mathlib.Core.Bool.{Bool, true, false, ◌&&◌, ◌||◌, not}
 use mathlib.Core.List.{[], ◌∷◌}
 use lib.Dec.{T, eqb}
+use Rattle.page.proofs.Verdicts.{or_left, or_right}
 use Rattle.field.specs.Bytes.{Bytes, pick}
 use Rattle.field.specs.Row.{inside}
 use Rattle.page.specs.Number.{whole, scaled, number_tag, minus_tag}
@@ -21,7 +22,7 @@ use Rattle.spec.proofs.Good.{GoodRaw, Still, FormedBy}
 use Rattle.spec.proofs.Weight.{page_weight, tag_weight, attributes_weight, value_weight, children_weight, expr_weight, items_weight, pieces_weight}
 use Rattle.spec.proofs.Closure.{Visited, still_none, still_node, still_raw, still_weaken, good_visits}
 use Rattle.spec.proofs.Invariant.{Invariant}
-use Rattle.spec.proofs.Shapes.{or_left, or_right, Items, expr_alone, expr_bare, expr_items}
+use Rattle.spec.proofs.Shapes.{Items, expr_alone, expr_bare, expr_items}
 use Rattle.spec.proofs.EveryPass as W
 use Rattle.spec.proofs.GoodInvariant.{good_invariant, visit_weaken}
 

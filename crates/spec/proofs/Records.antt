@@ -10,14 +10,15 @@ use lib.Dec.{T, eqb, ltb, nltb→le}
 use lib.ListN.{length, take, drop, length-append}
 use lib.Seq.{take_at, take_all, drop_at}
 use borrow.Author.Tests.{le-leb}
+use Rattle.std.proofs.Math.Facts.{or_no}
 use Rattle.field.specs.Bytes.{Bytes, pick}
 use Rattle.field.specs.Number.{big_endian, number_of}
 use Rattle.field.specs.Row.{Row, end, bytes, long_body, Inside, only_bytes, fields_after, counted, counted_front, inside_by, read_by}
 use Rattle.field.proofs.NumberLaws.{length_big_endian, big_endian_append, two_read}
 use Rattle.field.proofs.Reading.{FrontFits, ShapedBy, front_full, front_counted, back}
+use Rattle.page.proofs.TightRows.{short_parts}
 use Rattle.spec.specs.Output.{Layout, layout_80, layout_84, kind_bytes, strings_row, record_front, record_row}
 use Rattle.spec.specs.Demand.{begins, count_in, kinds_behind}
-use Rattle.spec.proofs.Ledger.{neither}
 
 pub length_kinds : (ks : List Bool) → length (kind_bytes ks) ≡ length ks
 unfolding kind_bytes
@@ -54,16 +55,14 @@ module _ (l : Layout) (n : ℕ) (ks : List Bool) (ss : List Bytes) (r : Row) (sh
   pub rest_short : T (not (long_body r))
   unfolding long_body record_row
   rest_short =
-      let f : Bytes = record_front l n ks in
-      let i : Row = strings_row ss in
-      (neither (long_body i) (long_body r) (neither (ltb 65535 (length (f ++ bytes i))) (long_body i || long_body r) short).1).1
+      (short_parts l.tag (record_front l n ks) (strings_row ss) r short).2
 
   body_short : length (record_front l n ks) ≤ 65535
   unfolding long_body record_row
   body_short =
       let f : Bytes = record_front l n ks in
       let i : Row = strings_row ss in
-      let h : length (f ++ bytes i) ≤ 65535 = nltb→le 65535 (length (f ++ bytes i)) (neither (ltb 65535 (length (f ++ bytes i))) (long_body i || long_body r) short).0 in
+      let h : length (f ++ bytes i) ≤ 65535 = (short_parts l.tag f i r short).0 in
       omega (arith, length-append f (bytes i))
 
   pub kinds_few : T l.kinded → length ks ≤ 65535

@@ -28,14 +28,6 @@ pub chosen : {A : Type 0} (Q : A → Type 0) (b : Bool) {x y : A} → (T b → Q
 chosen Q true g h = g tt
 chosen Q false g h = h
 
-pub or_left : (a b : Bool) → T a → T (a || b)
-or_left true b h = tt
-or_left false b h = absurd h
-
-pub or_right : (a b : Bool) → T b → T (a || b)
-or_right true b h = tt
-or_right false b h = h
-
 pub and_right : (a b : Bool) → T (a && b) → T b
 and_right true b h = h
 and_right false b h = absurd h

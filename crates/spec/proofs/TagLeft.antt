@@ -5,6 +5,7 @@ use native.Mathlib.Omega.{arith}
 use mathlib.Core.Path.{◌≡◌, refl, sym, subst}
 use mathlib.Core.Bool.{Bool, true, false, ◌||◌, not}
 use lib.Dec.{T, eqb}
+use Rattle.page.proofs.Verdicts.{not_either, or_left, or_right}
 use Rattle.field.specs.Bytes.{Bytes}
 use Rattle.field.specs.Row.{Row, end, loose, field}
 use Rattle.page.specs.Page.{Options, Page}
@@ -13,10 +14,10 @@ use Rattle.spec.specs.Output.{dynamic_exprs, gen_template}
 use Rattle.spec.specs.Visit.{visit_exprs, visit_inside, visit_after, leave}
 use Rattle.spec.specs.Transform.{transform, stands, page_out_row, module_items}
 use Rattle.spec.proofs.PageOut.{page_stands}
-use Rattle.spec.proofs.Ledger.{or_either, down_both}
-use Rattle.spec.proofs.Shapes.{or_left, or_right}
+use Rattle.spec.proofs.Ledger.{or_either}
 use Rattle.spec.proofs.Invariant.{Split}
 use Rattle.spec.proofs.Counting.{None, nothing_marked, Counting, every_page}
+use Rattle.spec.proofs.Weighed.{Raws, raws_append}
 
 -- ---- flags and rows
 
@@ -56,27 +57,19 @@ stands_last u (field t f i r) y h = or_right (eqb t u) (stands u i || stands u (
 abbrev Left : Done Row → Type 0
 Left d = T d.flags.left → T (stands 0x30 d.value)
 
-unfoldable Raws : Mid → Type 0
-Raws none = Unit {0}
-Raws (node t f i r) = Raws i × Raws r
-Raws (raw q r) = ((n : ℕ) → Left (q n)) × Raws r
-
-raws_append : (x y : Mid) → Raws x → Raws y → Raws (x +++ y)
-unfolding Raws ◌+++◌
-raws_append none y g h = h
-raws_append (node t f i r) y g h = (g.0, raws_append r y g.1 h)
-raws_append (raw q r) y g h = (g.0, raws_append r y g.1 h)
+abbrev Tags : Mid → Type 0
+Tags = Raws (λ q. (n : ℕ) → Left (q n))
 
 record Holds (m : Mid) (w : ℕ) : Type 0 where
   weightless : w ≡ 0
-  raws : Raws m
+  raws : Tags m
 
 -- a first pass leaves no tag
 record First (d : Done Mid) : Type 0 where
   down : T (not d.flags.left)
-  raws : Raws d.value
+  raws : Tags d.value
 
-visits : (m : Mid) → Raws m → (n : ℕ) → Left (visit_exprs m n)
+visits : (m : Mid) → Tags m → (n : ℕ) → Left (visit_exprs m n)
 unfolding Raws visit_exprs both pure
 visits none g n h = absurd h
 visits (node t f i r) g n h =
@@ -88,7 +81,7 @@ visits (raw q r) g n h =
     let e = visit_exprs r (n + d.taken) in
     or_either d.flags.left e.flags.left (λ x. stands_first 0x30 d.value e.value (g.0 n x)) (λ x. stands_last 0x30 d.value e.value (visits r g.1 (n + d.taken) x)) h
 
-inside : (m : Mid) → Raws m → (n : ℕ) → Left (visit_inside m n)
+inside : (m : Mid) → Tags m → (n : ℕ) → Left (visit_inside m n)
 unfolding visit_inside visit_exprs leave raise pure stands
 inside none g n h = absurd h
 inside (node t f i r) g n h = visits (node t f i r) g n h
@@ -119,16 +112,16 @@ counting =
       mid_literal = λ b e x. record { weightless = omega (arith, e, x.weightless); raws = (tt, x.raws) };
       mid_other = λ i e x y. record { weightless = omega (arith, e, x.weightless, y.weightless); raws = (x.raws, y.raws) };
       mid_raw = λ e x y. record { weightless = omega (arith, e, x.0, y.weightless); raws = (x.1, y.raws) };
-      mid_append = λ {x} {y} d e g h. record { weightless = omega (arith, e, g.weightless, h.weightless); raws = raws_append x y g.raws h.raws };
+      mid_append = λ {x} {y} d e g h. record { weightless = omega (arith, e, g.weightless, h.weightless); raws = raws_append _ x y g.raws h.raws };
       mid_nothing = λ x. x.weightless;
       mid_inner = λ h x. record { weightless = x.weightless; raws = x.raws.0 };
       mid_field = λ x. part x.weightless (record { weightless = refl; raws = (x.raws.0, tt) }) (record { weightless = refl; raws = x.raws.1 });
       mid_tag = λ x. part x.weightless (record { weightless = refl; raws = (x.raws.0, tt) }) (record { weightless = refl; raws = x.raws.1 });
       pass_pure = λ x. unfold pure in (x.weightless, λ n. record { down = tt; raws = x.raws });
-      pass_both = λ {p} {q} e g h. unfold both in (omega (arith, e, g.0, h.0), λ n. let d = p n in let s = q (n + d.taken) in record { down = down_both d.flags.left s.flags.left (g.1 n).down (h.1 (n + d.taken)).down; raws = raws_append d.value s.value (g.1 n).raws (h.1 (n + d.taken)).raws });
+      pass_both = λ {p} {q} e g h. unfold both in (omega (arith, e, g.0, h.0), λ n. let d = p n in let s = q (n + d.taken) in record { down = not_either d.flags.left s.flags.left (g.1 n).down (h.1 (n + d.taken)).down; raws = raws_append _ d.value s.value (g.1 n).raws (h.1 (n + d.taken)).raws });
       pass_map = λ {p} {v} {w} f a k e g. unfold map in ((k (p 0).value 0 v w e (record { weightless = g.0; raws = (g.1 0).raws })).weightless, λ n. record { down = (g.1 n).down; raws = (k (p n).value 0 v w e (record { weightless = g.0; raws = (g.1 n).raws })).raws });
       pass_raise = λ b g. unfold raise in (g.0, λ n. record { down = (g.1 n).down; raws = (g.1 n).raws });
-      pass_template = λ ps l e g. unfold gen_template in (omega (arith, e, g.0, nothing_marked ps), λ n. record { down = down_both (marks ps).left (dynamic_exprs ps (n + 1)).flags.left l (g.1 (n + 1)).down; raws = ((g.1 (n + 1)).raws, tt) });
+      pass_template = λ ps l e g. unfold gen_template in (omega (arith, e, g.0, nothing_marked ps), λ n. record { down = not_either (marks ps).left (dynamic_exprs ps (n + 1)).flags.left l (g.1 (n + 1)).down; raws = ((g.1 (n + 1)).raws, tt) });
       visit_done = λ g a. (g.0, after g.1);
       visit_left = unfold leave raise pure stands in (refl, λ n h. tt);
       visit_null = unfold pure in (refl, λ n h. absurd h);

@@ -7,6 +7,7 @@ use mathlib.Core.Bool.{Bool, true, false, ◌&&◌, ◌||◌}
 use mathlib.Core.List.{List, [], ◌∷◌, ◌++◌, map}
 use lib.Dec.{T, leb, eqb}
 use borrow.Author.Tests.{leb-true, lt-ltb, eqb-true}
+use Rattle.std.proofs.Math.Facts.{and_yes}
 use Rattle.field.specs.Bytes.{Bytes, pick, same, null?}
 use Rattle.field.specs.Bytes as B
 use Rattle.utf8.specs.Utf8.{utf8, utf8_behind, ascii}
@@ -23,7 +24,7 @@ use Rattle.page.specs.Check.{name_part, name_parts, is_name}
 use Rattle.page.specs.Limits.{AttrNameOk}
 use Rattle.page.specs.Number.{Number, whole, scaled, at_most_15, render}
 use Rattle.spec.specs.Attributes.{serialize_attr}
-use Rattle.spec.proofs.Markup.{both_true, name_has_parts, name_front}
+use Rattle.spec.proofs.Markup.{name_has_parts, name_front}
 use Rattle.spec.proofs.Characters.{Text, AllText, lines_text, escape_text, trim_start_stays, trim_end_stays}
 
 pub text_append : (a b : Bytes) → Text a → Text b → Text (a ++ b)
@@ -175,7 +176,7 @@ rename_text : (ps : List (Bytes × Bytes)) (n other : Bytes) → renamed_low ps 
 unfolding rename_in renamed_low
 rename_text [] n other h g = g
 rename_text (p ∷ ps) n other h g =
-    let k = both_true (ascii p.1) (renamed_low ps) (subst T (sym h) tt) in
+    let k = and_yes (ascii p.1) (renamed_low ps) (subst T (sym h) tt) in
     on (same n p.0) (rename_text ps n other (is k.1) g) (is k.0)
   where
     is : {b : Bool} → T b → b ≡ true

@@ -16,8 +16,9 @@ use Rattle.page.specs.Number.{whole, number_bytes}
 use Rattle.sums.specs.Value.{Worked}
 use Rattle.sums.specs.declared.value.Sum.TheVariants.{Plus, Minus}
 use Rattle.std.specs.Prelude.{Some, None}
+use Rattle.std.proofs.lemmas.Bool.{and_parts}
 use Rattle.worked.specs.Row.{holds, field_sum, number_or, worked_row, worked_bytes, worked_field}
-use Rattle.worked.proofs.Tests.{or_true, both}
+use Rattle.worked.proofs.Tests.{or_true}
 use Rattle.worked.proofs.Pieces.{no_79}
 
 -- ---- one field and those behind it
@@ -63,7 +64,7 @@ pub holds_fields : (t : ℕ) → holds t ≡ true → inside t ≡ fields_after 
 unfolding holds inside
 holds_fields t e =
     or_true (eqb t 0x01) _ e (λ a. held_by t 0x01 (eqb-true t 0x01 a) refl) λ _ e₁.
-    or_true (leb 0x10 t && leb t 0x12) _ e₁ (λ a. range (both (leb 0x10 t) (leb t 0x12) a)) λ _ e₂.
+    or_true (leb 0x10 t && leb t 0x12) _ e₁ (λ a. range (and_parts (leb 0x10 t) (leb t 0x12) a)) λ _ e₂.
     or_true (eqb t 0x30) _ e₂ (λ a. held_by t 0x30 (eqb-true t 0x30 a) refl) λ _ e₃.
     or_true (eqb t 0x31) _ e₃ (λ a. held_by t 0x31 (eqb-true t 0x31 a) refl) λ _ e₄.
     or_true (eqb t 0x50) _ e₄ (λ a. held_by t 0x50 (eqb-true t 0x50 a) refl) λ _ e₅.

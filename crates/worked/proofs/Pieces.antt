@@ -26,17 +26,18 @@ use Rattle.page.specs.Tree.{choose, pieces_in, element_in, fragment_in}
 use Rattle.sums.specs.Machine.{sum_of}
 use Rattle.sums.specs.Value.{Worked}
 use Rattle.std.specs.Prelude.{None}
+use Rattle.std.proofs.lemmas.Bool.{or_parts}
 use Rattle.worked.specs.Worked.{pieces_sum}
 use Rattle.worked.specs.Row.{field_sum, is_piece, piece_before, IsPiece, NextPiece}
-use Rattle.worked.proofs.Tests.{chosen, passed, or_false, or_true}
+use Rattle.worked.proofs.Tests.{chosen, passed, or_true}
 
 -- ---- what is no piece is passed over
 
 skipped : (t : ℕ) (f : Bytes) (i r : Row) → is_piece t ≡ false → pieces_in (field t f i r) ≡ pieces_in r
 unfolding is_piece pieces_in
 skipped t f i r e =
-    let a = or_false (eqb t 0x20) (eqb t 0x30 || eqb t 0x31) e in
-    let b = or_false (eqb t 0x30) (eqb t 0x31) a.1 in
+    let a = or_parts (eqb t 0x20) (eqb t 0x30 || eqb t 0x31) e in
+    let b = or_parts (eqb t 0x30) (eqb t 0x31) a.1 in
     passed (eqb t 0x20) _ _ a.0 ∙ passed (eqb t 0x30) _ _ b.0 ∙ passed (eqb t 0x31) _ _ b.1
 
 opened_skipped : (c : Inside) (t : ℕ) (w r : Bytes) → is_piece t ≡ false → pieces_in (opened c read t w r) ≡ pieces_in (read r)

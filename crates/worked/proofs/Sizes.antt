@@ -15,6 +15,7 @@ use Rattle.field.proofs.RowLaws.{read_ind, next_nothing, next_sizes, length_byte
 use Rattle.page.specs.Number.{whole, number_bytes}
 use Rattle.page.specs.Page.{Pieces, no_pieces, source_piece, tag_piece}
 use Rattle.page.specs.Tree.{pieces_in}
+use Rattle.page.proofs.TightRows.{part_size, length_read}
 use Rattle.sums.specs.Machine.{sum_of, found, outcome, at_end}
 use Rattle.sums.specs.Value.{Worked}
 use Rattle.sums.specs.declared.value.Sum.TheVariants.{Plus, Minus}
@@ -23,17 +24,7 @@ use Rattle.worked.specs.Worked.{pieces_sum}
 use Rattle.worked.specs.Row.{holds, field_sum, number_or, worked_row, worked_bytes, worked_field}
 use Rattle.worked.proofs.Tests.{chosen, passed}
 
--- ---- bytes are as many as those of the row that they read as
-
-part_size : (n : ℕ) (w : Bytes) → length (take n w) + length (drop n w) ≡ length w
-part_size n w = sym (length-append (take n w) (drop n w)) ∙ ap length (take-append-drop n w)
-
-pub length_read : (s : Bytes) → length (bytes (read s)) ≡ length s
-unfolding bytes
-length_read =
-    read_ind (λ s x. length (bytes x) ≡ length s) (λ s e. ap length (sym (next_nothing s e))) (λ s e. refl)
-    (λ s t w r e q hr. omega (arith, length_bytes t w end (read r), hr, next_sizes s t w r e))
-    (λ s t w r n e q hi hr. omega (arith, length_bytes t (take n w) (read (drop n w)) (read r), hi, hr, part_size n w, next_sizes s t w r e))
+-- ---- how long a field is, whatever is in front of its fields
 
 opened_size : (c : Inside) (t : ℕ) (w r : Bytes) → length (bytes (opened c read t w r)) ≡ 3 + length w + length r
 unfolding opened bytes

@@ -15,15 +15,7 @@ unfolding choose
 passed true x y e = absurd (let z : ◌≡◌ {A = ℕ} 0 1 = cc in omega arith)
 passed false x y e = refl
 
-pub or_false : (a b : Bool) → (a || b) ≡ false → (a ≡ false) × (b ≡ false)
-or_false true b e = absurd (let z : ◌≡◌ {A = ℕ} 0 1 = cc in omega arith)
-or_false false b e = (refl, e)
-
 -- the first that holds, or the others
 pub or_true : {A : Type 0} (a b : Bool) → (a || b) ≡ true → (a ≡ true → A) → (a ≡ false → b ≡ true → A) → A
 or_true true b e f g = f refl
 or_true false b e f g = g refl e
-
-pub both : (a b : Bool) → (a && b) ≡ true → (a ≡ true) × (b ≡ true)
-both true b e = (refl, e)
-both false b e = absurd (let z : ◌≡◌ {A = ℕ} 0 1 = cc in omega arith)

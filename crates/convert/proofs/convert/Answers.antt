@@ -5,7 +5,7 @@ use Rattle.field.specs.Bytes.{AllBytes}
 use Rattle.field.proofs.NumberLaws.{all_from}
 use Rattle.page.specs.Refusal.{Fine, refusal_number}
 use Rattle.page.specs.declared.Refusal.TheVariants as R
-use Rattle.std.proofs.lemmas.Bool.{leb-true, leb-false}
+use Rattle.std.proofs.lemmas.Bool.{leb-true, leb-false, not-true, not-false}
 use Rattle.outs.specs.Held.{read_out}
 use Rattle.outs.specs.PageOut.{check_page_out}
 use Rattle.outs.specs.Templates.{check_templates}
@@ -16,7 +16,7 @@ use Rattle.std.specs.Result.{result_ok}
 use Rattle.convert.specs.Convert.{refused}
 use Rattle.convert.specs.Flat.{other, width, unconverted_number, WroteAll, Rewrites}
 use Rattle.convert.specs.declared.Unconverted.{Unconverted}
-use Rattle.convert.proofs.TurnedLaws.{templates_refused, page_refused, unclear, too_wide, too_long, templates_full, page_full, both_written, renumbers_by, room_by, passed_on, refused_on, short_by, long_by}
+use Rattle.convert.proofs.TurnedLaws.{templates_refused, page_refused, unclear, too_wide, too_long, templates_full, page_full, both_written, renumbers_by, room_by, passed_on, refused_on}
 use Rattle.convert.proofs.AnswerLaws.{not_said}
 use Rattle.convert.proofs.convert.Goals as goal
 use Rattle.convert.proofs.convert.Goals.{After-rewrite_templates, After-renumber-y, In_ok-x}
@@ -78,7 +78,7 @@ returns-in_err-refuse_unless c =
     let b = (goal.at.returns-in_err-refuse_unless c).After-rewrite_templates in
     let w = said (goal.at.returns-in_err-refuse_unless c).In_ok-x in
     let u = refused_by c.refuse_unless.ensures c.in_err-refuse_unless.was in
-    passed_on _ _ _ _ _ _ _ c.from_residual-in_err-refuse_unless.ensures (refused_on R.OutputTooLong _ u.1 (too_long a.from a.templates.now a.page.now _ _ (fine b) (page_fine b) (templates_all b) (page_all b) w.clear_is w (both (goal.at.returns-in_err-refuse_unless c).After-renumber-y) refl refl c.if-y.false (long_by _ u.0))) c.rewrite_templates.auto.out c.renumber-y.auto.out
+    passed_on _ _ _ _ _ _ _ c.from_residual-in_err-refuse_unless.ensures (refused_on R.OutputTooLong _ u.1 (too_long a.from a.templates.now a.page.now _ _ (fine b) (page_fine b) (templates_all b) (page_all b) w.clear_is w (both (goal.at.returns-in_err-refuse_unless c).After-renumber-y) refl refl c.if-y.false (not-false _ u.0))) c.rewrite_templates.auto.out c.renumber-y.auto.out
 
 pub returns-in_err-refuse_unless-2 : goal.returns-in_err-refuse_unless-2
 unfolding refusal_number
@@ -87,7 +87,7 @@ returns-in_err-refuse_unless-2 c =
     let b = (goal.at.returns-in_err-refuse_unless-2 c).After-rewrite_templates in
     let w = said (goal.at.returns-in_err-refuse_unless-2 c).In_ok-x in
     let u = refused_by c.refuse_unless-2.ensures c.in_err-refuse_unless-2.was in
-    passed_on _ _ _ _ _ _ _ c.from_residual-in_err-refuse_unless-2.ensures (refused_on R.TemplatesTooSmall _ u.1 (templates_full a.from a.templates.now a.page.now _ _ (fine b) (page_fine b) (templates_all b) (page_all b) w.clear_is w (both (goal.at.returns-in_err-refuse_unless-2 c).After-renumber-y) refl refl c.if-y.false (short_by _ (fine_by R.OutputTooLong c.refuse_unless.ensures c.in_ok-refuse_unless.was)) (leb-false _ _ u.0))) c.rewrite_templates.auto.out c.renumber-y.auto.out
+    passed_on _ _ _ _ _ _ _ c.from_residual-in_err-refuse_unless-2.ensures (refused_on R.TemplatesTooSmall _ u.1 (templates_full a.from a.templates.now a.page.now _ _ (fine b) (page_fine b) (templates_all b) (page_all b) w.clear_is w (both (goal.at.returns-in_err-refuse_unless-2 c).After-renumber-y) refl refl c.if-y.false (not-true _ (fine_by R.OutputTooLong c.refuse_unless.ensures c.in_ok-refuse_unless.was)) (leb-false _ _ u.0))) c.rewrite_templates.auto.out c.renumber-y.auto.out
 
 pub returns-in_err-refuse_unless-3 : goal.returns-in_err-refuse_unless-3
 unfolding refusal_number
@@ -96,11 +96,11 @@ returns-in_err-refuse_unless-3 c =
     let b = (goal.at.returns-in_err-refuse_unless-3 c).After-rewrite_templates in
     let w = said (goal.at.returns-in_err-refuse_unless-3 c).In_ok-x in
     let u = refused_by c.refuse_unless-3.ensures c.in_err-refuse_unless-3.was in
-    passed_on _ _ _ _ _ _ _ c.from_residual-in_err-refuse_unless-3.ensures (refused_on R.PageTooSmall _ u.1 (page_full a.from a.templates.now a.page.now _ _ (fine b) (page_fine b) (templates_all b) (page_all b) w.clear_is w (both (goal.at.returns-in_err-refuse_unless-3 c).After-renumber-y) refl refl c.if-y.false (short_by _ (fine_by R.OutputTooLong c.refuse_unless.ensures c.in_ok-refuse_unless.was)) (leb-true _ _ (fine_by R.TemplatesTooSmall c.refuse_unless-2.ensures c.in_ok-refuse_unless-2.was)) (leb-false _ _ u.0))) c.rewrite_templates.auto.out c.renumber-y.auto.out
+    passed_on _ _ _ _ _ _ _ c.from_residual-in_err-refuse_unless-3.ensures (refused_on R.PageTooSmall _ u.1 (page_full a.from a.templates.now a.page.now _ _ (fine b) (page_fine b) (templates_all b) (page_all b) w.clear_is w (both (goal.at.returns-in_err-refuse_unless-3 c).After-renumber-y) refl refl c.if-y.false (not-true _ (fine_by R.OutputTooLong c.refuse_unless.ensures c.in_ok-refuse_unless.was)) (leb-true _ _ (fine_by R.TemplatesTooSmall c.refuse_unless-2.ensures c.in_ok-refuse_unless-2.was)) (leb-false _ _ u.0))) c.rewrite_templates.auto.out c.renumber-y.auto.out
 
 pub returns : goal.returns
 returns c =
     let a = c.args in
     let b = (goal.at.returns c).After-rewrite_templates in
     let w = said (goal.at.returns c).In_ok-x in
-    both_written a.from a.templates.now a.page.now _ _ (fine b) (page_fine b) (templates_all b) (page_all b) w.clear_is w (both (goal.at.returns c).After-renumber-y) refl refl c.if-y.false (short_by _ (fine_by R.OutputTooLong c.refuse_unless.ensures c.in_ok-refuse_unless.was)) (leb-true _ _ (fine_by R.TemplatesTooSmall c.refuse_unless-2.ensures c.in_ok-refuse_unless-2.was)) (leb-true _ _ (fine_by R.PageTooSmall c.refuse_unless-3.ensures c.in_ok-refuse_unless-3.was))
+    both_written a.from a.templates.now a.page.now _ _ (fine b) (page_fine b) (templates_all b) (page_all b) w.clear_is w (both (goal.at.returns c).After-renumber-y) refl refl c.if-y.false (not-true _ (fine_by R.OutputTooLong c.refuse_unless.ensures c.in_ok-refuse_unless.was)) (leb-true _ _ (fine_by R.TemplatesTooSmall c.refuse_unless-2.ensures c.in_ok-refuse_unless-2.was)) (leb-true _ _ (fine_by R.PageTooSmall c.refuse_unless-3.ensures c.in_ok-refuse_unless-3.was))

@@ -1,7 +1,8 @@
 -- `templates::lower_record` meets its contract: the three writes make the record. Assumes nothing.
 use mathlib.Core.Path.{refl, ◌∙◌}
 use native.Mathlib.Omega.{arith}
-use Rattle.convert.proofs.TemplateLaws.{four_first, front_at, lower_room, lower_number_stops, lower_kinds_stop, lower_wrote, head_end, number_end}
+use Rattle.outs.proofs.Parts.{four_first}
+use Rattle.convert.proofs.TemplateLaws.{front_at, lower_room, lower_number_stops, lower_kinds_stop, lower_wrote, head_end, number_end}
 use Rattle.convert.proofs.templates.lower_record.Goals as goal
 use Rattle.convert.proofs.templates.lower_record.Goals.{then-number-gt-LARGEST-via-then-number-gt-LARGEST, then-number-gt-LARGEST-via-else-number-gt-LARGEST+then-not-are_kinds}
 

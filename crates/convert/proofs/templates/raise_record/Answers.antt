@@ -1,7 +1,8 @@
 -- `templates::raise_record` meets its contract: the five writes make the record. Assumes nothing.
 use mathlib.Core.Path.{◌∙◌}
 use native.Mathlib.Omega.{arith}
-use Rattle.convert.proofs.TemplateLaws.{two_first, raise_room, raise_stops, raise_wrote, head_end, number_end, marks_end}
+use Rattle.outs.proofs.Parts.{two_first}
+use Rattle.convert.proofs.TemplateLaws.{raise_room, raise_stops, raise_wrote, head_end, number_end, marks_end}
 use Rattle.convert.proofs.templates.raise_record.Goals as goal
 
 pub overflow_add-len : goal.overflow_add-len

@@ -2,7 +2,8 @@
 use mathlib.Core.Path.{refl}
 use native.Mathlib.Omega.{arith}
 use Rattle.find.proofs.SearchLaws.{index_found, index_none}
-use Rattle.find.proofs.RecordLaws.{number_four, walk_begins, walk_ends, walk_ends_there, has_four, turn_not_asked, turn_met_before, turn_first_met}
+use Rattle.outs.proofs.Parts.{four_first}
+use Rattle.find.proofs.RecordLaws.{walk_begins, walk_ends, walk_ends_there, has_four, turn_not_asked, turn_met_before, turn_first_met}
 use Rattle.find.proofs.lookup.walk.Goals as goal
 use Rattle.find.proofs.lookup.walk.Goals.{in-Ok+then-places-i, in-Ok+else-places-i, in_default-binary_search}
 
@@ -25,7 +26,7 @@ pub loop-waiting-preserved : goal.loop-waiting-preserved
 loop-waiting-preserved c =
     let a = c.loop-waiting.invariant in
     let f = c.in-Some.ensures.steps in
-    let n = number_four _ (has_four a f) c.from_be_bytes-number.ensures in
+    let n = four_first _ (has_four a f) c.from_be_bytes-number.ensures in
     elim c.match-binary_search.branch [
       | in-Ok+then-places-i w ↦
           (let i = index_found c.args.numbers.now c.requires.1.0 _ _ c.binary_search.ensures.position w.in-Ok.is in
