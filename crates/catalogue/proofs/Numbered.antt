@@ -10,11 +10,12 @@ use lib.Dec.{eqb}
 use lib.ListN.{length}
 use Rattle.std.proofs.lemmas.Float.{T_from_true}
 use Rattle.std.proofs.lemmas.Bool.{and_from, cases_Bool}
-use borrow.Author.Tests.{le-leb, eq-eqb, eqb-true, ne_eqb, eqb-false}
+use borrow.Author.Tests.{le-leb, eq-eqb, eqb-true, eqb-false}
 use Rattle.field.specs.Bytes.{Bytes, pick}
-use Rattle.field.specs.Row.{Row, end, loose, field, bytes, inside, read}
+use Rattle.field.specs.Row.{Row, end, loose, field, bytes, read}
 use Rattle.field.proofs.Reading.{ShapedBy, shaped, length_bytes}
-use Rattle.page.specs.Refusal.{Verdict, Fine, Refused, refusal_number}
+use Rattle.refusal.specs.Refusal.{Verdict, Fine, verdict_number}
+use Rattle.refusal.proofs.Verdicts.{verdict_fine}
 use Rattle.page.specs.Tree.{choose}
 use Rattle.page.proofs.TightRows.{length_read}
 use Rattle.spec.proofs.Counts.{bit_not, bit_low}
@@ -26,8 +27,7 @@ use Rattle.outs.specs.declared.Expect.TheVariants as E
 use Rattle.outs.specs.declared.Kind.TheVariants.{New}
 use Rattle.spec.specs.Transform.{bit}
 use Rattle.spec.specs.Demand.{begins, recorded_in, templates_in, called_in, up_to, strings_in, Each84}
-use Rattle.convert.specs.Convert.{agrees, verdict_number, number_unless}
-use Rattle.convert.proofs.AnswerLaws.{number_some}
+use Rattle.convert.specs.Convert.{agrees, number_unless}
 use Rattle.convert.proofs.RecordLaws.{record_of, new_front}
 use Rattle.convert.proofs.PageLaws.{leaf_alone, rest_fine, nest_fine}
 use Rattle.catalogue.specs.Page.{Body}
@@ -208,11 +208,6 @@ each_agree (field t f i r) c h =
     and_from (agrees f (strings_in i)) (all_agree r) (h.0 (T_from_true (eqb t 0x84) (eq-eqb t 0x84 d.tag_is))) (each_agree r d.rest_is h.1)
 
 -- ---- the judge
-
-verdict_fine : (v : Verdict) → verdict_number v ≡ 0 → v ≡ Fine
-unfolding verdict_number
-verdict_fine Fine h = refl
-verdict_fine (Refused r) h = absurd (eqb-false (refusal_number r) 0 (number_some r) h)
 
 fine_verdict : (v : Verdict) → v ≡ Fine → verdict_number v ≡ 0
 unfolding verdict_number

@@ -15,7 +15,7 @@ use Rattle.field.specs.Bytes.{Bytes, pick}
 use Rattle.field.specs.Number.{big_endian}
 use Rattle.field.specs.Row.{Row, end, loose, field, read}
 use Rattle.field.proofs.Reading.{ShapedBy, shaped}
-use Rattle.page.specs.Refusal.{Fine}
+use Rattle.refusal.specs.Refusal.{Fine}
 use Rattle.outs.specs.Held.{nests, held, read_out}
 use Rattle.outs.specs.PageOut.{left, within, good, check_page_out}
 use Rattle.outs.specs.Templates.{check_records, check_templates}

@@ -9,8 +9,8 @@ use Rattle.field.specs.Number.{big_endian, number_from}
 use Rattle.field.specs.Row.{field_bytes, bytes, inside, next_of, opened, read_from, read}
 use Rattle.utf8.specs.Utf8 as U
 use Rattle.page.specs.Tree.{choose}
-use Rattle.page.specs.Refusal.{refusal_number}
-use Rattle.page.specs.Refusal as V
+use Rattle.refusal.specs.Refusal.{refusal_number, verdict_number}
+use Rattle.refusal.specs.Refusal as V
 use Rattle.page.specs.Check.{check_text, check_empty}
 use Rattle.outs.specs.Held.{held, read_out}
 use Rattle.outs.specs.PageOut.{within, check_leaf, good, check_page_out}
@@ -18,7 +18,7 @@ use Rattle.outs.specs.Templates.{all_kinds, front_of_record, check_strings, chec
 use Rattle.spec.specs.Output.{kind_bytes}
 use Rattle.spec.specs.Demand.{templates_in, strings_in}
 use Rattle.convert.specs.Kinds.{passed, all_passed, kind_there, kinds_from}
-use Rattle.convert.specs.Convert.{agrees, verdict_number}
+use Rattle.convert.specs.Convert.{agrees}
 use Rattle.catalogue.specs.Page.{Page, A14}
 use Rattle.catalogue.specs.Catalogue.{page_then, row, size, row_size, build, add, all_zero, page_in, page_right, read_page, read_row, present, names_differ, no_name_twice, read_catalogue}
 use Rattle.catalogue.specs.Shares.{Shares, total, each, shares_right, used, unused, but}

@@ -3,7 +3,7 @@
 use Rattle.std.specs.Prelude.{ℕ, zero, suc, ◌+◌, ◌≡◌, Bool, true, ◌&&◌, List, [], ◌∷◌, ◌++◌, eqb, length}
 use Rattle.field.specs.Bytes.{pick}
 use Rattle.field.specs.Row.{Row, end, loose, field, read}
-use Rattle.page.specs.Refusal.{Fine}
+use Rattle.refusal.specs.Refusal.{Fine, verdict_number}
 use Rattle.page.specs.Tree.{choose}
 use Rattle.spec.specs.Transform.{bit}
 use Rattle.spec.specs.Demand.{recorded_in, templates_in, called_in, up_to, strings_in, Each84}
@@ -11,7 +11,7 @@ use Rattle.outs.specs.Held.{read_out}
 use Rattle.outs.specs.PageOut.{check_page_out}
 use Rattle.outs.specs.Templates.{check_templates}
 use Rattle.outs.specs.declared.Kind.TheVariants.{New}
-use Rattle.convert.specs.Convert.{agrees, verdict_number, number_unless}
+use Rattle.convert.specs.Convert.{agrees, number_unless}
 use Rattle.catalogue.specs.Page.{Body, Request, Format}
 use Rattle.catalogue.specs.Numbers.{by_rows}
 use Rattle.catalogue.specs.Catalogue.{four}

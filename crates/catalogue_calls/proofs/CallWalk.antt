@@ -21,7 +21,7 @@ use Rattle.field.specs.declared.reader.Header.{Header}
 use Rattle.field.proofs.HeaderLaws.{within_field}
 use Rattle.field.proofs.NumberLaws.{all_from, length_big_endian}
 use Rattle.loops.proofs.Headers.{next_torn, next_empty, next_is, body, length_body}
-use Rattle.page.specs.Refusal.{Fine}
+use Rattle.refusal.specs.Refusal.{Fine}
 use Rattle.outs.specs.Held.{nests, held, read_out}
 use Rattle.outs.specs.PageOut.{check_page_out}
 use Rattle.outs.proofs.StepLaws.{FrontIs, held_front, held_none}

@@ -19,10 +19,10 @@ use Rattle.field.specs.Row.{Row, end, loose, field, field_bytes, bytes, Inside, 
 use Rattle.field.specs.Put.{head}
 use Rattle.field.proofs.NumberLaws.{all_drop}
 use Rattle.field.proofs.Reading.{Opens, next_parts, next_sizes, next_nothing, all_parts, along}
-use Rattle.page.specs.Refusal.{Verdict, Fine, after, unless}
+use Rattle.refusal.specs.Refusal.{Verdict, Fine, after, unless}
 use Rattle.page.specs.Tree.{choose}
-use Rattle.page.specs.declared.Refusal.TheVariants as R
-use Rattle.page.proofs.Verdicts.{refused, after_fine, unless_true}
+use Rattle.refusal.specs.declared.Refusal.TheVariants as R
+use Rattle.refusal.proofs.Verdicts.{refused, after_fine, unless_true}
 use Rattle.catalogue.proofs.Rows.{counts_none}
 use Rattle.outs.specs.Held.{nests, held, read_out}
 use Rattle.outs.specs.PageOut.{left, within, front_right, check_leaf, good, check_page_out}

@@ -19,10 +19,11 @@ use Rattle.field.specs.Front.{behind_of}
 use Rattle.field.specs.Fields.{IsFront}
 use Rattle.field.proofs.FrontLaws.{parts_at}
 use Rattle.page.specs.Check.{check_text}
-use Rattle.page.specs.Refusal.{Verdict, Fine, Refused, refusal_number, after, unless}
+use Rattle.refusal.specs.Refusal.{Verdict, Fine, Refused, refusal_number, after, unless, verdict_number}
 use Rattle.page.specs.Tree.{choose}
-use Rattle.page.specs.declared.Refusal.{Refusal}
-use Rattle.page.specs.declared.Refusal.TheVariants as R
+use Rattle.refusal.specs.declared.Refusal.{Refusal}
+use Rattle.refusal.specs.declared.Refusal.TheVariants as R
+use Rattle.refusal.proofs.Verdicts.{number_some}
 use Rattle.outs.specs.Held.{nests, read_out}
 use Rattle.outs.specs.PageOut.{allowed, left, within, check_leaf, good, check_page_out}
 use Rattle.outs.specs.Templates.{front_of_record, all_kinds, check_strings, check_any_strings, check_strings_of, check_records, check_templates}
@@ -31,10 +32,9 @@ use Rattle.outs.specs.declared.Expect.TheVariants as E
 use Rattle.outs.specs.declared.Kind.TheVariants.{New}
 use Rattle.spec.specs.Transform.{bit}
 use Rattle.spec.specs.Demand.{templates_in, strings_in}
-use Rattle.convert.specs.Convert.{agrees, verdict_number, number_unless}
+use Rattle.convert.specs.Convert.{agrees, number_unless}
 use Rattle.convert.specs.Flat.{kind_marks, same_kinds, fields_in, strings_at, kinds_at, body_agrees, BodyFits}
 use Rattle.convert.specs.declared.kinds.Markup.TheVariants as M
-use Rattle.convert.proofs.AnswerLaws.{number_some}
 use Rattle.convert.proofs.RecordLaws.{Sound, any_of, record_of, new_front, fits, by_marks, agrees_is, rest_sound, new_agrees, new_counts}
 use Rattle.convert.proofs.TemplateLaws.{InFront, in_front, sound_read, part_rest}
 use Rattle.catalogue.specs.Page.{Body, IsBytes}

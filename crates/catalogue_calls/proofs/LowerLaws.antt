@@ -12,7 +12,7 @@ use Rattle.std.proofs.lemmas.List.{take_rest}
 use Rattle.field.specs.Bytes.{Bytes}
 use Rattle.field.specs.Number.{big_endian}
 use Rattle.field.specs.Row.{bytes, read}
-use Rattle.page.specs.Refusal.{Fine}
+use Rattle.refusal.specs.Refusal.{Fine}
 use Rattle.outs.specs.Held.{read_out}
 use Rattle.outs.specs.PageOut.{check_page_out}
 use Rattle.outs.specs.Templates.{check_templates}

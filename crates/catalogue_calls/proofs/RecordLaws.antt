@@ -18,9 +18,10 @@ use Rattle.field.specs.Put.{head}
 use Rattle.field.specs.Fields.{IsFront, IsEnd}
 use Rattle.field.proofs.NumberLaws.{all_drop, length_big_endian}
 use Rattle.field.proofs.RowLaws.{Opens, read_step, read_ind, bytes_read, all_parts}
-use Rattle.page.specs.Refusal.{Fine}
-use Rattle.page.specs.declared.Refusal.TheVariants as R
-use Rattle.page.proofs.Verdicts.{refused, after_fine, unless_fine, is_true}
+use Rattle.refusal.specs.Refusal.{Fine}
+use Rattle.refusal.specs.declared.Refusal.TheVariants as R
+use Rattle.refusal.proofs.Verdicts.{refused, after_fine, unless_fine}
+use Rattle.page.proofs.Booleans.{is_true}
 use Rattle.page.proofs.Steps.{front, inner, row_at}
 use Rattle.outs.specs.Templates.{count_of, front_of_record, check_strings, check_strings_of, check_records, check_templates}
 use Rattle.outs.specs.declared.Kind.TheVariants.{New}

@@ -18,7 +18,7 @@ use Rattle.field.proofs.HeaderLaws.{within_field}
 use Rattle.loops.proofs.Headers.{next_torn, next_empty, next_is, body, length_body}
 use Rattle.field.proofs.NumberLaws.{all_from}
 use Rattle.field.proofs.RowLaws.{read_step, all_parts}
-use Rattle.page.specs.Refusal.{Fine}
+use Rattle.refusal.specs.Refusal.{Fine}
 use Rattle.outs.specs.Templates.{check_templates}
 use Rattle.outs.specs.declared.Kind.TheVariants.{New}
 use Rattle.catalogue.specs.Catalogue.{four}

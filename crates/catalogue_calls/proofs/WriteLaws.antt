@@ -10,7 +10,7 @@ use borrow.Rule.Slice.PartMut.{put_mid}
 use Rattle.field.specs.Bytes.{Bytes}
 use Rattle.field.specs.Put.{put, Wrote}
 use Rattle.field.proofs.PutLaws.{put_put, put_fits}
-use Rattle.page.specs.Refusal.{Fine}
+use Rattle.refusal.specs.Refusal.{Fine}
 use Rattle.outs.specs.PageOut.{check_page_out}
 use Rattle.outs.specs.Templates.{check_templates}
 use Rattle.outs.specs.declared.Kind.TheVariants.{New}

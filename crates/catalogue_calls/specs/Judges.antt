@@ -1,6 +1,6 @@
 -- What the check of a page's two parts answers. Assumes nothing: these are definitions.
 use Rattle.std.specs.Prelude.{ℕ, ◌≡◌, Result, Ok, Err}
-use Rattle.page.specs.Refusal.{refusal_number}
+use Rattle.refusal.specs.Refusal.{refusal_number}
 use Rattle.catalogue.specs.Page.{Body}
 use Rattle.catalogue_calls.specs.Standing.{housed}
 use Rattle.catalogue_calls.specs.declared.answer.Unkept.{Unkept}

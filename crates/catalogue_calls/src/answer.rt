@@ -3,7 +3,7 @@ ghost use Rattle.std.specs.Prelude.{◌≡◌};
 ghost use Rattle.catalogue_calls.specs.Judges.{unkept_number};
 ghost use Rattle.catalogue_calls.specs.declared.answer.Unkept.TheVariants as U;
 
-use page::Refusal;
+use refusal::Refusal;
 
 // Why nothing is kept: what is refused of the page or of the catalogue; kinds or numbers that are not as they must be; then the other refusals of
 // document 02, A13 and A14.

@@ -1,7 +1,7 @@
 // A page arrives: first every test, then it is written behind the last page.
 ghost use Rattle.std.specs.Prelude.{◌≡◌, ◌+◌, ◌≤◌, ◌<◌, ◌^◌, [], length};
 ghost use Rattle.field.specs.Put.{put};
-ghost use Rattle.page.specs.Refusal.{Fine};
+ghost use Rattle.refusal.specs.Refusal.{Fine};
 ghost use Rattle.outs.specs.PageOut.{check_page_out};
 ghost use Rattle.outs.specs.Templates.{check_templates};
 ghost use Rattle.outs.specs.declared.Kind.TheVariants as K;
@@ -18,8 +18,9 @@ use crate::lookup::look_up;
 use crate::numbers::{raise_calls, raise_records};
 use crate::read::{Held, read};
 use crate::standing::PARTS;
+use field::tags::CATALOGUED_PAGE;
 use field::writer::{put_byte, put_bytes, put_four};
-use page::Refusal;
+use refusal::Refusal;
 
 // Whether the house may have the page's bytes besides its own, and the others keep what they are sure of. No sum passes 64 bits.
 fn check_room(
@@ -83,7 +84,7 @@ fn put_head(out: &mut [u8], at: usize, name: u32, house: u8, templates: usize, p
     requires { at + 14 < 2 ^ 64 }
     ensures { out.new ≡ put out.old at (head_of name house templates page) }
 {
-    let at = put_byte(out, at, 0x97);
+    let at = put_byte(out, at, CATALOGUED_PAGE);
     let at = put_four(out, at, name as usize);
     let at = put_byte(out, at, house);
     let at = put_four(out, at, templates);

@@ -2,7 +2,7 @@
 // numbers: 1 up to how many records there are, each recorded once and called once.
 ghost use Rattle.std.specs.Prelude.{◌≡◌, ◌&&◌};
 ghost use Rattle.field.specs.Row.{read};
-ghost use Rattle.page.specs.Refusal.{Fine};
+ghost use Rattle.refusal.specs.Refusal.{Fine};
 ghost use Rattle.outs.specs.Templates.{check_templates};
 ghost use Rattle.outs.specs.declared.Kind.TheVariants as K;
 ghost use Rattle.convert.specs.Flat.{body_agrees, BodyFits};
@@ -16,17 +16,18 @@ use crate::numbers::{Calls, Records};
 use crate::once::each_once;
 use convert::are_kinds;
 use field::reader::Fields;
+use field::{KINDS_AT, NUMBER_WIDTH};
 use outs::Kind;
 use outs::page_out::check_page_out;
-use outs::templates::check_templates;
+use outs::templates::{check_templates, counted_front};
 
 // A record's body, of templates that are checked: the parts by their places.
 fn agrees(w: &[u8]) -> bool
     requires { BodyFits K.New w.now }
     ensures { result ≡ body_agrees w.now }
 {
-    let front = 6 + usize::from(u16::from_be_bytes([w[4], w[5]]));
-    are_kinds(&w[6..front], &w[front..])
+    let front = counted_front(w);
+    are_kinds(&w[KINDS_AT..front], &w[front..])
 }
 
 // A7: the kinds of each record are those that its strings give.
@@ -54,7 +55,7 @@ pub fn judge(templates: &[u8], page: &[u8], before: u32) -> Result<usize, Unkept
     ensures { Judges (record { templates = templates.now; page_out = page.now }) before result }
 {
     check_templates(templates, Kind::New)?;
-    check_page_out(page, 4)?;
+    check_page_out(page, NUMBER_WIDTH)?;
     let count = Fields(templates).count();
     if all_agree(templates) && is_numbered(templates, page, count, before) {
         Ok(count)

@@ -11,7 +11,7 @@ use crate::lookup::{Found, look_up};
 use crate::numbers::{raise_calls, raise_records};
 use crate::read::{Held, read};
 use crate::standing::{PARTS, page_at};
-use page::Refusal;
+use refusal::Refusal;
 
 // The numbers of the page in front go back by so many templates. Answers the page's size.
 fn lower_front(s: &mut [u8], forms: u32) -> Option<usize>

@@ -4,7 +4,7 @@
 ghost use Rattle.std.specs.Prelude.{◌≡◌, ◌+◌, ◌≤◌, ℕ, List, length};
 ghost use Rattle.field.specs.Bytes.{Bytes};
 ghost use Rattle.field.specs.Row.{bytes, read};
-ghost use Rattle.page.specs.Refusal.{Fine};
+ghost use Rattle.refusal.specs.Refusal.{Fine};
 ghost use Rattle.outs.specs.Held.{read_out};
 ghost use Rattle.outs.specs.PageOut.{check_page_out};
 ghost use Rattle.outs.specs.Templates.{check_templates};
@@ -16,7 +16,9 @@ ghost use Rattle.catalogue_calls.specs.Flat.{calls_in, raised_at};
 ghost use Rattle.catalogue_calls.specs.Next.{NextNumber, NextCall};
 
 use field::reader::{Fields, read_header};
+use field::tags::TEMPLATE;
 use field::writer::put_four;
+use field::{HEAD, NUMBER_WIDTH};
 use outs::order::front_of;
 use page::number::number_in;
 
@@ -45,9 +47,9 @@ fn next_call(s: &[u8]) -> Option<usize>
     let mut rest = s;
     // into a field that holds fields, or over one that does not: no iterator over fields goes so
     while let Some(h) = read_header(rest) {
-        match front_of(h.tag, 4) {
-            Some(4) => return Some(s.len() - rest.len() + 3),
-            Some(_) => rest = &rest[3..],
+        match front_of(h.tag, NUMBER_WIDTH) {
+            Some(NUMBER_WIDTH) => return Some(s.len() - rest.len() + HEAD),
+            Some(_) => rest = &rest[HEAD..],
             None => rest = &rest[h.end..],
         }
     }
@@ -63,7 +65,7 @@ impl Numbers for Records {
         let mut fields = Fields(s);
         // no `for`: what lies behind the record is answered too
         while let Some(field) = fields.next() {
-            if field.tag == 0x84 {
+            if field.tag == TEMPLATE {
                 return Some((four_in(field.body), fields.0));
             }
         }
@@ -78,7 +80,7 @@ impl Numbers for Calls {
 
     fn next<'a>(s: &'a [u8]) -> Option<(u32, &'a [u8])> {
         let at = next_call(s)?;
-        let behind = s.len().min(at + 4);
+        let behind = s.len().min(at + NUMBER_WIDTH);
         Some((four_in(&s[at..]), &s[behind..]))
     }
 }
@@ -99,7 +101,7 @@ pub fn raise_records(s: &mut [u8], by: u32)
     let mut at = 0;
     // by places, since the bytes that are walked are changed
     while let Some(h) = read_header(&s[at..]) {
-        raise(s, at + 3, by);
+        raise(s, at + HEAD, by);
         at += h.end;
     }
 }
@@ -112,6 +114,6 @@ pub fn raise_calls(s: &mut [u8], by: u32)
     // by places, as raise_records
     while let Some(number) = next_call(&s[at..]) {
         raise(s, at + number, by);
-        at += number + 4;
+        at += number + NUMBER_WIDTH;
     }
 }

@@ -5,6 +5,8 @@ ghost use Rattle.catalogue.specs.Catalogue.{four};
 ghost use Rattle.catalogue_calls.specs.Standing.{StandsAt, GivesPage};
 ghost use Rattle.std.specs.Iterator.{at_most};
 
+use field::tags::CATALOGUED_PAGE;
+
 // Document 02, A13 and A14: where a page's templates begin, counted from its 97.
 pub const PARTS: usize = 14;
 
@@ -23,7 +25,7 @@ pub fn page_at<'a>(s: &'a [u8]) -> Option<Standing<'a>>
     ensures { StandsAt s.now result }
 {
     let (tag, s) = s.split_first()?;
-    if *tag != 0x97 {
+    if *tag != CATALOGUED_PAGE {
         return None;
     }
     let (name, s) = number_at(s)?;

@@ -9,14 +9,13 @@ use mathlib.Core.List.{List, [], ◌∷◌}
 use lib.Dec.{T, leb}
 use lib.ListN.{length}
 use borrow.Author.Tests.{le-leb}
-use Rattle.page.proofs.Verdicts.{is_true}
+use Rattle.page.proofs.Booleans.{is_true}
 use Rattle.field.specs.Bytes.{Bytes, AllBytes}
-use Rattle.field.specs.Number.{big_endian, number_of}
 use Rattle.field.specs.Row.{Row, bytes, long_body, read}
 use Rattle.field.proofs.Reading.{SaneBy, back, sane}
 use Rattle.field.proofs.NumberLaws.{two_read}
 use Rattle.field.proofs.RowLaws.{read_sane}
-use Rattle.page.specs.Refusal.{Fine, Verdict}
+use Rattle.refusal.specs.Refusal.{Fine, Verdict, verdict_number}
 use Rattle.page.specs.Limits.{ModuleItemsOk}
 use Rattle.page.specs.Tree.{page_in, works_sums, options_in}
 use Rattle.page.proofs.Options.{options_ok}
@@ -41,7 +40,7 @@ use Rattle.spec.proofs.Lent.{made, made_page, says, exact, short, taken_few, tem
 use Rattle.spec.proofs.Lent as L
 use Rattle.spec.proofs.Spaced.{sound_spaced}
 use Rattle.spec.proofs.Characters.{Text, AllText}
-use Rattle.convert.specs.Convert.{Outcome, refused, converted, past, verdict_number, raised, lowered, written, upgraded, downgraded}
+use Rattle.convert.specs.Convert.{Outcome, refused, converted, past, raised, lowered, written, upgraded, downgraded}
 use Rattle.convert.specs.Words.{DownAndUp, no_room_for_templates, no_room_for_page, comes_back}
 use Rattle.convert.proofs.Formed.{true_never, FormedRow, AllTexts}
 use Rattle.convert.proofs.KindsInPlace.{kinds_by_places}

@@ -20,10 +20,10 @@ use Rattle.page.specs.Number.{render}
 use Rattle.page.specs.Check.{check_text, check_empty, check_boolean, name_start, name_parts, no_hyphen, is_name, check_name, check_members, at_least, check_name_by}
 use Rattle.page.specs.Encode.{texts_row}
 use Rattle.page.specs.Limits.{MembersOk, ElementNameOk}
-use Rattle.page.proofs.Verdicts.{fine_unless, refused}
+use Rattle.refusal.proofs.Verdicts.{fine_unless, refused}
 use Rattle.page.proofs.Bodies.{members_at, members_read, member_fine}
-use Rattle.page.specs.Refusal.{Fine, after, unless}
-use Rattle.page.specs.declared.Refusal.TheVariants as R
+use Rattle.refusal.specs.Refusal.{Fine, after, unless}
+use Rattle.refusal.specs.declared.Refusal.TheVariants as R
 use Rattle.page.specs.Tree.{choose}
 use Rattle.page.specs.Page.{Name, identifier, member, namespaced, Options}
 use Rattle.outs.specs.Held.{nests}
@@ -480,7 +480,7 @@ found_pass_ok (one_found e) g = id_pass (λ m x. as_key x) (expr_pass e g)
 found_pass_ok (array_found es) g = id_pass (λ m x. as_key x) (array_pass es g)
 
 children_text : Text (ascii "children")
-children_text = ascii_utf8 (ascii "children") (unfold U.ascii in refl)
+children_text = ascii_utf8 (ascii "children") (unfold U.all_ascii in refl)
 
 children_prop_ok : (m : Mid) → Stands E.Key m → Stands E.Properties (children_prop m)
 unfolding children_prop Formed

@@ -14,9 +14,9 @@ use Rattle.field.specs.Row.{Row, end, loose, field, bytes}
 use Rattle.field.proofs.NumberLaws.{length_big_endian}
 use Rattle.page.specs.Tree.{choose}
 use Rattle.page.specs.Check.{check_empty}
-use Rattle.page.specs.Refusal.{Fine, Refused}
-use Rattle.page.specs.declared.Refusal.{Refusal}
-use Rattle.page.proofs.Verdicts.{refused}
+use Rattle.refusal.specs.Refusal.{Fine, Refused}
+use Rattle.refusal.specs.declared.Refusal.{Refusal}
+use Rattle.refusal.proofs.Verdicts.{refused}
 use Rattle.outs.specs.Held.{nests}
 use Rattle.outs.specs.PageOut.{expression, allowed, left, closed, within, check_leaf}
 use Rattle.outs.specs.declared.Expect.{Expect}

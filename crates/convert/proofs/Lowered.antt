@@ -15,8 +15,8 @@ use Rattle.field.specs.Number.{big_endian, number_of}
 use Rattle.field.specs.Row.{Row, end, field, bytes, long_body, inside, read}
 use Rattle.field.proofs.NumberLaws.{length_big_endian, two_read, four_read}
 use Rattle.field.proofs.RowLaws.{Shaped, read_back}
-use Rattle.page.specs.Refusal.{Fine}
-use Rattle.page.proofs.Verdicts.{fine_after}
+use Rattle.refusal.specs.Refusal.{Fine}
+use Rattle.refusal.proofs.Verdicts.{fine_after}
 use Rattle.page.proofs.TightRows.{short_field, short_parts}
 use Rattle.outs.specs.Templates.{count_of, all_kinds, front_of_record, check_strings, check_any_strings, check_some_strings, check_strings_of, check_records}
 use Rattle.outs.specs.declared.Kind.TheVariants.{Old, New}

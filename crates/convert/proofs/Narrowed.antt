@@ -15,9 +15,9 @@ use Rattle.field.specs.Row.{Row, end, loose, field, bytes, long_body}
 use Rattle.field.proofs.NumberLaws.{length_big_endian, four_read}
 use Rattle.field.proofs.Reading.{ShapedBy, length_bytes}
 use Rattle.page.specs.Tree.{choose}
-use Rattle.page.specs.Refusal.{Fine, Verdict, after, unless}
-use Rattle.page.specs.declared.Refusal.TheVariants as R
-use Rattle.page.proofs.Verdicts.{fine_after, after_fine}
+use Rattle.refusal.specs.Refusal.{Fine, Verdict, after, unless}
+use Rattle.refusal.specs.declared.Refusal.TheVariants as R
+use Rattle.refusal.proofs.Verdicts.{fine_after, after_fine}
 use Rattle.page.proofs.TightRows.{short_field, short_parts}
 use Rattle.outs.specs.Held.{nests, held}
 use Rattle.outs.specs.PageOut.{allowed, left, within, front_right, check_leaf, good}

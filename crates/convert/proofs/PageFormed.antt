@@ -5,7 +5,7 @@ use mathlib.Core.Path.{◌≡◌, refl, sym, ap, ◌∙◌, subst}
 use mathlib.Core.Bool.{Bool, true, false, not}
 use mathlib.Core.List.{[], ◌∷◌}
 use lib.Dec.{T, eqb}
-use Rattle.page.proofs.Verdicts.{is_true}
+use Rattle.page.proofs.Booleans.{is_true}
 use Rattle.field.specs.Bytes.{Bytes, pick}
 use Rattle.utf8.specs.Utf8.{utf8}
 use Rattle.page.specs.Check.{check_text, check_empty, check_boolean}
@@ -14,7 +14,7 @@ use Rattle.page.specs.Limits.{TagOk, AttributesOk, ValueOk, ChildrenOk, ExprOk, 
 use Rattle.page.specs.Number.{in_range, Number, whole, scaled, number_tag, minus_tag, number_bytes}
 use Rattle.page.specs.Page as P
 use Rattle.page.specs.Page.{Page, Options}
-use Rattle.page.specs.Refusal.{Fine}
+use Rattle.refusal.specs.Refusal.{Fine}
 use Rattle.page.specs.Tree.{choose}
 use Rattle.page.proofs.NumberLaws.{whole_back, scaled_back}
 use Rattle.outs.specs.Held.{nests}

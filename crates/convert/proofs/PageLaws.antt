@@ -12,10 +12,10 @@ use Rattle.field.specs.Number.{big_endian, number_of}
 use Rattle.field.specs.Row.{Row, end, loose, field, bytes, Inside, only_bytes, fields_after}
 use Rattle.field.proofs.NumberLaws.{length_big_endian}
 use Rattle.field.proofs.Reading.{FrontFits, ShapedBy, shaped, written, length_bytes}
-use Rattle.page.specs.Refusal.{Verdict, Fine, after, unless}
+use Rattle.refusal.specs.Refusal.{Verdict, Fine, after, unless}
 use Rattle.page.specs.Tree.{choose}
-use Rattle.page.specs.declared.Refusal.TheVariants as R
-use Rattle.page.proofs.Verdicts.{after_fine, unless_true}
+use Rattle.refusal.specs.declared.Refusal.TheVariants as R
+use Rattle.refusal.proofs.Verdicts.{after_fine, unless_true}
 use Rattle.outs.specs.Held.{nests, held, read_out}
 use Rattle.outs.specs.PageOut.{allowed, left, within, front_right, check_leaf, good, check_page_out}
 use Rattle.outs.specs.Renumber.{renumbered_front, renumbered}

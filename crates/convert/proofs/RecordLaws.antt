@@ -13,7 +13,8 @@ use borrow.Author.Tests.{eqb-true, leb-true}
 use Rattle.std.proofs.Math.Facts.{or_no}
 use Rattle.std.proofs.lemmas.Bool.{and_parts}
 use Rattle.std.proofs.lemmas.List.{drop-append-le, take-append-le}
-use Rattle.page.proofs.Verdicts.{is_false, refused, after_fine, unless_true}
+use Rattle.refusal.proofs.Verdicts.{refused, after_fine, unless_true}
+use Rattle.page.proofs.Booleans.{is_false}
 use Rattle.field.specs.Bytes.{Bytes, pick, same}
 use Rattle.field.specs.Number.{big_endian, number_of}
 use Rattle.field.specs.Row.{Row, end, loose, field, field_bytes, bytes, long_body, only_bytes, counted_front, inside, read}
@@ -24,9 +25,9 @@ use Rattle.field.proofs.FrontLaws.{body_written, behind_written}
 use Rattle.field.proofs.Reading.{FrontFits, ShapedBy}
 use Rattle.field.proofs.RowLaws.{Shaped, read_back, length_bytes}
 use Rattle.page.specs.Check.{check_text}
-use Rattle.page.specs.Refusal.{Verdict, Fine, Refused, after, unless}
-use Rattle.page.specs.declared.Refusal.{Refusal}
-use Rattle.page.specs.declared.Refusal.TheVariants as R
+use Rattle.refusal.specs.Refusal.{Verdict, Fine, Refused, after, unless}
+use Rattle.refusal.specs.declared.Refusal.{Refusal}
+use Rattle.refusal.specs.declared.Refusal.TheVariants as R
 use Rattle.page.proofs.TightRows.{short_parts}
 use Rattle.outs.specs.Templates.{record_tag, count_of, all_kinds, front_of_record, check_strings, check_any_strings, check_some_strings, check_strings_of, check_records}
 use Rattle.outs.specs.declared.Kind.{Kind}

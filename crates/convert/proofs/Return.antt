@@ -9,8 +9,7 @@ use mathlib.Core.List.{[], ◌∷◌, ◌++◌}
 use lib.Dec.{T, eqb, leb, ltb, nltb→le}
 use lib.ListN.{length, take, drop, length-append, length-drop, take-append-drop}
 use lib.Seq.{length-take-le}
-use borrow.Author.Tests.{eqb-true, eqb-false, leb-true, ltb-false, le-ltb}
-use Rattle.std.proofs.Math.Facts.{or_no}
+use borrow.Author.Tests.{eqb-true, leb-true, ltb-false, le-ltb}
 use Rattle.std.proofs.lemmas.Bool.{and_parts, or_parts, not-true}
 use Rattle.std.proofs.lemmas.Float.{T_from_false}
 use Rattle.field.specs.Bytes.{Bytes, AllBytes, pick, same}
@@ -19,7 +18,8 @@ use Rattle.field.specs.Row.{Row, end, loose, field, bytes, long_body, Inside, on
 use Rattle.field.proofs.NumberLaws.{length_big_endian, big_endian_append, big_endian_back, two_read, four_read, all_take, all_drop}
 use Rattle.field.proofs.Reading.{FrontFits, ShapedBy, SaneBy, front_full, front_counted, back, shaped, sane, written}
 use Rattle.field.proofs.RowLaws.{Shaped, Sane, read_back, read_shaped, read_sane, bytes_read}
-use Rattle.page.specs.Refusal.{Verdict, Fine, Refused, refusal_number}
+use Rattle.refusal.specs.Refusal.{Fine, verdict_number}
+use Rattle.refusal.proofs.Verdicts.{verdict_fine}
 use Rattle.page.proofs.TightRows.{short_parts}
 use Rattle.names.proofs.CompareLaws.{same_eq}
 use Rattle.outs.specs.Held.{nests, held, read_out}
@@ -31,13 +31,12 @@ use Rattle.outs.specs.declared.Expect.TheVariants as E
 use Rattle.outs.specs.declared.Kind.{Kind}
 use Rattle.outs.specs.declared.Kind.TheVariants.{Old, New}
 use Rattle.spec.specs.Demand.{strings_in}
-use Rattle.convert.specs.Convert.{Written, Outcome, refused, converted, past, verdict_number, number_unless, raised, lowered, upgraded, downgraded}
+use Rattle.convert.specs.Convert.{Written, Outcome, refused, converted, past, number_unless, raised, lowered, upgraded, downgraded}
 use Rattle.convert.specs.Convert as C
 use Rattle.convert.specs.Flat.{same_kinds, all_clear, all_bodies_clear, body_clear}
 use Rattle.convert.specs.declared.kinds.Markup.TheVariants as M
 use Rattle.convert.proofs.RecordLaws.{Sound, NewFront, by_marks, rewritten_front, rewritten, rest_sound, record_of, old_front, new_front, new_clear, new_counts, agrees_is, raised_is, lowered_is, records_not}
 use Rattle.convert.proofs.TemplateLaws.{sound_read}
-use Rattle.convert.proofs.AnswerLaws.{number_some}
 use Rattle.convert.proofs.PageLaws.{leaf_alone, leaf_grows, rest_fine, nest_fine}
 
 -- ---- numbers of calls
@@ -298,11 +297,6 @@ past_by n f w false q h =
 past_given : (n : ℕ) (f : Unit {0} → Outcome) (w : Written) → past n f ≡ converted w → (n ≡ 0) × (f tt ≡ converted w)
 past_given n f w h = past_by n f w (eqb n 0) refl h
 
-verdict_given : (v : Verdict) → verdict_number v ≡ 0 → v ≡ Fine
-unfolding verdict_number
-verdict_given Fine h = refl
-verdict_given (Refused r) h = absurd (eqb-false (refusal_number r) 0 (number_some r) h)
-
 unless_given : (b : Bool) (n : ℕ) → number_unless b (suc n) ≡ 0 → b ≡ true
 unless_given true n h = refl
 unless_given false n h = absurd (omega arith)
@@ -346,7 +340,7 @@ module _ (t p : Bytes) (tr pr : ℕ) (w : Written) where
       let last : Unit {0} → Outcome = λ _. C.written tr pr (raised (read t)) true (renumbered 4 (read_out 2 p)) in
       let a = past_given (verdict_number (check_templates Old t)) (λ _. past (verdict_number (check_page_out 2 p)) last) w h in
       let b = past_given (verdict_number (check_page_out 2 p)) last w a.1 in
-      (verdict_given (check_templates Old t) a.0, verdict_given (check_page_out 2 p) b.0, written_given tr pr (raised (read t)) true (renumbered 4 (read_out 2 p)) w b.1)
+      (verdict_fine (check_templates Old t) a.0, verdict_fine (check_page_out 2 p) b.0, written_given tr pr (raised (read t)) true (renumbered 4 (read_out 2 p)) w b.1)
 
   down_given : downgraded t p tr pr ≡ converted w → (check_templates New t ≡ Fine) × (check_page_out 4 p ≡ Fine) × Given (lowered (read t)) (not (has_wide (read_out 4 p))) (renumbered 2 (read_out 4 p)) w
   unfolding downgraded
@@ -355,7 +349,7 @@ module _ (t p : Bytes) (tr pr : ℕ) (w : Written) where
       let last : Unit {0} → Outcome = λ _. C.written tr pr (lowered (read t)) (not (has_wide y)) (renumbered 2 y) in
       let a = past_given (verdict_number (check_templates New t)) (λ _. past (verdict_number (check_page_out 4 p)) last) w h in
       let b = past_given (verdict_number (check_page_out 4 p)) last w a.1 in
-      (verdict_given (check_templates New t) a.0, verdict_given (check_page_out 4 p) b.0, written_given tr pr (lowered (read t)) (not (has_wide y)) (renumbered 2 y) w b.1)
+      (verdict_fine (check_templates New t) a.0, verdict_fine (check_page_out 4 p) b.0, written_given tr pr (lowered (read t)) (not (has_wide y)) (renumbered 2 y) w b.1)
 
 picked : (c : Bool) (x z : Row) → pick c (some x) none ≡ some z → (c ≡ true) × (x ≡ z)
 picked true x z h = (refl, cc)

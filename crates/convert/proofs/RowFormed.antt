@@ -17,10 +17,10 @@ use Rattle.utf8.specs.Utf8 as U
 use Rattle.utf8.proofs.Laws.{ascii_utf8}
 use Rattle.page.specs.Check.{check_empty}
 use Rattle.page.specs.Page.{Options}
-use Rattle.page.specs.Refusal.{Fine, after, unless}
+use Rattle.refusal.specs.Refusal.{Fine, after, unless}
 use Rattle.page.specs.Tree.{choose}
-use Rattle.page.specs.declared.Refusal.TheVariants as R
-use Rattle.page.proofs.Verdicts.{fine_after}
+use Rattle.refusal.specs.declared.Refusal.TheVariants as R
+use Rattle.refusal.proofs.Verdicts.{fine_after}
 use Rattle.page.proofs.TightRows.{short_field, short_parts}
 use Rattle.outs.specs.Held.{nests, held, read_out}
 use Rattle.outs.specs.PageOut.{statement, declaration, allowed, left, within, front_right, check_sum, check_import, check_leaf, good}
@@ -345,7 +345,7 @@ whole_formed o d h l g = on (eqb (helper_sum d.value) 0) refl l
     source = o.import_source ++ ascii "/jsx-runtime"
 
     source_text : Text source
-    source_text = text_append o.import_source (ascii "/jsx-runtime") h (ascii_utf8 (ascii "/jsx-runtime") (unfold U.ascii in refl))
+    source_text = text_append o.import_source (ascii "/jsx-runtime") h (ascii_utf8 (ascii "/jsx-runtime") (unfold U.all_ascii in refl))
 
     on : (b : Bool) → eqb (helper_sum d.value) 0 ≡ b → T (not (long_body (pick b r (field 0x82 [] (field 0x81 source end (loose (helper_sum d.value ∷ []))) r)))) → FormedRow E.Whole (pick b r (field 0x82 [] (field 0x81 source end (loose (helper_sum d.value ∷ []))) r))
     on true q l = items_whole r (templates_formed d.templates d.value g)

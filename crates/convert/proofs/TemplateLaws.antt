@@ -1,16 +1,16 @@
 -- The loop over records: what it keeps, and what is written of a record. Main statements: `in_front`, `sound_read`, `Keeps`, `keeps_on`, `keeps_end`,
 -- `raise_wrote`, `lower_wrote`. Assumes nothing.
 use mathlib.Core.Path.{◌≡◌, refl, sym, ap, ap₂, ◌∙◌, subst}
-use mathlib.Core.Bool.{Bool, true, false, ◌&&◌, ◌||◌, not}
+use mathlib.Core.Bool.{Bool, true, false, ◌&&◌, ◌||◌}
 use Prim.Native.Nat.{ℕ, ◌+◌, ◌-◌, ◌≤◌, ◌<◌, ◌^◌}
 use native.Mathlib.Omega.{arith}
 use mathlib.Core.List.{[], ◌∷◌, ◌++◌, append-nil, append_assoc}
-use lib.Dec.{T, leb, ltb}
-use lib.ListN.{length, get_or, take, drop, length-append, length-drop, take-append-drop}
+use lib.Dec.{leb, ltb}
+use lib.ListN.{length, take, drop, length-append, length-drop, take-append-drop}
 use lib.Seq.{take_all}
 use borrow.Author.Tests.{le-leb, lt-leb}
 use Rattle.field.specs.Bytes.{Bytes, AllBytes}
-use Rattle.field.specs.Number.{big_endian, number_of, number_from}
+use Rattle.field.specs.Number.{big_endian, number_of}
 use Rattle.field.specs.Row.{Row, end, loose, field, field_bytes, bytes, long_body, Inside, only_bytes, fields_after, counted, counted_front, inside, opened, read, Ended}
 use Rattle.field.specs.Front.{tag_of_front, body_of, behind_of}
 use Rattle.field.specs.Put.{put, head, Wrote}
@@ -18,14 +18,12 @@ use Rattle.field.proofs.NumberLaws.{length_big_endian, big_endian_append, all_dr
 use Rattle.field.proofs.PutLaws.{put_nil, wrote_length, wrote_then, wrote_is, wrote_field, length_head, length_field_bytes}
 use Rattle.field.proofs.FrontLaws.{read_at, parts_at}
 use Rattle.field.proofs.RowLaws.{Shaped, read_shaped, bytes_read, not_long}
-use Rattle.page.specs.Refusal.{Fine}
+use Rattle.refusal.specs.Refusal.{Fine}
 use Rattle.outs.specs.Templates.{check_records, check_templates}
 use Rattle.outs.specs.declared.Kind.{Kind}
 use Rattle.outs.specs.declared.Kind.TheVariants.{Old, New}
-use Rattle.outs.proofs.Parts.{two_fifth}
 use Rattle.convert.specs.Flat.{kind_marks, all_clear, same_kinds, gaps_in, strings_at, kinds_at, rewritten_body, body_clear, rewritten_tag, BodyFits, rewritten_bytes, all_bodies_clear, some_body_long, WroteBody, RewritesBody, WroteAll}
 use Rattle.std.specs.Prelude.{Option}
-use Rattle.std.specs.Int.{w16, from_be_bytes}
 use Rattle.std.proofs.lemmas.Float.{T_from_false}
 use Rattle.std.proofs.Math.Bool.{or_assoc}
 use Rattle.convert.specs.declared.templates.Rewritten.{Rewritten}
@@ -226,9 +224,6 @@ module _ (w : Bytes) where
 
 -- 84 to 80
 module _ (w : Bytes) where
-  pub front_at : 6 ≤ length w → {n : ℕ} → n ≡ from_be_bytes w16 (get_or w 4 0 ∷ get_or w 5 0 ∷ []) → 6 + n ≡ counted_front 4 w
-  front_at l e = ap (λ (x : ℕ). 6 + x) (two_fifth w l e)
-
   pub lower_room : (at : ℕ) → at + length (field_bytes 0x80 (rewritten_body New w)) < 2 ^ 64 → (f : ℕ) → f ≡ counted_front 4 w → at + (5 + length (take (length w - f) (drop f w))) < 2 ^ 64
   lower_room at h f q =
       let k : take (length w - f) (drop f w) ≡ strings_at w = part_rest f w ∙ ap (λ (x : ℕ). drop x w) q in

@@ -14,8 +14,9 @@ use Rattle.field.specs.Row.{Row, bytes, long_body, read}
 use Rattle.field.specs.Put.{put}
 use Rattle.field.proofs.PutLaws.{length_put}
 use Rattle.field.proofs.Reading.{sane}
-use Rattle.page.specs.Refusal.{Verdict, Fine, Refused, refusal_number}
-use Rattle.page.specs.declared.Refusal.{Refusal}
+use Rattle.refusal.specs.Refusal.{Verdict, Fine, Refused, refusal_number, verdict_number}
+use Rattle.refusal.specs.declared.Refusal.{Refusal}
+use Rattle.refusal.proofs.Verdicts.{number_some}
 use Rattle.outs.specs.Held.{held, read_out}
 use Rattle.outs.specs.PageOut.{check_page_out}
 use Rattle.outs.specs.Templates.{check_templates}
@@ -23,7 +24,7 @@ use Rattle.outs.specs.Renumber.{renumbered, has_wide, Renumbers}
 use Rattle.outs.specs.declared.Kind.{Kind}
 use Rattle.outs.specs.declared.Kind.TheVariants.{Old, New}
 use Rattle.outs.specs.declared.Expect.TheVariants as E
-use Rattle.convert.specs.Convert.{Outcome, refused, converted, past, verdict_number, number_unless, raised, lowered, written, upgraded, downgraded, number, bytes_of_templates, bytes_of_page, templates_left, page_left}
+use Rattle.convert.specs.Convert.{Outcome, refused, converted, past, number_unless, raised, lowered, written, upgraded, downgraded, number, bytes_of_templates, bytes_of_page, templates_left, page_left}
 use Rattle.std.specs.Prelude.{Result, Ok, Err, IsErr, IsErrAnd}
 use Rattle.convert.specs.Flat.{other, width, turned, unconverted_number, all_bodies_clear, WroteAll, Converts, Fails, Attempts}
 use Rattle.convert.specs.declared.Unconverted.{Unconverted}
@@ -33,7 +34,6 @@ use Rattle.convert.specs.declared.templates.Rewritten.{Rewritten}
 use Rattle.convert.proofs.RecordLaws.{Sound, rewritten, raised_is, lowered_is, bytes_are, long_is}
 use Rattle.convert.proofs.TemplateLaws.{sound_read}
 use Rattle.convert.proofs.PageLaws.{page_room}
-use Rattle.convert.proofs.AnswerLaws.{number_some}
 use Rattle.convert.proofs.Return.{narrow}
 
 -- ---- the checks come first

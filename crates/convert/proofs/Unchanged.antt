@@ -18,7 +18,7 @@ use Rattle.field.specs.Row.{Row, end, loose, field, long_body, inside, read}
 use Rattle.field.proofs.NumberLaws.{four_read}
 use Rattle.field.proofs.Reading.{SaneBy, back, shaped, sane}
 use Rattle.field.proofs.RowLaws.{Shaped, Sane, read_back, read_sane}
-use Rattle.page.specs.Refusal.{Fine}
+use Rattle.refusal.specs.Refusal.{Fine}
 use Rattle.outs.specs.Held.{nests, held, read_out}
 use Rattle.outs.specs.PageOut.{left, within, front_right, good, check_page_out}
 use Rattle.outs.specs.Renumber.{renumbered_front, renumbered}

@@ -6,7 +6,7 @@ use Rattle.field.specs.Bytes.{Bytes, pick, same}
 use Rattle.field.specs.Number.{number_of}
 use Rattle.field.specs.Row.{Row, end, loose, field, bytes, long_body, read}
 use Rattle.field.specs.Put.{put}
-use Rattle.page.specs.Refusal.{Verdict, Fine, Refused, refusal_number}
+use Rattle.refusal.specs.Refusal.{verdict_number}
 use Rattle.spec.specs.Output.{kind_bytes, layout_80, layout_84, record_row}
 use Rattle.spec.specs.Demand.{strings_in, kinds_behind}
 use Rattle.outs.specs.Held.{read_out}
@@ -51,10 +51,6 @@ pub data Outcome : Type 0 where
 -- one number, and the next where it is 0
 unfoldable pub past : ℕ → (Unit {0} → Outcome) → Outcome
 past n v = elim (eqb n 0) [ true ↦ v tt | false ↦ refused n ]
-
-unfoldable pub verdict_number : Verdict → ℕ
-verdict_number Fine = 0
-verdict_number (Refused n) = refusal_number n
 
 abbrev pub number_unless : Bool → ℕ → ℕ
 number_unless true n = 0

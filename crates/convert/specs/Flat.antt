@@ -10,7 +10,7 @@ use Rattle.outs.specs.declared.Kind.{Kind}
 use Rattle.outs.specs.declared.Kind.TheVariants.{Old, New}
 use Rattle.convert.specs.Kinds.{all_passed}
 use Rattle.convert.specs.Convert.{Outcome, refused, upgraded, downgraded, number, bytes_of_templates, bytes_of_page, templates_left, page_left}
-use Rattle.page.specs.Refusal.{refusal_number}
+use Rattle.refusal.specs.Refusal.{refusal_number}
 use Rattle.convert.specs.declared.Unconverted.{Unconverted}
 use Rattle.convert.specs.declared.Unconverted.TheVariants.{Refused, Unsayable}
 use Rattle.convert.specs.declared.Converted.{Converted}

@@ -10,11 +10,12 @@ ghost use Rattle.convert.specs.declared.Unconverted.TheVariants as U;
 mod kinds;
 mod templates;
 
+use field::{NUMBER_WIDTH, OLD_NUMBER_WIDTH};
 pub use kinds::{Markup, are_kinds};
 use outs::Kind;
 use outs::page_out::check_page_out;
 use outs::templates::check_templates;
-use page::{Refusal, refuse_unless};
+use refusal::{Refusal, refuse_unless};
 use renumber::renumber;
 use templates::rewrite_templates;
 
@@ -67,8 +68,8 @@ fn width(form: Kind) -> usize
     ensures { result ≡ width form }
 {
     match form {
-        Kind::Old => 2,
-        Kind::New => 4,
+        Kind::Old => OLD_NUMBER_WIDTH,
+        Kind::New => NUMBER_WIDTH,
     }
 }
 

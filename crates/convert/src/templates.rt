@@ -1,16 +1,18 @@
 // Templates from 80s into 84s and back, record by record. The strings are copied as they stand; only what is before them is made anew.
 ghost use Rattle.std.specs.Prelude.{◌≡◌, ◌+◌, ◌<◌, ◌^◌, length};
 ghost use Rattle.field.specs.Row.{read, field_bytes};
-ghost use Rattle.page.specs.Refusal.{Fine};
+ghost use Rattle.refusal.specs.Refusal.{Fine};
 ghost use Rattle.outs.specs.Templates.{check_templates};
 ghost use Rattle.outs.specs.declared.Kind.TheVariants as K;
 ghost use Rattle.convert.specs.Flat.{gaps_in, BodyFits, rewritten_tag, rewritten_body, RewritesBody, Rewrites};
 
 use crate::kinds::{are_kinds, put_kinds};
-use field::MAX_BODY;
 use field::reader::Fields;
+use field::tags::{OLD_TEMPLATE, TEMPLATE};
 use field::writer::{put_bytes, put_four, put_head, put_two};
+use field::{KINDS_AT, MAX_BODY, OLD_NUMBER_WIDTH};
 use outs::Kind;
+use outs::templates::counted_front;
 use renumber::LARGEST;
 
 // The place behind what is written, and whether some body is over 65,535 bytes. There is none where the other form cannot say it: a gap is of no
@@ -35,10 +37,10 @@ fn raise_record(out: &mut [u8], at: usize, w: &[u8]) -> Option<Rewritten>
     ensures { RewritesBody K.Old w.now out.old at out.new result }
 {
     let number = usize::from(u16::from_be_bytes([w[0], w[1]]));
-    let strings = &w[2..];
+    let strings = &w[OLD_NUMBER_WIDTH..];
     let gaps = count_gaps(strings);
-    let len = 6 + gaps + strings.len();
-    let a = put_head(out, at, 0x84, len);
+    let len = KINDS_AT + gaps + strings.len();
+    let a = put_head(out, at, TEMPLATE, len);
     let b = put_four(out, a, number);
     let c = put_two(out, b, gaps);
     let d = put_kinds(out, c, strings, gaps)?;
@@ -57,14 +59,14 @@ fn lower_record(out: &mut [u8], at: usize, w: &[u8]) -> Option<Rewritten>
 {
     // From makes no usize of a u32.
     let number = u32::from_be_bytes([w[0], w[1], w[2], w[3]]) as usize;
-    let front = 6 + usize::from(u16::from_be_bytes([w[4], w[5]]));
-    let kinds = &w[6..front];
+    let front = counted_front(w);
+    let kinds = &w[KINDS_AT..front];
     let strings = &w[front..];
     if LARGEST < number || !are_kinds(kinds, strings) {
         return None;
     }
-    let len = 2 + strings.len();
-    let a = put_head(out, at, 0x80, len);
+    let len = OLD_NUMBER_WIDTH + strings.len();
+    let a = put_head(out, at, OLD_TEMPLATE, len);
     let b = put_two(out, a, number);
     let e = put_bytes(out, b, strings);
     Some(Rewritten {

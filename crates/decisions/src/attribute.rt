@@ -11,6 +11,9 @@ ghost use Rattle.decisions.specs.Index.{names_of};
 
 use crate::index::{lists, lists_namespaced};
 use field::reader::{Field, Fields, behind, field_at};
+use field::tags::{
+    ATTRIBUTE, ATTRIBUTE_STRING, CONTAINER, ELEMENT, FRAGMENT, IDENT, NAMESPACED_NAME, SPREAD,
+};
 use names::{
     get_attr_name, normalize_namespaced, normalizes_to_boolean, normalizes_to_key,
     normalizes_to_ref, same_bytes,
@@ -43,11 +46,11 @@ impl<'a> Iterator for Attributes<'a> {
         let mut fields = Fields(self.0);
         while let Some(field) = fields.next() {
             match field.tag {
-                0x50 => {
+                ATTRIBUTE => {
                     self.0 = fields.0;
                     return Some(field.body);
                 }
-                0x53 => {}
+                SPREAD => {}
                 _ => return None,
             }
         }
@@ -60,7 +63,7 @@ fn next_name<'a>(fields: &mut Fields<'a>) -> &'a [u8]
     ensures first { result.now ≡ first_in (texts_in 0x40 (read fields.old.0.now)) }
     ensures rest { first_in (texts_in 0x40 (read fields.new.0.now)) ≡ second_in (texts_in 0x40 (read fields.old.0.now)) }
 {
-    match fields.find(|field| field.tag == 0x40) {
+    match fields.find(|field| field.tag == IDENT) {
         Some(name) => name.body,
         None => &[],
     }
@@ -92,8 +95,13 @@ pub fn attr_name_at(a: &[u8]) -> AttrName<'_>
     ensures { attr_name result ≡ attr_name_in (read a.now) }
 {
     match field_at(a) {
-        Some(Field { tag: 0x40, body }) => AttrName::Ident(body),
-        Some(Field { tag: 0x42, body }) => {
+        Some(Field { tag: IDENT, body }) => AttrName::Ident(body),
+        Some(
+            Field {
+                tag: NAMESPACED_NAME,
+                body,
+            },
+        ) => {
             let (ns, n) = two_names(body);
             AttrName::Namespaced(ns, n)
         }
@@ -107,7 +115,7 @@ pub fn ident_at(a: &[u8]) -> Option<&[u8]>
     ensures { IdentAt (attr_name_in (read a.now)) result }
 {
     match field_at(a) {
-        Some(Field { tag: 0x40, body }) => Some(body),
+        Some(Field { tag: IDENT, body }) => Some(body),
         _ => None,
     }
 }
@@ -186,10 +194,16 @@ pub fn value_at(a: &[u8]) -> Option<Value<'_>>
 {
     let value = behind(a);
     match field_at(value)? {
-        Field { tag: 0x51, body } => Some(Value::String(body)),
-        Field { tag: 0x52, body } => Some(Value::Container(body)),
         Field {
-            tag: 0x30 | 0x31,
+            tag: ATTRIBUTE_STRING,
+            body,
+        } => Some(Value::String(body)),
+        Field {
+            tag: CONTAINER,
+            body,
+        } => Some(Value::Container(body)),
+        Field {
+            tag: ELEMENT | FRAGMENT,
             ..
         } => Some(Value::Tag(value)),
         _ => None,

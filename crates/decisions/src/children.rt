@@ -7,12 +7,13 @@ ghost use Rattle.decisions.specs.At.{FirstChild, few, count_of, OnlyIn, some_tex
 
 use crate::element::is_serializable;
 use field::reader::{Field, Fields};
+use field::tags::{CONTAINER, ELEMENT, FRAGMENT, SPREAD_CHILD, TEXT};
 use text::jsx_text::is_blank;
 
 fn is_child(tag: u8) -> bool
     ensures { result ≡ is_child tag }
 {
-    matches!(tag, 0x60 | 0x52 | 0x30 | 0x31 | 0x61)
+    matches!(tag, TEXT | CONTAINER | ELEMENT | FRAGMENT | SPREAD_CHILD)
 }
 
 // What is left of a series from its first child on. No bytes may be left of it: it is measured and walked as it is.
@@ -68,7 +69,7 @@ pub fn children_of(s: &[u8]) -> Children<'_>
 fn has_text(s: &[u8]) -> bool
     ensures { result ≡ some_text (children_in (read s.now)) }
 {
-    Fields(s).any(|field| field.tag == 0x60 && !is_blank(field.body, false))
+    Fields(s).any(|field| field.tag == TEXT && !is_blank(field.body, false))
 }
 
 // Whether several children of a call become one template. Texts are looked into only where one tag alone is serializable: a series of
@@ -80,7 +81,7 @@ pub fn becomes_template(skip: &[u8], s: &[u8]) -> bool
     // of what it passes over.
     let mut tagged = false;
     for field in Fields(s) {
-        if field.tag == 0x30 && is_serializable(skip, field.body) {
+        if field.tag == ELEMENT && is_serializable(skip, field.body) {
             if tagged {
                 return true;
             }

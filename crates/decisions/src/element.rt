@@ -13,6 +13,7 @@ use crate::attribute::{is_inner_html, two_names};
 use crate::index::lists;
 use crate::repeats::{Names, ends_key};
 use field::reader::{Field, Fields, behind, field_at};
+use field::tags::{ATTRIBUTE, IDENT, MEMBER, NAMESPACED_NAME, SPREAD};
 use names::is_void_element;
 
 pub fn is_upper(name: &[u8]) -> bool
@@ -35,9 +36,14 @@ pub fn element_name_at(b: &[u8]) -> ElementName<'_>
     ensures { element_named result ≡ element_name (read b.now) }
 {
     match field_at(b) {
-        Some(Field { tag: 0x40, body }) => ElementName::Identifier(body),
-        Some(Field { tag: 0x41, body }) => ElementName::Member(body),
-        Some(Field { tag: 0x42, body }) => {
+        Some(Field { tag: IDENT, body }) => ElementName::Identifier(body),
+        Some(Field { tag: MEMBER, body }) => ElementName::Member(body),
+        Some(
+            Field {
+                tag: NAMESPACED_NAME,
+                body,
+            },
+        ) => {
             let (ns, n) = two_names(body);
             ElementName::Namespaced(ns, n)
         }
@@ -51,7 +57,7 @@ pub fn identifier(b: &[u8]) -> &[u8]
     ensures { result.now ≡ identifier_bytes (element_name (read b.now)) }
 {
     match field_at(b) {
-        Some(Field { tag: 0x40, body }) => body,
+        Some(Field { tag: IDENT, body }) => body,
         _ => &[],
     }
 }
@@ -62,12 +68,12 @@ fn keeps_from_serializing(s: &[u8]) -> bool
 {
     for field in Fields(s) {
         match field.tag {
-            0x50 => {
+            ATTRIBUTE => {
                 if is_inner_html(field.body) {
                     return true;
                 }
             }
-            0x53 => return true,
+            SPREAD => return true,
             _ => return false,
         }
     }
@@ -95,7 +101,7 @@ fn names_told(s: &[u8]) -> Option<Names>
     let mut seen: u64 = 0;
     for field in Fields(s) {
         match field.tag {
-            0x50 => {
+            ATTRIBUTE => {
                 let Some(key) = ends_key(field.body) else {
                     return unsure(s);
                 };
@@ -104,7 +110,7 @@ fn names_told(s: &[u8]) -> Option<Names>
                 }
                 seen |= 1 << key;
             }
-            0x53 => return None,
+            SPREAD => return None,
             _ => return Some(Names::Different),
         }
     }

@@ -7,6 +7,10 @@ ghost use Rattle.page.specs.Tree.{boolean_in, contained_in};
 ghost use Rattle.decisions.specs.At.{shape_of_contained, number_at, number_text};
 
 use field::reader::{Field, field_at};
+use field::tags::{
+    ARRAY, BOOLEAN, DECIMAL, ELEMENT, FRAGMENT, MINUS, MINUS_DECIMAL, NUMBER, OTHER_EXPRESSION,
+    OTHER_LITERAL, STRING,
+};
 use page::number::{put_number, put_number_bytes};
 
 #[derive(Clone, Copy)]
@@ -35,12 +39,12 @@ pub fn shape_at(c: &[u8]) -> Shape
         return Shape::Empty;
     };
     match field.tag {
-        0x70 => Shape::String,
-        0x71 | 0x7a => Shape::Number,
-        0x72 => Shape::Boolean(boolean_in(field.body)),
-        0x74 => Shape::Literal,
-        0x75 | 0x7b => Shape::Minus,
-        0x76 | 0x79 | 0x30 | 0x31 => Shape::Other,
+        STRING => Shape::String,
+        NUMBER | DECIMAL => Shape::Number,
+        BOOLEAN => Shape::Boolean(boolean_in(field.body)),
+        OTHER_LITERAL => Shape::Literal,
+        MINUS | MINUS_DECIMAL => Shape::Minus,
+        ARRAY | OTHER_EXPRESSION | ELEMENT | FRAGMENT => Shape::Other,
         _ => Shape::Null,
     }
 }
@@ -50,7 +54,7 @@ fn number_field(c: &[u8]) -> Field<'_>
     ensures { number_in result.tag result.body.now ≡ number_at c.now }
 {
     field_at(c).unwrap_or(Field {
-        tag: 0x71,
+        tag: NUMBER,
         body: &[],
     })
 }
@@ -61,7 +65,7 @@ pub fn put_number_at(out: &mut [u8], at: usize, c: &[u8]) -> usize
     ensures { Wrote out.old at (number_text c.now) out.new result }
 {
     let number = number_field(c);
-    put_number(out, at, usize::from(number.tag), number.body)
+    put_number(out, at, number.tag, number.body)
 }
 
 // Its body, as it came.
@@ -70,5 +74,5 @@ pub fn put_number_bytes_at(out: &mut [u8], at: usize, c: &[u8]) -> usize
     ensures { Wrote out.old at (number_bytes (number_at c.now)) out.new result }
 {
     let number = number_field(c);
-    put_number_bytes(out, at, usize::from(number.tag), number.body)
+    put_number_bytes(out, at, number.tag, number.body)
 }

@@ -7,7 +7,9 @@ ghost use Rattle.names.specs.Table.{read_as};
 ghost use Rattle.page.specs.Tree.{texts_in};
 ghost use Rattle.decisions.specs.Index.{hash_from, hash, two_at, name_at, before_at, link_of, chain, names_of, linked};
 
+use field::HEAD;
 use field::reader::{Fields, body};
+use field::tags::SOURCE;
 use field::writer::{put_bytes, put_two};
 use names::{letter, namespaced_is, same_bytes};
 use page::MAX_OPTIONS;
@@ -79,7 +81,7 @@ impl<'a> Asked for Namespaced<'a> {
 fn in_series<N: Asked>(list: &[u8], asked: &N) -> bool
     ensures { result ≡ among (N.bytes asked.now) (texts_in 0x20 (read list.now)) }
 {
-    Fields(list).any(|field| field.tag == 0x20 && asked.is(field.body))
+    Fields(list).any(|field| field.tag == SOURCE && asked.is(field.body))
 }
 
 // The hash of s, or of its small letters, behind what gave h.
@@ -215,10 +217,10 @@ pub fn index_names(list: &[u8], out: &mut [u8])
     let mut k = 0;
     let mut place = 0;
     for field in Fields(list) {
-        if field.tag == 0x20 {
+        if field.tag == SOURCE {
             link(out, hash_on(0, field.body, false), k, place);
             k += 1;
         }
-        place += 3 + field.body.len();
+        place += HEAD + field.body.len();
     }
 }

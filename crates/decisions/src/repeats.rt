@@ -10,6 +10,7 @@ ghost use Rattle.decisions.specs.Repeats.{IsPlain, letters, sign_read, html_name
 
 use crate::attribute::{AttrName, Attributes, attr_name_at, ident_at};
 use field::reader::{Field, Fields};
+use field::tags::{ATTRIBUTE, SPREAD};
 use names::{Spelling, is_plain, is_xlink_href, small_letter, spelling_of};
 
 // A name as it is read for HTML, in small letters: each capital of the first part behind the sign, where there is one; then, where there
@@ -274,7 +275,7 @@ fn repeats_in(s: &[u8]) -> bool
     match Fields(s).nth(1) {
         Some(
             Field {
-                tag: 0x50 | 0x53,
+                tag: ATTRIBUTE | SPREAD,
                 ..
             },
         ) => may_repeat(s) && by_tables(s),

@@ -12,9 +12,9 @@ use Rattle.std.specs.Result.{IsErr, IsErrAnd}
 use Rattle.field.specs.Bytes.{Bytes}
 use Rattle.field.specs.Row.{read}
 use Rattle.field.specs.Put.{Wrote}
-use Rattle.page.specs.Refusal.{Fine, Refused, refusal_number}
-use Rattle.page.specs.declared.Refusal.{Refusal}
-use Rattle.page.specs.declared.Refusal.TheVariants as R
+use Rattle.refusal.specs.Refusal.{Fine, Refused, refusal_number}
+use Rattle.refusal.specs.declared.Refusal.{Refusal}
+use Rattle.refusal.specs.declared.Refusal.TheVariants as R
 use Rattle.outs.specs.Templates.{check_templates}
 use Rattle.outs.specs.declared.Kind.TheVariants.{New}
 use Rattle.fill.specs.Order.{read_order, check_order}

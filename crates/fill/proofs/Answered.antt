@@ -14,11 +14,11 @@ use Rattle.field.specs.Bytes.{Bytes}
 use Rattle.field.specs.Row.{read}
 use Rattle.field.specs.Put.{put}
 use Rattle.field.proofs.PutLaws.{put_fits}
-use Rattle.page.specs.Refusal.{Verdict, Fine, Refused, unless}
-use Rattle.page.specs.declared.Refusal.TheVariants as R
+use Rattle.refusal.specs.Refusal.{Verdict, Fine, Refused, unless}
+use Rattle.refusal.specs.declared.Refusal.TheVariants as R
+use Rattle.refusal.proofs.Verdicts.{never_zero}
 use Rattle.outs.specs.Templates.{check_templates}
 use Rattle.outs.specs.declared.Kind.TheVariants.{New}
-use Rattle.find.proofs.FindLaws.{number_some}
 use Rattle.spec.specs.Demand.{Demand3Bytes}
 use Rattle.spec.specs.Words.{by_bytes, WellNestedBy, WellNested}
 use Rattle.fill.specs.Order.{read_order, check_order}
@@ -36,7 +36,7 @@ record Written (room : ℕ) (x : Outcome) : Type 0 where
 past_written : (room : ℕ) (v : Verdict) (f : Unit {0} → Outcome) → (number (f tt) ≡ 0 → Written room (f tt)) → number (past v f) ≡ 0 → Written room (past v f)
 unfolding past
 past_written room Fine f h e = h e
-past_written room (Refused n) f h e = absurd (number_some n e)
+past_written room (Refused n) f h e = absurd (never_zero n e)
 
 html_fits : (room : ℕ) (x : Option Bytes) → number (html_written room x) ≡ 0 → Written room (html_written room x)
 unfolding html_written past
@@ -45,7 +45,7 @@ html_fits room (some h) e = on (leb (length h) room) refl e
   where
     on : (b : Bool) → leb (length h) room ≡ b → number (past (unless b R.PageTooSmall) λ _. filled h) ≡ 0 → Written room (past (unless b R.PageTooSmall) λ _. filled h)
     on true q e = record { html = h; is = refl; fits = leb-true (length h) room q }
-    on false q e = absurd (number_some R.PageTooSmall e)
+    on false q e = absurd (never_zero R.PageTooSmall e)
 
 zero_written : (t o : Bytes) (room : ℕ) → number (outcome t o room) ≡ 0 → Written room (outcome t o room)
 unfolding outcome

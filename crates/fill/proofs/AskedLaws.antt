@@ -17,11 +17,12 @@ use Rattle.field.specs.Bytes.{Bytes}
 use Rattle.field.specs.Number.{number_of}
 use Rattle.field.specs.Row.{Row, end, loose, field, only_bytes, fields_after, read_by}
 use Rattle.field.proofs.Reading.{Opens, next_sizes, along}
-use Rattle.page.specs.Refusal.{Verdict, Fine, after, unless}
+use Rattle.refusal.specs.Refusal.{Verdict, Fine, after, unless}
 use Rattle.page.specs.Tree.{choose}
 use Rattle.page.specs.Check.{check_header, check_text, check_nothing_after}
-use Rattle.page.specs.declared.Refusal.TheVariants as R
-use Rattle.page.proofs.Verdicts.{refused, after_fine, unless_fine, header_fine}
+use Rattle.refusal.specs.declared.Refusal.TheVariants as R
+use Rattle.refusal.proofs.Verdicts.{refused, after_fine, unless_fine}
+use Rattle.page.proofs.Headers.{header_fine}
 use Rattle.page.proofs.Steps.{tested}
 use Rattle.fill.specs.Order.{held_in_order, read_order, is_filling, check_fillings, check_order, asked}
 use Rattle.fill.specs.Html.{Template, template_of, text_filling, in_turn, fill_gaps, html_of}

@@ -10,7 +10,7 @@ use Rattle.text.specs.Escape.{escape_html, escape_byte}
 use Rattle.utf8.specs.Utf8.{utf8, utf8_behind, begun, forms}
 use Rattle.page.specs.Tree.{choose}
 use Rattle.page.specs.Check.{check_header, check_text, check_end, check_empty, check_nothing_after}
-use Rattle.page.specs.Refusal.{after, refusal_number}
+use Rattle.refusal.specs.Refusal.{after, refusal_number}
 use Rattle.outs.specs.Templates.{check_templates, check_records, check_strings_of, check_strings, front_of_record, all_kinds}
 use Rattle.spec.specs.Demand.{strings_in}
 use Rattle.spec.specs.Words.{free}

@@ -16,7 +16,8 @@ use Rattle.loops.proofs.Headers.{front_of, inner_of}
 use Rattle.page.specs.Check.{check_header, check_text, check_nothing_after}
 use Rattle.page.specs.Tree.{choose}
 use Rattle.page.proofs.Steps.{tested}
-use Rattle.page.proofs.Verdicts.{after_fine, header_fine}
+use Rattle.refusal.proofs.Verdicts.{after_fine}
+use Rattle.page.proofs.Headers.{header_fine}
 use Rattle.fill.specs.Order.{held_in_order, read_order, is_filling, check_fillings, asked}
 use Rattle.fill.specs.CheckFilling.{check_body, check_filling}
 use Rattle.fill.specs.Writing.{FillingsFit, OrderFits, FillingFits}

@@ -11,7 +11,7 @@ use Rattle.field.specs.Row.{read}
 use Rattle.field.specs.Fields.{IsEnd}
 use Rattle.field.specs.Header.{header_of}
 use Rattle.field.proofs.HeaderLaws.{header_short, header_is, header_long, no_tag, no_field_read}
-use Rattle.page.specs.Refusal.{Fine}
+use Rattle.refusal.specs.Refusal.{Fine}
 use Rattle.outs.specs.Templates.{check_strings}
 use Rattle.fill.specs.Indexed.{Checked}
 use Rattle.fill.specs.Writing.{FillingsFit}

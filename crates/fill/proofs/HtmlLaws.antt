@@ -17,10 +17,10 @@ use Rattle.field.specs.Fields.{IsFront, IsEnd}
 use Rattle.field.specs.Put.{Wrote}
 use Rattle.field.proofs.PutLaws.{wrote_none, wrote_then}
 use Rattle.text.specs.Escape.{escape_html}
-use Rattle.page.specs.Refusal.{Fine}
+use Rattle.refusal.specs.Refusal.{Fine}
 use Rattle.page.specs.Tree.{choose}
 use Rattle.page.proofs.Steps.{tested}
-use Rattle.page.proofs.Verdicts.{and_both}
+use Rattle.page.proofs.Booleans.{and_both}
 use Rattle.outs.specs.Templates.{check_strings}
 use Rattle.spec.specs.Demand.{strings_in}
 use Rattle.fill.specs.Html.{template_of, text_filling, in_turn, last_string, fill_gaps}

@@ -12,8 +12,8 @@ use Rattle.field.specs.Number.{number_of}
 use Rattle.field.specs.Row.{Row, end, loose, field, read}
 use Rattle.text.specs.Escape.{escape_html}
 use Rattle.page.specs.Tree.{choose}
-use Rattle.page.specs.Refusal.{Verdict, Fine, Refused, unless}
-use Rattle.page.specs.declared.Refusal.TheVariants as R
+use Rattle.refusal.specs.Refusal.{Verdict, Fine, Refused, unless}
+use Rattle.refusal.specs.declared.Refusal.TheVariants as R
 use Rattle.outs.specs.Templates.{check_templates}
 use Rattle.outs.specs.declared.Kind.TheVariants.{New}
 use Rattle.spec.specs.Output.{kind_byte, kind_bytes}

@@ -16,10 +16,10 @@ use Rattle.field.specs.Fields.{IsFront, IsEnd}
 use Rattle.field.proofs.Reading.{step}
 use Rattle.field.proofs.FrontLaws.{next_at}
 use Rattle.loops.proofs.Headers.{front_of, inner_of}
-use Rattle.page.specs.Refusal.{Verdict, Fine, Refused, after, unless}
+use Rattle.refusal.specs.Refusal.{Verdict, Fine, Refused, after, unless}
 use Rattle.page.specs.Tree.{choose}
 use Rattle.page.specs.Check.{check_header, check_text, check_nothing_after}
-use Rattle.page.specs.declared.Refusal.TheVariants as R
+use Rattle.refusal.specs.declared.Refusal.TheVariants as R
 use Rattle.page.proofs.Steps.{Then, one_field, tested}
 use Rattle.fill.specs.Order.{held_in_order, read_order, is_filling, check_fillings, check_order}
 use Rattle.fill.specs.CheckFilling.{check_body, check_filling}

@@ -1,4 +1,4 @@
--- The parts of a record that is checked, and its strings one by one. Main statements: `front_at`, `parts_are`, `string_front`, `string_last`.
+-- The parts of a record that is checked, and its strings one by one. Main statements: `parts_are`, `string_front`, `string_last`.
 -- Assumes nothing.
 use mathlib.Core.Path.{◌≡◌, refl, sym, ap, ap₂, ◌∙◌}
 use mathlib.Core.Bool.{◌&&◌}
@@ -6,18 +6,18 @@ use Prim.Native.Nat.{ℕ, suc, ◌+◌, ◌-◌, ◌≤◌}
 use native.Mathlib.Omega.{arith}
 use mathlib.Core.List.{List, [], ◌∷◌}
 use lib.Dec.{T, eqb, leb, leb→le, eqb→eq}
-use lib.ListN.{length, get_or, take, drop, length-take, length-drop}
+use lib.ListN.{length, take, drop, length-take, length-drop}
 use lib.Seq.{take_all, take-take}
-use Rattle.std.specs.Int.{w16, from_be_bytes}
 use Rattle.field.specs.Bytes.{Bytes}
-use Rattle.field.specs.Number.{number_from, number_of}
+use Rattle.field.specs.Number.{number_of}
 use Rattle.field.specs.Row.{Row, end, loose, field, counted_front, inside, read, Ended}
 use Rattle.field.specs.Fields.{IsFront, IsEnd}
 use Rattle.page.specs.Check.{check_text}
-use Rattle.page.specs.Refusal.{Fine, after, unless}
-use Rattle.page.specs.declared.Refusal.TheVariants as R
+use Rattle.refusal.specs.Refusal.{Fine, after, unless}
+use Rattle.refusal.specs.declared.Refusal.TheVariants as R
 use Rattle.page.proofs.Steps.{front, inner, row_at}
-use Rattle.page.proofs.Verdicts.{refused, after_fine, unless_fine, and_both}
+use Rattle.refusal.proofs.Verdicts.{refused, after_fine, unless_fine}
+use Rattle.page.proofs.Booleans.{and_both}
 use Rattle.loops.proofs.Parts.{drop_take}
 use Rattle.outs.specs.Templates.{count_of, all_kinds, front_of_record, check_strings, check_strings_of}
 use Rattle.outs.specs.Passed.{record_body}
@@ -26,15 +26,6 @@ use Rattle.spec.specs.Demand.{strings_in}
 use Rattle.fill.specs.Writing.{PartsAre}
 
 -- ---- the parts of a record
-
-two_first : (s : Bytes) → 2 ≤ length s → {n : ℕ} → n ≡ from_be_bytes w16 (get_or s 0 0 ∷ get_or s 1 0 ∷ []) → n ≡ number_of (take 2 s)
-unfolding number_from
-two_first (a ∷ b ∷ s) l e = omega arith
-two_first _ l e = absurd (omega arith)
-
-two_at : (s : Bytes) → 6 ≤ length s → {n : ℕ} → n ≡ from_be_bytes w16 (get_or s 4 0 ∷ get_or s 5 0 ∷ []) → n ≡ number_of (take 2 (drop 4 s))
-two_at (a ∷ b ∷ c ∷ d ∷ s) l e = two_first s (omega arith) e
-two_at _ l e = absurd (omega arith)
 
 module _ (w : Bytes) (h : record_body New w ≡ Fine) where
   abbrev before : Bytes
@@ -66,20 +57,17 @@ module _ (w : Bytes) (h : record_body New w ≡ Fine) where
   pub has_front : counted_front 4 w ≤ length w
   has_front = omega (arith, front_is.1, count_is, length-take (counted_front 4 w) w)
 
-  -- n is the count as the code reads it
-  module _ {n : ℕ} (e : n ≡ from_be_bytes w16 (get_or w 4 0 ∷ get_or w 5 0 ∷ [])) where
-    pub front_at : 6 + n ≡ counted_front 4 w
-    front_at = ap (λ (x : ℕ). 6 + x) (two_at w has_six e)
-
-    kinds_at : take (6 + n - 6) (drop 6 w) ≡ drop 6 before
+  -- f is the front's length as the code has it
+  module _ {f : ℕ} (front_at : f ≡ counted_front 4 w) where
+    kinds_at : take (f - 6) (drop 6 w) ≡ drop 6 before
     kinds_at = ap (λ (x : ℕ). take (x - 6) (drop 6 w)) front_at ∙ sym (drop_take 6 (counted_front 4 w) w)
 
-    strings_at : take (length w - (6 + n)) (drop (6 + n) w) ≡ strings
-    strings_at = take_all (length w - (6 + n)) (drop (6 + n) w) (omega (arith, length-drop (6 + n) w)) ∙ ap (λ (x : ℕ). drop x w) front_at
+    strings_at : take (length w - f) (drop f w) ≡ strings
+    strings_at = take_all (length w - f) (drop f w) (omega (arith, length-drop f w)) ∙ ap (λ (x : ℕ). drop x w) front_at
 
-    pub parts_are : PartsAre w (take (6 + n - 6) (drop 6 w)) (take (length w - (6 + n)) (drop (6 + n) w))
+    pub parts_are : PartsAre w (take (f - 6) (drop 6 w)) (take (length w - f) (drop f w))
     parts_are =
-        let k : count_of before ≡ length (take (6 + n - 6) (drop 6 w)) = omega (arith, front_is.1, ap length kinds_at, length-drop 6 before) in
+        let k : count_of before ≡ length (take (f - 6) (drop 6 w)) = omega (arith, front_is.1, ap length kinds_at, length-drop 6 before) in
         record {
           kinds_are = kinds_at;
           strings_are = ap (λ (x : Bytes). strings_in (read x)) strings_at;

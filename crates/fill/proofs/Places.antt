@@ -20,10 +20,10 @@ use Rattle.field.specs.Fields.{IsFront, IsEnd}
 use Rattle.field.proofs.FrontLaws.{next_at, parts_at}
 use Rattle.field.proofs.NumberLaws.{all_drop}
 use Rattle.field.proofs.Reading.{Parts, next_parts}
-use Rattle.page.specs.Refusal.{Fine, after, unless}
-use Rattle.page.specs.declared.Refusal.TheVariants as R
+use Rattle.refusal.specs.Refusal.{Fine, after, unless}
+use Rattle.refusal.specs.declared.Refusal.TheVariants as R
 use Rattle.page.proofs.Steps.{front, inner, row_at, tested}
-use Rattle.page.proofs.Verdicts.{after_fine, refused}
+use Rattle.refusal.proofs.Verdicts.{after_fine, refused}
 use Rattle.outs.specs.Passed.{record_body}
 use Rattle.outs.specs.Templates.{check_templates, check_records}
 use Rattle.outs.specs.declared.Kind.TheVariants.{New}

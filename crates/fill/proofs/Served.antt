@@ -14,7 +14,7 @@ use Rattle.std.proofs.lemmas.List.Sorted.{IsPermutation-sym, Contains-permutatio
 use Rattle.field.specs.Bytes.{Bytes}
 use Rattle.field.specs.Put.{Wrote}
 use Rattle.field.proofs.PutLaws.{put_fits}
-use Rattle.page.specs.Refusal.{Fine}
+use Rattle.refusal.specs.Refusal.{Fine}
 use Rattle.find.specs.Find.{index_of}
 use Rattle.find.proofs.Firsts.{index_hits}
 use Rattle.fill.specs.Order.{read_order, check_order, asked}

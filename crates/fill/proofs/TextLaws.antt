@@ -9,7 +9,7 @@ use lib.ListN.{length, take, drop, length-take}
 use Rattle.field.specs.Bytes.{Bytes}
 use Rattle.field.specs.Put.{Wrote}
 use Rattle.field.proofs.PutLaws.{length_put}
-use Rattle.utf8.specs.Utf8.{ascii}
+use Rattle.utf8.specs.Utf8.{all_ascii}
 use Rattle.text.specs.Escape.{escape_html}
 use Rattle.text.specs.Runs.{plain, all}
 use Rattle.text.proofs.RunLaws.{all_on, all_last}
@@ -26,8 +26,8 @@ unfolding all no_sign free
 free_is [] = refl
 free_is (c ∷ s) = rw (free_is s) (and_and (not (eqb c 60)) (not (eqb c 62)) (free s))
 
-pub ascii_is : (s : Bytes) → all (λ b. ltb b 0x80) s ≡ ascii s
-unfolding all ascii
+pub ascii_is : (s : Bytes) → all (λ b. ltb b 0x80) s ≡ all_ascii s
+unfolding all all_ascii
 ascii_is [] = refl
 ascii_is (c ∷ s) = ap (λ (x : Bool). ltb c 0x80 && x) (ascii_is s)
 

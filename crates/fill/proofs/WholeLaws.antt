@@ -14,9 +14,9 @@ use Rattle.field.specs.Fields.{IsFront}
 use Rattle.field.proofs.FrontLaws.{sizes, parts_at}
 use Rattle.field.proofs.Reading.{step}
 use Rattle.field.proofs.RowLaws.{next_nothing}
-use Rattle.page.specs.Refusal.{Fine}
-use Rattle.page.specs.declared.Refusal.TheVariants as R
-use Rattle.page.proofs.Verdicts.{refused}
+use Rattle.refusal.specs.Refusal.{Fine}
+use Rattle.refusal.specs.declared.Refusal.TheVariants as R
+use Rattle.refusal.proofs.Verdicts.{refused}
 use Rattle.fill.specs.Html.{html_of}
 use Rattle.fill.specs.Order.{held_in_order, read_order, check_order, asked}
 use Rattle.fill.specs.Writing.{FillingsFit, OrderFits, html_of_body}

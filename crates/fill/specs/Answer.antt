@@ -4,8 +4,8 @@ use Rattle.std.proofs.Math.Option.{Option, none, some}
 use Rattle.field.specs.Bytes.{Bytes}
 use Rattle.field.specs.Put.{put}
 use Rattle.field.specs.Row.{read}
-use Rattle.page.specs.Refusal.{Verdict, Fine, Refused, unless, refusal_number}
-use Rattle.page.specs.declared.Refusal.TheVariants as R
+use Rattle.refusal.specs.Refusal.{Verdict, Fine, Refused, unless, refusal_number}
+use Rattle.refusal.specs.declared.Refusal.TheVariants as R
 use Rattle.outs.specs.Templates.{check_templates}
 use Rattle.outs.specs.declared.Kind.TheVariants.{New}
 use Rattle.fill.specs.Order.{read_order, check_order}

@@ -1,7 +1,7 @@
 -- What the steps of the whole answer promise each other. Nothing here needs belief. Assumes nothing: these are definitions.
 use Rattle.std.specs.Prelude.{ℕ, ◌≡◌, length, Result, Ok, Err}
 use Rattle.field.specs.Bytes.{Bytes}
-use Rattle.page.specs.Refusal.{refusal_number}
+use Rattle.refusal.specs.Refusal.{refusal_number}
 use Rattle.fill.specs.Answer.{Outcome, refused, Answered}
 use Rattle.fill.specs.declared.answer.Filled.{Filled}
 use Rattle.fill.specs.declared.answer.Unfilled.{Unfilled}

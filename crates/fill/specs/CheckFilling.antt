@@ -4,8 +4,8 @@ use Rattle.std.specs.Prelude.{ℕ, suc, eqb, leb, length, drop}
 use Rattle.field.specs.Bytes.{Bytes}
 use Rattle.page.specs.Tree.{choose}
 use Rattle.page.specs.Check.{check_header, check_text}
-use Rattle.page.specs.Refusal.{Verdict, after, unless}
-use Rattle.page.specs.declared.Refusal.TheVariants as R
+use Rattle.refusal.specs.Refusal.{Verdict, after, unless}
+use Rattle.refusal.specs.declared.Refusal.TheVariants as R
 use Rattle.fill.specs.Order.{read_order, is_filling, check_fillings}
 
 -- the body of an 85, whose fillings stand at a depth

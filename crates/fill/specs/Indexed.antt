@@ -8,7 +8,7 @@ use denote.Ref.{Bor}
 use Rattle.field.specs.Bytes.{Bytes}
 use Rattle.field.specs.Front.{body_of}
 use Rattle.field.specs.Row.{Row, read}
-use Rattle.page.specs.Refusal.{Fine}
+use Rattle.refusal.specs.Refusal.{Fine}
 use Rattle.find.specs.Find.{absent, index_of}
 use Rattle.fill.specs.declared.index.Index.{Index}
 use Rattle.fill.specs.Html.{template_of}

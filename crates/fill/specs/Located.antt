@@ -4,7 +4,7 @@ use Rattle.std.proofs.Math.Option as M
 use Rattle.field.specs.Bytes.{Bytes}
 use Rattle.field.specs.Row.{Row, counted_front, read}
 use Rattle.field.specs.Put.{Wrote}
-use Rattle.page.specs.Refusal.{Fine}
+use Rattle.refusal.specs.Refusal.{Fine}
 use Rattle.outs.specs.Passed.{record_body}
 use Rattle.outs.specs.declared.Kind.TheVariants.{New}
 use Rattle.spec.specs.Demand.{strings_in, kinds_behind}

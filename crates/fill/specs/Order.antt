@@ -6,8 +6,8 @@ use Rattle.field.specs.Number.{number_of}
 use Rattle.field.specs.Row.{Row, end, loose, field, Inside, only_bytes, fields_after, read_by}
 use Rattle.page.specs.Tree.{choose}
 use Rattle.page.specs.Check.{check_header, check_text, check_nothing_after}
-use Rattle.page.specs.Refusal.{Verdict, Fine, Refused, after, unless}
-use Rattle.page.specs.declared.Refusal.TheVariants as R
+use Rattle.refusal.specs.Refusal.{Verdict, Fine, Refused, after, unless}
+use Rattle.refusal.specs.declared.Refusal.TheVariants as R
 
 -- an 85 holds a number of four bytes, and then fillings; texts hold no field
 unfoldable pub held_in_order : ℕ → Inside

@@ -6,7 +6,7 @@ use Rattle.std.proofs.Math.Option as M
 use Rattle.field.specs.Bytes.{Bytes, pick}
 use Rattle.field.specs.Number.{number_of}
 use Rattle.field.specs.Row.{Row, read}
-use Rattle.page.specs.Refusal.{Fine}
+use Rattle.refusal.specs.Refusal.{Fine}
 use Rattle.page.specs.Tree.{choose}
 use Rattle.outs.specs.Templates.{check_strings}
 use Rattle.spec.specs.Demand.{strings_in}

@@ -1,7 +1,7 @@
 // The whole answer: the check of the templates, then that of the order, then the HTML.
 ghost use Rattle.std.specs.Prelude.{◌≡◌, ◌≤◌, length};
 ghost use Rattle.field.specs.Row.{read};
-ghost use Rattle.page.specs.Refusal.{Fine};
+ghost use Rattle.refusal.specs.Refusal.{Fine};
 ghost use Rattle.outs.specs.Templates.{check_templates};
 ghost use Rattle.outs.specs.declared.Kind.TheVariants.{New};
 ghost use Rattle.fill.specs.Order.{read_order, check_order, asked};
@@ -17,7 +17,7 @@ use crate::order::check_order;
 use field::reader::body;
 use outs::Kind;
 use outs::templates::check_templates;
-use page::{Refusal, refuse_unless};
+use refusal::{Refusal, refuse_unless};
 
 // It goes to C by value: a number, 0 for none refused, and no Result.
 #[repr(C)]

@@ -2,7 +2,7 @@
 ghost use Rattle.std.specs.Prelude.{◌≡◌, ◌+◌, ◌*◌, ◌<◌, ◌≤◌, ◌^◌, length};
 ghost use Rattle.field.specs.Put.{Wrote};
 ghost use Rattle.field.specs.Row.{read};
-ghost use Rattle.page.specs.Refusal.{Fine};
+ghost use Rattle.refusal.specs.Refusal.{Fine};
 ghost use Rattle.outs.specs.Passed.{record_body};
 ghost use Rattle.outs.specs.declared.Kind.TheVariants.{New};
 ghost use Rattle.text.specs.Escape.{escape_byte, escape_html};
@@ -15,7 +15,10 @@ ghost use Rattle.fill.specs.Writing.{no_sign, unmarked, PartsAre, OrderFits, Fil
 use crate::front::front;
 use crate::index::Entries;
 use field::reader::Field;
-use field::writer::{copy_bytes, put_bytes};
+use field::tags::{ATTRIBUTE_TEXT, ORDER, PLAIN_TEXT};
+use field::writer::{copy_ends, put_bytes};
+use field::{KINDS_AT, NUMBER_WIDTH};
+use outs::templates::counted_front;
 use text::escape::put_escaped;
 use text::runs::{Class, is_run};
 
@@ -31,9 +34,9 @@ fn parts_of(body: &[u8]) -> Parts<'_>
     requires { record_body New body.now ≡ Fine }
     ensures { PartsAre body.now result.kinds.now result.strings.now }
 {
-    let front = 6 + usize::from(u16::from_be_bytes([body[4], body[5]]));
+    let front = counted_front(body);
     Parts {
-        kinds: &body[6..front],
+        kinds: &body[KINDS_AT..front],
         strings: &body[front..],
     }
 }
@@ -77,28 +80,6 @@ fn put_free(out: &mut [u8], at: usize, s: &[u8]) -> Option<usize>
     } else {
         None
     }
-}
-
-// N bytes. By a local, as nothing else tells LLVM that the parts lie apart: it makes one load and one store.
-#[inline(always)]
-fn copy_block<const N: usize>(to: &mut [u8], from: &[u8])
-    requires { (length to.old ≡ N) × (length from.now ≡ N) }
-    ensures { to.new ≡ from.now }
-{
-    let mut block = [0u8; N];
-    copy_bytes(&mut block, from);
-    copy_bytes(to, &block);
-}
-
-// The first N bytes, and the last N, some of them anew.
-#[inline(always)]
-fn copy_ends<const N: usize>(to: &mut [u8], from: &[u8])
-    requires { (length to.old ≡ length from.now) × (N ≤ length from.now) × (length from.now ≤ 2 * N) }
-    ensures { to.new ≡ from.now }
-{
-    let last = from.len() - N;
-    copy_block::<N>(&mut to[..N], &from[..N]);
-    copy_block::<N>(&mut to[last..], &from[last..]);
 }
 
 // Most strings between gaps are empty or short. By put_bytes alone, 64 KB of components took 5 % more instructions, and 9,361 orders 12 % (a probe by
@@ -201,9 +182,9 @@ fn write_filling(
     ensures short { EndsBy (at + 65536 * length filling.entry.body.now) result }
 {
     match (kind, filling.tag) {
-        (2, 0x85) => write_order(entries, filling.body, out, at, near),
-        (1, 0x86) => put_free(out, at, filling.body),
-        (2, 0x87) => Some(put_text(out, at, filling.body)),
+        (2, ORDER) => write_order(entries, filling.body, out, at, near),
+        (1, ATTRIBUTE_TEXT) => put_free(out, at, filling.body),
+        (2, PLAIN_TEXT) => Some(put_text(out, at, filling.body)),
         _ => None,
     }
 }
@@ -227,7 +208,7 @@ pub fn write_order(
     let parts = parts_of(entries.record_of(number, near)?);
     let mut kinds = parts.kinds.iter();
     let mut strings = parts.strings;
-    let mut fillings = &body[4..];
+    let mut fillings = &body[NUMBER_WIDTH..];
     let mut n = at;
     while !fillings.is_empty() {
         let (filling, fillings_left) = front(fillings);

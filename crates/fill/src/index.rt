@@ -3,18 +3,17 @@ ghost use Rattle.std.specs.Prelude.{◌≡◌, ◌+◌, ◌≤◌, true, length,
 ghost use Rattle.std.specs.List.Sorted.{IsNonDecreasing};
 ghost use Rattle.field.specs.Put.{Wrote};
 ghost use Rattle.field.specs.Row.{read};
-ghost use Rattle.page.specs.Refusal.{Fine};
+ghost use Rattle.refusal.specs.Refusal.{Fine};
 ghost use Rattle.outs.specs.Templates.{check_templates};
 ghost use Rattle.outs.specs.declared.Kind.TheVariants.{New};
 ghost use Rattle.fill.specs.Order.{read_order, check_order, asked};
 ghost use Rattle.fill.specs.Indexed.{Checked, FirstIndex, Located, Served, Indexed, Looked};
 
 use crate::front::front;
+use field::NUMBER_WIDTH;
 use field::reader::{Fields, body};
+use field::tags::ORDER;
 use find::ABSENT;
-
-// The tag of an order.
-const ORDER: u8 = 0x85;
 
 // The numbers that an order asks for, sorted, and where the record with each begins; of a number that is asked for several times, at its first
 // index. A place is ABSENT until the record is met: an Option would take twice the room.
@@ -49,7 +48,7 @@ fn gather(numbers: &mut [u32], at: usize, fillings: &[u8]) -> usize
             numbers[end] = u32::from_be_bytes([b[0], b[1], b[2], b[3]]);
             // many orders have no filling
             end = if 4 < b.len() {
-                gather(numbers, end + 1, &b[4..])
+                gather(numbers, end + 1, &b[NUMBER_WIDTH..])
             } else {
                 end + 1
             };

@@ -1,18 +1,20 @@
 // The check of an order. Its fields nest 48 deep at the most, so the check calls itself, and the bytes that are left fall at each call.
 ghost use Rattle.std.specs.Prelude.{◌≡◌, ◌≤◌, OnOk, ltb};
-ghost use Rattle.utf8.specs.Utf8.{ascii};
+ghost use Rattle.utf8.specs.Utf8.{all_ascii};
 ghost use Rattle.page.specs.Check.{check_header, check_text};
 ghost use Rattle.fill.specs.Order.{read_order, is_filling, check_fillings, check_order};
 ghost use Rattle.fill.specs.CheckFilling.{check_body, check_filling};
 
 use field::reader::{Field, Fields};
+use field::tags::{OLD_TEMPLATE, ORDER, PLAIN_TEXT};
+use page::MAX_DEPTH;
 use page::leaf::check_text;
 use page::name::check_nothing_after;
-use page::{MAX_DEPTH, Refusal, refuse_unless};
+use refusal::{Refusal, refuse_unless};
 use text::runs::{Class, is_run};
 
 // Whether a field may stand there, then its depth.
-#[tactic(auto, unfolding(page::specs::Check::check_header, page::specs::Refusal::after))]
+#[tactic(auto, unfolding(page::specs::Check::check_header, refusal::specs::Refusal::after))]
 fn check_header(fits: bool, depth: usize) -> Result<(), Refusal>
     ensures gives { result ≡ check_header fits depth }
     ensures fits { OnOk result (depth ≤ 48) }
@@ -24,7 +26,7 @@ fn check_header(fits: bool, depth: usize) -> Result<(), Refusal>
 fn is_filling(tag: u8) -> bool
     ensures { result ≡ is_filling tag }
 {
-    matches!(tag, 0x85..=0x87)
+    matches!(tag, ORDER..=PLAIN_TEXT)
 }
 
 // ASCII.
@@ -34,13 +36,13 @@ impl Class for Ascii {
     ghost holds = { λ x b. ltb b 0x80 };
 
     fn has(&self, b: u8) -> bool {
-        b < 0x80
+        b < OLD_TEMPLATE
     }
 }
 
 #[inline(always)]
 fn is_ascii(s: &[u8]) -> bool
-    ensures { result ≡ ascii s.now }
+    ensures { result ≡ all_ascii s.now }
 {
     if s.len() < 16 {
         is_run::<_, 8>(&Ascii, s)
@@ -77,7 +79,7 @@ fn check_filling(tag: u8, body: &[u8], depth: usize) -> Result<(), Refusal>
     ensures { result ≡ check_filling depth tag body.now }
 {
     check_header(is_filling(tag), depth)?;
-    if tag == 0x85 {
+    if tag == ORDER {
         check_body(body, depth + 1)
     } else {
         check_short_text(body)
@@ -104,7 +106,7 @@ pub fn check_order(s: &[u8]) -> Result<(), Refusal>
     let Some(Field { tag, body }) = order.next() else {
         return Err(Refusal::Truncated);
     };
-    refuse_unless(tag == 0x85, Refusal::Misplaced)?;
+    refuse_unless(tag == ORDER, Refusal::Misplaced)?;
     check_body(body, 2)?;
     check_nothing_after(order.0)
 }

@@ -10,13 +10,13 @@ use borrow.Author.Tests.{ne_eqb, eq-eqb, leb-true}
 use Rattle.std.proofs.lemmas.Bool.{and_parts}
 use Rattle.field.specs.Bytes.{Bytes, pick}
 use Rattle.field.specs.Row.{read}
-use Rattle.page.specs.Refusal.{Verdict, Fine, Refused, refusal_number}
+use Rattle.refusal.specs.Refusal.{Verdict, Fine, Refused, refusal_number, verdict_number}
+use Rattle.refusal.proofs.Verdicts.{never_zero}
 use Rattle.outs.specs.Templates.{check_templates}
 use Rattle.outs.specs.declared.Kind.TheVariants.{New}
-use Rattle.find.specs.Find.{Met, rising, asked_well, absent, walk, none_met, verdict_number, find_number, found}
+use Rattle.find.specs.Find.{Met, rising, asked_well, absent, walk, none_met, find_number, found}
 use Rattle.find.specs.Answer.{Answered, Nothing}
 use Rattle.find.specs.Words.{Taken, LookedUp}
-use Rattle.find.proofs.FindLaws.{number_some}
 use Rattle.find.proofs.Counted.{count_is_steps}
 use Rattle.find.proofs.Kept.{behind_absent}
 use Rattle.find.proofs.Firsts.{place_is_first}
@@ -27,7 +27,7 @@ fine_and_well : (v : Verdict) (b : Bool) → pick (eqb (verdict_number v) 0) (pi
 unfolding verdict_number
 fine_and_well Fine true e = (refl, refl)
 fine_and_well Fine false e = absurd (omega arith)
-fine_and_well (Refused n) b e = absurd (number_some n (sym (ap (λ (y : Bool). pick y (pick b 0 20) (refusal_number n)) (ne_eqb (refusal_number n) 0 (number_some n))) ∙ e))
+fine_and_well (Refused n) b e = absurd (never_zero n (sym (ap (λ (y : Bool). pick y (pick b 0 20) (refusal_number n)) (ne_eqb (refusal_number n) 0 (never_zero n))) ∙ e))
 
 module _ (t : Bytes) (ns : List ℕ) {number records : ℕ} {places : List ℕ} (a : Answered t ns number records places) where
   accepted : number ≡ 0 → (check_templates New t ≡ Fine) × (asked_well ns ≡ true)

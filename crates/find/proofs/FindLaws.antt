@@ -9,33 +9,15 @@ use lib.ListN.{length}
 use borrow.Author.Tests.{ne_eqb, le-leb}
 use Rattle.field.specs.Bytes.{Bytes, pick}
 use Rattle.field.specs.Row.{read}
-use Rattle.page.specs.Refusal.{Verdict, Fine, refusal_number}
-use Rattle.page.specs.declared.Refusal.{Refusal}
-use Rattle.page.specs.declared.Refusal.TheVariants as R
+use Rattle.refusal.specs.Refusal.{Verdict, Fine, refusal_number, verdict_number}
+use Rattle.refusal.proofs.Verdicts.{never_zero}
 use Rattle.outs.specs.Templates.{check_templates}
 use Rattle.outs.specs.declared.Kind.TheVariants.{New}
-use Rattle.find.specs.Find.{Met, rising, asked_well, walk, none_met, verdict_number, find_number, found}
+use Rattle.find.specs.Find.{Met, rising, asked_well, walk, none_met, find_number, found}
 use Rattle.std.specs.Prelude.{Err}
 use Rattle.find.specs.Answer.{Walked, Answered, Nothing, Checked, unfound_number}
 use Rattle.find.specs.declared.answer.Unfound.{Unfound}
 use Rattle.find.specs.declared.answer.Unfound.TheVariants.{Templates, Numbers}
-
-pub number_some : (r : Refusal) → refusal_number r ≡ 0 → ⊥
-unfolding refusal_number
-number_some R.ScratchTooSmall e = omega arith
-number_some R.InputTooLong e = omega arith
-number_some R.Truncated e = omega arith
-number_some R.Misplaced e = omega arith
-number_some R.BadName e = omega arith
-number_some R.NotUtf8 e = omega arith
-number_some R.NumberTooLarge e = omega arith
-number_some R.TooDeep e = omega arith
-number_some R.TagLeft e = omega arith
-number_some R.RepeatedAttribute e = omega arith
-number_some R.MixedCaseVoid e = omega arith
-number_some R.OutputTooLong e = omega arith
-number_some R.TemplatesTooSmall e = omega arith
-number_some R.PageTooSmall e = omega arith
 
 module _ (t : Bytes) (ns : List ℕ) where
   -- by its number
@@ -57,8 +39,8 @@ module _ (t : Bytes) (ns : List ℕ) where
     refused_is (Templates r) k o =
         let n : find_number t ns ≡ refusal_number r =
         ap (λ (v : Verdict). pick (eqb (verdict_number v) 0) (pick (asked_well ns) 0 20) (verdict_number v)) k
-        ∙ ap (λ (x : Bool). pick x (pick (asked_well ns) 0 20) (refusal_number r)) (ne_eqb (refusal_number r) 0 (number_some r)) in
-        nothing_found (refusal_number r) n (number_some r) s o
+        ∙ ap (λ (x : Bool). pick x (pick (asked_well ns) 0 20) (refusal_number r)) (ne_eqb (refusal_number r) 0 (never_zero r)) in
+        nothing_found (refusal_number r) n (never_zero r) s o
     refused_is Numbers k o =
         let n : find_number t ns ≡ 20 =
         ap (λ (v : Verdict). pick (eqb (verdict_number v) 0) (pick (asked_well ns) 0 20) (verdict_number v)) k.0

@@ -15,10 +15,11 @@ use Rattle.field.specs.Row.{Row, end, loose, field, bytes, Inside, only_bytes, f
 use Rattle.field.specs.Fields.{IsFront, IsEnd}
 use Rattle.std.specs.Int.{w32, from_be_bytes}
 use Rattle.field.proofs.RowLaws.{read_ind, next_nothing, next_sizes, length_bytes}
-use Rattle.page.specs.Refusal.{Verdict, Fine, after, unless}
-use Rattle.page.specs.declared.Refusal.TheVariants as R
+use Rattle.refusal.specs.Refusal.{Verdict, Fine, after, unless}
+use Rattle.refusal.specs.declared.Refusal.TheVariants as R
 use Rattle.page.proofs.Steps.{front, inner, row_at}
-use Rattle.page.proofs.Verdicts.{after_fine, unless_fine, and_both}
+use Rattle.refusal.proofs.Verdicts.{after_fine, unless_fine}
+use Rattle.page.proofs.Booleans.{and_both}
 use Rattle.page.proofs.TightRows.{part_size, length_read}
 use Rattle.outs.specs.Templates.{check_templates, check_records, check_strings_of, front_of_record, all_kinds, count_of}
 use Rattle.outs.specs.declared.Kind.TheVariants.{New}

@@ -2,7 +2,7 @@
 use Rattle.std.specs.Prelude.{◌≡◌, ℕ, ◌^◌, ◌<◌, ◌≤◌, true, false, List, length, replicate, Result, Ok, Err}
 use Rattle.field.specs.Bytes.{Bytes}
 use Rattle.field.specs.Row.{read}
-use Rattle.page.specs.Refusal.{Fine, Refused, refusal_number}
+use Rattle.refusal.specs.Refusal.{Fine, Refused, refusal_number}
 use Rattle.outs.specs.Templates.{check_templates}
 use Rattle.outs.specs.declared.Kind.TheVariants.{New}
 use Rattle.find.specs.Find.{walk, none_met, absent, rising, asked_well, find_number, found}

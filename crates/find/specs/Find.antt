@@ -3,7 +3,7 @@ use Rattle.std.specs.Prelude.{ℕ, suc, ◌+◌, ◌-◌, ◌^◌, Bool, true, �
 use Rattle.field.specs.Bytes.{Bytes, pick}
 use Rattle.field.specs.Number.{number_of}
 use Rattle.field.specs.Row.{Row, end, loose, field, bytes, read}
-use Rattle.page.specs.Refusal.{Verdict, Fine, Refused, refusal_number}
+use Rattle.refusal.specs.Refusal.{verdict_number}
 use Rattle.outs.specs.Templates.{check_templates}
 use Rattle.outs.specs.declared.Kind.TheVariants.{New}
 
@@ -55,10 +55,6 @@ abbrev pub none_met : List ℕ → Met
 none_met ns = record { places = replicate 256 absent; waiting = length ns; records = 0 }
 
 -- ---- the answer
-
-unfoldable pub verdict_number : Verdict → ℕ
-verdict_number Fine = 0
-verdict_number (Refused n) = refusal_number n
 
 -- 3, 4 and 6 for the templates, then 20
 unfoldable pub find_number : Bytes → List ℕ → ℕ

@@ -3,7 +3,7 @@ use Rattle.std.specs.Prelude.{ℕ, zero, suc, ◌+◌, ◌≤◌, ◌<◌, max, 
 use Rattle.field.specs.Bytes.{Bytes, pick}
 use Rattle.field.specs.Number.{number_of}
 use Rattle.field.specs.Row.{Row, end, loose, field, bytes, read, Ended}
-use Rattle.page.specs.Refusal.{Fine}
+use Rattle.refusal.specs.Refusal.{Fine}
 use Rattle.outs.specs.Templates.{check_templates}
 use Rattle.outs.specs.declared.Kind.TheVariants.{New}
 use Rattle.find.specs.Find.{Met, rising, absent, step, walk, none_met}

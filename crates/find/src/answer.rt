@@ -8,7 +8,7 @@ use crate::lookup::{ABSENT, Places, walk};
 use crate::search::{MOST, is_rising};
 use outs::Kind;
 use outs::templates::check_templates;
-use page::Refusal;
+use refusal::Refusal;
 
 // Why nothing is looked up: what is refused of the templates, or that the numbers are too many or do not rise. Of its own, as convert's is: were
 // both cases of one enum, each would be an answer of the other.

@@ -1,6 +1,6 @@
 // The walk over the records, of templates that are checked.
 ghost use Rattle.std.specs.Prelude.{◌≡◌, true, ◌≤◌, length};
-ghost use Rattle.page.specs.Refusal.{Fine};
+ghost use Rattle.refusal.specs.Refusal.{Fine};
 ghost use Rattle.outs.specs.Templates.{check_templates};
 ghost use Rattle.outs.specs.declared.Kind.TheVariants.{New};
 ghost use Rattle.find.specs.Find.{rising};

@@ -9,7 +9,9 @@ ghost use Rattle.found.specs.Finds.{Within, part, placed, Runs, Enters, Finds, F
 
 use decisions::children::{Count, becomes_template, children_at};
 use decisions::expr::{Shape, shape_at};
+use field::HEAD;
 use field::reader::{Field, Fields, body, field_at};
+use field::tags::{ARRAY, ARRAY_SPREAD, CONTAINER, ELEMENT, FRAGMENT, HOLE, TEXT};
 use text::jsx_text::is_blank;
 
 // 01, What must change shape: "`Option<Expr>` becomes an enum with a place". So no expression is a kind like the others, and not an Option of
@@ -129,8 +131,13 @@ fn flattened(s: &[u8], f: Found) -> Found
 {
     match f.kind {
         Kind::Item => match field_at(f.part(s)) {
-            Some(Field { tag: 0x77, body }) => place(Kind::Expr, f.from + 3, body),
-            Some(Field { tag: 0x78, .. }) => Found {
+            Some(
+                Field {
+                    tag: ARRAY_SPREAD,
+                    body,
+                },
+            ) => place(Kind::Expr, f.from + HEAD, body),
+            Some(Field { tag: HOLE, .. }) => Found {
                 kind: Kind::Hole,
                 ..f
             },
@@ -159,9 +166,9 @@ fn spliced(s: &[u8], f: Found) -> Found
     match f.kind {
         Kind::Nothing => nowhere(Kind::Empty),
         Kind::Expr => match field_at(f.part(s)) {
-            Some(Field { tag: 0x76, body }) => match item_count(body) {
+            Some(Field { tag: ARRAY, body }) => match item_count(body) {
                 Count::Zero => nowhere(Kind::Empty),
-                Count::One => place(Kind::Item, f.from + 3, body),
+                Count::One => place(Kind::Item, f.from + HEAD, body),
                 Count::More => nowhere(Kind::Many(0)),
             },
             _ => f,
@@ -234,9 +241,9 @@ fn entries_of(skip: &[u8], s: &[u8]) -> Found
     while let Some(field) = fields.next() {
         let b = field.body;
         // The field's place, by what is left behind it: what was left before it would be one more variable, set in each turn.
-        let at = s.len() - fields.0.len() - b.len() - 3;
+        let at = s.len() - fields.0.len() - b.len() - HEAD;
         let x = match field.tag {
-            0x60 => {
+            TEXT => {
                 // a run that has something needs no test
                 if run || is_blank(b, false) {
                     continue;
@@ -244,21 +251,21 @@ fn entries_of(skip: &[u8], s: &[u8]) -> Found
                 run = true;
                 continue;
             }
-            0x52 => match joined_at(b) {
+            CONTAINER => match joined_at(b) {
                 Joined::Nothing => continue,
                 Joined::Something => {
                     run = true;
                     continue;
                 }
-                Joined::Apart => place(Kind::Expr, at + 3, b),
+                Joined::Apart => place(Kind::Expr, at + HEAD, b),
             },
-            0x30 => place(Kind::Element, at, &s[at..]),
-            0x31 => {
+            ELEMENT => place(Kind::Element, at, &s[at..]),
+            FRAGMENT => {
                 let f = found_of(skip, b);
                 if let Kind::Many(known) = f.kind {
                     return place(Kind::Many(known_around(s, b, f.len, known)), 0, s);
                 }
-                spliced(b, f).inside(at + 3)
+                spliced(b, f).inside(at + HEAD)
             }
             _ => continue,
         };
@@ -287,18 +294,18 @@ pub fn found_of(skip: &[u8], s: &[u8]) -> Found
         let at = s.len() - a.len();
         let b = child.body;
         return match child.tag {
-            0x60 => place(Kind::Text, at, a),
-            0x52 => match field_at(b) {
-                Some(_) => place(Kind::Expr, at + 3, b),
+            TEXT => place(Kind::Text, at, a),
+            CONTAINER => match field_at(b) {
+                Some(_) => place(Kind::Expr, at + HEAD, b),
                 None => nowhere(Kind::Nothing),
             },
-            0x30 => place(Kind::Element, at, a),
-            0x31 => {
+            ELEMENT => place(Kind::Element, at, a),
+            FRAGMENT => {
                 let f = found_of(skip, b);
                 if let Kind::Many(known) = f.kind {
                     return place(Kind::Many(known_around(a, b, f.len, known)), at, a);
                 }
-                f.inside(at + 3)
+                f.inside(at + HEAD)
             }
             _ => nowhere(Kind::Nothing),
         };

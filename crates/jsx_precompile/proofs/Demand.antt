@@ -3,10 +3,10 @@
 use mathlib.Core.Path.{◌≡◌}
 use lib.ListN.{length, take, drop}
 use Rattle.field.specs.Bytes.{Bytes, AllBytes}
-use Rattle.spec.specs.Answer.{outcome, zeros}
+use Rattle.spec.specs.Answer.{outcome, zeros, Answered}
 use Rattle.spec.specs.Demand.{Demand3Bytes}
 use Rattle.spec.specs.Kept.{KeptBytes}
-use Rattle.spec.proofs.Export.{Answered, export_demand3, export_kept, export_behind, export_refused}
+use Rattle.spec.proofs.Export.{export_demand3, export_kept, export_behind, export_refused}
 use Rattle.transform.specs.declared.Answer.{Answer}
 use Rattle.transform.specs.Run.{Answers}
 

@@ -7,8 +7,8 @@ use lib.ListN.{length, take}
 use Rattle.field.specs.Bytes.{Bytes}
 use Rattle.field.specs.Row.{read}
 use Rattle.page.specs.Check.{check_options}
-use Rattle.page.specs.Refusal.{Fine, refusal_number}
-use Rattle.page.specs.declared.Refusal.{Refusal}
+use Rattle.refusal.specs.Refusal.{Fine, refusal_number}
+use Rattle.refusal.specs.declared.Refusal.{Refusal}
 use Rattle.spec.specs.Answer.{Outcome, refused, accepted, outcome, number}
 use Rattle.spec.proofs.Accept.{never_early}
 use Rattle.tag_tree.specs.PageTag.{page_tag}

@@ -2,27 +2,7 @@
 ghost use Rattle.std.specs.Prelude.{◌≡◌, ◌+◌, ◌≤◌, ◌<◌, ◌^◌, length};
 ghost use Rattle.field.specs.Put.{Wrote};
 
-use field::writer::{copy_bytes, put_bytes};
-
-// Nothing tells LLVM that the parts lie apart, but a local does: it makes one load and one store.
-fn copy_block<const N: usize>(to: &mut [u8], from: &[u8])
-    requires { (length to.old ≡ N) × (length from.now ≡ N) }
-    ensures { to.new ≡ from.now }
-{
-    let mut block = [0u8; N];
-    copy_bytes(&mut block, from);
-    copy_bytes(to, &block);
-}
-
-// The first N bytes and the last N.
-fn copy_ends<const N: usize>(to: &mut [u8], from: &[u8])
-    requires { (length to.old ≡ length from.now) × (N ≤ length from.now) × (length from.now ≤ N + N) }
-    ensures { to.new ≡ from.now }
-{
-    let last = from.len() - N;
-    copy_block::<N>(&mut to[..N], &from[..N]);
-    copy_block::<N>(&mut to[last..], &from[last..]);
-}
+use field::writer::{copy_ends, put_bytes};
 
 fn copy_run(to: &mut [u8], from: &[u8])
     requires { (length to.old ≡ length from.now) × (length from.now ≤ 16) }

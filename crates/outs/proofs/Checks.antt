@@ -7,8 +7,8 @@ use mathlib.Core.List.{List}
 use lib.ListN.{length, get_or}
 use Rattle.std.specs.Prelude.{Result, Ok, Err}
 use Rattle.field.specs.Bytes.{Bytes}
-use Rattle.page.specs.Refusal.{Verdict, Fine, Refused, after}
-use Rattle.page.specs.declared.Refusal.{Refusal}
+use Rattle.refusal.specs.Refusal.{Verdict, Fine, Refused, after}
+use Rattle.refusal.specs.declared.Refusal.{Refusal}
 use Rattle.loops.specs.Until.{until, HighEnough}
 use Rattle.loops.proofs.Parts.{part}
 use Rattle.loops.proofs.Turns.{Walk, Going, Stops, ends_at, start, left_is, deep, on_stop, on_leaf, on_open, on_end, on_done}

@@ -11,8 +11,8 @@ use Rattle.field.proofs.FrontLaws.{next_at}
 use Rattle.field.proofs.RowLaws.{read_step}
 use Rattle.page.specs.Check.{check_text}
 use Rattle.page.specs.CheckField.{check_missing}
-use Rattle.page.specs.Refusal.{Refused, after, unless}
-use Rattle.page.specs.declared.Refusal.TheVariants as R
+use Rattle.refusal.specs.Refusal.{Refused, after, unless}
+use Rattle.refusal.specs.declared.Refusal.TheVariants as R
 use Rattle.page.proofs.Steps.{Then}
 use Rattle.outs.specs.PageOut.{check_sum, check_import}
 

@@ -11,9 +11,9 @@ use Rattle.field.specs.Row.{end, loose, inside, read}
 use Rattle.field.specs.Header.{header_of}
 use Rattle.field.specs.declared.reader.Header.{Header}
 use Rattle.page.specs.Check.{check_nothing_after}
-use Rattle.page.specs.Refusal.{Verdict, Fine, Refused}
-use Rattle.page.specs.declared.Refusal.{Refusal}
-use Rattle.page.specs.declared.Refusal.TheVariants as R
+use Rattle.refusal.specs.Refusal.{Verdict, Fine, Refused}
+use Rattle.refusal.specs.declared.Refusal.{Refusal}
+use Rattle.refusal.specs.declared.Refusal.TheVariants as R
 use Rattle.loops.proofs.Headers.{read_empty, read_torn}
 
 module _ (b : Bytes) {v : Option Header} (q : v ≡ header_of b) (x : v ≡ None) where

@@ -18,9 +18,11 @@ use Rattle.page.specs.Tree.{choose, texts_in, boolean_in}
 use Rattle.page.specs.Check.{check_boolean, check_empty, check_name, check_name_by, check_members, at_least, is_name, no_hyphen}
 use Rattle.page.specs.Encode.{boolean_byte, texts_row}
 use Rattle.page.specs.Limits.{Utf8Ok}
-use Rattle.page.specs.Refusal.{Fine, after}
-use Rattle.page.specs.declared.Refusal.TheVariants as R
-use Rattle.page.proofs.Verdicts.{fine_after, fine_unless, fine_header, or_left}
+use Rattle.refusal.specs.Refusal.{Fine, after}
+use Rattle.refusal.specs.declared.Refusal.TheVariants as R
+use Rattle.refusal.proofs.Verdicts.{fine_after, fine_unless}
+use Rattle.page.proofs.Headers.{fine_header}
+use Rattle.page.proofs.Booleans.{or_left}
 use Rattle.page.proofs.NumberLaws.{whole_back, scaled_back}
 use Rattle.page.proofs.Bodies.{fine_text, boolean_whole, texts_back, member_fine, members_read}
 use Rattle.outs.specs.PageOut.{expression, allowed, left, within, check_leaf, good}

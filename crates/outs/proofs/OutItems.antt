@@ -12,15 +12,16 @@ use Rattle.field.specs.Row.{Row, end, loose, field, field_bytes, Next, nothing, 
 use Rattle.field.proofs.Reading.{FrontFits, SaneBy, all_parts}
 use Rattle.page.specs.Tree.{choose}
 use Rattle.page.specs.Check.{check_text}
-use Rattle.page.specs.Refusal.{Fine, after, unless}
-use Rattle.page.specs.declared.Refusal.TheVariants as R
-use Rattle.page.proofs.Verdicts.{refused, after_fine, unless_fine, and_both, or_either}
+use Rattle.refusal.specs.Refusal.{Fine, after, unless}
+use Rattle.refusal.specs.declared.Refusal.TheVariants as R
+use Rattle.refusal.proofs.Verdicts.{refused, after_fine, unless_fine}
+use Rattle.page.proofs.Booleans.{and_both, or_either}
 use Rattle.page.proofs.Tags.{ModuleItemTag, export_tag, declaration_tag, statement_tag, empty_item_tag, tag_or, module_item_tag}
 use Rattle.page.proofs.Bodies.{leaf_row, node_row, text_ok, empty_is}
 use Rattle.outs.specs.Held.{held}
 use Rattle.outs.specs.PageOut.{statement, declaration, allowed, among_items, left, within, check_sum, check_import, check_leaf, good}
 use Rattle.outs.specs.Tree.{Item, export_item, declaration_item, statement_item, empty_item, Import, PageOut, ItemOk, ItemsOk, ImportOk, ProperPageOut}
-use Rattle.outs.specs.Encode.{item_row, items_row, is_statement, has_statement, before_statement, placed_row, import_bytes, import_row, page_out_row}
+use Rattle.outs.specs.Encode.{item_row, items_row, is_statement, items_have_statement, before_statement, placed_row, import_bytes, import_row, page_out_row}
 use Rattle.outs.specs.declared.Expect.TheVariants as E
 use Rattle.outs.proofs.OutSound.{body, good_field, Sound, sound}
 
@@ -78,7 +79,7 @@ module _ (width : ℕ) where
 
   abbrev Stated : Bool → List Item → Type 0
   Stated false is = Unit {0}
-  Stated true is = has_statement is ≡ true
+  Stated true is = items_have_statement is ≡ true
 
   between_placed : (b : Bool) (is : List Item) → Stated b is → placed_row b is width ≡ between_row b is
   unfolding placed_row between_row
@@ -87,8 +88,8 @@ module _ (width : ℕ) where
 
   record Items (x : Row) : Type 0 where
     rest_are : good width E.Rest x ≡ Fine → (is : List Item) × (items_row is width ≡ x) × ItemsOk is width
-    no_statement_are : good width E.NoStatement x ≡ Fine → (is : List Item) × (items_row is width ≡ x) × ItemsOk is width × (has_statement is ≡ false)
-    statement_is : good width E.Statement x ≡ Fine → (is : List Item) × (before_statement is width ≡ field 0x83 [] end x) × ItemsOk is width × (has_statement is ≡ true)
+    no_statement_are : good width E.NoStatement x ≡ Fine → (is : List Item) × (items_row is width ≡ x) × ItemsOk is width × (items_have_statement is ≡ false)
+    statement_is : good width E.Statement x ≡ Fine → (is : List Item) × (before_statement is width ≡ field 0x83 [] end x) × ItemsOk is width × (items_have_statement is ≡ true)
     declarations_are : good width E.Declarations x ≡ Fine → (b : Bool) × (is : List Item) × (between_row b is ≡ x) × ItemsOk is width × Stated b is
     placed_are : good width E.Placed x ≡ Fine → (is : List Item) × (placed_row true is width ≡ field 0x83 [] end x) × ItemsOk is width
 
@@ -117,8 +118,8 @@ module _ (width : ℕ) where
         tag_or (λ (u : ℕ). T (leb 0x10 u && leb u 0x13) × (statement u ≡ true)) t 0x10 (tt, refl) λ a.
         tag_or (λ (u : ℕ). T (leb 0x10 u && leb u 0x13) × (statement u ≡ true)) t 0x12 (tt, refl) λ b. absurd (rw (a, b) at h)
 
-    no_statement_at : good width E.NoStatement (field t f i r) ≡ Fine → (is : List Item) × (items_row is width ≡ field t f i r) × ItemsOk is width × (has_statement is ≡ false)
-    unfolding ItemsOk has_statement
+    no_statement_at : good width E.NoStatement (field t f i r) ≡ Fine → (is : List Item) × (items_row is width ≡ field t f i r) × ItemsOk is width × (items_have_statement is ≡ false)
+    unfolding ItemsOk items_have_statement
     no_statement_at e =
         let p = good_field width E.NoStatement t f i r e in
         let q = no_statement p.0 in
@@ -135,19 +136,19 @@ module _ (width : ℕ) where
     unfolding before_statement
     place_later n s is p = rw s (n.row_is (before_statement is width) ∙ ap (λ (x : Row). field t f i x) p)
 
-    statement_at : good width E.Statement (field t f i r) ≡ Fine → (is : List Item) × (before_statement is width ≡ field 0x83 [] end (field t f i r)) × ItemsOk is width × (has_statement is ≡ true)
-    unfolding ItemsOk has_statement
+    statement_at : good width E.Statement (field t f i r) ≡ Fine → (is : List Item) × (before_statement is width ≡ field 0x83 [] end (field t f i r)) × ItemsOk is width × (items_have_statement is ≡ true)
+    unfolding ItemsOk items_have_statement
     statement_at e =
         let p = good_field width E.Statement t f i r e in
         let q = a_statement p.0 in
         let n = item_sound t f i (module_item_tag t q.0) fits inner p.1 in
         let m = rest.rest_are p.2 in
         let s : is_statement n.item ≡ true = n.states ∙ q.1 in
-        (n.item ∷ m.0, place_first n s m.0 m.1, (n.proper, m.2), ap (λ (x : Bool). x || has_statement m.0) s)
+        (n.item ∷ m.0, place_first n s m.0 m.1, (n.proper, m.2), ap (λ (x : Bool). x || items_have_statement m.0) s)
 
     -- before the place, or without one: behind a statement anything, else the same again
     among_declarations : T (leb 0x10 t && leb t 0x13) → body width t f i ≡ Fine → good width (among_items E.Declarations t) r ≡ Fine → (b : Bool) × (is : List Item) × (between_row b is ≡ field t f i r) × ItemsOk is width × Stated b is
-    unfolding ItemsOk has_statement between_row
+    unfolding ItemsOk items_have_statement between_row
     among_declarations h e g = on (statement t) n.states g
       where
         n : ItemAt t f i
@@ -155,22 +156,22 @@ module _ (width : ℕ) where
 
         more : is_statement n.item ≡ false → (b : Bool) (is : List Item) → between_row b is ≡ r → ItemsOk is width → Stated b is → (b : Bool) × (is : List Item) × (between_row b is ≡ field t f i r) × ItemsOk is width × Stated b is
         more s false is p k z = (false, n.item ∷ is, unfold between_row in items_more t f i r n is (unfold between_row in p), unfold ItemsOk in (n.proper, k), tt)
-        more s true is p k z = (true, n.item ∷ is, unfold between_row in place_later n s is (unfold between_row in p), unfold ItemsOk in (n.proper, k), unfold has_statement in ap₂ (λ (x y : Bool). x || y) s z)
+        more s true is p k z = (true, n.item ∷ is, unfold between_row in place_later n s is (unfold between_row in p), unfold ItemsOk in (n.proper, k), unfold items_have_statement in ap₂ (λ (x y : Bool). x || y) s z)
 
         on : (c : Bool) → is_statement n.item ≡ c → good width (pick c E.Rest E.Declarations) r ≡ Fine → (b : Bool) × (is : List Item) × (between_row b is ≡ field t f i r) × ItemsOk is width × Stated b is
         on true s g = let m = rest.rest_are g in (false, n.item ∷ m.0, unfold between_row in items_more t f i r n m.0 m.1, unfold ItemsOk in (n.proper, m.2), tt)
         on false s g = let m = rest.declarations_are g in more s m.0 m.1 m.2 m.3 m.4
 
     placed_first : (n : ItemAt t f i) → is_statement n.item ≡ true → (is : List Item) → items_row is width ≡ r → placed_row true (n.item ∷ is) width ≡ field 0x83 [] end (field t f i r)
-    unfolding placed_row has_statement
+    unfolding placed_row items_have_statement
     placed_first n s is p =
-        let k : (is_statement n.item || has_statement is) ≡ true = ap (λ (x : Bool). x || has_statement is) s in
+        let k : (is_statement n.item || items_have_statement is) ≡ true = ap (λ (x : Bool). x || items_have_statement is) s in
         rw k (place_first n s is p)
 
-    placed_before_all : (n : ItemAt t f i) → is_statement n.item ≡ false → (is : List Item) → items_row is width ≡ r → has_statement is ≡ false → placed_row true (n.item ∷ is) width ≡ field 0x83 [] end (field t f i r)
-    unfolding placed_row has_statement
+    placed_before_all : (n : ItemAt t f i) → is_statement n.item ≡ false → (is : List Item) → items_row is width ≡ r → items_have_statement is ≡ false → placed_row true (n.item ∷ is) width ≡ field 0x83 [] end (field t f i r)
+    unfolding placed_row items_have_statement
     placed_before_all n s is p q =
-        let k : (is_statement n.item || has_statement is) ≡ false = ap₂ (λ (x y : Bool). x || y) s q in
+        let k : (is_statement n.item || items_have_statement is) ≡ false = ap₂ (λ (x y : Bool). x || y) s q in
         rw k (ap (λ (x : Row). field 0x83 [] end x) (items_more t f i r n is p))
 
     proper_more : (n : ItemAt t f i) (is : List Item) → ItemsOk is width → ItemsOk (n.item ∷ is) width
@@ -224,7 +225,7 @@ module _ (width : ℕ) where
         (λ k h. let m = among_declarations h p.1 (rw k at p.2) in (m.0, m.1, between_placed m.0 m.1 m.4 ∙ m.2, m.3))
 
   items : (x : Row) → SaneBy (held width) x → Items x
-  unfolding good items_row ItemsOk has_statement between_row placed_row
+  unfolding good items_row ItemsOk items_have_statement between_row placed_row
   items end s =
       record {
         rest_are = λ e. ([], refl, tt);

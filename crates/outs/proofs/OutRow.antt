@@ -20,10 +20,10 @@ use Rattle.page.proofs.Letters.{utf8_bytes, name_bytes}
 use Rattle.page.proofs.TightRows.{Tight, tight_shaped, tight_sane}
 use Rattle.page.proofs.Bodies.{boolean_all, members_sane}
 use Rattle.page.proofs.NumberLaws.{number_all}
-use Rattle.page.proofs.Verdicts.{and_both}
+use Rattle.page.proofs.Booleans.{and_both}
 use Rattle.outs.specs.Held.{held}
 use Rattle.outs.specs.Tree.{Callee, tag_name, identifier, member, Expr, string_literal, number_literal, boolean_literal, null_literal, other_literal, minus_literal, array_literal, other_expr, template_call, attr_call, escape_call, boolean_choice, jsx_call, Exprs, no_exprs, expr, Elements, no_elements, element, spread_element, hole, Pieces, no_pieces, source_piece, expr_piece, Props, null_props, object, Properties, no_properties, property, spread_property, Key, no_key, key, Item, export_item, declaration_item, statement_item, empty_item, Import, PageOut, PartsOk, CalleeOk, ExprOk, ExprsOk, ElementsOk, PiecesOk, PropsOk, PropertiesOk, KeyOk, ItemOk, ItemsOk, ImportOk, ProperPageOut}
-use Rattle.outs.specs.Encode.{Sayable, callee_row, expr_row, exprs_row, elements_row, pieces_row, props_row, properties_row, key_row, item_row, items_row, is_statement, has_statement, before_statement, placed_row, import_bytes, import_row, page_out_row}
+use Rattle.outs.specs.Encode.{Sayable, callee_row, expr_row, exprs_row, elements_row, pieces_row, props_row, properties_row, key_row, item_row, items_row, is_statement, items_have_statement, before_statement, placed_row, import_bytes, import_row, page_out_row}
 use Rattle.outs.proofs.Parts.{members_of}
 
 -- ---- what stands in a body
@@ -119,7 +119,7 @@ before_tight (x ∷ is) w h =
 placed_tight : (b : Bool) (is : List Item) (w : ℕ) → ItemsOk is w → Tight (held w) (placed_row b is w)
 unfolding placed_row
 placed_tight false is w h = items_tight is w h
-placed_tight true is w h = picked w (has_statement is) (before_statement is w) (field 0x83 [] end (items_row is w)) (before_tight is w h) (place_tight w (items_row is w) (items_tight is w h))
+placed_tight true is w h = picked w (items_have_statement is) (before_statement is w) (field 0x83 [] end (items_row is w)) (before_tight is w h) (place_tight w (items_row is w) (items_tight is w h))
 
 import_all : (m : Import) → ImportOk (Some m) → AllBytes (import_bytes m)
 unfolding ImportOk

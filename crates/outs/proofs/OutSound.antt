@@ -18,9 +18,10 @@ use Rattle.page.specs.Tree.{choose, texts_in, boolean_in}
 use Rattle.page.specs.Check.{check_boolean, check_name_by, check_name, check_members, at_least, is_name, no_hyphen}
 use Rattle.page.specs.Encode.{boolean_byte, texts_row}
 use Rattle.page.specs.Limits.{Utf8Ok}
-use Rattle.page.specs.Refusal.{Verdict, Fine, after, unless}
-use Rattle.page.specs.declared.Refusal.TheVariants as R
-use Rattle.page.proofs.Verdicts.{refused, after_fine, unless_fine, header_fine}
+use Rattle.refusal.specs.Refusal.{Verdict, Fine, after, unless}
+use Rattle.refusal.specs.declared.Refusal.TheVariants as R
+use Rattle.refusal.proofs.Verdicts.{refused, after_fine, unless_fine}
+use Rattle.page.proofs.Headers.{header_fine}
 use Rattle.page.proofs.NumberLaws.{whole_sound, scaled_sound}
 use Rattle.page.proofs.Bodies.{leaf_row, node_row, text_ok, empty_is, boolean_sound, member_sound}
 use Rattle.outs.specs.Held.{nests, held}

@@ -3,7 +3,7 @@
 use mathlib.Core.Bool.{◌&&◌, ◌||◌}
 use Prim.Native.Nat.{ℕ}
 use lib.Dec.{T, leb, eqb}
-use Rattle.page.proofs.Verdicts.{or_either}
+use Rattle.page.proofs.Booleans.{or_either}
 use Rattle.page.proofs.Tags.{tag_or, Each, in_order}
 use Rattle.outs.specs.PageOut.{expression}
 

@@ -14,14 +14,15 @@ use Rattle.field.specs.Row.{Row, end, loose, field, field_bytes, bytes, Next, no
 use Rattle.field.proofs.Reading.{next_written}
 use Rattle.page.specs.Tree.{choose}
 use Rattle.page.specs.Check.{check_empty}
-use Rattle.page.specs.Refusal.{Fine, after}
-use Rattle.page.specs.declared.Refusal.TheVariants as R
-use Rattle.page.proofs.Verdicts.{fine_after, fine_unless, both_and}
+use Rattle.refusal.specs.Refusal.{Fine, after}
+use Rattle.refusal.specs.declared.Refusal.TheVariants as R
+use Rattle.refusal.proofs.Verdicts.{fine_after, fine_unless}
+use Rattle.page.proofs.Booleans.{both_and}
 use Rattle.page.proofs.TightRows.{short_parts}
 use Rattle.page.proofs.Bodies.{fine_text}
 use Rattle.outs.specs.PageOut.{allowed, left, within, check_sum, check_import, check_leaf, good}
 use Rattle.outs.specs.Tree.{Pieces, Item, export_item, declaration_item, statement_item, empty_item, Import, PageOut, PiecesOk, ItemOk, ItemsOk, ImportOk, ProperPageOut}
-use Rattle.outs.specs.Encode.{Sayable, pieces_row, item_row, items_row, is_statement, has_statement, before_statement, placed_row, import_bytes, import_row, page_out_row}
+use Rattle.outs.specs.Encode.{Sayable, pieces_row, item_row, items_row, is_statement, items_have_statement, before_statement, placed_row, import_bytes, import_row, page_out_row}
 use Rattle.outs.specs.declared.Expect.{Expect}
 use Rattle.outs.specs.declared.Expect.TheVariants as E
 use Rattle.outs.proofs.OutSound.{body}
@@ -48,14 +49,14 @@ places_in end = false
 places_in (loose b) = false
 places_in (field t f i r) = eqb t 0x83 || places_in r
 
-unfoldable sum_in : Bytes → ℕ
-sum_in [] = 0
-sum_in (c ∷ r) = c
+unfoldable sum_of_bytes : Bytes → ℕ
+sum_of_bytes [] = 0
+sum_of_bytes (c ∷ r) = c
 
 unfoldable import_by : Next → Import
 import_by nothing = record { source = []; sum = 0 }
 import_by no_field = record { source = []; sum = 0 }
-import_by (next t w r) = record { source = w; sum = sum_in r }
+import_by (next t w r) = record { source = w; sum = sum_of_bytes r }
 
 unfoldable import_in : Row → Option Import
 import_in end = None
@@ -82,7 +83,7 @@ module _ (m : Import) (l : length (import_bytes m) ≤ 65535) where
       ∙ fine_after _ _ refl (fine_after _ _ (fine_text m.source h.0) (fine_unless (leb 1 m.sum && leb m.sum 15) R.Misplaced (both_and (leb 1 m.sum) (leb m.sum 15) (le→leb 1 m.sum h.1) (le→leb m.sum 15 h.2))))
 
   import_back : (r : Row) → import_in (import_row (Some m) r) ≡ Some m
-  unfolding import_row import_in choose import_by sum_in
+  unfolding import_row import_in choose import_by sum_of_bytes
   import_back r = ap (λ (n : Next). Some (import_by n)) import_next
 
 -- ---- items
@@ -121,8 +122,8 @@ module _ (width : ℕ) where
   no_truth : {C : Type 0} → true ≡ false → C
   no_truth e = absurd (let z : ◌≡◌ {A = ℕ} 0 1 = cc in omega arith)
 
-  no_statement_whole : (is : List Item) → ItemsOk is width → has_statement is ≡ false → good width E.NoStatement (items_row is width) ≡ Fine
-  unfolding items_row item_row ItemsOk ItemOk has_statement is_statement
+  no_statement_whole : (is : List Item) → ItemsOk is width → items_have_statement is ≡ false → good width E.NoStatement (items_row is width) ≡ Fine
+  unfolding items_row item_row ItemsOk ItemOk items_have_statement is_statement
   no_statement_whole [] h s = unfold good in refl
   no_statement_whole (export_item ps ∷ is) h s = no_truth s
   no_statement_whole (declaration_item ps ∷ is) h s = declaration_good E.NoStatement ps (items_row is width) tt h.0 (no_statement_whole is h.1 s)
@@ -137,8 +138,8 @@ module _ (width : ℕ) where
   declarations_whole (statement_item ps ∷ is) h = statement_good E.Declarations ps (items_row is width) tt h.0 (rest_whole is h.1)
   declarations_whole (empty_item ∷ is) h = empty_good E.Declarations 0x13 (items_row is width) empty_item_fine tt (declarations_whole is h.1)
 
-  before_whole : (is : List Item) → ItemsOk is width → has_statement is ≡ true → good width E.Declarations (before_statement is width) ≡ Fine
-  unfolding before_statement item_row ItemsOk ItemOk has_statement is_statement
+  before_whole : (is : List Item) → ItemsOk is width → items_have_statement is ≡ true → good width E.Declarations (before_statement is width) ≡ Fine
+  unfolding before_statement item_row ItemsOk ItemOk items_have_statement is_statement
   before_whole [] h s = no_truth (sym s)
   before_whole (export_item ps ∷ is) h s = empty_good E.Declarations 0x83 (field 0x10 [] (pieces_row ps width) (items_row is width)) place_fine tt (export_good E.Statement ps (items_row is width) tt h.0 (rest_whole is h.1))
   before_whole (declaration_item ps ∷ is) h s = declaration_good E.Declarations ps (before_statement is width) tt h.0 (before_whole is h.1 s)
@@ -155,8 +156,8 @@ module _ (width : ℕ) where
   unplaced_whole (empty_item ∷ is) h = empty_good E.Items 0x13 (items_row is width) empty_item_fine tt (declarations_whole is h.1)
 
   -- before the first statement
-  stated_whole : (is : List Item) → ItemsOk is width → has_statement is ≡ true → good width E.Items (before_statement is width) ≡ Fine
-  unfolding before_statement item_row ItemsOk ItemOk has_statement is_statement
+  stated_whole : (is : List Item) → ItemsOk is width → items_have_statement is ≡ true → good width E.Items (before_statement is width) ≡ Fine
+  unfolding before_statement item_row ItemsOk ItemOk items_have_statement is_statement
   stated_whole [] h s = no_truth (sym s)
   stated_whole (export_item ps ∷ is) h s = empty_good E.Items 0x83 (field 0x10 [] (pieces_row ps width) (items_row is width)) place_fine tt (export_good E.Placed ps (items_row is width) tt h.0 (rest_whole is h.1))
   stated_whole (declaration_item ps ∷ is) h s = declaration_good E.Items ps (before_statement is width) tt h.0 (before_whole is h.1 s)
@@ -164,8 +165,8 @@ module _ (width : ℕ) where
   stated_whole (empty_item ∷ is) h s = empty_good E.Items 0x13 (before_statement is width) empty_item_fine tt (before_whole is h.1 s)
 
   -- before all items, none of which is a statement
-  unstated_whole : (is : List Item) → ItemsOk is width → has_statement is ≡ false → good width E.Placed (items_row is width) ≡ Fine
-  unfolding items_row item_row ItemsOk ItemOk has_statement is_statement
+  unstated_whole : (is : List Item) → ItemsOk is width → items_have_statement is ≡ false → good width E.Placed (items_row is width) ≡ Fine
+  unfolding items_row item_row ItemsOk ItemOk items_have_statement is_statement
   unstated_whole [] h s = unfold good in refl
   unstated_whole (export_item ps ∷ is) h s = no_truth s
   unstated_whole (declaration_item ps ∷ is) h s = declaration_good E.Placed ps (items_row is width) tt h.0 (no_statement_whole is h.1 s)
@@ -174,9 +175,9 @@ module _ (width : ℕ) where
 
   placed_whole : (b : Bool) (is : List Item) → ItemsOk is width → good width E.Items (placed_row b is width) ≡ Fine
   placed_whole false is h = unfold placed_row in unplaced_whole is h
-  placed_whole true is h = unfold placed_row in on (has_statement is) refl
+  placed_whole true is h = unfold placed_row in on (items_have_statement is) refl
     where
-      on : (c : Bool) → has_statement is ≡ c → good width E.Items (pick c (before_statement is width) (field 0x83 [] end (items_row is width))) ≡ Fine
+      on : (c : Bool) → items_have_statement is ≡ c → good width E.Items (pick c (before_statement is width) (field 0x83 [] end (items_row is width))) ≡ Fine
       on true s = stated_whole is h s
       on false s = empty_good E.Items 0x83 (items_row is width) place_fine tt (unstated_whole is h s)
 
@@ -205,7 +206,7 @@ module _ (width : ℕ) where
 
   placed_no_import : (b : Bool) (is : List Item) → NoImport (placed_row b is width)
   placed_no_import false is = unfold placed_row in items_no_import is
-  placed_no_import true is = unfold placed_row in on (has_statement is)
+  placed_no_import true is = unfold placed_row in on (items_have_statement is)
     where
       on : (c : Bool) → NoImport (pick c (before_statement is width) (field 0x83 [] end (items_row is width)))
       on true = before_no_import is
@@ -248,8 +249,8 @@ module _ (width : ℕ) where
   no_place (statement_item ps ∷ is) = no_place is
   no_place (empty_item ∷ is) = no_place is
 
-  a_place : (is : List Item) → has_statement is ≡ true → places_in (before_statement is width) ≡ true
-  unfolding before_statement item_row has_statement is_statement places_in
+  a_place : (is : List Item) → items_have_statement is ≡ true → places_in (before_statement is width) ≡ true
+  unfolding before_statement item_row items_have_statement is_statement places_in
   a_place [] s = no_truth (sym s)
   a_place (export_item ps ∷ is) s = refl
   a_place (declaration_item ps ∷ is) s = a_place is s
@@ -258,12 +259,12 @@ module _ (width : ℕ) where
 
   placed_back : (b : Bool) (is : List Item) → ItemsOk is width → (items_in (placed_row b is width) ≡ is) × (places_in (placed_row b is width) ≡ b)
   placed_back false is h = unfold placed_row in (items_back is h, no_place is)
-  placed_back true is h = unfold placed_row in on (has_statement is) refl
+  placed_back true is h = unfold placed_row in on (items_have_statement is) refl
     where
       before_all : (items_in (field 0x83 [] end (items_row is width)) ≡ is) × (places_in (field 0x83 [] end (items_row is width)) ≡ true)
       before_all = unfold items_in choose places_in in (items_back is h, refl)
 
-      on : (c : Bool) → has_statement is ≡ c → (items_in (pick c (before_statement is width) (field 0x83 [] end (items_row is width))) ≡ is) × (places_in (pick c (before_statement is width) (field 0x83 [] end (items_row is width))) ≡ true)
+      on : (c : Bool) → items_have_statement is ≡ c → (items_in (pick c (before_statement is width) (field 0x83 [] end (items_row is width))) ≡ is) × (places_in (pick c (before_statement is width) (field 0x83 [] end (items_row is width))) ≡ true)
       on true s = (before_back is h, a_place is s)
       on false s = before_all
 

@@ -6,7 +6,7 @@ use Prim.Native.Nat.{ℕ}
 use Rattle.field.specs.Bytes.{Bytes, AllBytes}
 use Rattle.field.specs.Row.{bytes}
 use Rattle.field.proofs.Reading as Q
-use Rattle.page.specs.Refusal.{Fine}
+use Rattle.refusal.specs.Refusal.{Fine}
 use Rattle.outs.specs.Held.{held, read_out}
 use Rattle.outs.specs.PageOut.{good, check_page_out}
 use Rattle.outs.specs.Tree.{PageOut}

@@ -1,8 +1,8 @@
 -- What both outs' trees want of rows, names and numbers. Main statements: `sayable`, `members_of`, `parts_of`, `number_below`, `number_back`,
--- `two_first`, `two_fifth`, `four_first`. Assumes nothing.
+-- `two_first`, `two_fifth`, `four_first`, `front_at`. Assumes nothing.
 use mathlib.Core.Path.{◌≡◌, sym, ap, ◌∙◌, subst}
 use mathlib.Core.Bool.{Bool, false, not}
-use Prim.Native.Nat.{ℕ, ◌^◌, ◌%◌, ◌≤◌, ◌<◌}
+use Prim.Native.Nat.{ℕ, ◌+◌, ◌^◌, ◌%◌, ◌≤◌, ◌<◌}
 use native.Mathlib.Omega.{arith}
 use native.Mathlib.Nat.{one-le-pow, zero-lt-suc}
 use mathlib.Core.List.{List, [], ◌∷◌}
@@ -12,7 +12,7 @@ use Rattle.std.specs.Int.{w16, w32, from_be_bytes}
 use Rattle.std.proofs.lemmas.Nat.{mod_below}
 use Rattle.field.specs.Bytes.{Bytes, AllBytes}
 use Rattle.field.specs.Number.{big_endian, number_of, number_from}
-use Rattle.field.specs.Row.{Row, long_body}
+use Rattle.field.specs.Row.{Row, long_body, counted_front}
 use Rattle.field.proofs.NumberLaws.{big_endian_read, big_endian_back}
 use Rattle.page.specs.Limits.{MembersOk}
 use Rattle.outs.specs.Tree.{PartsOk}
@@ -59,3 +59,6 @@ pub four_first : (s : Bytes) → 4 ≤ length s → {n : ℕ} → n ≡ from_be_
 unfolding number_from
 four_first (a ∷ b ∷ c ∷ d ∷ s) l e = omega arith
 four_first _ l e = absurd (omega arith)
+
+pub front_at : (w : Bytes) → 6 ≤ length w → {n : ℕ} → n ≡ from_be_bytes w16 (get_or w 4 0 ∷ get_or w 5 0 ∷ []) → 6 + n ≡ counted_front 4 w
+front_at w l e = ap (λ (x : ℕ). 6 + x) (two_fifth w l e)

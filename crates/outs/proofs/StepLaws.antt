@@ -15,10 +15,10 @@ use Rattle.field.specs.declared.reader.Header.{Header}
 use Rattle.std.specs.Prelude.{Option, Some, None, Result, Err, IsErr, IsErrAnd}
 use Rattle.std.proofs.lemmas.Result.{err_from_is_err_and}
 use Rattle.field.proofs.HeaderLaws.{within_field}
-use Rattle.page.specs.Refusal.{Verdict, Fine, Refused, after, unless}
+use Rattle.refusal.specs.Refusal.{Verdict, Fine, Refused, after, unless}
 use Rattle.page.specs.Tree.{choose}
-use Rattle.page.specs.declared.Refusal.{Refusal}
-use Rattle.page.specs.declared.Refusal.TheVariants as R
+use Rattle.refusal.specs.declared.Refusal.{Refusal}
+use Rattle.refusal.specs.declared.Refusal.TheVariants as R
 use Rattle.loops.proofs.Parts.{drop_take}
 use Rattle.loops.proofs.Headers.{read_empty, read_torn, front_of, inner_of, body, field_is, length_body}
 use Rattle.outs.specs.Held.{nests, held, read_out}

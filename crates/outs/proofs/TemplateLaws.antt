@@ -20,8 +20,8 @@ use Rattle.std.specs.List.{AllWithin, HoldsAt, IsSplitAt}
 use Rattle.field.proofs.RowLaws.{read_step, next_nothing}
 use Rattle.page.specs.Check.{check_text, check_end, check_nothing_after}
 use Rattle.page.specs.CheckField.{check_missing}
-use Rattle.page.specs.Refusal.{Verdict, Fine, Refused, after, unless}
-use Rattle.page.specs.declared.Refusal.TheVariants as R
+use Rattle.refusal.specs.Refusal.{Verdict, Fine, Refused, after, unless}
+use Rattle.refusal.specs.declared.Refusal.TheVariants as R
 use Rattle.page.proofs.Steps.{Then, front, inner, row_at, ended, tested}
 use Rattle.loops.proofs.Parts.{drop_take}
 use Rattle.loops.proofs.Headers.{read_empty}

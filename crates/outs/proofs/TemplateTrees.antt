@@ -18,9 +18,10 @@ use Rattle.field.proofs.RowLaws.{FrontFits, Shaped, Sane, front_full, front_coun
 use Rattle.page.specs.Tree.{texts_in}
 use Rattle.page.specs.Encode.{texts_row}
 use Rattle.page.specs.Limits.{TextsOk}
-use Rattle.page.specs.Refusal.{Fine}
-use Rattle.page.specs.declared.Refusal.TheVariants as R
-use Rattle.page.proofs.Verdicts.{refused, after_fine, unless_fine, fine_after, fine_unless, and_both, both_and}
+use Rattle.refusal.specs.Refusal.{Fine}
+use Rattle.refusal.specs.declared.Refusal.TheVariants as R
+use Rattle.refusal.proofs.Verdicts.{refused, after_fine, unless_fine, fine_after, fine_unless}
+use Rattle.page.proofs.Booleans.{and_both, both_and}
 use Rattle.page.proofs.TightRows.{tight_sane, short_parts}
 use Rattle.page.proofs.Bodies.{leaf_row, tag_is, text_ok, fine_text, texts_back, texts_tight}
 use Rattle.outs.specs.Templates.{record_tag, count_of, all_kinds, front_of_record, check_strings, check_any_strings, check_some_strings, check_strings_of, check_records, check_templates}

@@ -108,9 +108,9 @@ is_statement (declaration_item ps) = false
 is_statement (statement_item ps) = true
 is_statement empty_item = false
 
-unfoldable pub has_statement : List Item → Bool
-has_statement [] = false
-has_statement (i ∷ is) = is_statement i || has_statement is
+unfoldable pub items_have_statement : List Item → Bool
+items_have_statement [] = false
+items_have_statement (i ∷ is) = is_statement i || items_have_statement is
 
 -- the place before the first statement, where there is one
 unfoldable pub before_statement : List Item → ℕ → Row
@@ -119,7 +119,7 @@ before_statement (i ∷ is) w = pick (is_statement i) (field 0x83 [] end (item_r
 
 unfoldable pub placed_row : Bool → List Item → ℕ → Row
 placed_row false is w = items_row is w
-placed_row true is w = pick (has_statement is) (before_statement is w) (field 0x83 [] end (items_row is w))
+placed_row true is w = pick (items_have_statement is) (before_statement is w) (field 0x83 [] end (items_row is w))
 
 -- 82: behind the 81 one byte
 abbrev pub import_bytes : Import → Bytes

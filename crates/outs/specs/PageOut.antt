@@ -6,8 +6,8 @@ use Rattle.field.specs.Row.{Row, end, loose, field, Next, nothing, no_field, nex
 use Rattle.page.specs.Number.{is_number, is_minus}
 use Rattle.page.specs.Tree.{choose}
 use Rattle.page.specs.Check.{check_text, check_number, check_boolean, check_empty, check_name_by}
-use Rattle.page.specs.Refusal.{Verdict, Fine, Refused, after, unless}
-use Rattle.page.specs.declared.Refusal.TheVariants as R
+use Rattle.refusal.specs.Refusal.{Verdict, Fine, Refused, after, unless}
+use Rattle.refusal.specs.declared.Refusal.TheVariants as R
 use Rattle.outs.specs.Held.{nests, read_out}
 use Rattle.outs.specs.declared.Expect.{Expect}
 use Rattle.outs.specs.declared.Expect.TheVariants as E

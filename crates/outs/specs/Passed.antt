@@ -4,8 +4,8 @@ use Rattle.field.specs.Bytes.{Bytes}
 use Rattle.field.specs.Row.{Row, counted_front, read}
 use Rattle.field.specs.Fields.{IsFront, IsEnd}
 use Rattle.page.specs.Check.{check_nothing_after}
-use Rattle.page.specs.Refusal.{Verdict, after, unless}
-use Rattle.page.specs.declared.Refusal.TheVariants as R
+use Rattle.refusal.specs.Refusal.{Verdict, after, unless}
+use Rattle.refusal.specs.declared.Refusal.TheVariants as R
 use Rattle.outs.specs.Templates.{front_of_record, check_strings_of}
 use Rattle.outs.specs.declared.Kind.{Kind}
 use Rattle.outs.specs.declared.Kind.TheVariants.{Old, New}

@@ -2,9 +2,9 @@
 use Rattle.std.specs.Prelude.{ℕ, ◌-◌, ◌≤◌, ◌≡◌, eqb, length, take, drop, Option, Some, None, Result, Ok, Err}
 use Rattle.field.specs.Bytes.{Bytes, pick}
 use Rattle.field.specs.Row.{Inside, only_bytes, fields_after}
-use Rattle.page.specs.Refusal.{after}
-use Rattle.page.specs.Refusal as W
-use Rattle.page.specs.declared.Refusal.{Refusal}
+use Rattle.refusal.specs.Refusal.{after}
+use Rattle.refusal.specs.Refusal as W
+use Rattle.refusal.specs.declared.Refusal.{Refusal}
 use Rattle.outs.specs.Held.{read_out}
 use Rattle.outs.specs.PageOut.{among_items, good}
 use Rattle.outs.specs.declared.Expect.{Expect}

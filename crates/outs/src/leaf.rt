@@ -4,10 +4,14 @@ ghost use Rattle.field.specs.Row.{next_of};
 ghost use Rattle.outs.specs.PageOut.{check_sum, check_import, check_leaf};
 
 use field::reader::{Field, Fields};
+use field::tags::{
+    BOOLEAN, DECIMAL, IDENT, IMPORT, MEMBER, MINUS, MINUS_DECIMAL, NUMBER, OTHER_LITERAL, SOURCE,
+    STATIC_STRING, STRING,
+};
 use page::leaf::{check_boolean, check_empty, check_text};
 use page::name::{check_missing, check_name_by};
 use page::number::check_number;
-use page::{Refusal, refuse_unless};
+use refusal::{Refusal, refuse_unless};
 
 // The byte behind the 81 of an 82: a sum of helpers.
 #[tactic(auto, unfolding(crate::specs::PageOut::check_sum))]
@@ -23,7 +27,12 @@ fn check_import(s: &[u8]) -> Result<(), Refusal>
 {
     let mut fields = Fields(s);
     match fields.next() {
-        Some(Field { tag: 0x81, body }) => {
+        Some(
+            Field {
+                tag: STATIC_STRING,
+                body,
+            },
+        ) => {
             check_text(body)?;
             check_sum(fields.0)
         }
@@ -34,15 +43,15 @@ fn check_import(s: &[u8]) -> Result<(), Refusal>
 
 // A body by its tag.
 #[tactic(auto, unfolding(crate::specs::PageOut::check_leaf, page::specs::Tree::choose))]
-pub fn check_leaf(tag: usize, s: &[u8]) -> Result<(), Refusal>
+pub fn check_leaf(tag: u8, s: &[u8]) -> Result<(), Refusal>
     ensures { result ≡ check_leaf tag s.now }
 {
     match tag {
-        0x20 | 0x70 | 0x74 | 0x81 => check_text(s),
-        0x71 | 0x75 | 0x7a | 0x7b => check_number(tag, s),
-        0x72 => check_boolean(s),
-        0x40 | 0x41 => check_name_by(tag, s, 1),
-        0x82 => check_import(s),
+        SOURCE | STRING | OTHER_LITERAL | STATIC_STRING => check_text(s),
+        NUMBER | MINUS | DECIMAL | MINUS_DECIMAL => check_number(tag, s),
+        BOOLEAN => check_boolean(s),
+        IDENT | MEMBER => check_name_by(tag, s, 1),
+        IMPORT => check_import(s),
         _ => check_empty(s),
     }
 }

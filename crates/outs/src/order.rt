@@ -6,13 +6,18 @@ ghost use Rattle.outs.specs.Step.{Holding, left_unplaced};
 ghost use Rattle.outs.specs.declared.Expect.TheVariants as E;
 
 use crate::Expect;
-use page::Refusal;
+use field::tags::{
+    ARRAY, ARRAY_SPREAD, CHOICE, DECLARATION, EMPTY_STATEMENT, EXPORT, HOLE, IDENT, IMPORT, JSX,
+    JSX_ATTR, JSX_TEMPLATE, MEMBER, MINUS_DECIMAL, NULL, OTHER_EXPRESSION, PROP, PROPS, SOURCE,
+    SPREAD, STATEMENT, STATIC_STRING, STRING, TEMPLATES_HERE,
+};
+use refusal::Refusal;
 
 #[inline(always)]
 fn is_expression(tag: u8) -> bool
     ensures { result ≡ expression tag }
 {
-    matches!(tag, 0x70..=0x76 | 0x79..=0x7b | 0x90..=0x94)
+    matches!(tag, STRING..=ARRAY | OTHER_EXPRESSION..=MINUS_DECIMAL | JSX_TEMPLATE..=JSX)
 }
 
 // Inlined, since it is asked at each field: called, nested expressions take 19 % more, components 21 %.
@@ -21,18 +26,21 @@ pub fn is_allowed(expect: Expect, tag: u8) -> bool
     ensures { result ≡ allowed expect tag }
 {
     match expect {
-        Expect::Whole => matches!(tag, 0x10..=0x13 | 0x82 | 0x83),
-        Expect::Items | Expect::Declarations => matches!(tag, 0x10..=0x13 | 0x83),
-        Expect::Placed | Expect::Rest => matches!(tag, 0x10..=0x13),
-        Expect::Statement => matches!(tag, 0x10 | 0x12),
-        Expect::NoStatement => matches!(tag, 0x11 | 0x13),
-        Expect::Pieces => (tag == 0x20) | is_expression(tag),
+        Expect::Whole => matches!(tag, EXPORT..=EMPTY_STATEMENT | IMPORT | TEMPLATES_HERE),
+        Expect::Items | Expect::Declarations => matches!(
+            tag,
+            EXPORT..=EMPTY_STATEMENT | TEMPLATES_HERE
+        ),
+        Expect::Placed | Expect::Rest => matches!(tag, EXPORT..=EMPTY_STATEMENT),
+        Expect::Statement => matches!(tag, EXPORT | STATEMENT),
+        Expect::NoStatement => matches!(tag, DECLARATION | EMPTY_STATEMENT),
+        Expect::Pieces => (tag == SOURCE) | is_expression(tag),
         Expect::Exprs | Expect::One | Expect::OneThenName | Expect::Key => is_expression(tag),
-        Expect::Elements => is_expression(tag) | matches!(tag, 0x77 | 0x78),
-        Expect::NameThenOne | Expect::JustName => tag == 0x81,
-        Expect::Callee => matches!(tag, 0x40 | 0x41 | 0x81),
-        Expect::Props => matches!(tag, 0x73 | 0x95),
-        Expect::Properties => matches!(tag, 0x53 | 0x96),
+        Expect::Elements => is_expression(tag) | matches!(tag, ARRAY_SPREAD | HOLE),
+        Expect::NameThenOne | Expect::JustName => tag == STATIC_STRING,
+        Expect::Callee => matches!(tag, IDENT | MEMBER | STATIC_STRING),
+        Expect::Props => matches!(tag, NULL | PROPS),
+        Expect::Properties => matches!(tag, SPREAD | PROP),
         Expect::Nothing => false,
     }
 }
@@ -41,7 +49,7 @@ pub fn is_allowed(expect: Expect, tag: u8) -> bool
 fn among_items(expect: Expect, tag: u8) -> Expect
     ensures { result ≡ among_items expect tag }
 {
-    if matches!(tag, 0x10 | 0x12) {
+    if matches!(tag, EXPORT | STATEMENT) {
         Expect::Rest
     } else {
         expect
@@ -52,7 +60,7 @@ fn among_items(expect: Expect, tag: u8) -> Expect
 fn left_unplaced(place: Expect, tag: u8) -> Expect
     ensures { result ≡ left_unplaced place tag }
 {
-    if tag == 0x83 {
+    if tag == TEMPLATES_HERE {
         place
     } else {
         among_items(Expect::Declarations, tag)
@@ -62,7 +70,7 @@ fn left_unplaced(place: Expect, tag: u8) -> Expect
 fn left_whole(tag: u8) -> Expect
     ensures { result ≡ left E.Whole tag }
 {
-    if tag == 0x82 {
+    if tag == IMPORT {
         Expect::Items
     } else {
         left_unplaced(Expect::Placed, tag)
@@ -114,8 +122,9 @@ pub fn front_of(tag: u8, width: usize) -> Option<usize>
     ensures { Holding (held width tag) result }
 {
     match tag {
-        0x90 => Some(width),
-        0x10..=0x12 | 0x53 | 0x76 | 0x77 | 0x79 | 0x91..=0x96 => Some(0),
+        JSX_TEMPLATE => Some(width),
+        EXPORT..=STATEMENT | SPREAD | ARRAY | ARRAY_SPREAD | OTHER_EXPRESSION | JSX_ATTR..=PROP =>
+            Some(0),
         _ => None,
     }
 }
@@ -126,13 +135,13 @@ pub fn inner_of(tag: u8) -> Expect
     ensures { result ≡ within tag }
 {
     match tag {
-        0x10..=0x12 | 0x79 => Expect::Pieces,
-        0x76 => Expect::Elements,
-        0x90 => Expect::Exprs,
-        0x91 | 0x96 => Expect::NameThenOne,
-        0x93 => Expect::OneThenName,
-        0x94 => Expect::Callee,
-        0x95 => Expect::Properties,
+        EXPORT..=STATEMENT | OTHER_EXPRESSION => Expect::Pieces,
+        ARRAY => Expect::Elements,
+        JSX_TEMPLATE => Expect::Exprs,
+        JSX_ATTR | PROP => Expect::NameThenOne,
+        CHOICE => Expect::OneThenName,
+        JSX => Expect::Callee,
+        PROPS => Expect::Properties,
         _ => Expect::One,
     }
 }

@@ -7,10 +7,11 @@ ghost use Rattle.outs.specs.Step.{Stepped};
 use crate::Expect;
 use crate::leaf::check_leaf;
 use crate::order::{close, front_of, inner_of, is_allowed, left_of};
+use field::HEAD;
 use field::reader::read_header;
 use loops::{DEPTH, Stack, waits_until};
 use page::name::check_nothing_after;
-use page::{Refusal, refuse_unless};
+use refusal::{Refusal, refuse_unless};
 
 // What stands at the front of what is left of a body: its end, a field that is done with, or one that is to be entered, whose fields go from
 // start up to end. After is what may come behind it.
@@ -50,16 +51,16 @@ fn step(b: &[u8], expect: Expect, width: usize) -> Result<Front, Refusal>
     let after = left_of(expect, h.tag);
     match front_of(h.tag, width) {
         Some(front) => {
-            refuse_unless(front <= h.end - 3, Refusal::Misplaced)?;
+            refuse_unless(front <= h.end - HEAD, Refusal::Misplaced)?;
             Ok(Front::Open {
-                start: 3 + front,
+                start: HEAD + front,
                 end: h.end,
                 inner: inner_of(h.tag),
                 after,
             })
         }
         None => {
-            check_leaf(usize::from(h.tag), &b[3..h.end])?;
+            check_leaf(h.tag, &b[HEAD..h.end])?;
             Ok(Front::Leaf { end: h.end, after })
         }
     }

@@ -1,18 +1,20 @@
 // The check of templates out: a row of records, each of which holds a row of strings. Nothing nests deeper, so no stack is needed.
-ghost use Rattle.std.specs.Prelude.{◌≡◌, ℕ};
+ghost use Rattle.std.specs.Prelude.{◌≡◌, ◌≤◌, ℕ, length};
 ghost use Rattle.field.specs.Bytes.{Bytes};
-ghost use Rattle.field.specs.Row.{Row, read};
+ghost use Rattle.field.specs.Row.{Row, counted_front, read};
 ghost use Rattle.page.specs.Check.{check_text};
-ghost use Rattle.page.specs.Refusal.{Verdict};
+ghost use Rattle.refusal.specs.Refusal.{Verdict};
 ghost use Rattle.outs.specs.Templates.{record_tag, all_kinds, check_strings, check_any_strings, check_records, check_templates};
 ghost use Rattle.outs.specs.Passed.{Rowwise, record_body};
 ghost use Rattle.outs.specs.declared.Kind.TheVariants as K;
 
 use crate::Kind;
 use field::reader::{Field, Fields};
+use field::tags::{OLD_TEMPLATE, STATIC_STRING, TEMPLATE};
+use field::{KINDS_AT, NUMBER_WIDTH};
 use page::leaf::check_text;
 use page::name::{check_end, check_missing, check_nothing_after};
-use page::{Refusal, refuse_unless};
+use refusal::{Refusal, refuse_unless};
 
 // The fields of a row that are all of one sort: their tag, whether a body is right, and whether a row of them is.
 trait Sort {
@@ -52,7 +54,7 @@ impl Sort for Strings {
 
     ghost rows = { check_any_strings };
 
-    const TAG: u8 = 0x81;
+    const TAG: u8 = STATIC_STRING;
 
     fn check(body: &[u8]) -> Result<(), Refusal> {
         check_text(body)
@@ -66,7 +68,12 @@ fn check_strings(s: &[u8], count: usize) -> Result<(), Refusal>
     let mut fields = Fields(s);
     for _ in 0..count {
         match fields.next() {
-            Some(Field { tag: 0x81, body }) => check_text(body)?,
+            Some(
+                Field {
+                    tag: STATIC_STRING,
+                    body,
+                },
+            ) => check_text(body)?,
             Some(_) => return Err(Refusal::Misplaced),
             None => return check_missing(fields.0),
         }
@@ -107,6 +114,14 @@ fn check_new_body(w: &[u8]) -> Result<(), Refusal>
     }
 }
 
+// How long the front of an 84's body is: its number, the count of its kinds, and the kinds. Of templates that are checked, all of it is there.
+pub fn counted_front(w: &[u8]) -> usize
+    requires { 6 ≤ length w.now }
+    ensures { result ≡ counted_front 4 w.now }
+{
+    KINDS_AT + usize::from(u16::from_be_bytes([w[NUMBER_WIDTH], w[NUMBER_WIDTH + 1]]))
+}
+
 // ---- records
 
 struct OldRecords;
@@ -118,7 +133,7 @@ impl Sort for OldRecords {
 
     ghost rows = { check_records K.Old };
 
-    const TAG: u8 = 0x80;
+    const TAG: u8 = OLD_TEMPLATE;
 
     fn check(body: &[u8]) -> Result<(), Refusal> {
         check_old_body(body)
@@ -134,7 +149,7 @@ impl Sort for NewRecords {
 
     ghost rows = { check_records K.New };
 
-    const TAG: u8 = 0x84;
+    const TAG: u8 = TEMPLATE;
 
     fn check(body: &[u8]) -> Result<(), Refusal> {
         check_new_body(body)

@@ -15,12 +15,14 @@ use Rattle.field.specs.Row.{Row, end, loose, field, bytes, long_body, only_bytes
 use Rattle.field.proofs.RowLaws.{FrontFits, Shaped, Sane, read_back}
 use Rattle.utf8.specs.Utf8.{utf8}
 use Rattle.page.specs.Tree.{choose, texts_in, boolean_in}
-use Rattle.page.specs.Refusal.{Fine, after}
+use Rattle.refusal.specs.Refusal.{Fine, after}
 use Rattle.page.specs.Check.{check_end, check_text, check_empty, check_boolean, name_start, name_parts, is_name, no_hyphen, check_members, at_least, check_name_by}
 use Rattle.page.specs.Encode.{boolean_byte, texts_row}
 use Rattle.page.specs.Limits.{Deep, Utf8Ok, MembersOk, TextsOk}
-use Rattle.page.specs.declared.Refusal.TheVariants as R
-use Rattle.page.proofs.Verdicts.{refused, after_fine, unless_fine, header_fine, fine_after, fine_unless, fine_header, and_both}
+use Rattle.refusal.specs.declared.Refusal.TheVariants as R
+use Rattle.refusal.proofs.Verdicts.{refused, after_fine, unless_fine, fine_after, fine_unless}
+use Rattle.page.proofs.Headers.{header_fine, fine_header}
+use Rattle.page.proofs.Booleans.{and_both}
 use Rattle.page.proofs.Letters.{utf8_bytes, name_bytes}
 use Rattle.page.proofs.TightRows.{Tight, tight_shaped, tight_sane, short_field}
 

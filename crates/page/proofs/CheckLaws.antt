@@ -15,11 +15,11 @@ use Rattle.field.specs.Front.{behind_of, behind_by}
 use Rattle.field.specs.Fields.{IsFront, IsEnd}
 use Rattle.field.proofs.RowLaws.{read_step, next_sizes}
 use Rattle.field.proofs.FrontLaws.{read_empty}
-use Rattle.page.specs.Refusal.{Verdict, Fine, Refused, after}
+use Rattle.refusal.specs.Refusal.{Verdict, Fine, Refused, after}
 use Rattle.page.specs.Tree.{choose}
 use Rattle.page.specs.Check.{check_header, check_end, check_text, check_empty, check_number, check_boolean, check_name_by, is_name_tag, is_tag, is_expr, is_child, check_child_by, check_expr_by, check_element, check_attributes, check_attribute, check_value, check_children, check_container, check_expr, check_items, check_pieces, check_nothing_after}
 use Rattle.page.specs.CheckField.{check_missing, check_element_name, check_nodes, check_tag_field, check_expr_field}
-use Rattle.page.specs.declared.Refusal.TheVariants as R
+use Rattle.refusal.specs.declared.Refusal.TheVariants as R
 use Rattle.page.proofs.RowEnds.{NotEnd, not_end, header_other}
 use Rattle.page.proofs.Steps.{Checked, Then, front, inner, row_at, same_body, one_field, ended, tested, name_tag_cases, child_cases, value_cases, piece_cases, expr_cases, item_cases}
 

@@ -21,10 +21,12 @@ use Rattle.page.specs.Tree.{choose, texts_in, first_in, second_in, name_by, attr
 use Rattle.page.specs.Check.{check_end, check_text, check_empty, check_boolean, is_name, no_hyphen, check_name, check_members, at_least, check_ident, check_name_by, is_expr, is_child, check_expr_by, check_child_by, check_element, check_attributes, check_attribute, check_value, check_children, check_container, check_expr, check_items, check_pieces, check_module_items, check_nothing_after, check_page}
 use Rattle.page.specs.Encode.{boolean_byte, texts_row, name_row, attr_name_row, tag_row, attributes_row, value_row, children_row, expr_row, items_row, pieces_row, module_items_row, page_row}
 use Rattle.page.specs.Limits.{Deep, NameOk, Utf8Ok, MembersOk, ElementNameOk, AttrNameOk, TagOk, AttributesOk, ValueOk, ChildrenOk, ExprOk, ItemsOk, PiecesOk, ModuleItemsOk}
-use Rattle.page.specs.declared.Refusal.TheVariants as R
-use Rattle.page.specs.Refusal.{Fine}
+use Rattle.refusal.specs.declared.Refusal.TheVariants as R
+use Rattle.refusal.specs.Refusal.{Fine}
 use Rattle.page.proofs.NumberLaws.{whole_back, scaled_back}
-use Rattle.page.proofs.Verdicts.{refused, after_fine, header_fine, fine_after, fine_unless, fine_header, or_left}
+use Rattle.refusal.proofs.Verdicts.{refused, after_fine, fine_after, fine_unless}
+use Rattle.page.proofs.Headers.{header_fine, fine_header}
+use Rattle.page.proofs.Booleans.{or_left}
 use Rattle.page.proofs.Tags.{ChildTag, text_tag, container_tag, element_child_tag, fragment_child_tag, spread_child_tag, child_tag}
 use Rattle.page.proofs.Bodies.{fine_text, boolean_whole, texts_back, member_fine}
 use Rattle.page.proofs.Sound.{expr_of, check_expr_of, fragment_children}

@@ -12,13 +12,15 @@ use lib.ListN.{length, length-append}
 use Rattle.field.specs.Bytes.{Bytes}
 use Rattle.field.specs.Row.{Row, end, loose, field}
 use Rattle.page.specs.Tree.{choose}
-use Rattle.page.specs.Refusal.{Verdict, Fine, after}
+use Rattle.refusal.specs.Refusal.{Verdict, Fine, after}
 use Rattle.page.specs.Check.{check_header, check_end, check_text, name_start, name_part, name_parts, no_hyphen, is_name, check_name, check_members, at_least, check_ident, check_name_by, is_name_tag, is_tag, is_child, is_attribute, check_child_by, check_element, check_attributes, check_attribute, check_value, check_children, check_container, check_expr}
 use Rattle.page.specs.Limits.{Deep}
 use Rattle.page.specs.Jsx as J
 use Rattle.page.specs.Jsx.{JsxIdentifier, start, and_letter, and_digit, and_hyphen, JsxNamespacedName, namespaced, JsxMemberExpression, member, and_member, Short, NoHyphen, Each, Idents, none, one_more, IdentsOf, ElementName, element_name_tag, ElementNameBody, AttributeName, as_element_name, Attribute, attribute_body, AttributeValue, ValueTaken, value_body, Child, child_body, OneOf}
-use Rattle.page.specs.declared.Refusal.TheVariants as R
-use Rattle.page.proofs.Verdicts.{refused, after_fine, unless_fine, header_fine, fine_after, fine_unless, fine_header, and_both, both_and, or_either, or_left, or_right}
+use Rattle.refusal.specs.declared.Refusal.TheVariants as R
+use Rattle.refusal.proofs.Verdicts.{refused, after_fine, unless_fine, fine_after, fine_unless}
+use Rattle.page.proofs.Headers.{header_fine, fine_header}
+use Rattle.page.proofs.Booleans.{and_both, both_and, or_either, or_left, or_right}
 use Rattle.page.proofs.Complete.{children_behind}
 use Rattle.page.proofs.Tags as K
 use Rattle.page.proofs.Tags.{ChildTag, NameTag, AttrNameTag, ValueTag, AttributeTag}

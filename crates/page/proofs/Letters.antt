@@ -13,7 +13,7 @@ use Rattle.field.specs.Bytes.{Bytes, AllBytes}
 use Rattle.utf8.specs.Utf8.{Range, ◌to◌, within, Form, ◌then◌, forms, begun, utf8_behind, utf8}
 use Rattle.page.specs.Check.{name_start, name_part, name_parts, is_name}
 use Rattle.page.specs.Limits.{Utf8Ok, NameOk}
-use Rattle.page.proofs.Verdicts.{and_both, or_either}
+use Rattle.page.proofs.Booleans.{and_both, or_either}
 
 -- ---- texts
 

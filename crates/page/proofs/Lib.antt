@@ -1,6 +1,7 @@
 -- The laws of `page` that the crates above cite: what is accepted is a page's own row, and every page within the limits is accepted.
 -- `LeafLaws`, `RowEnds`, `Steps`, `CheckLaws` and `WholeLaws` are for the proofs of the checker's code.
-pub mod Verdicts
+pub mod Booleans
+pub mod Headers
 pub mod Tags
 pub mod NumberLaws
 pub mod Letters

@@ -20,12 +20,13 @@ use Rattle.text.specs.Escape.{escape_html, escape_byte}
 use Rattle.text.proofs.DecimalLaws.{length_decimal, decimal_some}
 use Rattle.text.proofs.PlacesLaws.{length_shortest, shortest_some, shortest_escaped}
 use Rattle.page.specs.Number.{Number, whole, scaled, has_places, at_most_15, render, number_bytes, number_in, number_length, in_range}
-use Rattle.page.specs.Refusal.{Fine, unless}
+use Rattle.refusal.specs.Refusal.{Fine, unless}
 use Rattle.page.specs.Check.{check_number}
 use Rattle.page.specs.Limits.{NumberOk}
-use Rattle.page.specs.declared.Refusal.TheVariants as R
+use Rattle.refusal.specs.declared.Refusal.TheVariants as R
 use Rattle.page.proofs.Steps.{Then}
-use Rattle.page.proofs.Verdicts.{after_fine, unless_fine, fine_after, fine_unless, and_both}
+use Rattle.refusal.proofs.Verdicts.{after_fine, unless_fine, fine_after, fine_unless}
+use Rattle.page.proofs.Booleans.{and_both}
 
 pub number_all : (n : Number) → AllBytes (number_bytes n)
 unfolding number_bytes AllBytes

@@ -4,7 +4,7 @@
 -- Assumes nothing.
 use mathlib.Core.Path.{◌≡◌, refl, sym, ap, ap₂, ◌∙◌, subst}
 use mathlib.Core.Bool.{Bool, true, false, ◌&&◌, not}
-use mathlib.Core.Option.{Option, none, some}
+use Rattle.std.specs.Prelude.{Option, Some, None}
 use Prim.Native.Nat.{ℕ, suc}
 use native.Mathlib.Omega.{arith}
 use mathlib.Core.List.{List, [], ◌∷◌}
@@ -20,57 +20,13 @@ use Rattle.page.specs.Tree.{choose, texts_in, listed_in, source_in, works_sums, 
 use Rattle.page.specs.Check.{check_texts, check_empty, check_source, check_option_by, check_options_from, check_options}
 use Rattle.page.specs.Encode.{texts_row, list_row, options_row}
 use Rattle.page.specs.Limits.{Utf8Ok, TextsOk, OptionsOk}
-use Rattle.page.specs.declared.Refusal.TheVariants as R
-use Rattle.page.specs.Refusal.{Fine}
-use Rattle.page.proofs.Verdicts.{refused, after_fine, unless_fine, header_fine, fine_after, fine_unless, fine_header, and_both, both_and}
+use Rattle.page.specs.Given.{Given, given_list, given_sums, given_source, given_row, ListOk, SourceOk, GivenOk, or_nothing, or_react, options_of}
+use Rattle.refusal.specs.declared.Refusal.TheVariants as R
+use Rattle.refusal.specs.Refusal.{Fine}
+use Rattle.refusal.proofs.Verdicts.{refused, after_fine, unless_fine, fine_after, fine_unless}
+use Rattle.page.proofs.Headers.{header_fine, fine_header}
+use Rattle.page.proofs.Booleans.{and_both, both_and}
 use Rattle.page.proofs.Bodies.{leaf_row, node_row, tag_is, text_ok, fine_text, empty_is, texts_here, texts_back}
-
--- ---- options as they are written
-
--- what each of 02, 03 and 04 holds, where it is given, and whether a 05 is
-pub record Given : Type 0 where
-  pub elements : Option (List Bytes)
-  pub attributes : Option (List Bytes)
-  pub source : Option Bytes
-  pub sums : Bool
-
-unfoldable pub given_list : ℕ → Option (List Bytes) → Row → Row
-given_list t none r = r
-given_list t (some xs) r = field t [] (texts_row 0x20 xs) r
-
-unfoldable pub given_sums : Bool → Row
-given_sums false = end
-given_sums true = field 0x05 [] end end
-
-unfoldable pub given_source : Option Bytes → Row → Row
-given_source none r = r
-given_source (some b) r = field 0x04 b end r
-
-unfoldable pub given_row : Given → Row
-given_row g = given_list 0x02 g.elements (given_list 0x03 g.attributes (given_source g.source (given_sums g.sums)))
-
-unfoldable pub ListOk : Option (List Bytes) → Type 0
-ListOk none = Unit {0}
-ListOk (some xs) = TextsOk xs
-
-unfoldable pub SourceOk : Option Bytes → Type 0
-SourceOk none = Unit {0}
-SourceOk (some b) = Utf8Ok b × T (not (null? b))
-
-unfoldable pub GivenOk : Given → Type 0
-GivenOk g = ListOk g.elements × ListOk g.attributes × SourceOk g.source
-
--- an absent list is empty, and an absent source 01's default
-unfoldable pub or_nothing : Option (List Bytes) → List Bytes
-or_nothing none = []
-or_nothing (some xs) = xs
-
-unfoldable pub or_react : Option Bytes → Bytes
-or_react none = ascii "react"
-or_react (some b) = b
-
-unfoldable pub options_of : Given → Options
-options_of g = record { skip_serialize = or_nothing g.elements; skip_prop_serialize = or_nothing g.attributes; import_source = or_react g.source }
 
 -- ---- what is accepted
 
@@ -90,7 +46,7 @@ not_empty : (b : Bytes) → T (leb 1 (length b)) → T (not (null? b))
 not_empty [] h = absurd h
 not_empty (c ∷ b) h = tt
 
-source_sound : (b : Bytes) → check_source b ≡ Fine → SourceOk (some b)
+source_sound : (b : Bytes) → check_source b ≡ Fine → SourceOk (Some b)
 unfolding check_source SourceOk
 source_sound b e = let a = after_fine _ _ e in (text_ok b a.1, not_empty b (unless_fine (leb 1 (length b)) R.Misplaced a.0))
 
@@ -139,7 +95,7 @@ first_or {C} k (field t f i r) s e p q =
         q (fine_after _ _ (fine_header (leb (suc k) t && leb t 0x05) 1 (both_and (leb (suc k) t) (leb t 0x05) n l.1) tt) (fine_after _ _ b m))
 
 -- a list that stands, or none
-list_sound : (k : ℕ) (f : Bytes) (i r : Row) → FrontFits (fields_after 0) f i → Sane i → check_texts i ≡ Fine → (given_list k (some (texts_in 0x20 i)) r ≡ field k f i r) × ListOk (some (texts_in 0x20 i))
+list_sound : (k : ℕ) (f : Bytes) (i r : Row) → FrontFits (fields_after 0) f i → Sane i → check_texts i ≡ Fine → (given_list k (Some (texts_in 0x20 i)) r ≡ field k f i r) × ListOk (Some (texts_in 0x20 i))
 unfolding given_list ListOk
 list_sound k f i r h s e = let m = texts_sound i s e in (ap (λ (x : Row). field k [] x r) m.0 ∙ node_row k f i r h, m.1)
 
@@ -156,8 +112,8 @@ from_04 x s e =
     first_or 0x04 x s e
     (λ p.
     let w = from_05 p.rest p.rest_sane p.rest_fine in
-    (some p.front, w.0, ap (λ (y : Row). field 0x04 p.front end y) w.1 ∙ leaf_row 0x04 p.front p.inner p.rest p.fits ∙ p.row_is, source_sound p.front p.body_fine))
-    (λ e. let w = from_05 x s e in (none, w.0, w.1, tt))
+    (Some p.front, w.0, ap (λ (y : Row). field 0x04 p.front end y) w.1 ∙ leaf_row 0x04 p.front p.inner p.rest p.fits ∙ p.row_is, source_sound p.front p.body_fine))
+    (λ e. let w = from_05 x s e in (None, w.0, w.1, tt))
 
 from_03 : (x : Row) → Sane x → check_options_from 0x03 x ≡ Fine → (b : Option (List Bytes)) × (c : Option Bytes) × (w : Bool) × (given_list 0x03 b (given_source c (given_sums w)) ≡ x) × ListOk b × SourceOk c
 unfolding choose inside given_list ListOk
@@ -166,8 +122,8 @@ from_03 x s e =
     (λ p.
     let c = from_04 p.rest p.rest_sane p.rest_fine in
     let m = list_sound 0x03 p.front p.inner p.rest p.fits p.inner_sane p.body_fine in
-    (some (texts_in 0x20 p.inner), c.0, c.1, ap (λ (y : Row). given_list 0x03 (some (texts_in 0x20 p.inner)) y) c.2 ∙ m.0 ∙ p.row_is, m.1, c.3))
-    (λ e. let c = from_04 x s e in (none, c.0, c.1, c.2, tt, c.3))
+    (Some (texts_in 0x20 p.inner), c.0, c.1, ap (λ (y : Row). given_list 0x03 (Some (texts_in 0x20 p.inner)) y) c.2 ∙ m.0 ∙ p.row_is, m.1, c.3))
+    (λ e. let c = from_04 x s e in (None, c.0, c.1, c.2, tt, c.3))
 
 -- accepted options are written as they were given, and an absent one is read as its default
 given_sound : (x : Row) → Sane x → check_options x ≡ Fine → (g : Given) × (given_row g ≡ x) × GivenOk g
@@ -177,26 +133,26 @@ given_sound x s e =
     (λ p.
     let c = from_03 p.rest p.rest_sane p.rest_fine in
     let m = list_sound 0x02 p.front p.inner p.rest p.fits p.inner_sane p.body_fine in
-    (record { elements = some (texts_in 0x20 p.inner); attributes = c.0; source = c.1; sums = c.2 }, ap (λ (y : Row). given_list 0x02 (some (texts_in 0x20 p.inner)) y) c.3 ∙ m.0 ∙ p.row_is, (m.1, c.4, c.5)))
-    (λ e. let c = from_03 x s e in (record { elements = none; attributes = c.0; source = c.1; sums = c.2 }, c.3, (tt, c.4, c.5)))
+    (record { elements = Some (texts_in 0x20 p.inner); attributes = c.0; source = c.1; sums = c.2 }, ap (λ (y : Row). given_list 0x02 (Some (texts_in 0x20 p.inner)) y) c.3 ∙ m.0 ∙ p.row_is, (m.1, c.4, c.5)))
+    (λ e. let c = from_03 x s e in (record { elements = None; attributes = c.0; source = c.1; sums = c.2 }, c.3, (tt, c.4, c.5)))
 
 -- ---- what is read
 
 -- a list is passed over where another or the source is looked for
 listed_past : (t u : ℕ) (a : Option (List Bytes)) (r : Row) → eqb t u ≡ false → listed_in u (given_list t a r) ≡ listed_in u r
 unfolding listed_in given_list choose
-listed_past t u none r e = refl
-listed_past t u (some xs) r e = rw e
+listed_past t u None r e = refl
+listed_past t u (Some xs) r e = rw e
 
 source_past : (t : ℕ) (a : Option (List Bytes)) (r : Row) → eqb t 0x04 ≡ false → source_in (given_list t a r) ≡ source_in r
 unfolding source_in given_list choose
-source_past t none r e = refl
-source_past t (some xs) r e = rw e
+source_past t None r e = refl
+source_past t (Some xs) r e = rw e
 
 sums_past : (t : ℕ) (a : Option (List Bytes)) (r : Row) → eqb t 0x05 ≡ false → works_sums (given_list t a r) ≡ works_sums r
 unfolding works_sums given_list
-sums_past t none r e = refl
-sums_past t (some xs) r e = rw e
+sums_past t None r e = refl
+sums_past t (Some xs) r e = rw e
 
 sums_listed : (u : ℕ) (w : Bool) → eqb 0x05 u ≡ false → listed_in u (given_sums w) ≡ []
 unfolding listed_in given_sums choose
@@ -205,14 +161,14 @@ sums_listed u true e = rw e
 
 source_listed : (u : ℕ) (c : Option Bytes) (w : Bool) → eqb 0x04 u ≡ false → eqb 0x05 u ≡ false → listed_in u (given_source c (given_sums w)) ≡ []
 unfolding listed_in given_source choose
-source_listed u none w e g = sums_listed u w g
-source_listed u (some b) w e g = rw e (sums_listed u w g)
+source_listed u None w e g = sums_listed u w g
+source_listed u (Some b) w e g = rw e (sums_listed u w g)
 
 -- a list that stands is found; of one that does not, nothing else is taken for it
 listed_here : (t : ℕ) (a : Option (List Bytes)) (r : Row) → T (eqb t t) → listed_in t r ≡ [] → listed_in t (given_list t a r) ≡ or_nothing a
 unfolding listed_in given_list choose or_nothing
-listed_here t none r k e = e
-listed_here t (some xs) r k e = on (eqb t t) k
+listed_here t None r k e = e
+listed_here t (Some xs) r k e = on (eqb t t) k
   where
     on : (b : Bool) → T b → choose b (λ _. texts_in 0x20 (texts_row 0x20 xs)) (λ _. listed_in t r) ≡ xs
     on true k = texts_back 0x20 xs
@@ -220,16 +176,16 @@ listed_here t (some xs) r k e = on (eqb t t) k
 
 source_given : (c : Option Bytes) (w : Bool) → source_in (given_source c (given_sums w)) ≡ or_react c
 unfolding source_in given_source given_sums choose or_react
-source_given none false = refl
-source_given none true = refl
-source_given (some b) w = refl
+source_given None false = refl
+source_given None true = refl
+source_given (Some b) w = refl
 
 sums_behind : (c : Option Bytes) (w : Bool) → works_sums (given_source c (given_sums w)) ≡ w
 unfolding works_sums given_source given_sums
-sums_behind none false = refl
-sums_behind none true = refl
-sums_behind (some b) false = refl
-sums_behind (some b) true = refl
+sums_behind None false = refl
+sums_behind None true = refl
+sums_behind (Some b) false = refl
+sums_behind (Some b) true = refl
 
 -- sums are worked out exactly where the 05 is given
 sums_in : (g : Given) → works_sums (given_row g) ≡ g.sums
@@ -272,18 +228,18 @@ fine_05 k true l = fine_after _ _ (fine_header (leb k 0x05 && true) 1 (both_and 
 module _ (w : Bool) where
   fine_04 : (k : ℕ) (c : Option Bytes) → T (leb k 0x04) → SourceOk c → check_options_from k (given_source c (given_sums w)) ≡ Fine
   unfolding check_options_from given_source SourceOk choose
-  fine_04 k none l h = fine_05 k w (le→leb k 0x05 (omega (arith, leb→le k 0x04 l)))
-  fine_04 k (some b) l h = fine_after _ _ (fine_header (leb k 0x04 && true) 1 (both_and (leb k 0x04) true l tt) tt) (fine_after _ _ (source_fine b h.0 h.1) (fine_05 0x05 w tt))
+  fine_04 k None l h = fine_05 k w (le→leb k 0x05 (omega (arith, leb→le k 0x04 l)))
+  fine_04 k (Some b) l h = fine_after _ _ (fine_header (leb k 0x04 && true) 1 (both_and (leb k 0x04) true l tt) tt) (fine_after _ _ (source_fine b h.0 h.1) (fine_05 0x05 w tt))
 
   fine_03 : (k : ℕ) (b : Option (List Bytes)) (c : Option Bytes) → T (leb k 0x03) → ListOk b → SourceOk c → check_options_from k (given_list 0x03 b (given_source c (given_sums w))) ≡ Fine
   unfolding check_options_from given_list ListOk choose
-  fine_03 k none c l h s = fine_04 k c (le→leb k 0x04 (omega (arith, leb→le k 0x03 l))) s
-  fine_03 k (some xs) c l h s = fine_after _ _ (fine_header (leb k 0x03 && true) 1 (both_and (leb k 0x03) true l tt) tt) (fine_after _ _ (texts_fine xs h) (fine_04 0x04 c tt s))
+  fine_03 k None c l h s = fine_04 k c (le→leb k 0x04 (omega (arith, leb→le k 0x03 l))) s
+  fine_03 k (Some xs) c l h s = fine_after _ _ (fine_header (leb k 0x03 && true) 1 (both_and (leb k 0x03) true l tt) tt) (fine_after _ _ (texts_fine xs h) (fine_04 0x04 c tt s))
 
   fine_02 : (a b : Option (List Bytes)) (c : Option Bytes) → ListOk a → ListOk b → SourceOk c → check_options_from 2 (given_list 0x02 a (given_list 0x03 b (given_source c (given_sums w)))) ≡ Fine
   unfolding check_options_from given_list ListOk choose
-  fine_02 none b c g h s = fine_03 2 b c tt h s
-  fine_02 (some xs) b c g h s = fine_after _ _ (fine_header true 1 tt tt) (fine_after _ _ (texts_fine xs g) (fine_03 0x03 b c tt h s))
+  fine_02 None b c g h s = fine_03 2 b c tt h s
+  fine_02 (Some xs) b c g h s = fine_after _ _ (fine_header true 1 tt tt) (fine_after _ _ (texts_fine xs g) (fine_03 0x03 b c tt h s))
 
 pub given_complete : (g : Given) → GivenOk g → (check_options (given_row g) ≡ Fine) × (options_in (given_row g) ≡ options_of g) × (works_sums (given_row g) ≡ g.sums)
 unfolding check_options given_row GivenOk
@@ -291,8 +247,8 @@ given_complete g h = (fine_02 g.sums g.elements g.attributes g.source h.0 h.1 h.
 
 -- options as `options_row` writes them: an empty list is left out, the source stands
 unfoldable pub some_list : List Bytes → Option (List Bytes)
-some_list [] = none
-some_list (x ∷ xs) = some (x ∷ xs)
+some_list [] = None
+some_list (x ∷ xs) = Some (x ∷ xs)
 
 some_list_row : (t : ℕ) (xs : List Bytes) (r : Row) → given_list t (some_list xs) r ≡ list_row t xs r
 unfolding some_list given_list list_row
@@ -310,7 +266,7 @@ some_list_is [] = refl
 some_list_is (x ∷ xs) = refl
 
 unfoldable pub given_of : Options → Given
-given_of o = record { elements = some_list o.skip_serialize; attributes = some_list o.skip_prop_serialize; source = some o.import_source; sums = false }
+given_of o = record { elements = some_list o.skip_serialize; attributes = some_list o.skip_prop_serialize; source = Some o.import_source; sums = false }
 
 pub given_of_row : (o : Options) → given_row (given_of o) ≡ options_row o
 unfolding given_of given_row given_source given_sums options_row
@@ -337,13 +293,13 @@ options_complete o h =
 
 list_ok : (a : Option (List Bytes)) → ListOk a → TextsOk (or_nothing a)
 unfolding ListOk or_nothing TextsOk
-list_ok none h = tt
-list_ok (some xs) h = h
+list_ok None h = tt
+list_ok (Some xs) h = h
 
 source_ok : (c : Option Bytes) → SourceOk c → Utf8Ok (or_react c) × T (not (null? (or_react c)))
 unfolding SourceOk or_react utf8 utf8_behind begun forms
-source_ok none h = (tt, tt)
-source_ok (some b) h = h
+source_ok None h = (tt, tt)
+source_ok (Some b) h = h
 
 pub options_ok : (x : Row) → Sane x → check_options x ≡ Fine → TextsOk (options_in x).skip_serialize × TextsOk (options_in x).skip_prop_serialize × Utf8Ok (options_in x).import_source × T (not (null? (options_in x).import_source))
 unfolding GivenOk options_of

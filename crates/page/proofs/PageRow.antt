@@ -2,7 +2,7 @@
 -- Main statements: `page_shaped`, `page_sane`, `given_shaped`, `given_sane`, `short_row`.
 -- Assumes nothing.
 use mathlib.Core.Bool.{Bool, true, false, ◌||◌, not}
-use mathlib.Core.Option.{Option, none, some}
+use Rattle.std.specs.Prelude.{Option, Some, None}
 use Prim.Native.Nat.{ℕ, suc, ◌≤◌, ◌<◌}
 use native.Mathlib.Omega.{arith}
 use mathlib.Core.List.{List, [], ◌∷◌, ◌++◌}
@@ -19,11 +19,11 @@ use Rattle.page.specs.Check.{is_name, no_hyphen}
 use Rattle.page.specs.Encode.{boolean_byte, texts_row, name_row, attr_name_row, tag_row, attributes_row, value_row, children_row, expr_row, items_row, pieces_row, module_items_row, page_row}
 use Rattle.page.specs.Limits.{MembersOk, ElementNameOk, AttrNameOk, TagOk, AttributesOk, ValueOk, ChildrenOk, ExprOk, ItemsOk, PiecesOk, ModuleItemsOk, TextsOk}
 use Rattle.page.proofs.NumberLaws.{number_all}
-use Rattle.page.proofs.Verdicts.{and_both}
+use Rattle.page.proofs.Booleans.{and_both}
 use Rattle.page.proofs.Letters.{utf8_bytes, name_bytes}
 use Rattle.page.proofs.TightRows.{Tight, tight_shaped, tight_sane, short_field}
 use Rattle.page.proofs.Bodies.{boolean_all, texts_tight, members_tight}
-use Rattle.page.proofs.Options.{Given, given_list, given_sums, given_source, given_row, ListOk, SourceOk, GivenOk}
+use Rattle.page.specs.Given.{Given, given_list, given_sums, given_source, given_row, ListOk, SourceOk, GivenOk}
 
 -- ---- names
 
@@ -114,8 +114,8 @@ page_sane p h = unfold Sane in tight_sane inside (page_row p) (page_tight p h)
 
 list_tight : (t : ℕ) (a : Option (List Bytes)) (r : Row) → ((i : Row) → FrontFits (inside t) [] i) → T (ltb t 256) → ListOk a → Tight inside r → Tight inside (given_list t a r)
 unfolding given_list ListOk Tight AllBytes
-list_tight t none r f l h k = k
-list_tight t (some xs) r f l h k = (f (texts_row 0x20 xs), tt, l, texts_tight 0x20 (λ x. unfold FrontFits inside in tt) tt xs h, k)
+list_tight t None r f l h k = k
+list_tight t (Some xs) r f l h k = (f (texts_row 0x20 xs), tt, l, texts_tight 0x20 (λ x. unfold FrontFits inside in tt) tt xs h, k)
 
 sums_tight : (w : Bool) → Tight inside (given_sums w)
 unfolding given_sums Tight inside FrontFits AllBytes
@@ -124,8 +124,8 @@ sums_tight true = (tt, tt, tt, tt, tt)
 
 source_tight : (c : Option Bytes) (w : Bool) → SourceOk c → Tight inside (given_source c (given_sums w))
 unfolding given_source SourceOk Tight inside FrontFits
-source_tight none w h = sums_tight w
-source_tight (some b) w h = (tt, utf8_bytes b h.0, tt, tt, sums_tight w)
+source_tight None w h = sums_tight w
+source_tight (Some b) w h = (tt, utf8_bytes b h.0, tt, tt, sums_tight w)
 
 given_tight : (g : Given) → GivenOk g → Tight inside (given_row g)
 unfolding given_row GivenOk inside FrontFits

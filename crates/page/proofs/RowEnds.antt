@@ -14,10 +14,10 @@ use Rattle.field.specs.Front.{behind_of, behind_by}
 use Rattle.field.specs.Fields.{IsFront, IsEnd}
 use Rattle.field.proofs.RowLaws.{read_step, next_nothing}
 use Rattle.field.proofs.FrontLaws.{read_empty}
-use Rattle.page.specs.Refusal.{Verdict, Fine, Refused, after, unless}
+use Rattle.refusal.specs.Refusal.{Verdict, Fine, Refused, after, unless}
 use Rattle.page.specs.Check.{check_header, check_end, check_name, is_name, no_hyphen, check_members, at_least, check_ident, check_nothing_after}
 use Rattle.page.specs.CheckField.{check_missing, check_counted, check_first, check_namespaced}
-use Rattle.page.specs.declared.Refusal.TheVariants as R
+use Rattle.refusal.specs.declared.Refusal.TheVariants as R
 use Rattle.page.proofs.Steps.{Then, Checked, row_at, ended, tested}
 
 -- ---- verdicts in a row

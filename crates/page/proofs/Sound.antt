@@ -17,12 +17,13 @@ use Rattle.utf8.specs.Utf8.{utf8}
 use Rattle.page.specs.Number.{number_tag, minus_tag, number_in}
 use Rattle.page.specs.Page.{Tag, fragment, Attributes, no_attributes, Children, Expr, Items, item, Page}
 use Rattle.page.specs.Tree.{choose, texts_in, first_in, second_in, name_by, attr_name_by, boolean_in, expr_by, Contained, nothing_contained, contained, contained_value, contained_child, value_by, child_by, element_in, fragment_in, attributes_in, attr_name_in, value_in, value_behind, children_in, contained_in, expr_in, items_in, pieces_in, module_item_by, module_items_in, page_in}
-use Rattle.page.specs.Refusal.{Verdict, Fine, after}
+use Rattle.refusal.specs.Refusal.{Verdict, Fine, after}
 use Rattle.page.specs.Check.{check_end, check_text, check_empty, check_boolean, is_name, no_hyphen, check_name, check_members, at_least, check_ident, check_name_by, is_name_tag, is_tag, is_expr, is_child, is_attribute, check_expr_by, check_child_by, check_element, check_attributes, check_attribute, check_value, check_children, check_container, check_expr, check_items, check_pieces, check_module_items, check_nothing_after, check_page}
 use Rattle.page.specs.Encode.{boolean_byte, texts_row, name_row, attr_name_row, tag_row, attributes_row, value_row, children_row, expr_row, items_row, pieces_row, module_items_row, page_row}
 use Rattle.page.specs.Limits.{Deep, NameOk, Utf8Ok, MembersOk, ElementNameOk, AttrNameOk, TagOk, AttributesOk, ValueOk, ChildrenOk, ExprOk, ItemsOk, PiecesOk, ModuleItemsOk}
-use Rattle.page.specs.declared.Refusal.TheVariants as R
-use Rattle.page.proofs.Verdicts.{refused, after_fine, unless_fine, header_fine}
+use Rattle.refusal.specs.declared.Refusal.TheVariants as R
+use Rattle.refusal.proofs.Verdicts.{refused, after_fine, unless_fine}
+use Rattle.page.proofs.Headers.{header_fine}
 use Rattle.page.proofs.NumberLaws.{whole_sound, scaled_sound}
 use Rattle.page.proofs.Bodies.{chosen, leaf_row, node_row, tag_is, ended, text_ok, empty_is, boolean_sound, member_sound}
 use Rattle.page.proofs.Tags.{ExprTag, string_tag, whole_tag, scaled_tag, boolean_tag, null_tag, other_literal_tag, minus_whole_tag, minus_scaled_tag, array_tag, other_expr_tag, element_expr_tag, fragment_expr_tag, ChildTag, text_tag, container_tag, element_child_tag, fragment_child_tag, spread_child_tag, AttributeTag, named_attribute_tag, spread_attribute_tag, child_behind_tag, ValueTag, string_value_tag, container_value_tag, element_value_tag, fragment_value_tag, NameTag, identifier_tag, member_tag, namespaced_tag, AttrNameTag, ident_attr_tag, namespaced_attr_tag, ItemTag, expr_item_tag, spread_item_tag, hole_item_tag, PieceTag, source_tag, element_piece_tag, fragment_piece_tag, ModuleItemTag, export_tag, declaration_tag, statement_tag, empty_item_tag, expr_tag, child_tag, attribute_tag, value_tag, name_tag, attr_name_tag, item_tag, piece_tag, module_item_tag}

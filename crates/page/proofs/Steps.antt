@@ -14,9 +14,9 @@ use Rattle.field.specs.Fields.{IsFront, IsEnd}
 use Rattle.field.proofs.FrontLaws.{read_at}
 use Rattle.std.specs.Prelude.{IsErr, IsErrAnd}
 use Rattle.std.proofs.lemmas.Result.{err_from_is_err_and}
-use Rattle.page.specs.Refusal.{Verdict, Fine, Refused, after}
+use Rattle.refusal.specs.Refusal.{Verdict, Fine, Refused, after}
 use Rattle.page.specs.Check.{check_header, is_name_tag, is_tag, is_expr, is_child}
-use Rattle.page.specs.declared.Refusal.{Refusal}
+use Rattle.refusal.specs.declared.Refusal.{Refusal}
 
 -- ---- a verdict in the form of the code
 

@@ -9,7 +9,7 @@ use native.Mathlib.Omega.{arith}
 use lib.Dec.{T, leb, eqb, leb→le}
 use borrow.Author.Tests.{eqb-true, eqb-false}
 use Rattle.page.specs.Check.{is_name_tag, is_tag, is_expr, is_child, is_attribute}
-use Rattle.page.proofs.Verdicts.{and_both, or_either}
+use Rattle.page.proofs.Booleans.{and_both, or_either}
 
 pub data ExprTag : ℕ → Type 0 where
   string_tag : ExprTag 0x70

@@ -13,7 +13,7 @@ use Rattle.std.proofs.Math.Facts.{or_no, no_ltb}
 use Rattle.field.specs.Bytes.{Bytes, AllBytes}
 use Rattle.field.specs.Row.{Inside, Row, end, loose, field, bytes, long_body, inside, read_by, read}
 use Rattle.field.proofs.Reading.{FrontFits, ShapedBy, SaneBy, next_nothing, next_sizes, length_bytes, along}
-use Rattle.page.proofs.Verdicts.{not_either}
+use Rattle.page.proofs.Booleans.{not_either}
 
 -- no loose bytes, fronts as the tags want them, and nothing but bytes
 unfoldable pub Tight : (ℕ → Inside) → Row → Type 0

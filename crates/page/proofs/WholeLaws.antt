@@ -9,11 +9,11 @@ use borrow.Author.Tests.{leb-true, ne_eqb}
 use Rattle.field.specs.Bytes.{Bytes}
 use Rattle.field.specs.Row.{Row, read, inside}
 use Rattle.field.specs.Fields.{IsFront, IsEnd}
-use Rattle.page.specs.Refusal.{Verdict, Fine, Refused, after, unless}
+use Rattle.refusal.specs.Refusal.{Verdict, Fine, Refused, after, unless}
 use Rattle.page.specs.Tree.{choose}
 use Rattle.page.specs.Check.{check_header, check_text, check_empty, check_pieces, check_module_items, check_nothing_after, check_page, check_texts, check_option_by, check_options_from}
 use Rattle.page.specs.CheckField.{check_module_item, check_option}
-use Rattle.page.specs.declared.Refusal.TheVariants as R
+use Rattle.refusal.specs.declared.Refusal.TheVariants as R
 use Rattle.page.proofs.Steps.{Then, front, inner, row_at, one_field, ended, tested, at, between}
 
 -- ---- a page

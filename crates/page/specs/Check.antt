@@ -5,9 +5,9 @@ use Rattle.field.specs.Bytes.{Bytes}
 use Rattle.field.specs.Row.{Row, end, loose, field}
 use Rattle.utf8.specs.Utf8.{utf8}
 use Rattle.page.specs.Number.{is_number, is_minus, number_in, number_length, in_range}
-use Rattle.page.specs.Refusal.{Verdict, Fine, Refused, after, unless}
+use Rattle.refusal.specs.Refusal.{Verdict, Fine, Refused, after, unless}
 use Rattle.page.specs.Tree.{choose}
-use Rattle.page.specs.declared.Refusal.TheVariants as R
+use Rattle.refusal.specs.declared.Refusal.TheVariants as R
 
 -- a header: misplaced, then too deep. (A torn one is a loose end of the row.)
 unfoldable pub check_header : Bool → ℕ → Verdict

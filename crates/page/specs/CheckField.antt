@@ -3,10 +3,10 @@
 use Rattle.std.specs.Prelude.{ℕ, suc, Bool, true, false, ◌&&◌, leb, eqb}
 use Rattle.field.specs.Bytes.{Bytes}
 use Rattle.field.specs.Row.{Row, end, loose, field, read}
-use Rattle.page.specs.Refusal.{Verdict, Fine, Refused, after, unless}
+use Rattle.refusal.specs.Refusal.{Verdict, Fine, Refused, after, unless}
 use Rattle.page.specs.Tree.{choose}
 use Rattle.page.specs.Check.{check_header, check_end, check_empty, check_members, at_least, check_ident, check_name_by, check_option_by, is_name_tag, is_tag, is_expr, check_expr_by, check_element, check_attributes, check_children, check_items, check_pieces}
-use Rattle.page.specs.declared.Refusal.TheVariants as R
+use Rattle.refusal.specs.declared.Refusal.TheVariants as R
 
 -- a field must stand here: its lack is misplaced, bytes that are none are torn
 unfoldable pub check_missing : Row → Verdict

@@ -9,7 +9,7 @@ use Rattle.field.specs.Bytes.{Bytes}
 use Rattle.field.specs.Row.{Row, end, field}
 use Rattle.page.specs.Check.{check_end, check_text, check_element, check_attribute, check_children, check_expr}
 use Rattle.page.specs.Limits.{Deep}
-use Rattle.page.specs.Refusal.{Verdict, Fine}
+use Rattle.refusal.specs.Refusal.{Verdict, Fine}
 
 -- ---- JSXIdentifier
 

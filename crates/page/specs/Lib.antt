@@ -2,9 +2,9 @@
 pub mod Number
 pub mod Page
 pub mod Tree
-pub mod Refusal
 pub mod Check
 pub mod CheckField
 pub mod Encode
 pub mod Limits
+pub mod Given
 pub mod Jsx

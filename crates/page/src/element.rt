@@ -11,13 +11,19 @@ ghost use Rattle.field.specs.Row.{read};
 ghost use Rattle.page.specs.Check.{check_attribute, check_value, check_container, check_expr, check_items, check_pieces};
 ghost use Rattle.page.specs.CheckField.{check_nodes, check_tag_field, check_expr_field};
 
+use crate::check_depth;
 use crate::leaf::{check_boolean, check_empty, check_text};
 use crate::name::{
     check_element_name, check_end, check_missing, check_name_by, check_nothing_after,
 };
 use crate::number::check_number;
-use crate::{Refusal, check_depth};
 use field::reader::{Field, Fields, behind};
+use field::tags::{
+    ARRAY, ARRAY_SPREAD, ATTRIBUTE, ATTRIBUTE_STRING, BOOLEAN, CONTAINER, DECIMAL, ELEMENT,
+    FRAGMENT, HOLE, IDENT, MINUS, MINUS_DECIMAL, NAMESPACED_NAME, NULL, NUMBER, OTHER_EXPRESSION,
+    OTHER_LITERAL, SOURCE, SPREAD, SPREAD_CHILD, STRING, TEXT,
+};
+use refusal::Refusal;
 
 // An element or a fragment: the name of an element, and then its nodes. What is left behind the name is named by `behind`: a `&mut Fields` that
 // check_element_name moves on would need a clause of its own for that, and takes 1.8 % more of elements in elements (a probe of forty).
@@ -30,13 +36,13 @@ fn check_tag(tag: u8, body: &[u8], depth: usize) -> Result<(), Refusal>
     let mut nodes = body;
     let mut attributes = false;
     match tag {
-        0x30 => {
+        ELEMENT => {
             check_depth(depth)?;
             check_element_name(body, depth + 1)?;
             nodes = behind(body);
             attributes = true;
         }
-        0x31 => check_depth(depth)?,
+        FRAGMENT => check_depth(depth)?,
         _ => return Err(Refusal::Misplaced),
     }
     check_nodes(nodes, attributes, depth + 1)
@@ -52,25 +58,25 @@ fn check_nodes(s: &[u8], attributes: bool, depth: usize) -> Result<(), Refusal>
     while let Some(field) = fields.next() {
         match field.tag {
             // Behind a child they are refused with what is neither.
-            0x50 if first => {
+            ATTRIBUTE if first => {
                 check_depth(depth)?;
                 check_attribute(field.body, depth + 1)?;
             }
-            0x53 if first => {
+            SPREAD if first => {
                 check_depth(depth)?;
                 check_expr(field.body, depth + 1)?;
             }
-            0x60 => {
+            TEXT => {
                 check_depth(depth)?;
                 check_text(field.body)?;
                 first = false;
             }
-            0x52 => {
+            CONTAINER => {
                 check_depth(depth)?;
                 check_container(field.body, depth + 1)?;
                 first = false;
             }
-            0x61 => {
+            SPREAD_CHILD => {
                 check_depth(depth)?;
                 check_expr(field.body, depth + 1)?;
                 first = false;
@@ -93,12 +99,12 @@ fn check_attribute(s: &[u8], depth: usize) -> Result<(), Refusal>
     match fields.next() {
         Some(
             Field {
-                tag: tag @ (0x40 | 0x42),
+                tag: tag @ (IDENT | NAMESPACED_NAME),
                 body,
             },
         ) => {
             check_depth(depth)?;
-            check_name_by(usize::from(tag), body, depth + 1)?;
+            check_name_by(tag, body, depth + 1)?;
             check_value(fields.0, depth)
         }
         Some(_) => Err(Refusal::Misplaced),
@@ -115,11 +121,11 @@ fn check_value(s: &[u8], depth: usize) -> Result<(), Refusal>
         return check_nothing_after(s);
     };
     match field.tag {
-        0x51 => {
+        ATTRIBUTE_STRING => {
             check_depth(depth)?;
             check_text(field.body)?;
         }
-        0x52 => {
+        CONTAINER => {
             check_depth(depth)?;
             check_container(field.body, depth + 1)?;
         }
@@ -159,30 +165,30 @@ fn check_expr_field(tag: u8, body: &[u8], depth: usize) -> Result<(), Refusal>
     ensures { result ≡ check_expr_field depth tag body.now }
 {
     match tag {
-        0x70 | 0x74 => {
+        STRING | OTHER_LITERAL => {
             check_depth(depth)?;
             check_text(body)
         }
-        0x72 => {
+        BOOLEAN => {
             check_depth(depth)?;
             check_boolean(body)
         }
-        0x73 => {
+        NULL => {
             check_depth(depth)?;
             check_empty(body)
         }
-        0x76 => {
+        ARRAY => {
             check_depth(depth)?;
             check_items(body, depth + 1)
         }
-        0x79 => {
+        OTHER_EXPRESSION => {
             check_depth(depth)?;
             check_pieces(body, depth + 1)
         }
-        0x30 | 0x31 => check_tag(tag, body, depth),
-        0x71 | 0x75 | 0x7a | 0x7b => {
+        ELEMENT | FRAGMENT => check_tag(tag, body, depth),
+        NUMBER | MINUS | DECIMAL | MINUS_DECIMAL => {
             check_depth(depth)?;
-            check_number(usize::from(tag), body)
+            check_number(tag, body)
         }
         _ => Err(Refusal::Misplaced),
     }
@@ -196,11 +202,11 @@ fn check_items(s: &[u8], depth: usize) -> Result<(), Refusal>
     let mut fields = Fields(s);
     while let Some(field) = fields.next() {
         match field.tag {
-            0x77 => {
+            ARRAY_SPREAD => {
                 check_depth(depth)?;
                 check_expr(field.body, depth + 1)?;
             }
-            0x78 => {
+            HOLE => {
                 check_depth(depth)?;
                 check_empty(field.body)?;
             }
@@ -218,7 +224,7 @@ pub fn check_pieces(s: &[u8], depth: usize) -> Result<(), Refusal>
     let mut fields = Fields(s);
     while let Some(field) = fields.next() {
         match field.tag {
-            0x20 => {
+            SOURCE => {
                 check_depth(depth)?;
                 check_text(field.body)?;
             }

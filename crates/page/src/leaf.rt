@@ -3,7 +3,7 @@
 ghost use Rattle.std.specs.Prelude.{◌≡◌};
 ghost use Rattle.page.specs.Check.{check_text, check_empty, check_boolean, check_source};
 
-use crate::{Refusal, refuse_unless};
+use refusal::{Refusal, refuse_unless};
 use utf8::is_utf8;
 
 #[tactic(auto, unfolding(crate::specs::Check::check_text))]
@@ -21,7 +21,7 @@ pub fn check_empty(s: &[u8]) -> Result<(), Refusal>
 }
 
 // The import source.
-#[tactic(auto, unfolding(crate::specs::Check::check_source, crate::specs::Refusal::after))]
+#[tactic(auto, unfolding(crate::specs::Check::check_source, refusal::specs::Refusal::after))]
 pub fn check_source(s: &[u8]) -> Result<(), Refusal>
     ensures { result ≡ check_source s.now }
 {

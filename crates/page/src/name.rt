@@ -3,13 +3,15 @@ ghost use Rattle.std.specs.Prelude.{◌≡◌, ◌&&◌, OnOk};
 ghost use Rattle.std.specs.List.{list_all};
 ghost use Rattle.field.specs.Front.{behind_of};
 ghost use Rattle.field.specs.Row.{read};
-ghost use Rattle.page.specs.Refusal.{unless};
-ghost use Rattle.page.specs.declared.Refusal.TheVariants.{BadName};
+ghost use Rattle.refusal.specs.Refusal.{unless};
+ghost use Rattle.refusal.specs.declared.Refusal.TheVariants.{BadName};
 ghost use Rattle.page.specs.Check.{name_start, name_part, no_hyphen, is_name, check_name, check_end, check_nothing_after, check_name_by};
 ghost use Rattle.page.specs.CheckField.{check_missing, check_counted, check_first, check_namespaced, check_element_name};
 
-use crate::{Refusal, check_depth, refuse_unless};
+use crate::check_depth;
 use field::reader::{Field, Fields, field_at};
+use field::tags::{IDENT, MEMBER, NAMESPACED_NAME};
+use refusal::{Refusal, refuse_unless};
 
 // 01, Name: the bytes of a 40, and the 40s of a 41.
 pub const MAX_NAME: usize = 128;
@@ -105,7 +107,7 @@ fn check_members(s: &[u8], depth: usize) -> Result<(), Refusal>
     let mut fields = Fields(s);
     for n in 0..MAX_MEMBERS {
         match fields.next() {
-            Some(Field { tag: 0x40, body }) => {
+            Some(Field { tag: IDENT, body }) => {
                 check_depth(depth)?;
                 check_member(body)?;
             }
@@ -123,7 +125,7 @@ fn check_first(fields: &mut Fields<'_>, depth: usize) -> Result<(), Refusal>
     ensures leaves { OnOk result (fields.new.0.now ≡ behind_of fields.old.0.now) }
 {
     match fields.next() {
-        Some(Field { tag: 0x40, body }) => {
+        Some(Field { tag: IDENT, body }) => {
             check_depth(depth)?;
             check_name(body)
         }
@@ -144,12 +146,12 @@ fn check_namespaced(s: &[u8], depth: usize) -> Result<(), Refusal>
 
 // A name's body by its tag.
 #[tactic(auto, unfolding(crate::specs::Check::check_name_by, crate::specs::CheckField::check_counted, crate::specs::CheckField::check_namespaced, crate::specs::Tree::choose))]
-pub fn check_name_by(tag: usize, b: &[u8], depth: usize) -> Result<(), Refusal>
+pub fn check_name_by(tag: u8, b: &[u8], depth: usize) -> Result<(), Refusal>
     ensures { result ≡ check_name_by tag depth b.now (read b.now) }
 {
     match tag {
-        0x41 => check_members(b, depth),
-        0x42 => check_namespaced(b, depth),
+        MEMBER => check_members(b, depth),
+        NAMESPACED_NAME => check_namespaced(b, depth),
         _ => check_name(b),
     }
 }
@@ -161,12 +163,12 @@ pub fn check_element_name(s: &[u8], depth: usize) -> Result<(), Refusal>
     match field_at(s) {
         Some(
             Field {
-                tag: tag @ 0x40..=0x42,
+                tag: tag @ IDENT..=NAMESPACED_NAME,
                 body,
             },
         ) => {
             check_depth(depth)?;
-            check_name_by(usize::from(tag), body, depth + 1)
+            check_name_by(tag, body, depth + 1)
         }
         Some(_) => Err(Refusal::Misplaced),
         None => check_missing(s),

@@ -5,8 +5,9 @@ ghost use Rattle.field.specs.Put.{Wrote};
 ghost use Rattle.page.specs.Number.{has_places, render, number_in, number_bytes};
 ghost use Rattle.page.specs.Check.{check_number};
 
-use crate::{Refusal, refuse_unless};
+use field::tags::{DECIMAL, MINUS_DECIMAL};
 use field::writer::{put_byte, put_eight};
+use refusal::{Refusal, refuse_unless};
 use text::decimal::{put_decimal, put_shortest};
 
 // 01, Expression: the largest number of a 71 and a 75.
@@ -47,15 +48,14 @@ fn places_in(s: &[u8]) -> u8
     s.get(8).copied().unwrap_or(0)
 }
 
-// A tag may be any number, here, in what follows and in check_name_by: as a byte it would ask more of callers.
-fn has_places(tag: usize) -> bool
+fn has_places(tag: u8) -> bool
     ensures { result ≡ has_places tag }
 {
-    matches!(tag, 0x7a | 0x7b)
+    matches!(tag, DECIMAL | MINUS_DECIMAL)
 }
 
 // One test of the tag: a length by it, and then a range by it, take 5 % more in the check of a page of numbers.
-pub fn check_number(tag: usize, s: &[u8]) -> Result<(), Refusal>
+pub fn check_number(tag: u8, s: &[u8]) -> Result<(), Refusal>
     ensures { result ≡ check_number tag s.now }
 {
     if has_places(tag) {
@@ -68,7 +68,7 @@ pub fn check_number(tag: usize, s: &[u8]) -> Result<(), Refusal>
 }
 
 // As 000 writes it, without a minus.
-pub fn put_number(out: &mut [u8], at: usize, tag: usize, s: &[u8]) -> usize
+pub fn put_number(out: &mut [u8], at: usize, tag: u8, s: &[u8]) -> usize
     requires { at + length (render (number_in tag s.now)) < 2 ^ 63 }
     ensures { Wrote out.old at (render (number_in tag s.now)) out.new result }
 {
@@ -81,7 +81,7 @@ pub fn put_number(out: &mut [u8], at: usize, tag: usize, s: &[u8]) -> usize
 }
 
 // The body of its field.
-pub fn put_number_bytes(out: &mut [u8], at: usize, tag: usize, s: &[u8]) -> usize
+pub fn put_number_bytes(out: &mut [u8], at: usize, tag: u8, s: &[u8]) -> usize
     requires { at + 9 < 2 ^ 64 }
     ensures { Wrote out.old at (number_bytes (number_in tag s.now)) out.new result }
 {

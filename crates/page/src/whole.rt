@@ -8,16 +8,19 @@ ghost use Rattle.page.specs.CheckField.{check_module_item, check_option};
 use crate::element::check_pieces;
 use crate::leaf::{check_empty, check_source, check_text};
 use crate::name::check_nothing_after;
-use crate::{Refusal, refuse_unless};
 use field::reader::{Field, Fields};
+use field::tags::{
+    ELEMENTS_NOT_SERIALIZED, EMPTY_STATEMENT, EXPORT, IMPORT_SOURCE, PAGE, SOURCE, STATEMENT, SUMS,
+};
+use refusal::{Refusal, refuse_unless};
 
-#[tactic(auto, unfolding(crate::specs::CheckField::check_module_item, crate::specs::Check::check_header, crate::specs::Refusal::after, crate::specs::Tree::choose))]
+#[tactic(auto, unfolding(crate::specs::CheckField::check_module_item, crate::specs::Check::check_header, refusal::specs::Refusal::after, crate::specs::Tree::choose))]
 fn check_module_item(field: Field<'_>) -> Result<(), Refusal>
     ensures { result ≡ check_module_item field.entry.tag field.entry.body.now }
 {
     match field.tag {
-        0x10..=0x12 => check_pieces(field.body, 3),
-        0x13 => check_empty(field.body),
+        EXPORT..=STATEMENT => check_pieces(field.body, 3),
+        EMPTY_STATEMENT => check_empty(field.body),
         _ => Err(Refusal::Misplaced),
     }
 }
@@ -38,7 +41,7 @@ pub fn check_page(s: &[u8]) -> Result<(), Refusal>
 {
     let mut fields = Fields(s);
     match fields.next() {
-        Some(Field { tag: 0x01, body }) => {
+        Some(Field { tag: PAGE, body }) => {
             check_module_items(body)?;
             check_nothing_after(fields.0)
         }
@@ -53,21 +56,21 @@ fn check_texts(s: &[u8]) -> Result<(), Refusal>
 {
     let mut fields = Fields(s);
     while let Some(field) = fields.next() {
-        refuse_unless(field.tag == 0x20, Refusal::Misplaced)?;
+        refuse_unless(field.tag == SOURCE, Refusal::Misplaced)?;
         check_text(field.body)?;
     }
     check_nothing_after(fields.0)
 }
 
 // One option; from is the least tag that may still come.
-#[tactic(auto, unfolding(crate::specs::CheckField::check_option, crate::specs::Check::check_header, crate::specs::Refusal::after, crate::specs::Tree::choose))]
+#[tactic(auto, unfolding(crate::specs::CheckField::check_option, crate::specs::Check::check_header, refusal::specs::Refusal::after, crate::specs::Tree::choose))]
 fn check_option(from: u8, field: Field<'_>) -> Result<(), Refusal>
     ensures { result ≡ check_option «from» field.entry.tag field.entry.body.now }
 {
-    refuse_unless((from..=0x05).contains(&field.tag), Refusal::Misplaced)?;
+    refuse_unless((from..=SUMS).contains(&field.tag), Refusal::Misplaced)?;
     match field.tag {
-        0x04 => check_source(field.body),
-        0x05 => check_empty(field.body),
+        IMPORT_SOURCE => check_source(field.body),
+        SUMS => check_empty(field.body),
         _ => check_texts(field.body),
     }
 }
@@ -77,7 +80,7 @@ pub fn check_options(s: &[u8]) -> Result<(), Refusal>
     ensures { result ≡ check_options (read s.now) }
 {
     let mut fields = Fields(s);
-    let mut from = 2;
+    let mut from = ELEMENTS_NOT_SERIALIZED;
     while let Some(field) = fields.next() {
         check_option(from, field)?;
         from = field.tag + 1;

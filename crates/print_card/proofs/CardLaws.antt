@@ -18,7 +18,7 @@ use Rattle.text.specs.Decimal.{decimal}
 use Rattle.page.specs.Tree.{page_in, works_sums, options_in}
 use Rattle.page.specs.Check.{check_page}
 use Rattle.page.specs.Encode.{encode}
-use Rattle.page.specs.Refusal.{Fine}
+use Rattle.refusal.specs.Refusal.{Fine}
 use Rattle.page.proofs.Exact.{read_exactly}
 use Rattle.worked.proofs.Encoded.{accepted_worked}
 use Rattle.worked.proofs.Exact.{worked_bound}

@@ -8,8 +8,8 @@ use Rattle.field.specs.Row.{field_bytes, inside, next_of, opened, built, read_fr
 use Rattle.page.specs.Number.{render, number_in}
 use Rattle.text.specs.Decimal.{digits, decimal}
 use Rattle.page.specs.Tree.{choose, boolean_in}
-use Rattle.page.specs.Refusal.{refusal_number}
-use Rattle.page.specs.declared.Refusal.TheVariants as R
+use Rattle.refusal.specs.Refusal.{refusal_number}
+use Rattle.refusal.specs.declared.Refusal.TheVariants as R
 use Rattle.spec.specs.Answer.{Outcome, refused, accepted, number}
 use Rattle.spec.specs.Marks.{Reply, reply, fld, AllHold}
 use Rattle.spec.proofs.Export.{zero_written}

@@ -8,7 +8,7 @@ use Rattle.printing.specs.Front.{front_in, inner_in}
 use Rattle.page.specs.Number.{is_number, is_minus, number_in, render}
 use Rattle.page.specs.Tree.{choose, boolean_in}
 use Rattle.page.specs.Check.{name_start}
-use Rattle.page.specs.Refusal.{refusal_number}
+use Rattle.refusal.specs.Refusal.{refusal_number}
 use Rattle.spec.specs.Answer.{Outcome, refused, accepted, outcome}
 
 -- ---- strings and names

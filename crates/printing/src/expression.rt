@@ -9,6 +9,11 @@ use crate::front::{first_front, parts};
 use crate::name::{put_boolean, put_minus, put_pointed, put_template_name};
 use crate::quoted::{put_prop_name, put_quoted};
 use field::reader::{Field, Fields, behind, field_at};
+use field::tags::{
+    ARRAY, ARRAY_SPREAD, BOOLEAN, CHOICE, DECIMAL, IDENT, JSX, JSX_ATTR, JSX_ESCAPE, JSX_TEMPLATE,
+    MEMBER, MINUS, MINUS_DECIMAL, NULL, NUMBER, OTHER_EXPRESSION, OTHER_LITERAL, PROP, PROPS,
+    SOURCE, SPREAD, STATIC_STRING, STRING,
+};
 use field::writer::{put_byte, put_bytes};
 use page::number::put_number;
 
@@ -20,23 +25,23 @@ fn print_field(out: &mut [u8], at: usize, field: Field<'_>) -> usize
 {
     let (f, i) = parts(field);
     match field.tag {
-        0x20 | 0x40 | 0x74 => put_bytes(out, at, f),
-        0x41 => put_pointed(out, at, i),
-        0x70 | 0x81 => put_quoted(out, at, f),
-        0x71 | 0x7a => put_number(out, at, usize::from(field.tag), f),
-        0x72 => put_boolean(out, at, f),
-        0x73 => put_bytes(out, at, b"null"),
-        0x75 | 0x7b => put_minus(out, at, usize::from(field.tag), f),
-        0x76 => print_between(out, at, b"[", i, b"]"),
-        0x53 | 0x77 => print_spread(out, at, i),
-        0x79 => print_all(out, at, i),
-        0x90 => print_template(out, at, f, i),
-        0x91 => print_between(out, at, b"_jsxAttr(", i, b")"),
-        0x92 => print_between(out, at, b"_jsxEscape(", i, b")"),
-        0x93 => print_choice(out, at, i),
-        0x94 => print_between(out, at, b"_jsx(", i, b")"),
-        0x95 => print_between(out, at, b"{ ", i, b" }"),
-        0x96 => print_prop(out, at, i),
+        SOURCE | IDENT | OTHER_LITERAL => put_bytes(out, at, f),
+        MEMBER => put_pointed(out, at, i),
+        STRING | STATIC_STRING => put_quoted(out, at, f),
+        NUMBER | DECIMAL => put_number(out, at, field.tag, f),
+        BOOLEAN => put_boolean(out, at, f),
+        NULL => put_bytes(out, at, b"null"),
+        MINUS | MINUS_DECIMAL => put_minus(out, at, field.tag, f),
+        ARRAY => print_between(out, at, b"[", i, b"]"),
+        SPREAD | ARRAY_SPREAD => print_spread(out, at, i),
+        OTHER_EXPRESSION => print_all(out, at, i),
+        JSX_TEMPLATE => print_template(out, at, f, i),
+        JSX_ATTR => print_between(out, at, b"_jsxAttr(", i, b")"),
+        JSX_ESCAPE => print_between(out, at, b"_jsxEscape(", i, b")"),
+        CHOICE => print_choice(out, at, i),
+        JSX => print_between(out, at, b"_jsx(", i, b")"),
+        PROPS => print_between(out, at, b"{ ", i, b" }"),
+        PROP => print_prop(out, at, i),
         _ => at,
     }
 }

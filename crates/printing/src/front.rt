@@ -4,6 +4,12 @@ ghost use Rattle.field.specs.Row.{inside, counted};
 ghost use Rattle.printing.specs.Front.{front_in, inner_in, front_of, fields_alone, front_length};
 
 use field::reader::{Field, field_at};
+use field::tags::{
+    ARRAY, ARRAY_SPREAD, ATTRIBUTE, ATTRIBUTES_NOT_SERIALIZED, CONTAINER, ELEMENT, EXPORT,
+    FRAGMENT, IMPORT, JSX_ATTR, JSX_TEMPLATE, MEMBER, NAMESPACED_NAME, OLD_TEMPLATE,
+    OTHER_EXPRESSION, PAGE, PROP, SPREAD, SPREAD_CHILD, STATEMENT, TEMPLATE,
+};
+use field::{KINDS_AT, NUMBER_WIDTH, OLD_NUMBER_WIDTH};
 
 // Whether a body is fields alone.
 fn holds_fields(tag: u8) -> bool
@@ -11,21 +17,21 @@ fn holds_fields(tag: u8) -> bool
 {
     matches!(
         tag,
-        0x01..=0x03
-            | 0x10..=0x12
-            | 0x30
-            | 0x31
-            | 0x41
-            | 0x42
-            | 0x50
-            | 0x52
-            | 0x53
-            | 0x61
-            | 0x76
-            | 0x77
-            | 0x79
-            | 0x82
-            | 0x91..=0x96
+        PAGE..=ATTRIBUTES_NOT_SERIALIZED
+            | EXPORT..=STATEMENT
+            | ELEMENT
+            | FRAGMENT
+            | MEMBER
+            | NAMESPACED_NAME
+            | ATTRIBUTE
+            | CONTAINER
+            | SPREAD
+            | SPREAD_CHILD
+            | ARRAY
+            | ARRAY_SPREAD
+            | OTHER_EXPRESSION
+            | IMPORT
+            | JSX_ATTR..=PROP
     )
 }
 
@@ -35,9 +41,9 @@ fn front_len(tag: u8, b: &[u8]) -> usize
 {
     let n = b.len();
     match tag {
-        0x90 => n.min(4),
-        0x84 => counted_len(b),
-        0x80 => n.min(2),
+        JSX_TEMPLATE => n.min(NUMBER_WIDTH),
+        TEMPLATE => counted_len(b),
+        OLD_TEMPLATE => n.min(OLD_NUMBER_WIDTH),
         _ if holds_fields(tag) => 0,
         _ => n,
     }
@@ -49,7 +55,7 @@ fn counted_len(b: &[u8]) -> usize
 {
     match b {
         [_, _, _, _, high, low, rest @ ..] => {
-            6 + usize::from(u16::from_be_bytes([*high, *low])).min(rest.len())
+            KINDS_AT + usize::from(u16::from_be_bytes([*high, *low])).min(rest.len())
         }
         _ => b.len(),
     }

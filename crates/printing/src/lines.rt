@@ -10,6 +10,7 @@ use crate::front::{first_front, parts};
 use crate::name::put_template_name;
 use crate::quoted::put_quoted;
 use field::reader::{Fields, behind, field_at};
+use field::tags::{EMPTY_STATEMENT, IMPORT, TEMPLATES_HERE};
 use field::writer::{put_byte, put_bytes};
 
 // A helper by its own name and the name that the page calls it by.
@@ -109,9 +110,9 @@ pub fn print_page<'a>(out: &mut [u8], at: usize, templates: &'a [u8], page: &'a 
     for item in Fields(page) {
         let (_, fields) = parts(item);
         a = match item.tag {
-            0x82 => print_import(out, a, fields),
-            0x83 => print_templates(out, a, templates),
-            0x13 => put_bytes(out, a, b";\n"),
+            IMPORT => print_import(out, a, fields),
+            TEMPLATES_HERE => print_templates(out, a, templates),
+            EMPTY_STATEMENT => put_bytes(out, a, b";\n"),
             _ => print_item(out, a, fields),
         };
     }

@@ -9,6 +9,7 @@ ghost use Rattle.printing.specs.Card.{pointed, template_name};
 
 use crate::front::parts;
 use decisions::expr::boolean_in;
+use field::NUMBER_WIDTH;
 use field::reader::Fields;
 use field::writer::{put_byte, put_bytes};
 use page::number::{number_in, put_number};
@@ -37,7 +38,7 @@ pub fn put_template_name(out: &mut [u8], at: usize, f: &[u8]) -> usize
     ensures { Wrote out.old at (template_name f.now) out.new result }
 {
     let a = put_bytes(out, at, b"$$_tpl_");
-    put_decimal(out, a, number_in(f.get(..4).unwrap_or(f)))
+    put_decimal(out, a, number_in(f.get(..NUMBER_WIDTH).unwrap_or(f)))
 }
 
 pub fn put_boolean(out: &mut [u8], at: usize, f: &[u8]) -> usize
@@ -52,7 +53,7 @@ pub fn put_boolean(out: &mut [u8], at: usize, f: &[u8]) -> usize
 }
 
 // A minus before its number.
-pub fn put_minus(out: &mut [u8], at: usize, tag: usize, f: &[u8]) -> usize
+pub fn put_minus(out: &mut [u8], at: usize, tag: u8, f: &[u8]) -> usize
     requires { at + length (45 ∷ render (number_in tag f.now)) < 2 ^ 63 }
     ensures { Wrote out.old at (45 ∷ render (number_in tag f.now)) out.new result }
 {

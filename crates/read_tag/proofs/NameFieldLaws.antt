@@ -12,7 +12,7 @@ use Rattle.field.specs.Bytes.{Bytes, pick}
 use Rattle.field.specs.Row.{Row, end, field, field_bytes, bytes}
 use Rattle.page.specs.Page as P
 use Rattle.page.specs.Encode.{texts_row, name_row, attr_name_row}
-use Rattle.page.proofs.Verdicts.{and_both}
+use Rattle.page.proofs.Booleans.{and_both}
 use Rattle.grammar.specs.Signs.{choose}
 use Rattle.grammar.specs.Syntax.{Part, part, Name, short, no_hyphen, member_parts, attribute_name_fits, member_fits, tag_name_fits}
 use Rattle.grammar.proofs.Tests.{or_cases, or_left, at_eq}

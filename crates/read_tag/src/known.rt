@@ -5,6 +5,10 @@ ghost use Rattle.grammar.specs.Known.{boolean, null, quoted, other, not_read, of
 ghost use Rattle.read_tag.specs.Knowns.{Counted, Numbered, barred, unquoted, Short, leaf_at, Holding, Holds, HeldWhole, HeldDecimal};
 
 use crate::signs::{is_quote, is_space, skip_spaces};
+use field::HEAD;
+use field::tags::{
+    BOOLEAN, DECIMAL, MINUS, MINUS_DECIMAL, NULL, NUMBER, OTHER_EXPRESSION, SOURCE, STRING,
+};
 use field::writer::{put_byte, put_eight, put_field, put_head, put_number_field};
 use names::same_bytes;
 use page::number::{MAX_DIGITS, MAX_PLACES, MAX_WHOLE};
@@ -195,7 +199,7 @@ fn put_boolean(out: &mut [u8], at: usize, b: bool) -> Held
     requires { at + 4 < 2 ^ 63 }
     ensures { Holding (boolean b) out.old at out.new result }
 {
-    let a = put_head(out, at, 0x72, 1);
+    let a = put_head(out, at, BOOLEAN, 1);
     leaf(put_byte(out, a, u8::from(b)))
 }
 
@@ -203,14 +207,14 @@ fn put_null(out: &mut [u8], at: usize) -> Held
     requires { at + 3 < 2 ^ 63 }
     ensures { Holding null out.old at out.new result }
 {
-    leaf(put_head(out, at, 0x73, 0))
+    leaf(put_head(out, at, NULL, 0))
 }
 
 fn put_quoted(out: &mut [u8], at: usize, s: &[u8]) -> Held
     requires { Short s.now (at + 3) }
     ensures { Holding (quoted s.now) out.old at out.new result }
 {
-    leaf(put_field(out, at, 0x70, s))
+    leaf(put_field(out, at, STRING, s))
 }
 
 // A 79 of one 20.
@@ -218,8 +222,8 @@ fn put_other(out: &mut [u8], at: usize, s: &[u8]) -> Held
     requires { Short s.now (at + 6) }
     ensures { Holding (other s.now) out.old at out.new result }
 {
-    let a = put_head(out, at, 0x79, 3 + s.len());
-    let e = put_field(out, a, 0x20, s);
+    let a = put_head(out, at, OTHER_EXPRESSION, HEAD + s.len());
+    let e = put_field(out, a, SOURCE, s);
     Held { deep: 1, ..leaf(e) }
 }
 
@@ -227,7 +231,7 @@ fn put_whole(out: &mut [u8], at: usize, minus: bool, v: u64) -> Held
     requires { at + 11 < 2 ^ 63 }
     ensures { HeldWhole minus v out.old at out.new result }
 {
-    let tag = if minus { 0x75 } else { 0x71 };
+    let tag = if minus { MINUS } else { NUMBER };
     let e = put_number_field(out, at, tag, v);
     Held {
         fits: v <= MAX_WHOLE,
@@ -240,7 +244,7 @@ fn put_scaled(out: &mut [u8], at: usize, minus: bool, v: u64, places: usize) -> 
     requires { at + 12 < 2 ^ 63 }
     ensures { HeldDecimal minus v places out.old at out.new result }
 {
-    let tag = if minus { 0x7b } else { 0x7a };
+    let tag = if minus { MINUS_DECIMAL } else { DECIMAL };
     let a = put_head(out, at, tag, 9);
     let b = put_eight(out, a, v);
     let e = put_byte(out, b, (places % 256) as u8);

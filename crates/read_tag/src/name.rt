@@ -7,6 +7,8 @@ ghost use Rattle.read_tag.specs.Names.{PartAt, GivesPart, parts_left, Scanned, L
 
 use crate::known::trim_end;
 use crate::signs::{NameBytes, is_letter, skip_spaces};
+use field::HEAD;
+use field::tags::{IDENT, MEMBER, NAMESPACED_NAME};
 use field::writer::{put_field, put_head};
 use names::same_bytes;
 use page::name::{MAX_MEMBERS, MAX_NAME};
@@ -95,9 +97,9 @@ pub fn shape_of(parts: usize, short: bool, plain: bool, points: bool) -> Option<
 {
     match parts {
         _ if !short => None,
-        1 => Some(0x40),
-        ..=MAX_MEMBERS if points & plain => Some(0x41),
-        2 if !points => Some(0x42),
+        1 => Some(IDENT),
+        ..=MAX_MEMBERS if points & plain => Some(MEMBER),
+        2 if !points => Some(NAMESPACED_NAME),
         _ => None,
     }
 }
@@ -147,7 +149,7 @@ pub fn scan_name(text: &[u8], i: usize) -> Option<ScannedName>
         return None;
     }
     Some(ScannedName {
-        tag: 0x40,
+        tag: IDENT,
         end: part.next,
     })
 }
@@ -160,7 +162,7 @@ fn put_parts(text: &[u8], i: usize, out: &mut [u8], at: usize) -> usize
 {
     let mut o = at;
     for part in parts_at(text, i) {
-        o = put_field(out, o, 0x40, part.word);
+        o = put_field(out, o, IDENT, part.word);
     }
     o
 }
@@ -172,11 +174,11 @@ pub fn put_name(text: &[u8], i: usize, tag: u8, end: usize, out: &mut [u8], at: 
     requires { NameAt text.now i × (i ≤ end) × (end ≤ length text.now) × (at + 8 * length text.now < 2 ^ 63) }
     ensures { NamePut text.now i tag end out.old at out.new result }
 {
-    if tag == 0x40 {
-        put_field(out, at, 0x40, trim_end(&text[i..end]))
+    if tag == IDENT {
+        put_field(out, at, IDENT, trim_end(&text[i..end]))
     } else {
-        let o = put_parts(text, i, out, at + 3);
-        put_head(out, at, tag, o - (at + 3));
+        let o = put_parts(text, i, out, at + HEAD);
+        put_head(out, at, tag, o - (at + HEAD));
         o
     }
 }

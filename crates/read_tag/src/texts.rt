@@ -6,6 +6,8 @@ ghost use Rattle.read_tag.specs.Texts.{plain, Entered, Decodes, TextRead, String
 
 use crate::entity::entity_code;
 use crate::signs::{PlainString, PlainText};
+use field::HEAD;
+use field::tags::{ATTRIBUTE_STRING, TEXT};
 use field::writer::{put_byte, put_bytes, put_head};
 use text::runs::run_end;
 
@@ -89,8 +91,8 @@ pub fn read_text(text: &[u8], i: usize, out: &mut [u8], at: usize) -> Option<Run
     requires { (i < length text.now) × (text_byte (get_or text.now i 0) ≡ true) × (at + 3 + length text.now < 2 ^ 63) }
     ensures { TextRead text.now i out.old at out.new result }
 {
-    let run = decode(text, i, Around::Tags, out, at + 3)?;
-    put_head(out, at, 0x60, run.at - (at + 3));
+    let run = decode(text, i, Around::Tags, out, at + HEAD)?;
+    put_head(out, at, TEXT, run.at - (at + HEAD));
     Some(run)
 }
 
@@ -99,9 +101,9 @@ pub fn read_string(text: &[u8], i: usize, q: u8, out: &mut [u8], at: usize) -> O
     requires { (i ≤ length text.now) × (quote q ≡ true) × (at + 3 + length text.now < 2 ^ 63) }
     ensures { StringRead q text.now i out.old at out.new result }
 {
-    let run = decode(text, i, Around::Quotes(q), out, at + 3)?;
+    let run = decode(text, i, Around::Quotes(q), out, at + HEAD)?;
     text.get(run.end)?;
-    put_head(out, at, 0x51, run.at - (at + 3));
+    put_head(out, at, ATTRIBUTE_STRING, run.at - (at + HEAD));
     Some(Run {
         end: run.end + 1,
         ..run

@@ -22,9 +22,10 @@ use decisions::children::{Children, becomes_template, children_of};
 use decisions::element::{inner_children, is_serializable, serialized};
 use decisions::options::Options;
 use decisions::repeats::Names;
-use field::MAX_BODY;
 use field::reader::{Field, Fields, behind};
+use field::tags::{ELEMENT, FRAGMENT, STATIC_STRING, TEMPLATE};
 use field::writer::{put_four, put_head, put_two};
+use field::{HEAD, KINDS_AT, MAX_BODY, NUMBER_WIDTH};
 use strings::due::{Due, with_body};
 use strings::{Open, children_strings, merged_children_strings, tag_strings};
 
@@ -37,13 +38,18 @@ pub struct Records {
     pub due: Due,
 }
 
+// In a template that is written: where the count of its gaps stands, and behind it where its strings begin, before their kinds move them.
+const COUNT_AT: usize = HEAD + NUMBER_WIDTH;
+
+const STRINGS_AT: usize = HEAD + KINDS_AT;
+
 // Behind the room for its head, its number and the count of its gaps.
 fn opened(st: Records) -> Open
     requires { st.place + 9 < 2 ^ 63 }
     ensures { result ≡ begun st }
 {
     Open {
-        head: st.place + 9,
+        head: st.place + STRINGS_AT,
         len: 0,
         gaps: 0,
         due: st.due,
@@ -55,9 +61,9 @@ fn put_gaps(out: &mut [u8], place: usize, end: usize, gaps: usize)
     requires { (place + 9 ≤ end) × (end + gaps < 2 ^ 63) }
     ensures { out.new ≡ kinded_if place end gaps out.old }
 {
-    let size = end + gaps - (place + 3);
+    let size = end + gaps - (place + HEAD);
     if gaps != 0 && size <= MAX_BODY && end + gaps <= out.len() {
-        let at = place + 9;
+        let at = place + STRINGS_AT;
         move_up(out, at, end, gaps);
         put_kinds(out, at, at + gaps, gaps);
     }
@@ -77,13 +83,13 @@ fn closed(out: &mut [u8], n: usize, st: Records, open: Open) -> Records
         gaps,
         due,
     } = open;
-    put_head(out, head, 0x81, len);
-    let end = head + 3 + len;
+    put_head(out, head, STATIC_STRING, len);
+    let end = head + HEAD + len;
     put_gaps(out, place, end, gaps);
-    let size = end + gaps - (place + 3);
-    put_head(out, place, 0x84, size);
-    put_four(out, place + 3, n);
-    put_two(out, place + 7, gaps);
+    let size = end + gaps - (place + HEAD);
+    put_head(out, place, TEMPLATE, size);
+    put_four(out, place + HEAD, n);
+    put_two(out, place + COUNT_AT, gaps);
     Records {
         place: end + gaps,
         due: with_body(with_body(due, len), size),
@@ -203,8 +209,8 @@ fn record_parts(
     let mut cur = st;
     for field in Fields(s) {
         match field.tag {
-            0x30 => cur = record_element(options, field.body, scratch, out, cur),
-            0x31 => cur = record_parts(options, field.body, scratch, out, cur),
+            ELEMENT => cur = record_element(options, field.body, scratch, out, cur),
+            FRAGMENT => cur = record_parts(options, field.body, scratch, out, cur),
             _ => {}
         }
     }
@@ -225,10 +231,15 @@ pub fn record_found(
 {
     match children_of(s) {
         Children::Zero => st,
-        Children::One(Field { tag: 0x30, body }) => {
+        Children::One(Field { tag: ELEMENT, body }) => {
             record_serialize(options, body, scratch, out, st)
         }
-        Children::One(Field { tag: 0x31, body }) => record_found(options, body, scratch, out, st),
+        Children::One(
+            Field {
+                tag: FRAGMENT,
+                body,
+            },
+        ) => record_found(options, body, scratch, out, st),
         // An arm of its own: that no child records nothing, and that this one does, are two laws.
         Children::One(_) => st,
         Children::More => {
@@ -256,8 +267,8 @@ fn record_entries(
     let mut cur = st;
     for field in Fields(s) {
         match field.tag {
-            0x30 => cur = record_serialize(options, field.body, scratch, out, cur),
-            0x31 => cur = record_found(options, field.body, scratch, out, cur),
+            ELEMENT => cur = record_serialize(options, field.body, scratch, out, cur),
+            FRAGMENT => cur = record_found(options, field.body, scratch, out, cur),
             _ => {}
         }
     }

@@ -9,9 +9,10 @@ ghost use Rattle.outs.specs.Held.{read_out};
 ghost use Rattle.outs.specs.Renumber.{renumbered, Renumbers};
 ghost use Rattle.renumber.specs.Step.{numbered};
 
-use field::MAX_BODY;
 use field::reader::read_header;
+use field::tags::JSX_TEMPLATE;
 use field::writer::{put_bytes, put_field, put_four, put_head, put_two};
+use field::{HEAD, MAX_BODY, OLD_NUMBER_WIDTH};
 use loops::{DEPTH, Stack, waits_until};
 use outs::order::front_of;
 use page::number::number_in;
@@ -42,8 +43,8 @@ fn put_number(out: &mut [u8], at: usize, tag: u8, width: usize, number: usize) -
     ensures { Wrote out.old at (numbered width tag number) out.new result }
 {
     match (tag, width) {
-        (0x90, 2) => put_two(out, at, number),
-        (0x90, _) => put_four(out, at, number),
+        (JSX_TEMPLATE, OLD_NUMBER_WIDTH) => put_two(out, at, number),
+        (JSX_TEMPLATE, _) => put_four(out, at, number),
         _ => at,
     }
 }
@@ -83,20 +84,20 @@ pub fn renumber(s: &[u8], from: usize, to: usize, out: &mut [u8]) -> Renumbered
                 };
                 // From makes no usize of a u32.
                 let head = base + f.head as usize;
-                let len = n - head - 3;
+                let len = n - head - HEAD;
                 long |= MAX_BODY < len;
                 put_head(out, head, f.tag, len);
                 end = waits_until(stack.height, at, f.rest, s.len());
             }
             Some(h) => match front_of(h.tag, from) {
                 None => {
-                    n = put_field(out, n, h.tag, &b[3..h.end]);
+                    n = put_field(out, n, h.tag, &b[HEAD..h.end]);
                     at += h.end;
                 }
                 Some(front) => {
-                    let start = 3 + front.min(h.end - 3);
+                    let start = HEAD + front.min(h.end - HEAD);
                     // Of four bytes at the most; From makes no usize of a u64.
-                    let number = number_in(&b[3..start]) as usize;
+                    let number = number_in(&b[HEAD..start]) as usize;
                     if stack.height == 0 {
                         base = n;
                     }
@@ -107,7 +108,7 @@ pub fn renumber(s: &[u8], from: usize, to: usize, out: &mut [u8]) -> Renumbered
                         rest: ((end - at - h.end) % 65536) as u16,
                         tag: h.tag,
                     });
-                    n = put_number(out, n + 3, h.tag, to, number);
+                    n = put_number(out, n + HEAD, h.tag, to, number);
                     wide |= LARGEST < number;
                     end = at + h.end;
                     at += start;

@@ -18,10 +18,10 @@ use Rattle.page.specs.Tree.{page_in, works_sums, options_in}
 use Rattle.page.specs.Check.{check_options}
 use Rattle.page.specs.Encode.{encode, encode_options}
 use Rattle.page.specs.Limits.{WithinLimits, OptionsOk}
-use Rattle.page.specs.Refusal.{Verdict, Fine, refusal_number, unless, after}
-use Rattle.page.specs.declared.Refusal.{Refusal}
-use Rattle.page.specs.declared.Refusal.TheVariants as R
-use Rattle.page.proofs.Options.{Given, given_row, GivenOk}
+use Rattle.refusal.specs.Refusal.{Verdict, Fine, refusal_number, unless, after}
+use Rattle.refusal.specs.declared.Refusal.{Refusal}
+use Rattle.refusal.specs.declared.Refusal.TheVariants as R
+use Rattle.page.specs.Given.{Given, given_row, GivenOk}
 use Rattle.page.proofs.Exact.{page_read, options_read, within_exactly, options_exactly}
 use Rattle.spec.specs.Pass.{Done}
 use Rattle.spec.specs.Transform.{stands, page_out_row, transform}

@@ -12,9 +12,10 @@ use Rattle.field.specs.Row.{Row, read, bytes, long_body}
 use Rattle.page.specs.Page.{Options}
 use Rattle.page.specs.Tree.{options_in}
 use Rattle.page.specs.Check.{check_page, check_options}
-use Rattle.page.specs.declared.Refusal.TheVariants as R
-use Rattle.page.specs.Refusal.{Verdict, Fine, Refused}
-use Rattle.page.proofs.Verdicts.{after_fine, unless_fine, fine_after, fine_unless, and_both, both_and}
+use Rattle.refusal.specs.declared.Refusal.TheVariants as R
+use Rattle.refusal.specs.Refusal.{Verdict, Fine, Refused}
+use Rattle.refusal.proofs.Verdicts.{after_fine, unless_fine, fine_after, fine_unless}
+use Rattle.page.proofs.Booleans.{and_both, both_and}
 use Rattle.spec.specs.declared.Flags.{Flags}
 use Rattle.spec.specs.Pass.{Done}
 use Rattle.spec.specs.Transform.{transform, templates_row, page_out_row}

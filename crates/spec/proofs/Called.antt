@@ -9,7 +9,7 @@ use lib.Dec.{T, eqb, ltb}
 use lib.ListN.{length, length-append}
 use borrow.Author.Tests.{lt-ltb}
 use Rattle.std.proofs.Math.Facts.{or_no}
-use Rattle.page.proofs.Verdicts.{is_false}
+use Rattle.page.proofs.Booleans.{is_false}
 use Rattle.field.specs.Bytes.{Bytes}
 use Rattle.field.specs.Row.{Row, end, loose, field}
 use Rattle.page.specs.Page.{Options, Page}

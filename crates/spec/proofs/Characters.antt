@@ -11,7 +11,7 @@ use borrow.Author.Tests.{leb-true, ltb-true, ltb-false, lt-ltb, le-ltb, eqb-true
 use Rattle.std.proofs.lemmas.Bool.{and_parts}
 use Rattle.field.specs.Bytes.{Bytes, pick}
 use Rattle.field.specs.Bytes as A
-use Rattle.utf8.specs.Utf8.{Range, ◌to◌, within, tail, Form, ◌then◌, forms, begun, utf8_behind, utf8, ascii}
+use Rattle.utf8.specs.Utf8.{Range, ◌to◌, within, tail, Form, ◌then◌, forms, begun, utf8_behind, utf8, all_ascii}
 use Rattle.utf8.proofs.Laws.{utf8_append, utf8_cons, ascii_utf8}
 use Rattle.text.specs.Lines.{starts_with_lf, onto_first, lines}
 use Rattle.text.specs.Runs.{all}
@@ -138,11 +138,11 @@ unfolding escape_byte
 escape_ascii c l = on (eqb c 38) (eqb c 60) (eqb c 62) (eqb c 39) (eqb c 34)
   where
     on : (amp less greater apos quot : Bool) → Text (pick amp (A.ascii "&amp;") (pick less (A.ascii "&lt;") (pick greater (A.ascii "&gt;") (pick apos (A.ascii "&#39;") (pick quot (A.ascii "&quot;") (c ∷ []))))))
-    on true less greater apos quot = ascii_utf8 (A.ascii "&amp;") (unfold ascii in refl)
-    on false true greater apos quot = ascii_utf8 (A.ascii "&lt;") (unfold ascii in refl)
-    on false false true apos quot = ascii_utf8 (A.ascii "&gt;") (unfold ascii in refl)
-    on false false false true quot = ascii_utf8 (A.ascii "&#39;") (unfold ascii in refl)
-    on false false false false true = ascii_utf8 (A.ascii "&quot;") (unfold ascii in refl)
+    on true less greater apos quot = ascii_utf8 (A.ascii "&amp;") (unfold all_ascii in refl)
+    on false true greater apos quot = ascii_utf8 (A.ascii "&lt;") (unfold all_ascii in refl)
+    on false false true apos quot = ascii_utf8 (A.ascii "&gt;") (unfold all_ascii in refl)
+    on false false false true quot = ascii_utf8 (A.ascii "&#39;") (unfold all_ascii in refl)
+    on false false false false true = ascii_utf8 (A.ascii "&quot;") (unfold all_ascii in refl)
     on false false false false false = utf8_cons c [] l ∙ (unfold utf8 utf8_behind in refl)
 
 escape_high : (c : ℕ) → 0x80 ≤ c → escape_byte c ≡ c ∷ []

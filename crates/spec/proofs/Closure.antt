@@ -9,7 +9,7 @@ use mathlib.Core.List.{List, [], ◌∷◌, ◌++◌}
 use lib.Dec.{T, eqb, eqb→eq}
 use lib.ListN.{length}
 use Rattle.std.proofs.Math.Facts.{or_no}
-use Rattle.page.proofs.Verdicts.{not_either}
+use Rattle.page.proofs.Booleans.{not_either}
 use Rattle.field.specs.Bytes.{Bytes}
 use Rattle.field.specs.Number.{big_endian}
 use Rattle.field.specs.Row.{Row, end, field, Inside, only_bytes, fields_after, counted, counted_front, inside}

@@ -7,7 +7,7 @@ use mathlib.Core.Bool.{Bool, ◌||◌, not}
 use mathlib.Core.List.{List, [], ◌∷◌, ◌++◌}
 use lib.Dec.{T, eqb}
 use Rattle.std.proofs.Math.Facts.{or_no}
-use Rattle.page.proofs.Verdicts.{not_either}
+use Rattle.page.proofs.Booleans.{not_either}
 use Rattle.field.specs.Bytes.{Bytes}
 use Rattle.field.specs.Row.{Row, end, field}
 use Rattle.page.specs.Page.{Options, Page}

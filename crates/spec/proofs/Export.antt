@@ -10,43 +10,13 @@ use Rattle.field.specs.Bytes.{Bytes, AllBytes}
 use Rattle.field.specs.Put.{put}
 use Rattle.field.proofs.NumberLaws.{all_take}
 use Rattle.field.proofs.PutLaws.{put_fits}
-use Rattle.page.specs.Refusal.{refusal_number}
-use Rattle.page.specs.declared.Refusal.{Refusal}
-use Rattle.page.specs.declared.Refusal.TheVariants as R
-use Rattle.spec.specs.Answer.{Written, Outcome, refused, accepted, outcome, number, bytes_of_templates, bytes_of_page, templates, zeros, templates_left, page_left}
+use Rattle.refusal.proofs.Verdicts.{never_zero}
+use Rattle.spec.specs.Answer.{Written, Outcome, refused, accepted, outcome, number, bytes_of_templates, bytes_of_page, templates, zeros, templates_left, page_left, Answered}
 use Rattle.spec.specs.Demand.{Demand3Bytes}
 use Rattle.spec.specs.Kept.{KeptBytes}
 use Rattle.spec.proofs.Answers.{accepted_says, accepted_fits}
 use Rattle.spec.proofs.Lent.{demand3}
 use Rattle.spec.proofs.Kept.{kept_bytes}
-
--- the equations that the export answers by: its number and counts, and every byte of both outs
-pub record Answered (x : Outcome) (templates_before page_before : Bytes) (n tb pb ts : ℕ) (templates_after page_after : Bytes) : Type 0 where
-  pub number_is : n ≡ number x
-  pub templates_bytes_is : tb ≡ bytes_of_templates x
-  pub page_bytes_is : pb ≡ bytes_of_page x
-  pub templates_is : ts ≡ templates x
-  pub templates_out_is : templates_after ≡ templates_left x templates_before
-  pub page_out_is : page_after ≡ page_left x page_before
-
--- ---- a refusal has a number
-
-never_zero : (n : Refusal) → refusal_number n ≡ 0 → ⊥
-unfolding refusal_number
-never_zero R.ScratchTooSmall e = omega arith
-never_zero R.InputTooLong e = omega arith
-never_zero R.Truncated e = omega arith
-never_zero R.Misplaced e = omega arith
-never_zero R.BadName e = omega arith
-never_zero R.NotUtf8 e = omega arith
-never_zero R.NumberTooLarge e = omega arith
-never_zero R.TooDeep e = omega arith
-never_zero R.TagLeft e = omega arith
-never_zero R.RepeatedAttribute e = omega arith
-never_zero R.MixedCaseVoid e = omega arith
-never_zero R.OutputTooLong e = omega arith
-never_zero R.TemplatesTooSmall e = omega arith
-never_zero R.PageTooSmall e = omega arith
 
 -- number 0: something is written
 pub zero_written : (x : Outcome) → number x ≡ 0 → (w : Written) × (x ≡ accepted w)

@@ -7,7 +7,7 @@ use mathlib.Core.Bool.{true, false, ◌||◌, not}
 use mathlib.Core.List.{List, [], ◌∷◌, ◌++◌}
 use lib.Dec.{T, eqb}
 use Rattle.std.proofs.Math.Facts.{or_no}
-use Rattle.page.proofs.Verdicts.{not_either, is_false}
+use Rattle.page.proofs.Booleans.{not_either, is_false}
 use Rattle.field.specs.Bytes.{Bytes}
 use Rattle.field.specs.Row.{Row, inside}
 use Rattle.text.specs.Escape.{escape_html}

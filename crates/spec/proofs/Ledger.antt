@@ -9,7 +9,7 @@ use mathlib.Core.List.{List, [], ◌∷◌, ◌++◌}
 use lib.Dec.{T, eqb}
 use Rattle.std.proofs.lemmas.Bool.{or_from}
 use Rattle.std.proofs.Math.Facts.{or_no}
-use Rattle.page.proofs.Verdicts.{is_false}
+use Rattle.page.proofs.Booleans.{is_false}
 use Rattle.field.specs.Bytes.{Bytes}
 use Rattle.field.specs.Number.{big_endian}
 use Rattle.field.specs.Row.{Row, end, loose, field}

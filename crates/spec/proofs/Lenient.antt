@@ -79,7 +79,7 @@ contained_size nothing_contained = 0
 contained_size (contained e) = size (expr_row e end)
 
 -- attributes and children are read from one row, and have its length once
-pub record Fits (x : Row) : Type 0 where
+pub record SmallTree (x : Row) : Type 0 where
   pub element_fits : size (tag_body (element_in x)) ≤ 4 * size x + 3
   pub fragment_fits : size (tag_body (fragment_in x)) ≤ 4 * size x
   pub body_fits : size (attributes_row (attributes_in x) (children_row (children_in x))) ≤ 4 * size x
@@ -93,7 +93,7 @@ pub record Fits (x : Row) : Type 0 where
 
 -- ---- a field, by what it holds and what lies behind it
 
-module _ (t : ℕ) (f : Bytes) (i r : Row) (a : Fits i) (b : Fits r) where
+module _ (t : ℕ) (f : Bytes) (i r : Row) (a : SmallTree i) (b : SmallTree r) where
   all : size (field t f i r) ≡ 3 + length f + size i + size r
   all = length_bytes t f i r
 
@@ -168,7 +168,7 @@ module _ (t : ℕ) (f : Bytes) (i r : Row) (a : Fits i) (b : Fits r) where
       (chosen fit (eqb t 0x31) _ _ (omega (arith, all, fragment_front (pieces_row ps), b.pieces_fit)) (omega (arith, all, b.pieces_fit))))
 
 -- a 50 and a 53 are no children, and a child ends the attributes
-body_at : (t : ℕ) (f : Bytes) (i r : Row) → Fits i → Fits r → size (attributes_row (attributes_in (field t f i r)) (children_row (children_in (field t f i r)))) ≤ 4 * size (field t f i r)
+body_at : (t : ℕ) (f : Bytes) (i r : Row) → SmallTree i → SmallTree r → size (attributes_row (attributes_in (field t f i r)) (children_row (children_in (field t f i r)))) ≤ 4 * size (field t f i r)
 unfolding attributes_in children_in child_by choose attributes_row bytes
 body_at t f i r a b =
     let fit : ℕ → Type 0 = λ t. size (attributes_row (attributes_in (field t f i r)) (children_row (children_in (field t f i r)))) ≤ 4 * size (field t f i r) in
@@ -179,7 +179,7 @@ body_at t f i r a b =
 
 -- ---- every row
 
-pub fits : (x : Row) → Fits x
+pub fits : (x : Row) → SmallTree x
 unfolding element_in fragment_in attributes_in attr_name_in value_in value_behind children_in contained_in expr_in items_in pieces_in contained_size tag_body name_row attr_name_row attributes_row value_row children_row expr_row items_row pieces_row bytes
 fits end =
     record {

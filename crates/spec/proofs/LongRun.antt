@@ -8,7 +8,7 @@ use mathlib.Core.Bool.{Bool, false, ◌||◌}
 use mathlib.Core.List.{List, [], ◌∷◌, ◌++◌, append-nil}
 use lib.Dec.{T, ltb, ltb→lt, lt→ltb}
 use lib.ListN.{length, length-append}
-use Rattle.page.proofs.Verdicts.{or_left, or_right}
+use Rattle.page.proofs.Booleans.{or_left, or_right}
 use Rattle.field.specs.Bytes.{Bytes}
 use Rattle.field.specs.Row.{Row, end, loose, field, bytes, long_body}
 use Rattle.spec.specs.Pass.{Template, pure, both, Mid, none, node, raw, ◌+++◌, ◌⧺◌, Part, chars, gap, mark, over}

@@ -10,7 +10,7 @@ use lib.ListN.{length}
 use native.Mathlib.Omega.{arith}
 use Rattle.std.proofs.Math.Facts.{and_yes}
 use borrow.Author.Tests.{ne_eqb}
-use Rattle.page.proofs.Verdicts.{is_true, is_false}
+use Rattle.page.proofs.Booleans.{is_true, is_false}
 use Rattle.field.specs.Bytes.{Bytes, pick, same}
 use Rattle.names.specs.Names.{is_void_element}
 use Rattle.page.specs.Check.{name_start, name_part, name_parts, is_name}

@@ -5,7 +5,7 @@ use mathlib.Core.Path.{◌≡◌, refl}
 use mathlib.Core.Bool.{Bool, true, false, ◌&&◌, ◌||◌, not}
 use mathlib.Core.List.{[], ◌∷◌}
 use lib.Dec.{T, eqb}
-use Rattle.page.proofs.Verdicts.{or_left, or_right}
+use Rattle.page.proofs.Booleans.{or_left, or_right}
 use Rattle.field.specs.Bytes.{Bytes, pick}
 use Rattle.field.specs.Row.{inside}
 use Rattle.page.specs.Number.{whole, scaled, number_tag, minus_tag}

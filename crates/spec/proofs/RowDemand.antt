@@ -9,7 +9,7 @@ use lib.ListN.{length}
 use Rattle.field.specs.Bytes.{Bytes}
 use Rattle.field.specs.Number.{big_endian}
 use Rattle.field.specs.Row.{Row, end, loose, field, long_body}
-use Rattle.page.proofs.Verdicts.{both_and}
+use Rattle.page.proofs.Booleans.{both_and}
 use Rattle.page.specs.Page.{Options, Page}
 use Rattle.spec.specs.Pass.{Template, Done}
 use Rattle.spec.specs.Output.{kind_bytes, strings_row, template_row, record_row, record_front, layout_84}

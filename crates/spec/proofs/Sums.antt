@@ -13,7 +13,7 @@ use Rattle.page.specs.Tree.{page_in, works_sums, options_in}
 use Rattle.page.specs.Check.{check_page}
 use Rattle.page.specs.Encode.{encode}
 use Rattle.page.specs.Limits.{WithinLimits}
-use Rattle.page.specs.Refusal.{Verdict, Fine}
+use Rattle.refusal.specs.Refusal.{Verdict, Fine}
 use Rattle.page.proofs.Exact.{page_read, read_exactly}
 use Rattle.worked.specs.Worked.{worked}
 use Rattle.worked.specs.Row.{worked_bytes}

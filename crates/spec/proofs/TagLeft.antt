@@ -5,7 +5,7 @@ use native.Mathlib.Omega.{arith}
 use mathlib.Core.Path.{◌≡◌, refl, sym, subst}
 use mathlib.Core.Bool.{Bool, true, false, ◌||◌, not}
 use lib.Dec.{T, eqb}
-use Rattle.page.proofs.Verdicts.{not_either, or_left, or_right}
+use Rattle.page.proofs.Booleans.{or_left, not_either, or_right}
 use Rattle.field.specs.Bytes.{Bytes}
 use Rattle.field.specs.Row.{Row, end, loose, field}
 use Rattle.page.specs.Page.{Options, Page}

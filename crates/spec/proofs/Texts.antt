@@ -10,7 +10,7 @@ use borrow.Author.Tests.{leb-true, lt-ltb, eqb-true}
 use Rattle.std.proofs.Math.Facts.{and_yes}
 use Rattle.field.specs.Bytes.{Bytes, pick, same, null?}
 use Rattle.field.specs.Bytes as B
-use Rattle.utf8.specs.Utf8.{utf8, utf8_behind, ascii}
+use Rattle.utf8.specs.Utf8.{utf8, utf8_behind, all_ascii}
 use Rattle.utf8.proofs.Laws.{utf8_append, utf8_cons, ascii_utf8}
 use Rattle.text.specs.Lines.{lines}
 use Rattle.text.specs.Trim.{trim_start}
@@ -116,8 +116,8 @@ unfoldable Low : Bytes → Type 0
 Low [] = Unit {0}
 Low (c ∷ cs) = (c < 0x80) × Low cs
 
-low_ascii : (b : Bytes) → Low b → ascii b ≡ true
-unfolding Low ascii
+low_ascii : (b : Bytes) → Low b → all_ascii b ≡ true
+unfolding Low all_ascii
 low_ascii [] h = refl
 low_ascii (c ∷ b) h = rw (lt-ltb c 0x80 h.0) (low_ascii b h.1)
 
@@ -170,25 +170,25 @@ parted_low (c ∷ n) h = on (leb 65 c) (leb c 90) refl (parted_low n h.1)
 -- what the names that are singled out become
 unfoldable renamed_low : List (Bytes × Bytes) → Bool
 renamed_low [] = true
-renamed_low (p ∷ ps) = ascii p.1 && renamed_low ps
+renamed_low (p ∷ ps) = all_ascii p.1 && renamed_low ps
 
 rename_text : (ps : List (Bytes × Bytes)) (n other : Bytes) → renamed_low ps ≡ true → Text other → Text (rename_in ps n other)
 unfolding rename_in renamed_low
 rename_text [] n other h g = g
 rename_text (p ∷ ps) n other h g =
-    let k = and_yes (ascii p.1) (renamed_low ps) (subst T (sym h) tt) in
+    let k = and_yes (all_ascii p.1) (renamed_low ps) (subst T (sym h) tt) in
     on (same n p.0) (rename_text ps n other (is k.1) g) (is k.0)
   where
     is : {b : Bool} → T b → b ≡ true
     is {b = true} t = refl
     is {b = false} t = absurd t
 
-    on : (b : Bool) → Text (rename_in ps n other) → ascii p.1 ≡ true → Text (pick b p.1 (rename_in ps n other))
+    on : (b : Bool) → Text (rename_in ps n other) → all_ascii p.1 ≡ true → Text (pick b p.1 (rename_in ps n other))
     on true k a = ascii_utf8 p.1 a
     on false k a = k
 
 normalized_text : (n : Bytes) → Low n → Text (normalize_dom_attr_name n)
-unfolding normalize_dom_attr_name renamed renamed_low ascii
+unfolding normalize_dom_attr_name renamed renamed_low all_ascii
 normalized_text n h = rename_text renamed n _ refl (on (B.among n hyphenated_names) (B.among n kept_names))
   where
     on : (a b : Bool) → Text (pick a (parted 45 n) (pick b n (small_letters n)))

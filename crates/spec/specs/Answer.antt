@@ -1,14 +1,14 @@
 -- The whole answer at every input: the number, the counts, and every byte of what is lent. Assumes nothing: these are definitions.
-use Rattle.std.specs.Prelude.{ℕ, Bool, true, false, ◌&&◌, ◌||◌, not, leb, length, replicate}
+use Rattle.std.specs.Prelude.{ℕ, ◌≡◌, Bool, true, false, ◌&&◌, ◌||◌, not, leb, length, replicate}
 use Rattle.field.specs.Bytes.{Bytes}
 use Rattle.field.specs.Row.{Row, read, bytes, long_body}
 use Rattle.field.specs.Put.{put}
 use Rattle.page.specs.Page.{Options, Page}
 use Rattle.page.specs.Tree.{page_in, works_sums, options_in}
 use Rattle.page.specs.Check.{check_page, check_options}
-use Rattle.page.specs.Refusal.{Verdict, Fine, Refused, refusal_number, unless, after}
-use Rattle.page.specs.declared.Refusal.{Refusal}
-use Rattle.page.specs.declared.Refusal.TheVariants as R
+use Rattle.refusal.specs.Refusal.{Verdict, Fine, Refused, refusal_number, unless, after}
+use Rattle.refusal.specs.declared.Refusal.{Refusal}
+use Rattle.refusal.specs.declared.Refusal.TheVariants as R
 use Rattle.worked.specs.Worked.{worked}
 use Rattle.spec.specs.declared.Flags.{Flags}
 use Rattle.spec.specs.Pass.{Done}
@@ -98,17 +98,13 @@ page_left (accepted w) b = put b 0 w.page_out
 -- zero after every call but 1, which leaves it
 unfoldable pub scratch_left : Outcome → Bytes → Bytes
 scratch_left (refused R.ScratchTooSmall) b = b
-scratch_left (refused R.InputTooLong) b = zeros b
-scratch_left (refused R.Truncated) b = zeros b
-scratch_left (refused R.Misplaced) b = zeros b
-scratch_left (refused R.BadName) b = zeros b
-scratch_left (refused R.NotUtf8) b = zeros b
-scratch_left (refused R.NumberTooLarge) b = zeros b
-scratch_left (refused R.TooDeep) b = zeros b
-scratch_left (refused R.TagLeft) b = zeros b
-scratch_left (refused R.RepeatedAttribute) b = zeros b
-scratch_left (refused R.MixedCaseVoid) b = zeros b
-scratch_left (refused R.OutputTooLong) b = zeros b
-scratch_left (refused R.TemplatesTooSmall) b = zeros b
-scratch_left (refused R.PageTooSmall) b = zeros b
-scratch_left (accepted w) b = zeros b
+scratch_left _ b = zeros b
+
+-- the equations that the export answers by: its number and counts, and every byte of both outs
+pub record Answered (x : Outcome) (templates_before page_before : Bytes) (n tb pb ts : ℕ) (templates_after page_after : Bytes) : Type 0 where
+  pub number_is : n ≡ number x
+  pub templates_bytes_is : tb ≡ bytes_of_templates x
+  pub page_bytes_is : pb ≡ bytes_of_page x
+  pub templates_is : ts ≡ templates x
+  pub templates_out_is : templates_after ≡ templates_left x templates_before
+  pub page_out_is : page_after ≡ page_left x page_before

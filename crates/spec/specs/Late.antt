@@ -2,7 +2,7 @@
 use Rattle.std.specs.Prelude.{ℕ, ◌≤◌, ◌<◌, Bool, ◌||◌, not, T, length}
 use Rattle.field.specs.Row.{Row, bytes, long_body}
 use Rattle.page.specs.Page.{Options}
-use Rattle.page.specs.declared.Refusal.TheVariants as R
+use Rattle.refusal.specs.declared.Refusal.TheVariants as R
 use Rattle.spec.specs.declared.Flags.{Flags}
 use Rattle.spec.specs.Pass.{Done}
 use Rattle.spec.specs.Transform.{templates_row, page_out_row}

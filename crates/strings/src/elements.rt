@@ -24,6 +24,7 @@ use decisions::expr::{Shape, put_number_at, shape_at};
 use decisions::options::Options;
 use decisions::repeats::{Names, repeats};
 use field::reader::{Fields, behind, body};
+use field::tags::{CONTAINER, ELEMENT, FRAGMENT, TEXT};
 use field::writer::{put_byte, put_bytes};
 use names::{Void, void_kind};
 use text::escape::{put_escaped, put_short_escaped};
@@ -180,13 +181,13 @@ pub fn children_strings(
     let mut fields = Fields(s);
     while let Some(field) = fields.next() {
         match field.tag {
-            0x60 => {
+            TEXT => {
                 let last = is_last(parent, fields.0);
                 cur = put_text(out, cur, field.body, last);
             }
-            0x52 => cur = container_child(field.body, out, cur),
-            0x30 => cur = element_strings(options, field.body, out, cur),
-            0x31 => cur = children_strings(options, field.body, false, out, cur),
+            CONTAINER => cur = container_child(field.body, out, cur),
+            ELEMENT => cur = element_strings(options, field.body, out, cur),
+            FRAGMENT => cur = children_strings(options, field.body, false, out, cur),
             _ => {}
         }
     }

@@ -13,6 +13,7 @@ use crate::writer::{Open, cut, put_text};
 use decisions::options::Options;
 use field::MAX_BODY;
 use field::reader::Fields;
+use field::tags::{CONTAINER, ELEMENT, FRAGMENT, TEXT};
 use text::jsx_text::jsx_text_to_str;
 
 // A run of the first merge, merged a second time; one that is too long is not.
@@ -49,8 +50,8 @@ pub fn merged_children_strings(
     for field in Fields(s) {
         // Three arms write the run first: one arm for all three would match the tag again.
         match field.tag {
-            0x60 => n = jsx_text_to_str(scratch, n, field.body, false, false),
-            0x52 => {
+            TEXT => n = jsx_text_to_str(scratch, n, field.body, false, false),
+            CONTAINER => {
                 if joins(field.body) {
                     n = put_joined(scratch, n, field.body);
                 } else {
@@ -59,12 +60,12 @@ pub fn merged_children_strings(
                     cur = cut(out, a);
                 }
             }
-            0x30 => {
+            ELEMENT => {
                 let a = put_run(out, cur, scratch, n);
                 n = 0;
                 cur = element_strings(options, field.body, out, a);
             }
-            0x31 => {
+            FRAGMENT => {
                 let a = put_run(out, cur, scratch, n);
                 n = 0;
                 cur = children_strings(options, field.body, false, out, a);

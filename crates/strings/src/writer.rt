@@ -5,6 +5,8 @@ ghost use Rattle.text.specs.Text.{jsx_text_to_str};
 ghost use Rattle.strings.specs.Carve.{at, end, carve, close, put_on, ended_at, Low};
 
 use crate::due::{Due, with_body};
+use field::HEAD;
+use field::tags::STATIC_STRING;
 use field::writer::{put_bytes, put_head};
 use text::jsx_text::jsx_text_to_str;
 
@@ -24,7 +26,7 @@ impl Open {
         requires { end self < 2 ^ 64 }
         ensures { result ≡ end self }
     {
-        self.head + 3 + self.len
+        self.head + HEAD + self.len
     }
 
     // When its last byte stands before that place.
@@ -33,7 +35,7 @@ impl Open {
         ensures { result ≡ ended_at self end }
     {
         Open {
-            len: end - (self.head + 3),
+            len: end - (self.head + HEAD),
             ..self
         }
     }
@@ -54,7 +56,7 @@ pub fn cut(out: &mut [u8], st: Open) -> Open
     requires { Low (close (at out.old st)) }
     ensures { at out.new result ≡ close (at out.old st) }
 {
-    put_head(out, st.head, 0x81, st.len);
+    put_head(out, st.head, STATIC_STRING, st.len);
     Open {
         head: st.end(),
         len: 0,

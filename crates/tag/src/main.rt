@@ -4,7 +4,7 @@
 
 mod tag_card;
 
-use field::MAX_BODY;
+use field::{HEAD, MAX_BODY};
 use input::read_full;
 use input::room::room;
 use page::MAX_PAGE;
@@ -16,10 +16,10 @@ use tag_card::print_tag;
 const TEXT: usize = MAX_PAGE + 2;
 
 // The longest field: three bytes and a body of 65,535.
-const TAG: usize = 3 + MAX_BODY;
+const TAG: usize = HEAD + MAX_BODY;
 
 // The page of such a field: two heads more.
-const PAGE: usize = TAG + 6;
+const PAGE: usize = TAG + 2 * HEAD;
 
 fn main(rt: HostRuntime) -> io::Result<()> {
     let mut text = room::<TEXT>();

@@ -5,6 +5,8 @@ ghost use Rattle.field.specs.Row.{field_bytes};
 ghost use Rattle.tag_tree.specs.TagAnswer.{tag_outcome};
 ghost use Rattle.tag.specs.TagCard.{without_end, tag_text};
 
+use field::HEAD;
+use field::tags::{PAGE, STATEMENT};
 use field::writer::{put_bytes, put_head};
 use print_card::{print_card, print_refusal};
 use tag_pass::answer::read_tag;
@@ -23,8 +25,8 @@ fn put_page(out: &mut [u8], tag: &[u8]) -> usize
     ensures { Wrote out.old 0 (field_bytes 0x01 (field_bytes 0x12 tag.now)) out.new result }
 {
     let n = tag.len();
-    let a = put_head(out, 0, 0x01, 3 + n);
-    let b = put_head(out, a, 0x12, n);
+    let a = put_head(out, 0, PAGE, HEAD + n);
+    let b = put_head(out, a, STATEMENT, n);
     put_bytes(out, b, tag)
 }
 

@@ -14,9 +14,9 @@ use Rattle.field.specs.Put.{put}
 use Rattle.field.proofs.PutLaws.{length_field_bytes}
 use Rattle.utf8.specs.Utf8.{utf8}
 use Rattle.page.specs.Page as P
-use Rattle.page.specs.Refusal.{refusal_number}
-use Rattle.page.specs.declared.Refusal.{Refusal}
-use Rattle.page.specs.declared.Refusal.TheVariants as F
+use Rattle.refusal.specs.Refusal.{refusal_number}
+use Rattle.refusal.specs.declared.Refusal.{Refusal}
+use Rattle.refusal.specs.declared.Refusal.TheVariants as F
 use Rattle.page.specs.Encode.{name_row, tag_row, attributes_row, children_row}
 use Rattle.grammar.specs.Signs.{choose}
 use Rattle.grammar.specs.Syntax.{Tag, matched}

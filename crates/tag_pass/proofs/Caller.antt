@@ -22,7 +22,7 @@ use Rattle.page.specs.Tree.{page_in}
 use Rattle.page.specs.Check.{check_page}
 use Rattle.page.specs.Encode.{encode, tag_row, pieces_row, module_items_row, page_row}
 use Rattle.page.specs.Limits.{TagOk, ModuleItemsOk, WithinLimits}
-use Rattle.page.specs.Refusal.{Fine}
+use Rattle.refusal.specs.Refusal.{Fine}
 use Rattle.page.proofs.Exact.{page_read}
 use Rattle.grammar.specs.Signs.{choose}
 use Rattle.grammar.specs.Syntax.{Tag, matched}

@@ -4,8 +4,8 @@ use Rattle.std.specs.Prelude.{ℕ, ◌≡◌, Bool, true, false, Result, Ok, Err
 use Rattle.field.specs.Bytes.{Bytes}
 use Rattle.field.specs.Put.{put}
 use Rattle.page.specs.Page as P
-use Rattle.page.specs.Refusal.{refusal_number}
-use Rattle.page.specs.declared.Refusal.TheVariants as R
+use Rattle.refusal.specs.Refusal.{refusal_number}
+use Rattle.refusal.specs.declared.Refusal.TheVariants as R
 use Rattle.tag_tree.specs.TagAnswer.{TagRefusal, TagOutcome, tag_refused, tag_accepted, tag_refusal_number, tag_encode, tag_outcome, tag_number, bytes_of_tag, tag_left}
 use Rattle.tag_pass.specs.declared.answer.TagAnswer.{TagAnswer}
 use Rattle.tag_pass.specs.declared.answer.Unread.{Unread}

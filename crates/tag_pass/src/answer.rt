@@ -5,8 +5,9 @@ ghost use Rattle.tag_pass.specs.Answers.{TagAnswers, unread_number, checked, Fie
 
 use crate::pass::read;
 use crate::state::Reading;
-use field::MAX_BODY;
-use page::{MAX_PAGE, Refusal, refuse_unless};
+use field::{HEAD, MAX_BODY};
+use page::MAX_PAGE;
+use refusal::{Refusal, refuse_unless};
 use utf8::is_utf8;
 
 // It goes to C by value: a number, 0 for none refused, and no Result.
@@ -48,10 +49,10 @@ impl From<Refusal> for Unread {
 }
 
 // A head of three bytes and the longest body.
-const MAX_FIELD: usize = 3 + MAX_BODY;
+const MAX_FIELD: usize = HEAD + MAX_BODY;
 
 // The bytes that were written. The fields of a tag are in its own field, so that a body is too long exactly where the tag's is.
-#[tactic(auto, using(page::proofs::Verdicts::refused_by, page::proofs::Verdicts::fine_by, crate::proofs::AnswerLaws::handed), unfolding(crate::specs::Answers::checked, crate::specs::Answers::refused_if))]
+#[tactic(auto, using(refusal::proofs::Verdicts::refused_by, refusal::proofs::Verdicts::fine_by, crate::proofs::AnswerLaws::handed), unfolding(crate::specs::Answers::checked, crate::specs::Answers::refused_if))]
 fn check(st: Reading, room: usize) -> Result<usize, Unread>
     ensures { result ≡ checked st room }
 {

@@ -8,6 +8,7 @@ ghost use Rattle.tag_pass.specs.Turns.{AttributeTurn, NoValueTurn, ValueTurn, St
 use crate::braces::{braces, end_attribute, points};
 use crate::sign::sign_behind;
 use crate::state::{Braced, Holder, Mode, Reading};
+use field::tags::{ATTRIBUTE, IDENT, MEMBER};
 use field::writer::put_head;
 use read_tag::name::{put_name, scan_name};
 use read_tag::signs::is_quote;
@@ -18,7 +19,7 @@ pub fn name_depth(tag: u8, d: usize) -> usize
     requires { d < 65600 }
     ensures { result ≡ name_depth tag d }
 {
-    if tag == 0x40 { d } else { d + 1 }
+    if tag == IDENT { d } else { d + 1 }
 }
 
 // A string from i on, behind its quote q.
@@ -63,10 +64,10 @@ pub fn attribute(text: &[u8], out: &mut [u8], st: Reading, i: usize) -> Option<R
     ensures { AttributeTurn text.now st i out.old result out.new }
 {
     let name = scan_name(text, i)?;
-    if name.tag == 0x41 {
+    if name.tag == MEMBER {
         return None;
     }
-    let a = put_head(out, st.at, 0x50, 0);
+    let a = put_head(out, st.at, ATTRIBUTE, 0);
     let b = put_name(text, i, name.tag, name.end, out, a);
     let d = name_depth(name.tag, st.depth + 2);
     let w = st.wrote(b, d);

@@ -8,6 +8,7 @@ ghost use Rattle.tag_pass.specs.Turns.{AttributeEnded, FilledTurn, KnownTurn, Br
 
 use crate::sign::sign_behind;
 use crate::state::{Braced, Holder, Mode, Reading, patch};
+use field::tags::{ATTRIBUTE, CONTAINER};
 use field::writer::put_head;
 use read_tag::known::put_known;
 use read_tag::source::source_end;
@@ -18,7 +19,7 @@ pub fn end_attribute(out: &mut [u8], st: Reading, i: usize) -> Reading
     requires { st.at < 2 ^ 62 }
     ensures { AttributeEnded out.old st i result out.new }
 {
-    patch(out, st.fifty, 0x50, st.at);
+    patch(out, st.fifty, ATTRIBUTE, st.at);
     st.in_mode(Mode::InTag, i)
 }
 
@@ -113,7 +114,7 @@ pub fn child_braces(text: &[u8], out: &mut [u8], st: Reading, i: usize) -> Optio
     let sign = sign_behind(text, i)?;
     match sign.byte {
         b'}' => {
-            let a = put_head(out, st.at, 0x52, 0);
+            let a = put_head(out, st.at, CONTAINER, 0);
             let w = st.wrote(a, st.depth + 1);
             Some(w.in_mode(Mode::InChildren, sign.place + 1))
         }

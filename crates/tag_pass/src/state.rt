@@ -3,6 +3,7 @@ ghost use Rattle.std.specs.Prelude.{◌≡◌, true, ◌<◌, ◌^◌, leb};
 ghost use Rattle.tag_pass.specs.States.{goes_on};
 ghost use Rattle.tag_pass.specs.Turns.{at_mode, at_more, kind_code, kind_depth, inner_depth, Patched};
 
+use field::tags::{CONTAINER, SPREAD, SPREAD_CHILD};
 use field::writer::put_head;
 use page::MAX_DEPTH;
 
@@ -76,9 +77,9 @@ impl Braced {
         ensures { result ≡ kind_code self }
     {
         match self {
-            Braced::SpreadChild => 0x61,
-            Braced::Spread => 0x53,
-            Braced::Child | Braced::Value => 0x52,
+            Braced::SpreadChild => SPREAD_CHILD,
+            Braced::Spread => SPREAD,
+            Braced::Child | Braced::Value => CONTAINER,
         }
     }
 

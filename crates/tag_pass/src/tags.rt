@@ -7,6 +7,7 @@ ghost use Rattle.tag_pass.specs.Turns.{name_code, NamedTurn, FragmentTurn, TagTu
 use crate::attributes::{attribute, name_depth, spread};
 use crate::sign::sign_behind;
 use crate::state::{Mode, Reading, patch};
+use field::tags::{ELEMENT, FRAGMENT};
 use field::writer::put_head;
 use read_tag::name::{put_name, same_names, scan_name};
 use read_tag::signs::is_letter;
@@ -18,7 +19,7 @@ pub fn open_named(text: &[u8], out: &mut [u8], st: Reading, i: usize) -> Option<
     ensures { NamedTurn text.now st i out.old result out.new × Settled result }
 {
     let name = scan_name(text, i)?;
-    let a = put_head(out, st.at, 0x30, 0);
+    let a = put_head(out, st.at, ELEMENT, 0);
     let b = put_name(text, i, name.tag, name.end, out, a);
     let d = name_depth(name.tag, st.depth + 1);
     let w = st.wrote(b, d);
@@ -35,7 +36,7 @@ pub fn open_fragment(out: &mut [u8], st: Reading, i: usize) -> Reading
     requires { st.at < 2 ^ 62 }
     ensures { FragmentTurn st i out.old (Some result) out.new × Settled (Some result) }
 {
-    let a = put_head(out, st.at, 0x31, 0);
+    let a = put_head(out, st.at, FRAGMENT, 0);
     let w = st.wrote(a, st.depth);
     Reading {
         head: st.at,
@@ -49,8 +50,8 @@ fn tag_code(name: Option<usize>) -> u8
     ensures { result ≡ name_code name }
 {
     match name {
-        Some(_) => 0x30,
-        None => 0x31,
+        Some(_) => ELEMENT,
+        None => FRAGMENT,
     }
 }
 

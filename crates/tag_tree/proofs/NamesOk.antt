@@ -13,7 +13,7 @@ use Rattle.page.specs.Page as P
 use Rattle.page.specs.Check.{name_parts, is_name, no_hyphen}
 use Rattle.page.specs.Encode.{texts_row, name_row, attr_name_row}
 use Rattle.page.specs.Limits.{Deep, NameOk, MembersOk, ElementNameOk, AttrNameOk}
-use Rattle.page.proofs.Verdicts.{and_both, both_and}
+use Rattle.page.proofs.Booleans.{and_both, both_and}
 use Rattle.grammar.specs.Signs.{each, letter, digit, name_byte}
 use Rattle.grammar.specs.Syntax as S
 use Rattle.grammar.specs.Syntax.{part, Name, short, member_parts, attribute_name_fits, member_fits, tag_name_fits}

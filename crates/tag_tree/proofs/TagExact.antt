@@ -15,7 +15,7 @@ use Rattle.page.specs.Tree.{page_in}
 use Rattle.page.specs.Check.{check_page}
 use Rattle.page.specs.Encode.{encode}
 use Rattle.page.specs.Limits.{TagOk, ModuleItemsOk, WithinLimits}
-use Rattle.page.specs.Refusal.{Fine}
+use Rattle.refusal.specs.Refusal.{Fine}
 use Rattle.page.proofs.Exact.{page_read}
 use Rattle.grammar.specs.Syntax.{Tag}
 use Rattle.grammar.specs.Grammar.{Reads}

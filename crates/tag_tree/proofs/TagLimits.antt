@@ -11,7 +11,7 @@ use Rattle.field.specs.Row.{Row, end, field}
 use Rattle.page.specs.Page as P
 use Rattle.page.specs.Encode.{name_row, attr_name_row, tag_row, attributes_row, children_row, expr_row}
 use Rattle.page.specs.Limits.{Deep, Utf8Ok, TagOk, AttributesOk, ChildrenOk, ExprOk, ElementNameOk}
-use Rattle.page.proofs.Verdicts.{and_both, both_and}
+use Rattle.page.proofs.Booleans.{and_both, both_and}
 use Rattle.grammar.specs.Known as K
 use Rattle.grammar.specs.Known.{Known}
 use Rattle.grammar.specs.Syntax as S

@@ -11,7 +11,7 @@ use Rattle.field.specs.Bytes.{same, among}
 use Rattle.field.specs.Number.{big_endian, number_from}
 use Rattle.field.specs.Row.{field_bytes, bytes, long_body, inside, next_of, opened, built, read_from, read}
 use Rattle.field.specs.Put.{put}
-use Rattle.utf8.specs.Utf8.{forms, begun, utf8_behind, utf8, ascii}
+use Rattle.utf8.specs.Utf8.{forms, begun, utf8_behind, utf8, all_ascii}
 use Rattle.page.specs.Number.{number_tag, minus_tag, at_most_15, render, number_bytes, number_in, number_length, in_range}
 use Rattle.page.specs.Encode.{texts_row, name_row, attr_name_row, module_items_row, page_row, encode, list_row, options_row, encode_options, tag_row}
 use Rattle.grammar.specs.Signs.{choose, each, letter, digit, name_byte, separator, space, name_goes_on, equals_sign, text_byte, string_byte, entity_byte, quote, quoted_byte, source_byte, source_start}
@@ -27,11 +27,11 @@ record Reply : Type 0 where
   out : Bytes
 
 unfoldable reply : TagOutcome → Bytes → Reply
-unfolding same among big_endian number_from field_bytes bytes long_body inside next_of opened built read_from read put forms begun utf8_behind utf8 ascii number_tag minus_tag at_most_15 render number_bytes number_in number_length in_range texts_row name_row attr_name_row module_items_row page_row encode list_row options_row encode_options tag_row choose each letter digit name_byte separator space name_goes_on equals_sign text_byte string_byte entity_byte quote quoted_byte source_byte source_start trimmed_front kept trimmed_end value_from is_whole before_point after_point is_empty_text is_decimal number_of unsigned has_minus string_from string_of digit_or_point of_a_number not_read rest_of or_else known_trimmed known_of entity_of short no_hyphen member_parts attribute_name_fits member_fits tag_name_fits same_name matched join_attributes join_children every_tag closed filled filled_if emptied pointed close_of brace_ends resumed resumed_if fits named step_tag step_attribute_named step_close_named step_of_named step_behind step_source step_children step at_end outcome judged answer idents page_name page_attr_name page_known page_tag_by page_tag tag_refusal_number known_in_range numbers_in_range shallow tag_field tag_encode given within answered tag_outcome tag_number bytes_of_tag tag_left
+unfolding same among big_endian number_from field_bytes bytes long_body inside next_of opened built read_from read put forms begun utf8_behind utf8 all_ascii number_tag minus_tag at_most_15 render number_bytes number_in number_length in_range texts_row name_row attr_name_row module_items_row page_row encode list_row options_row encode_options tag_row choose each letter digit name_byte separator space name_goes_on equals_sign text_byte string_byte entity_byte quote quoted_byte source_byte source_start trimmed_front kept trimmed_end value_from is_whole before_point after_point is_empty_text is_decimal number_of unsigned has_minus string_from string_of digit_or_point of_a_number not_read rest_of or_else known_trimmed known_of entity_of short no_hyphen member_parts attribute_name_fits member_fits tag_name_fits same_name matched join_attributes join_children every_tag closed filled filled_if emptied pointed close_of brace_ends resumed resumed_if fits named step_tag step_attribute_named step_close_named step_of_named step_behind step_source step_children step at_end outcome judged answer idents page_name page_attr_name page_known page_tag_by page_tag tag_refusal_number known_in_range numbers_in_range shallow tag_field tag_encode given within answered tag_outcome tag_number bytes_of_tag tag_left
 reply o b = record { number = tag_number o; written = bytes_of_tag o; out = tag_left o b }
 
 unfoldable computed : Bytes → ℕ → TagOutcome
-unfolding same among big_endian number_from field_bytes bytes long_body inside next_of opened built read_from read put forms begun utf8_behind utf8 ascii number_tag minus_tag at_most_15 render number_bytes number_in number_length in_range texts_row name_row attr_name_row module_items_row page_row encode list_row options_row encode_options tag_row choose each letter digit name_byte separator space name_goes_on equals_sign text_byte string_byte entity_byte quote quoted_byte source_byte source_start trimmed_front kept trimmed_end value_from is_whole before_point after_point is_empty_text is_decimal number_of unsigned has_minus string_from string_of digit_or_point of_a_number not_read rest_of or_else known_trimmed known_of entity_of short no_hyphen member_parts attribute_name_fits member_fits tag_name_fits same_name matched join_attributes join_children every_tag closed filled filled_if emptied pointed close_of brace_ends resumed resumed_if fits named step_tag step_attribute_named step_close_named step_of_named step_behind step_source step_children step at_end outcome judged answer idents page_name page_attr_name page_known page_tag_by page_tag tag_refusal_number known_in_range numbers_in_range shallow tag_field tag_encode given within answered tag_outcome tag_number bytes_of_tag tag_left
+unfolding same among big_endian number_from field_bytes bytes long_body inside next_of opened built read_from read put forms begun utf8_behind utf8 all_ascii number_tag minus_tag at_most_15 render number_bytes number_in number_length in_range texts_row name_row attr_name_row module_items_row page_row encode list_row options_row encode_options tag_row choose each letter digit name_byte separator space name_goes_on equals_sign text_byte string_byte entity_byte quote quoted_byte source_byte source_start trimmed_front kept trimmed_end value_from is_whole before_point after_point is_empty_text is_decimal number_of unsigned has_minus string_from string_of digit_or_point of_a_number not_read rest_of or_else known_trimmed known_of entity_of short no_hyphen member_parts attribute_name_fits member_fits tag_name_fits same_name matched join_attributes join_children every_tag closed filled filled_if emptied pointed close_of brace_ends resumed resumed_if fits named step_tag step_attribute_named step_close_named step_of_named step_behind step_source step_children step at_end outcome judged answer idents page_name page_attr_name page_known page_tag_by page_tag tag_refusal_number known_in_range numbers_in_range shallow tag_field tag_encode given within answered tag_outcome tag_number bytes_of_tag tag_left
 computed s room = tag_outcome s room
 
 tag_of_demo : reply (tag_outcome (B.ascii "<p class=\"t\">Hi {n}</p>") 40) (replicate 40 109) ≡ record { number = 0; written = 38; out = (48 ∷ 0 ∷ 35 ∷ 64 ∷ 0 ∷ 1 ∷ 112 ∷ 80 ∷ 0 ∷ 12 ∷ 64 ∷ 0 ∷ 5 ∷ 99 ∷ 108 ∷ 97 ∷ 115 ∷ 115 ∷ 81 ∷ 0 ∷ 1 ∷ 116 ∷ 96 ∷ 0 ∷ 3 ∷ 72 ∷ 105 ∷ 32 ∷ 82 ∷ 0 ∷ 7 ∷ 121 ∷ 0 ∷ 4 ∷ 32 ∷ 0 ∷ 1 ∷ 110 ∷ 109 ∷ 109 ∷ []) }

@@ -12,9 +12,9 @@ use Rattle.field.specs.Row.{Row, read, bytes, long_body}
 use Rattle.field.specs.Put.{put}
 use Rattle.page.specs.Page.{Options}
 use Rattle.page.specs.Tree.{options_in, source_in}
-use Rattle.page.specs.Refusal.{Verdict, Fine, Refused, after, unless}
-use Rattle.page.specs.declared.Refusal.{Refusal}
-use Rattle.page.specs.declared.Refusal.TheVariants as R
+use Rattle.refusal.specs.Refusal.{Verdict, Fine, Refused, after, unless}
+use Rattle.refusal.specs.declared.Refusal.{Refusal}
+use Rattle.refusal.specs.declared.Refusal.TheVariants as R
 use Rattle.spec.specs.Pass.{Done}
 use Rattle.spec.specs.Transform.{transform, templates_row, page_out_row}
 use Rattle.spec.specs.Answer.{Written, Outcome, refused, accepted, check_outputs, decided, transformed, check_inputs, page_given, outcome, number, bytes_of_templates, bytes_of_page, templates, zeros, templates_left, page_left, scratch_left}

@@ -19,7 +19,7 @@ use Rattle.spec.specs.Transform as Row
 use Rattle.spec.specs.Transform.{with_templates, before_statement, pieces, module_items}
 use Rattle.walk.specs.See.{World, at, see}
 use Rattle.walk.proofs.SeeLaws.{see_none}
-use Rattle.transform.specs.Run.{module_mid, has_statement, items_before, items_from, started}
+use Rattle.transform.specs.Run.{module_mid, page_has_statement, items_before, items_from, started}
 use Rattle.transform.proofs.RunLaws.{not_due, statement_same}
 
 -- the bytes of a row are a and then b; and with the place of the templates, where there are any, it stands between them
@@ -76,8 +76,8 @@ module _ (o : Options) where
       let z : m + (first_part is m).taken ≡ n + (0 + (first_part is m).taken) = omega arith in
       cut_behind 0x13 end (visit_exprs (module_items o is) m).value (first_part is m).value _ (cut_whole is m ∙ ap (λ (k : ℕ). bytes (first_part is m).value ++ part_from is k) z)
 
-  cut_placed : (is : Page) (n : ℕ) → has_statement is ≡ true → bytes (before_statement (visit_exprs (module_items o is) n).value) ≡ bytes (first_part is n).value ++ (head 0x83 0 ++ second_part is n)
-  unfolding has_statement module_mid items_before items_from module_items before_statement visit_exprs both pure bytes field_bytes big_endian
+  cut_placed : (is : Page) (n : ℕ) → page_has_statement is ≡ true → bytes (before_statement (visit_exprs (module_items o is) n).value) ≡ bytes (first_part is n).value ++ (head 0x83 0 ++ second_part is n)
+  unfolding page_has_statement module_mid items_before items_from module_items before_statement visit_exprs both pure bytes field_bytes big_endian
   cut_placed [] n h = absurd (false≢true h)
   cut_placed (P.export_item ps ∷ is) n h = ap (λ (x : Bytes). head 0x83 0 ++ x) (all_from (P.export_item ps ∷ is) n (n + 0) (omega arith))
   cut_placed (P.declaration_item ps ∷ is) n h =
@@ -102,10 +102,10 @@ module _ (o : Options) where
     placed_row b [] e l = absurd (omega arith)
     placed_row b (t ∷ us) e l = ap (λ (c : Bool). pick c (before_statement row) (field 0x83 [] end row)) e
 
-    pub cut_between : has_statement is ≡ true → Cut ts row (bytes (first_part is n).value) (second_part is n)
+    pub cut_between : page_has_statement is ≡ true → Cut ts row (bytes (first_part is n).value) (second_part is n)
     cut_between h = record { whole = cut_whole is n; placed = λ l. ap bytes (placed_row true ts (statement_same o is n ∙ h) l) ∙ cut_placed is n h }
 
-    pub cut_before : has_statement is ≡ false → Cut ts row [] (bytes row)
+    pub cut_before : page_has_statement is ≡ false → Cut ts row [] (bytes row)
     unfolding bytes field_bytes big_endian
     cut_before h = record { whole = refl; placed = λ l. ap bytes (placed_row false ts (statement_same o is n ∙ h) l) }
 

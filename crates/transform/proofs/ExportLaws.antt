@@ -17,9 +17,9 @@ use Rattle.field.proofs.RowLaws.{read_nil}
 use Rattle.field.proofs.FrontLaws.{read_nest, leaf_at, nest_at}
 use Rattle.page.specs.Page as P
 use Rattle.page.specs.Tree.{choose, texts_in, element_in, attributes_in, children_in, pieces_in, module_item_by, module_items_in, listed_in, source_in, works_sums}
-use Rattle.page.specs.declared.Refusal.{Refusal}
-use Rattle.page.specs.declared.Refusal.TheVariants as R
-use Rattle.page.specs.contracts.Refusal.{the_type}
+use Rattle.refusal.specs.declared.Refusal.{Refusal}
+use Rattle.refusal.specs.declared.Refusal.TheVariants as R
+use Rattle.refusal.specs.contracts.Refusal.{the_type}
 use Rattle.spec.specs.Transform as T
 use Rattle.spec.specs.Answer.{refused, zeros, scratch_left}
 use Rattle.decisions.specs.At.{opts, element_name, behind_name, element_at, serializable}
@@ -33,19 +33,7 @@ use Rattle.transform.specs.Run.{has_html, piece_html, tag_html}
 pub cleared : (b : Bytes) (r : Refusal) (x : Bool) → x ≡ not (sameb the_type r R.ScratchTooSmall) → pick x (zeros b) b ≡ scratch_left (refused r) b
 unfolding scratch_left
 cleared b R.ScratchTooSmall x h = rw h
-cleared b R.InputTooLong x h = rw h
-cleared b R.Truncated x h = rw h
-cleared b R.Misplaced x h = rw h
-cleared b R.BadName x h = rw h
-cleared b R.NotUtf8 x h = rw h
-cleared b R.NumberTooLarge x h = rw h
-cleared b R.TooDeep x h = rw h
-cleared b R.TagLeft x h = rw h
-cleared b R.RepeatedAttribute x h = rw h
-cleared b R.MixedCaseVoid x h = rw h
-cleared b R.OutputTooLong x h = rw h
-cleared b R.TemplatesTooSmall x h = rw h
-cleared b R.PageTooSmall x h = rw h
+cleared b r x h = rw h
 
 -- ---- options
 

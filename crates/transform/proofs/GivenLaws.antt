@@ -14,9 +14,10 @@ use Rattle.field.specs.Put.{Wrote}
 use Rattle.page.specs.Page.{Options, Page}
 use Rattle.page.specs.Tree.{choose, page_in, works_sums, options_in}
 use Rattle.page.specs.Check.{check_page}
-use Rattle.page.specs.declared.Refusal.TheVariants as R
-use Rattle.page.specs.Refusal.{Fine}
-use Rattle.page.proofs.Verdicts.{refused, after_fine, header_fine}
+use Rattle.refusal.specs.declared.Refusal.TheVariants as R
+use Rattle.refusal.specs.Refusal.{Fine}
+use Rattle.refusal.proofs.Verdicts.{refused, after_fine}
+use Rattle.page.proofs.Headers.{header_fine}
 use Rattle.worked.specs.Row.{field_sum, number_or, worked_row, worked_bytes}
 use Rattle.worked.proofs.Exact.{worked_bound, read_worked, buffer_fits, buffer_part, buffer_bytes, buffer_worked}
 use Rattle.spec.specs.Transform.{transform}

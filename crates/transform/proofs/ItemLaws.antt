@@ -24,7 +24,7 @@ use Rattle.walk.specs.See.{World, at, see, to_page, begun, wrap, Low}
 use Rattle.walk.proofs.SeeLaws.{see_none, see_node, see_grows, lift}
 use Rattle.visits.specs.Visiting.{pieces_at}
 use Rattle.visits.proofs.FieldLaws.{turn_low, turn_on, page_low, field_begin, field_inner, field_close, field_done}
-use Rattle.transform.specs.Run.{item_mid, placed_before, module_mid, has_statement, items_before, items_from, items_mid, Splits, import_bytes}
+use Rattle.transform.specs.Run.{item_mid, placed_before, module_mid, page_has_statement, items_before, items_from, items_mid, Splits, import_bytes}
 use Rattle.transform.proofs.ExportLaws.{items_none, items_10, items_11, items_12, items_other}
 
 -- ---- one item: its pieces between `begin` and `close`
@@ -93,8 +93,8 @@ module _ (k p : Bytes) where
 -- ---- all items, and the place of the templates
 
 module _ (o : Options) where
-  placed_parts : (is : Page) → has_statement is ≡ true → module_mid o true is ≡ module_mid o false (items_before is) +++ (leaf 0x83 [] +++ module_mid o false (items_from is))
-  unfolding module_mid has_statement items_before items_from ◌+++◌
+  placed_parts : (is : Page) → page_has_statement is ≡ true → module_mid o true is ≡ module_mid o false (items_before is) +++ (leaf 0x83 [] +++ module_mid o false (items_from is))
+  unfolding module_mid page_has_statement items_before items_from ◌+++◌
   placed_parts [] h = absurd (false≢true h)
   placed_parts (P.export_item ps ∷ is) h = refl
   placed_parts (P.declaration_item ps ∷ is) h = ap (node 0x11 [] (pieces o ps)) (placed_parts is h)
@@ -102,7 +102,7 @@ module _ (o : Options) where
   placed_parts (P.empty_item ∷ is) h = ap (node 0x13 [] none) (placed_parts is h)
 
   -- whether one stands or not
-  placed_by : (is : Page) (b : Bool) → has_statement is ≡ b →
+  placed_by : (is : Page) (b : Bool) → page_has_statement is ≡ b →
       placed_before (not b) (module_mid o b is) ≡ module_mid o false (pick b (items_before is) []) +++ (leaf 0x83 [] +++ module_mid o false (pick b (items_from is) is))
   unfolding module_mid ◌+++◌
   placed_by is true h = placed_parts is h
@@ -116,7 +116,7 @@ module _ (k p s o q : Bytes) (st : Walk) where
   module _ {a b : Bytes} (c : Splits s a b) where
     between : items_mid (opts k p) (module_items_in (read s)) ≡ module_at k p a +++ (leaf 0x83 [] +++ module_at k p b)
     between =
-        placed_by (opts k p) (module_items_in (read s)) (has_statement (module_items_in (read s))) refl
+        placed_by (opts k p) (module_items_in (read s)) (page_has_statement (module_items_in (read s))) refl
         ∙ ap₂ (λ (x y : Page). module_mid (opts k p) false x +++ (leaf 0x83 [] +++ module_mid (opts k p) false y)) (sym c.before) (sym c.from)
 
     pub part_room : Low items_seen.st → Low (see (module_at k p a) (at o q st)).st

@@ -32,7 +32,7 @@ use Rattle.walk.specs.See.{World, at, see, Low}
 use Rattle.walk.proofs.SeeLaws.{see_grows, low_is}
 use Rattle.spec.specs.Pass.{◌+++◌}
 use Rattle.visits.proofs.FieldLaws.{turn_low, turn_on}
-use Rattle.transform.specs.Run.{module_mid, has_statement, Splits, items_mid, has_html, started, sum_of, import_bytes, Headed, written_page, fronted}
+use Rattle.transform.specs.Run.{module_mid, page_has_statement, Splits, items_mid, has_html, started, sum_of, import_bytes, Headed, written_page, fronted}
 use Rattle.transform.proofs.RunLaws.{has_html_takes, walked, world, items_walked, module_walked}
 use Rattle.transform.proofs.CutLaws.{front_parts, first_part, front_page}
 use Rattle.transform.proofs.WrittenLaws.{written_import, written_moved}
@@ -138,7 +138,7 @@ module _ (k p s : Bytes) (short : length s < 2 ^ 32) where
     -- or in two parts
     module _ {a b : Bytes} (c : Splits s a b) where
       cut_is : module_at k p s ≡ module_at k p a +++ module_at k p b
-      cut_is = front_parts (opts k p) items_of (has_statement items_of) ∙ ap₂ (λ (x y : Page). module_mid (opts k p) false x +++ module_mid (opts k p) false y) (sym c.before) (sym c.from)
+      cut_is = front_parts (opts k p) items_of (page_has_statement items_of) ∙ ap₂ (λ (x y : Page). module_mid (opts k p) false x +++ module_mid (opts k p) false y) (sym c.before) (sym c.from)
 
       pub before_room : Low (see (module_at k p a) (at t g x)).st
       before_room = turn_low (module_at k p a) (module_at k p b) cut_is (at t g x) refl all_low
@@ -185,8 +185,8 @@ module _ (k p : Bytes) (r : Row) (e : (n : Bytes) → among n (names_of k) ≡ a
       at t₂ g₃ w ≡ written_page (options_in r) (transform (options_in r) is) t g
   page_moved short c s {y = y} d {z = z} v {g₃} {w} put_in =
       let all = v ∙ from_is k p b short t g s c d ∙ ap (λ (x : Walk). see (module_at k p b) (at t g x)) s in
-      let first : y.page ≡ pick (has_statement items_read) (length (bytes (first_part (opts k p) items_read 1).value)) 0 =
-      ap (λ (w : World). w.st.page) (d ∙ ap₂ (λ (x : Walk) (i : Page). see (module_mid (opts k p) false i) (at t g x)) s c.before) ∙ front_page (opts k p) items_read (has_statement items_read) t g in
+      let first : y.page ≡ pick (page_has_statement items_read) (length (bytes (first_part (opts k p) items_read 1).value)) 0 =
+      ap (λ (w : World). w.st.page) (d ∙ ap₂ (λ (x : Walk) (i : Page). see (module_mid (opts k p) false i) (at t g x)) s c.before) ∙ front_page (opts k p) items_read (page_has_statement items_read) t g in
       written_moved k p r items_read e f (counted (opts k p) items_read) (called (opts k p) items_read) t g all
-      (λ o a l x u v. subst (λ (q : Bytes). Headed q z o a l g₃ w) i (put_in o a l x u v)) (has_statement items_read) refl first
+      (λ o a l x u v. subst (λ (q : Bytes). Headed q z o a l g₃ w) i (put_in o a l x u v)) (page_has_statement items_read) refl first
       ∙ same_page

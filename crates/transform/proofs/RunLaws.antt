@@ -38,7 +38,7 @@ use Rattle.strings.specs.Recorded.{recorded}
 use Rattle.strings.proofs.DueLaws.{none_graver}
 use Rattle.walk.specs.declared.state.Walk.{Walk}
 use Rattle.walk.specs.See.{World, at, see, wrote}
-use Rattle.transform.specs.Run.{placed_before, module_mid, has_statement, items_mid, tag_html, piece_html, has_html, started, sum_of, import_bytes}
+use Rattle.transform.specs.Run.{placed_before, module_mid, page_has_statement, items_mid, tag_html, piece_html, has_html, started, sum_of, import_bytes}
 
 -- ---- the transform does not look at the import's source, and of the lists only at what stands among them
 
@@ -234,8 +234,8 @@ module _ (o : Options) where
   module_visited (P.statement_item ps ∷ is) n = ap (λ (r : Mid). visit_exprs (node 0x83 [] none (node 0x12 [] (pieces o ps) r)) n) (not_due is) ∙ leaf_first 0x83 [] (node 0x12 [] (pieces o ps) (module_items o is)) n
   module_visited (P.empty_item ∷ is) n = behind 0x13 [] none (module_items o is) (module_mid o true is) n _ (module_visited is (n + 0))
 
-  pub statement_same : (is : Page) (n : ℕ) → Row.has_statement (visit_exprs (module_items o is) n).value ≡ has_statement is
-  unfolding module_items has_statement Row.has_statement visit_exprs both pure
+  pub statement_same : (is : Page) (n : ℕ) → Row.has_statement (visit_exprs (module_items o is) n).value ≡ page_has_statement is
+  unfolding module_items page_has_statement Row.has_statement visit_exprs both pure
   statement_same [] n = refl
   statement_same (P.export_item ps ∷ is) n = refl
   statement_same (P.declaration_item ps ∷ is) n = statement_same is (n + (visit_exprs (pieces o ps) n).taken)
@@ -245,7 +245,7 @@ module _ (o : Options) where
   -- the same but for the place
   pub items_visited : (is : Page) (n : ℕ) → 1 ≤ length (visit_exprs (module_items o is) n).templates →
       visit_exprs (items_mid o is) n ≡ valued (with_templates (visit_exprs (module_items o is) n).templates (visit_exprs (module_items o is) n).value) (visit_exprs (module_items o is) n)
-  items_visited is n l = on (has_statement is) d.templates l (statement_same is n)
+  items_visited is n l = on (page_has_statement is) d.templates l (statement_same is n)
     where
       d : Done Row
       d = visit_exprs (module_items o is) n

@@ -22,7 +22,7 @@ use Rattle.page.specs.Page as P
 use Rattle.page.specs.Page.{Page}
 use Rattle.page.specs.Tree.{pieces_in, module_items_in}
 use Rattle.decisions.proofs.Series.{tested}
-use Rattle.transform.specs.Run.{has_statement, items_before, items_from, Splits}
+use Rattle.transform.specs.Run.{page_has_statement, items_before, items_from, Splits}
 use Rattle.transform.proofs.ExportLaws.{items_none, items_10, items_11, items_12, items_other}
 
 -- ---- a field in front stays one, however the bytes behind it are cut
@@ -87,11 +87,11 @@ module _ (t : ℕ) (h : t ≡ 256 → ⊥) (a : t ≡ 0x10 → ⊥) (c : t ≡ 0
         on true = refl
         on false = refl
 
-    statement_past : has_statement (item_of t b ∷ is) ≡ has_statement is
-    unfolding has_statement
+    statement_past : page_has_statement (item_of t b ∷ is) ≡ page_has_statement is
+    unfolding page_has_statement
     statement_past = on (eqb t 0x11)
       where
-        on : (x : Bool) → has_statement (pick x (P.declaration_item (pieces_in (read b))) P.empty_item ∷ is) ≡ has_statement is
+        on : (x : Bool) → page_has_statement (pick x (P.declaration_item (pieces_in (read b))) P.empty_item ∷ is) ≡ page_has_statement is
         on true = refl
         on false = refl
 
@@ -100,7 +100,7 @@ module _ (t : ℕ) (h : t ≡ 256 → ⊥) (a : t ≡ 0x10 → ⊥) (c : t ≡ 0
 pub record Passing (s t : Bytes) (n : ℕ) : Type 0 where
   pub sizes : n + length t ≡ length s
   pub rest_is : t ≡ drop n s
-  pub stands : has_statement (module_items_in (read s)) ≡ has_statement (module_items_in (read t))
+  pub stands : page_has_statement (module_items_in (read s)) ≡ page_has_statement (module_items_in (read t))
   pub from : items_from (module_items_in (read s)) ≡ items_from (module_items_in (read t))
   pub passed : Page
   pub before : items_before (module_items_in (read s)) ≡ passed ++ items_before (module_items_in (read t))
@@ -128,7 +128,7 @@ module _ {s t : Bytes} {n : ℕ} (p : Passing s t n) where
           rest_is =
               f.behind_is ∙ sym (behind_drop t u (body_of t) (behind_of t) (next_at t u f.tag_is h))
               ∙ ap₂ (λ (m : ℕ) (x : Bytes). drop (3 + m) x) (sym l) p.rest_is ∙ drop-drop (3 + length b) n s;
-          stands = p.stands ∙ ap has_statement e ∙ statement_past u h a c (body_of t) _ ∙ ap (λ (x : Bytes). has_statement (module_items_in (read x))) (sym f.behind_is);
+          stands = p.stands ∙ ap page_has_statement e ∙ statement_past u h a c (body_of t) _ ∙ ap (λ (x : Bytes). page_has_statement (module_items_in (read x))) (sym f.behind_is);
           from = p.from ∙ ap items_from e ∙ from_past u h a c (body_of t) _ ∙ ap (λ (x : Bytes). items_from (module_items_in (read x))) (sym f.behind_is);
           passed = p.passed ++ (i ∷ []);
           before =
@@ -147,11 +147,11 @@ module _ {s t : Bytes} {n : ℕ} (p : Passing s t n) where
 
   -- a statement stands in front: s is cut there into a and b
   module _ {a b : Bytes} (q : a ≡ take n s) (v : b ≡ drop n s) where
-    splits_by : (i : P.ModuleItem) (is : Page) → module_items_in (read t) ≡ i ∷ is → has_statement (i ∷ is) ≡ true → items_before (i ∷ is) ≡ [] → items_from (i ∷ is) ≡ i ∷ is → Splits s a b
+    splits_by : (i : P.ModuleItem) (is : Page) → module_items_in (read t) ≡ i ∷ is → page_has_statement (i ∷ is) ≡ true → items_before (i ∷ is) ≡ [] → items_from (i ∷ is) ≡ i ∷ is → Splits s a b
     splits_by i is e h x y =
         let z : n + 0 ≡ n = omega arith in
         let is = module_items_in (read s) in
-        let one : has_statement is ≡ true = p.stands ∙ ap has_statement e ∙ h in
+        let one : page_has_statement is ≡ true = p.stands ∙ ap page_has_statement e ∙ h in
         record {
           sizes = omega (arith, ap length q, ap length v, length-take-le n s (omega (arith, p.sizes)), length-drop n s, p.sizes);
           before =
@@ -165,16 +165,16 @@ module _ {s t : Bytes} {n : ℕ} (p : Passing s t n) where
         }
 
     pub splits : {u : ℕ} → u ≡ tag_of_front t → (u ≡ 0x10) ⊎ (u ≡ 0x12) → Splits s a b
-    unfolding has_statement items_before items_from
+    unfolding page_has_statement items_before items_from
     splits {u} f (inl h) = splits_by _ _ (items_10 t u f h) refl refl refl
     splits {u} f (inr h) = splits_by _ _ (items_12 t u f h) refl refl refl
 
   -- none stands: all of s is the second part
   pub splits_all : Ended (read t) → Splits s [] s
-  unfolding has_statement
+  unfolding page_has_statement
   splits_all i =
       let is = module_items_in (read s) in
-      let none : has_statement is ≡ false = p.stands ∙ ap has_statement (items_none t i) in
+      let none : page_has_statement is ≡ false = p.stands ∙ ap page_has_statement (items_none t i) in
       record {
         sizes = zero-add (length s);
         before = items_none [] (subst Ended (sym read_nil) tt) ∙ sym (ap (λ (b : Bool). pick b (items_before is) []) none);

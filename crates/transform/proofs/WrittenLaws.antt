@@ -13,8 +13,8 @@ use Rattle.field.specs.Row.{Row, end, loose, field, bytes, long_body}
 use Rattle.field.specs.Put.{put}
 use Rattle.field.proofs.RowLaws.{length_bytes}
 use Rattle.page.specs.Page.{Options, Page}
-use Rattle.page.specs.Refusal.{Verdict, unless, after}
-use Rattle.page.specs.declared.Refusal.TheVariants as R
+use Rattle.refusal.specs.Refusal.{Verdict, unless, after}
+use Rattle.refusal.specs.declared.Refusal.TheVariants as R
 use Rattle.page.specs.Tree.{listed_in, source_in, options_in}
 use Rattle.spec.specs.Pass.{Done}
 use Rattle.spec.specs.Transform.{stands, helper_sum, with_import, with_templates, templates_row, page_out_row, transform}
@@ -29,7 +29,7 @@ use Rattle.strings.specs.Recorded.{recorded}
 use Rattle.strings.proofs.DueLaws.{graver_left, none_graver, graver_assoc, long_then}
 use Rattle.walk.specs.declared.state.Walk.{Walk}
 use Rattle.walk.specs.See.{World, at, see, to_page}
-use Rattle.transform.specs.Run.{module_mid, has_statement, items_mid, started, sum_of, import_bytes, headed, Headed, written_page, due_verdict, verdict_of}
+use Rattle.transform.specs.Run.{module_mid, page_has_statement, items_mid, started, sum_of, import_bytes, headed, Headed, written_page, due_verdict, verdict_of}
 use Rattle.transform.proofs.RunLaws.{called_sum, import_free, walked, world, items_walked, module_walked, walked_sum, import_length, import_first, page_put, place_long}
 use Rattle.transform.proofs.CutLaws.{Cut, first_part, second_part, cut_between, cut_before}
 use Rattle.transform.proofs.HeadLaws.{headed_row}
@@ -105,7 +105,7 @@ module _ (skip props : Bytes) (r : Row) (is : Page) (e : (n : Bytes) → among n
         ∙ world_is (options_in r) d d.value 0 (length (bytes (page_out_row (options_in r) d))) t p p'' counted (h.page_is ∙ ap (put p 0) row) refl
         ∙ free t p
 
-    pub written_moved : (b : Bool) → has_statement is ≡ b → q ≡ pick b (length (bytes (first_part (opts skip props) is 1).value)) 0 → at t' p'' y ≡ written_page (options_in r) (transform (options_in r) is) t p
+    pub written_moved : (b : Bool) → page_has_statement is ≡ b → q ≡ pick b (length (bytes (first_part (opts skip props) is 1).value)) 0 → at t' p'' y ≡ written_page (options_in r) (transform (options_in r) is) t p
     unfolding transform
     written_moved true h k = written_cut (bytes (first_part (opts skip props) is 1).value) (second_part (opts skip props) is 1) (cut_between (opts skip props) is 1 made.templates h) k
     written_moved false h k = written_cut [] (bytes made.value) (cut_before (opts skip props) is 1 made.templates h) k

@@ -6,8 +6,8 @@ use Rattle.field.specs.Put.{put, head}
 use Rattle.page.specs.Page as P
 use Rattle.page.specs.Page.{Options, Page}
 use Rattle.page.specs.Tree.{pieces_in, module_items_in}
-use Rattle.page.specs.Refusal.{Verdict, Fine, Refused, unless, after}
-use Rattle.page.specs.declared.Refusal.TheVariants as R
+use Rattle.refusal.specs.Refusal.{Verdict, Fine, Refused, unless, after}
+use Rattle.refusal.specs.declared.Refusal.TheVariants as R
 use Rattle.spec.specs.Pass.{Done, Mid, none, node}
 use Rattle.spec.specs.Transform as T
 use Rattle.spec.specs.Transform.{pieces, templates_row, page_out_row, stands}
@@ -39,12 +39,12 @@ module_mid o due (P.declaration_item ps ∷ is) = node 0x11 [] (pieces o ps) (mo
 module_mid o due (P.statement_item ps ∷ is) = placed_before due (node 0x12 [] (pieces o ps) (module_mid o false is))
 module_mid o due (P.empty_item ∷ is) = node 0x13 [] none (module_mid o due is)
 
-unfoldable pub has_statement : Page → Bool
-has_statement [] = false
-has_statement (P.export_item ps ∷ is) = true
-has_statement (P.declaration_item ps ∷ is) = has_statement is
-has_statement (P.statement_item ps ∷ is) = true
-has_statement (P.empty_item ∷ is) = has_statement is
+unfoldable pub page_has_statement : Page → Bool
+page_has_statement [] = false
+page_has_statement (P.export_item ps ∷ is) = true
+page_has_statement (P.declaration_item ps ∷ is) = page_has_statement is
+page_has_statement (P.statement_item ps ∷ is) = true
+page_has_statement (P.empty_item ∷ is) = page_has_statement is
 
 -- the items before the first 10 or 12
 unfoldable pub items_before : Page → Page
@@ -64,10 +64,10 @@ items_from (P.empty_item ∷ is) = items_from is
 
 -- what stands in front of the place of the templates, and what follows it: where there is no 10 and no 12, nothing, and all
 abbrev pub front_items : Page → Page
-front_items is = pick (has_statement is) (items_before is) []
+front_items is = pick (page_has_statement is) (items_before is) []
 
 abbrev pub back_items : Page → Page
-back_items is = pick (has_statement is) (items_from is) is
+back_items is = pick (page_has_statement is) (items_from is) is
 
 -- s is cut there into a and b
 pub record Splits (s a b : Bytes) : Type 0 where
@@ -77,7 +77,7 @@ pub record Splits (s a b : Bytes) : Type 0 where
 
 -- with the place of the templates before the first 10 or 12; none stands: before all items
 abbrev pub items_mid : Options → Page → Mid
-items_mid o is = placed_before (not (has_statement is)) (module_mid o (has_statement is) is)
+items_mid o is = placed_before (not (page_has_statement is)) (module_mid o (page_has_statement is) is)
 
 -- ---- what shows that templates are recorded: an element among the pieces that becomes one
 

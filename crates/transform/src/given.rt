@@ -3,7 +3,7 @@
 ghost use Rattle.std.specs.Prelude.{◌≡◌, true, length};
 ghost use Rattle.field.specs.Row.{read};
 ghost use Rattle.page.specs.Tree.{page_in, options_in};
-ghost use Rattle.page.specs.Refusal.{Fine};
+ghost use Rattle.refusal.specs.Refusal.{Fine};
 ghost use Rattle.spec.specs.Answer.{check_inputs, worked_if, page_given};
 ghost use Rattle.spec.specs.Transform.{transform};
 ghost use Rattle.walk.specs.See.{at};

@@ -3,7 +3,7 @@
 #![tactic(auto)]
 
 ghost use Rattle.std.specs.Prelude.{◌≡◌, length};
-ghost use Rattle.page.specs.Refusal.{Fine};
+ghost use Rattle.refusal.specs.Refusal.{Fine};
 ghost use Rattle.spec.specs.Answer.{outcome, refused, check_inputs, scratch_left};
 ghost use Rattle.transform.specs.Run.{Answers, due_verdict, verdict_of};
 
@@ -13,11 +13,12 @@ mod options;
 
 use given::write_given;
 use page::whole::{check_options, check_page};
-use page::{MAX_OPTIONS, MAX_PAGE, MIN_SCRATCH, Refusal, refuse_unless};
+use page::{MAX_OPTIONS, MAX_PAGE, MIN_SCRATCH};
+use refusal::{Refusal, refuse_unless};
 use strings::due::Due;
 use walk::state::Walk;
 
-// As C reads it: 0, or the number of a refusal (page's `From`), and what else it has beside it, since C has no Result.
+// As C reads it: 0, or the number of a refusal (its `From`), and what else it has beside it, since C has no Result.
 #[repr(C)]
 #[derive(Clone, Copy)]
 pub struct Answer {
@@ -28,7 +29,7 @@ pub struct Answer {
 }
 
 // 1 to 8.
-#[tactic(auto, unfolding(spec::specs::Answer::check_inputs, page::specs::Refusal::after))]
+#[tactic(auto, unfolding(spec::specs::Answer::check_inputs, refusal::specs::Refusal::after))]
 fn check_inputs(page: &[u8], options: &[u8], scratch: usize) -> Result<(), Refusal>
     ensures { result ≡ check_inputs page.now options.now scratch }
 {
@@ -53,7 +54,7 @@ fn check_due(due: Due) -> Result<(), Refusal>
 }
 
 // What is due, then 12 and 13.
-#[tactic(auto, unfolding(page::specs::Refusal::after))]
+#[tactic(auto, unfolding(refusal::specs::Refusal::after))]
 fn check_outputs(w: Walk, templates_room: usize, page_room: usize) -> Result<(), Refusal>
     ensures { result ≡ verdict_of w templates_room page_room }
 {

@@ -15,7 +15,12 @@ use crate::options::{names_in, room, source};
 use decisions::element::is_serializable;
 use decisions::index::{INDEX_ROOM, index_names};
 use decisions::options::Options;
+use field::HEAD;
 use field::reader::{Fields, body};
+use field::tags::{
+    ATTRIBUTES_NOT_SERIALIZED, ELEMENT, ELEMENTS_NOT_SERIALIZED, EMPTY_STATEMENT, EXPORT, IMPORT,
+    STATEMENT, STATIC_STRING, TEMPLATES_HERE,
+};
 use field::writer::{put_byte, put_bytes, put_head};
 use records::moves::move_up;
 use strings::due::Due;
@@ -58,8 +63,10 @@ fn visit_module(
     let mut cur = st;
     for item in Fields(s) {
         cur = match item.tag {
-            0x10..=0x12 => visit_item(options, item.body, item.tag, scratch, templates, page, cur),
-            _ => leaf(page, cur, 0x13, b""),
+            EXPORT..=STATEMENT => visit_item(
+                options, item.body, item.tag, scratch, templates, page, cur,
+            ),
+            _ => leaf(page, cur, EMPTY_STATEMENT, b""),
         };
     }
     cur
@@ -73,8 +80,8 @@ fn split_items(s: &[u8]) -> (&[u8], &[u8])
     let mut at: usize = 0;
     for item in Fields(s) {
         match item.tag {
-            0x10 | 0x12 => return s.split_at(at),
-            _ => at += 3 + item.body.len(),
+            EXPORT | STATEMENT => return s.split_at(at),
+            _ => at += HEAD + item.body.len(),
         }
     }
     (&[], s)
@@ -94,7 +101,7 @@ fn visit_items(
 {
     let (before, rest) = split_items(s);
     let a = visit_module(options, before, scratch, templates, page, st);
-    let b = leaf(page, a, 0x83, b"");
+    let b = leaf(page, a, TEMPLATES_HERE, b"");
     visit_module(options, rest, scratch, templates, page, b)
 }
 
@@ -103,14 +110,14 @@ fn visit_items(
 fn has_html(skip: &[u8], s: &[u8]) -> bool
     ensures { result ≡ has_html (opts skip.now []) (module_items_in (read s.now)) }
 {
-    Fields(s).any(|item| matches!(item.tag, 0x10..=0x12) && has_html_piece(skip, item.body))
+    Fields(s).any(|item| matches!(item.tag, EXPORT..=STATEMENT) && has_html_piece(skip, item.body))
 }
 
 // Among the pieces themselves. Not one walk with the items': it would ask at each field which of the two it walks.
 fn has_html_piece(skip: &[u8], s: &[u8]) -> bool
     ensures { result ≡ piece_html (opts skip.now []) (pieces_in (read s.now)) }
 {
-    Fields(s).any(|piece| piece.tag == 0x30 && is_serializable(skip, piece.body))
+    Fields(s).any(|piece| piece.tag == ELEMENT && is_serializable(skip, piece.body))
 }
 
 fn start(p: usize) -> Walk
@@ -139,16 +146,19 @@ fn helper_sum(w: Walk) -> u8
     u8::from(s.jsx) + 2 * u8::from(1 < w.later) + 4 * u8::from(s.attr) + 8 * u8::from(s.escape)
 }
 
+// The source in an 82: behind its head, and that of the 81.
+const SOURCE_AT: usize = 2 * HEAD;
+
 // 82: the source, `/jsx-runtime` and the sum.
 fn put_import(page: &mut [u8], source: &[u8], sum: u8) -> usize
     requires { length source.now < 2 ^ 32 }
     ensures { Wrote page.old 0 (import_bytes source.now sum) page.new result }
 {
-    let a = put_bytes(page, 6, source);
+    let a = put_bytes(page, SOURCE_AT, source);
     let b = put_bytes(page, a, b"/jsx-runtime");
-    put_head(page, 3, 0x81, b - 6);
+    put_head(page, HEAD, STATIC_STRING, b - SOURCE_AT);
     let c = put_byte(page, b, sum);
-    put_head(page, 0, 0x82, c - 3);
+    put_head(page, 0, IMPORT, c - HEAD);
     c
 }
 
@@ -169,11 +179,11 @@ fn put_heads(page: &mut [u8], source: &[u8], w: Walk, p: usize) -> Walk
     let sum = helper_sum(w);
     if 1 < w.later {
         let n = import_len(source);
-        move_up(page, p, w.page, n + 3);
-        put_head(page, p + n, 0x83, 0);
+        move_up(page, p, w.page, n + HEAD);
+        put_head(page, p + n, TEMPLATES_HERE, 0);
         move_up(page, 0, p, n);
         put_import(page, source, sum);
-        return at_page(w, w.page + n + 3);
+        return at_page(w, w.page + n + HEAD);
     }
     if sum == 0 {
         return w;
@@ -196,8 +206,8 @@ pub fn write_page(
     ensures { at templates.new page.new result ≡ written_page (options_in (read options.now)) (transform (options_in (read options.now)) (page_in (read input.now))) templates.old page.old }
 {
     let names = Options {
-        skip: names_in(options, 0x02),
-        props: names_in(options, 0x03),
+        skip: names_in(options, ELEMENTS_NOT_SERIALIZED),
+        props: names_in(options, ATTRIBUTES_NOT_SERIALIZED),
     };
     if names.skip.len() <= SHORT_LIST && names.props.len() <= SHORT_LIST {
         write_listed(input, options, &names, scratch, templates, page)

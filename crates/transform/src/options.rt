@@ -5,6 +5,7 @@ ghost use Rattle.transform.specs.Options.{LacksTag, HasTag};
 ghost use Rattle.page.specs.Tree.{texts_in, listed_in, source_in, works_sums};
 
 use field::reader::Fields;
+use field::tags::{IMPORT_SOURCE, SUMS};
 
 // What the first field with that tag holds.
 fn first_with(options: &[u8], tag: u8) -> Option<&[u8]>
@@ -26,14 +27,14 @@ pub fn names_in(options: &[u8], tag: u8) -> &[u8]
 pub fn source(options: &[u8]) -> &[u8]
     ensures { result.now ≡ source_in (read options.now) }
 {
-    first_with(options, 0x04).unwrap_or(b"react")
+    first_with(options, IMPORT_SOURCE).unwrap_or(b"react")
 }
 
 // Whether a 05 stands.
 pub fn works_sums(options: &[u8]) -> bool
     ensures { result ≡ works_sums (read options.now) }
 {
-    first_with(options, 0x05).is_some()
+    first_with(options, SUMS).is_some()
 }
 
 // Room for N bytes. What it holds is proved once, here: its callers need not go through it. Not that of `input`, a crate which reads standard

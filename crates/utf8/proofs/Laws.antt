@@ -1,4 +1,4 @@
--- What callers need to know of UTF-8: it goes by whole characters, and ASCII is part of it. Main statements: utf8_append, ascii-utf8.
+-- What callers need to know of UTF-8: it goes by whole characters, and ASCII is part of it. Main statements: utf8_append, all_ascii-utf8.
 -- Assumes nothing.
 use mathlib.Core.Path.{◌≡◌, refl, ◌∙◌}
 use Prim.Native.Nat.{ℕ, ◌<◌}
@@ -8,7 +8,7 @@ use mathlib.Core.List.{List, [], ◌∷◌, ◌++◌}
 use mathlib.Core.Option.{Option, none, some}
 use borrow.Author.Tests.{ltb-true}
 use lib.Dec.{ltb}
-use Rattle.utf8.specs.Utf8.{Range, within, forms, begun, utf8_behind, utf8, ascii}
+use Rattle.utf8.specs.Utf8.{Range, within, forms, begun, utf8_behind, utf8, all_ascii}
 use Rattle.utf8.proofs.Forms.{utf8_begun}
 
 -- what holds behind every form holds behind the one that a byte begins
@@ -37,9 +37,9 @@ pub utf8_cons : (b : ℕ) (s : List ℕ) → b < 0x80 → utf8 (b ∷ s) ≡ utf
 unfolding utf8 forms
 utf8_cons b s h = utf8_begun b 0 0x7F (omega arith) (omega arith) s refl
 
-pub ascii_utf8 : (a : List ℕ) → ascii a ≡ true → utf8 a ≡ true
-unfolding ascii utf8 utf8_behind
+pub ascii_utf8 : (a : List ℕ) → all_ascii a ≡ true → utf8 a ≡ true
+unfolding all_ascii utf8 utf8_behind
 ascii_utf8 [] e = refl
 ascii_utf8 (b ∷ a) e =
-    let p = (and-eq-true_iff (ltb b 0x80) (ascii a)).0 e in
+    let p = (and-eq-true_iff (ltb b 0x80) (all_ascii a)).0 e in
     utf8_cons b a (ltb-true b 0x80 p.0) ∙ ascii_utf8 a p.1

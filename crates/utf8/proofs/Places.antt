@@ -12,7 +12,7 @@ use lib.ListN.{length, get_or, take, drop, replicate, length-append, take-append
 use lib.Seq.{drop-drop, take_all}
 use Rattle.std.specs.List.{list_all}
 use Rattle.std.proofs.Common.{append_assoc, append-nil}
-use Rattle.utf8.specs.Utf8.{Range, ◌to◌, within, tail, forms, utf8_behind, utf8, ascii}
+use Rattle.utf8.specs.Utf8.{Range, ◌to◌, within, tail, forms, utf8_behind, utf8, all_ascii}
 use Rattle.utf8.specs.Parts.{Skips, Leaves, Passes, Lacks}
 use Rattle.utf8.proofs.Forms.{whole, begun_by, goes_on, utf8_begun}
 use Rattle.utf8.proofs.Laws.{utf8_append, ascii_utf8}
@@ -21,7 +21,7 @@ use Rattle.utf8.proofs.Words.{ascii_append, ascii_drop}
 -- ---- behind ASCII
 
 pub skips_none : (s : List ℕ) → Skips s s
-unfolding ascii
+unfolding all_ascii
 skips_none s = record { front = []; plain = refl; is = refl }
 
 pub skips_on : {s t r : List ℕ} → Skips s t → Skips t r → Skips s r
@@ -33,18 +33,18 @@ skips_on {s} {t} {r} p q =
     }
 
 pub skips_byte : {s t : List ℕ} {b : ℕ} → s ≡ b ∷ t → b < 0x80 → Skips s t
-unfolding ascii
+unfolding all_ascii
 skips_byte {s} {t} {b} e h = record { front = b ∷ []; plain = rw (lt-ltb b 0x80 h) refl; is = e }
 
 pub skips_first : (s : List ℕ) → 1 ≤ length s → get_or s 0 0 < 0x80 → Skips s (take (length s - 1) (drop 1 s))
 skips_first [] l h = absurd (not-suc-le-zero l)
 skips_first (b ∷ t) l h = skips_byte (ap (λ (x : List ℕ). b ∷ x) (sym (take_all (length (b ∷ t) - 1) t (omega arith)))) h
 
-pub skips_block : (n : ℕ) {s b t : List ℕ} → b ≡ take n s → t ≡ drop n s → ascii b ≡ true → Skips s t
+pub skips_block : (n : ℕ) {s b t : List ℕ} → b ≡ take n s → t ≡ drop n s → all_ascii b ≡ true → Skips s t
 skips_block n {s} {b} {t} e f h = record { front = b; plain = h; is = sym (ap (λ (x : List ℕ). x ++ t) e ∙ ap (λ (x : List ℕ). take n s ++ x) f ∙ take-append-drop n s) }
 
 -- a word, and blocks behind it
-pub skips_blocks : {s w m t r : List ℕ} → w ≡ take 8 s → m ≡ drop 8 s → ascii w ≡ true → Skips m t → Skips t r → Skips s r
+pub skips_blocks : {s w m t r : List ℕ} → w ≡ take 8 s → m ≡ drop 8 s → all_ascii w ≡ true → Skips m t → Skips t r → Skips s r
 skips_blocks e f h p q = skips_on (skips_on (skips_block 8 e f h) p) q
 
 pub skips_same : {s t : List ℕ} → Skips s t → utf8 s ≡ utf8 t
@@ -55,13 +55,13 @@ drop_front [] b = refl
 drop_front (x ∷ a) b = drop_front a b
 
 -- the last word, which may begin in front of t
-pub skips_last : {s t w : List ℕ} → Skips s t → length t < 8 → 8 ≤ length s → w ≡ drop (length s - 8) s → ascii w ≡ true → Skips s []
+pub skips_last : {s t w : List ℕ} → Skips s t → length t < 8 → 8 ≤ length s → w ≡ drop (length s - 8) s → all_ascii w ≡ true → Skips s []
 skips_last {s} {t} {w} p h l e a =
     let m = length s - 8 in
     let n : length s ≡ length p.front + length t = ap length p.is ∙ length-append p.front t in
     let k : m + (length p.front - m) ≡ length p.front = omega arith in
     let rest : drop (length p.front - m) (drop m s) ≡ t = drop-drop (length p.front - m) m s ∙ ap (λ (x : ℕ). drop x s) k ∙ ap (λ (x : List ℕ). drop (length p.front) x) p.is ∙ drop_front p.front t in
-    let plain : ascii t ≡ true = ap ascii (sym rest) ∙ ascii_drop (length p.front - m) (drop m s) (ap ascii (sym e) ∙ a) in
+    let plain : all_ascii t ≡ true = ap all_ascii (sym rest) ∙ ascii_drop (length p.front - m) (drop m s) (ap all_ascii (sym e) ∙ a) in
     skips_on p (record { front = t; plain = plain; is = sym (append-nil t) })
 
 -- ---- behind ranges

@@ -13,7 +13,7 @@ use lib.ListN.{length, take, drop, get_or, length-drop, drop_of_length-le}
 use lib.Seq.{drop-drop, take-add, get_or-drop}
 use Rattle.std.specs.Simd.{first_chunks}
 use Rattle.std.proofs.lemmas.List.{length-take-le}
-use Rattle.utf8.specs.Utf8.{ascii}
+use Rattle.utf8.specs.Utf8.{all_ascii}
 
 -- the highest bits of n bytes
 abbrev pub mask : ℕ → ℕ
@@ -47,8 +47,8 @@ abbrev little : List ℕ → ℕ
 little [] = 0
 little (b ∷ bs) = b + 256 * little bs
 
-little_ascii : (w : List ℕ) → ((k : ℕ) → get_or w k 0 < 256) → eqb (bit_and (little w) (mask (length w))) 0 ≡ ascii w
-unfolding ascii
+little_ascii : (w : List ℕ) → ((k : ℕ) → get_or w k 0 < 256) → eqb (bit_and (little w) (mask (length w))) 0 ≡ all_ascii w
+unfolding all_ascii
 little_ascii [] h = refl
 little_ascii (b ∷ w) h = one_more b (little w) (mask (length w)) (h 0) ∙ ap (λ (v : Bool). ltb b 128 && v) (little_ascii w (λ k. h (suc k)))
 
@@ -64,7 +64,7 @@ value w =
     get_or w 0 0 + get_or w 1 0 * 256 + get_or w 2 0 * 65536 + get_or w 3 0 * 16777216
     + get_or w 4 0 * 4294967296 + get_or w 5 0 * 1099511627776 + get_or w 6 0 * 281474976710656 + get_or w 7 0 * 72057594037927936
 
-word_ascii : (w : List ℕ) → length w ≡ 8 → ((k : ℕ) → get_or w k 0 < 256) → eqb (bit_and (value w) (mask 8)) 0 ≡ ascii w
+word_ascii : (w : List ℕ) → length w ≡ 8 → ((k : ℕ) → get_or w k 0 < 256) → eqb (bit_and (value w) (mask 8)) 0 ≡ all_ascii w
 word_ascii w n h =
     let rest : little (drop 8 w) ≡ 0 = ap little (drop_of_length-le w {i = 8} (omega arith)) in
     let is : value w ≡ little w = omega (arith, rest, little_at 0 w, little_at 1 w, little_at 2 w, little_at 3 w, little_at 4 w, little_at 5 w, little_at 6 w, little_at 7 w) in
@@ -72,16 +72,16 @@ word_ascii w n h =
 
 -- ---- words one after the other
 
-pub ascii_append : (a b : List ℕ) → ascii (a ++ b) ≡ (ascii a && ascii b)
-unfolding ascii
+pub ascii_append : (a b : List ℕ) → all_ascii (a ++ b) ≡ (all_ascii a && all_ascii b)
+unfolding all_ascii
 ascii_append [] b = refl
-ascii_append (x ∷ a) b = rw (ascii_append a b) (sym (and_assoc (ltb x 0x80) (ascii a) (ascii b)))
+ascii_append (x ∷ a) b = rw (ascii_append a b) (sym (and_assoc (ltb x 0x80) (all_ascii a) (all_ascii b)))
 
-pub ascii_drop : (j : ℕ) (t : List ℕ) → ascii t ≡ true → ascii (drop j t) ≡ true
-unfolding ascii
+pub ascii_drop : (j : ℕ) (t : List ℕ) → all_ascii t ≡ true → all_ascii (drop j t) ≡ true
+unfolding all_ascii
 ascii_drop zero t h = h
 ascii_drop (suc j) [] h = refl
-ascii_drop (suc j) (c ∷ cs) h = ascii_drop j cs ((and-eq-true_iff (ltb c 0x80) (ascii cs)).0 h).1
+ascii_drop (suc j) (c ∷ cs) h = ascii_drop j cs ((and-eq-true_iff (ltb c 0x80) (all_ascii cs)).0 h).1
 
 -- a word among the words of s
 chunk_at : (k i : ℕ) (s : List ℕ) → i < k → get_or (first_chunks 8 k s) i [] ≡ take 8 (drop (8 * i) s)
@@ -99,11 +99,11 @@ take_bytes (suc n) (b ∷ s) h (suc k) = take_bytes n s (λ j. h (suc j)) k
 -- one word more
 pub words_on :
     {v : Bool} (s : List ℕ) (ws : List (List ℕ)) (n i x : ℕ) → ((k : ℕ) → get_or s k 0 < 256) → ws ≡ first_chunks 8 n s → 8 * n ≤ length s → i < n →
-    x ≡ value (get_or ws i []) → v ≡ ascii (take (8 * i) s) → (v && eqb (bit_and x (mask 8)) 0) ≡ ascii (take (8 * (i + 1)) s)
+    x ≡ value (get_or ws i []) → v ≡ all_ascii (take (8 * i) s) → (v && eqb (bit_and x (mask 8)) 0) ≡ all_ascii (take (8 * (i + 1)) s)
 words_on {v} s ws n i x h e l m q f =
     let t = drop (8 * i) s in
     let w : get_or ws i [] ≡ take 8 t = ap (λ (z : List (List ℕ)). get_or z i []) e ∙ chunk_at n i s m in
     let size : length (take 8 t) ≡ 8 = length-take-le 8 t (rw length-drop (omega arith)) in
-    let word : eqb (bit_and x (mask 8)) 0 ≡ ascii (take 8 t) =
+    let word : eqb (bit_and x (mask 8)) 0 ≡ all_ascii (take 8 t) =
     ap (λ (y : ℕ). eqb (bit_and y (mask 8)) 0) (q ∙ ap value w) ∙ word_ascii (take 8 t) size (take_bytes 8 t (λ k. rw get_or-drop (h (8 * i + k)))) in
-    rw (f, word) (sym (ascii_append (take (8 * i) s) (take 8 t)) ∙ ap ascii (sym (take-add (8 * i) 8 s)) ∙ ap (λ (k : ℕ). ascii (take k s)) (omega arith))
+    rw (f, word) (sym (ascii_append (take (8 * i) s) (take 8 t)) ∙ ap all_ascii (sym (take-add (8 * i) 8 s)) ∙ ap (λ (k : ℕ). all_ascii (take k s)) (omega arith))

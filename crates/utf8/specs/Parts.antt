@@ -1,12 +1,12 @@
 -- What the parts of is_utf8 promise: t is what they leave of the list s.
 -- Assumes nothing: these are definitions.
 use Rattle.std.specs.Prelude.{◌≡◌, ℕ, ◌≤◌, ◌<◌, true, false, List, ◌++◌, length}
-use Rattle.utf8.specs.Utf8.{Range, utf8_behind, utf8, ascii}
+use Rattle.utf8.specs.Utf8.{Range, utf8_behind, utf8, all_ascii}
 
 -- ASCII alone stands in front of it
 pub record Skips (s t : List ℕ) : Type 0 where
   pub front : List ℕ
-  pub plain : ascii front ≡ true
+  pub plain : all_ascii front ≡ true
   pub is : s ≡ front ++ t
 
 -- a character stands in front of it

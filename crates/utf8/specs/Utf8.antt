@@ -51,6 +51,6 @@ unfoldable pub utf8 : List ℕ → Bool
 utf8 bs = utf8_behind [] bs
 
 -- all bytes are of UTF8-1
-unfoldable pub ascii : List ℕ → Bool
-ascii [] = true
-ascii (b ∷ bs) = ltb b 0x80 && ascii bs
+unfoldable pub all_ascii : List ℕ → Bool
+all_ascii [] = true
+all_ascii (b ∷ bs) = ltb b 0x80 && all_ascii bs

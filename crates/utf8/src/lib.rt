@@ -3,7 +3,7 @@
 #![tactic(auto)]
 
 ghost use Rattle.std.specs.Prelude.{◌≡◌, false, ◌∷◌, ◌%◌, ◌<◌, ◌≤◌, length, replicate, MatchOption};
-ghost use Rattle.utf8.specs.Utf8.{◌to◌, tail, utf8, ascii};
+ghost use Rattle.utf8.specs.Utf8.{◌to◌, tail, utf8, all_ascii};
 ghost use Rattle.utf8.specs.Parts.{Skips, Leaves, Passes, Lacks};
 
 // The high bits of the bytes of a word.
@@ -76,7 +76,7 @@ fn skip_blocks<const N: usize>(s: &[u8]) -> &[u8]
 // instructions for 0.26 (a probe of 4 KB), where a page of source alone takes 0.9.
 fn is_ascii(block: &[u8]) -> bool
     requires { length block.now % 8 ≡ 0 }
-    ensures { result ≡ ascii block.now }
+    ensures { result ≡ all_ascii block.now }
 {
     let (words, _) = block.as_chunks::<8>();
     let mut is = true;

@@ -18,6 +18,10 @@ use decisions::children::{Children, children_of};
 use decisions::element::{inner_children, is_component, is_serializable};
 use decisions::options::Options;
 use field::reader::{Field, Fields, behind, body, field_at};
+use field::tags::{
+    ARRAY, ARRAY_SPREAD, ATTRIBUTE, CONTAINER, ELEMENT, FRAGMENT, HOLE, JSX, JSX_ATTR, JSX_ESCAPE,
+    JSX_TEMPLATE, NULL, OTHER_EXPRESSION, PROP, SOURCE, SPREAD, SPREAD_CHILD, TEXT,
+};
 use found::{Found, Kind, found_in, found_of};
 use records::{record_found, record_fragment, record_serialize};
 use strings::joins;
@@ -46,18 +50,26 @@ fn on_expr(
 {
     let p = st.page;
     match field_at(s) {
-        Some(Field { tag: 0x76, body }) => {
+        Some(Field { tag: ARRAY, body }) => {
             let x = on_items(options, body, scratch, templates, page, begin(st));
-            close(page, x, p, 0x76)
+            close(page, x, p, ARRAY)
         }
-        Some(Field { tag: 0x79, body }) => {
+        Some(
+            Field {
+                tag: OTHER_EXPRESSION,
+                body,
+            },
+        ) => {
             let x = on_pieces(options, body, scratch, templates, page, begin(st));
-            close(page, x, p, 0x79)
+            close(page, x, p, OTHER_EXPRESSION)
         }
-        Some(Field { tag: 0x30, body }) => on_jsx(options, body, scratch, templates, page, st),
-        Some(Field { tag: 0x31, body }) => {
-            on_fragment(options, body, scratch, templates, page, st)
-        }
+        Some(Field { tag: ELEMENT, body }) => on_jsx(options, body, scratch, templates, page, st),
+        Some(
+            Field {
+                tag: FRAGMENT,
+                body,
+            },
+        ) => { on_fragment(options, body, scratch, templates, page, st) }
         _ => literal_leaf(page, st, s),
     }
 }
@@ -102,12 +114,12 @@ fn on_items(
         let t = left;
         left = fields.0;
         match field.tag {
-            0x77 => {
+            ARRAY_SPREAD => {
                 let p = cur.page;
                 let x = on_expr(options, field.body, scratch, templates, page, begin(cur));
-                cur = close(page, x, p, 0x77);
+                cur = close(page, x, p, ARRAY_SPREAD);
             }
-            0x78 => cur = leaf(page, cur, 0x78, b""),
+            HOLE => cur = leaf(page, cur, HOLE, b""),
             _ => cur = on_expr(options, t, scratch, templates, page, cur),
         }
     }
@@ -131,9 +143,9 @@ pub fn on_pieces(
     for field in Fields(s) {
         let b = field.body;
         match field.tag {
-            0x20 => cur = leaf(page, cur, 0x20, b),
-            0x30 => cur = on_jsx(options, b, scratch, templates, page, cur),
-            0x31 => cur = on_fragment(options, b, scratch, templates, page, cur),
+            SOURCE => cur = leaf(page, cur, SOURCE, b),
+            ELEMENT => cur = on_jsx(options, b, scratch, templates, page, cur),
+            FRAGMENT => cur = on_fragment(options, b, scratch, templates, page, cur),
             _ => {}
         }
     }
@@ -178,7 +190,7 @@ fn on_template(
     let k = record_fragment(options, s, scratch, templates, records_of(st));
     let a = begin_template(page, recorded(st, k));
     let c = to_parts(options, s, scratch, templates, page, a);
-    let d = close(page, c, p, 0x90);
+    let d = close(page, c, p, JSX_TEMPLATE);
     returned(d, first)
 }
 
@@ -196,14 +208,22 @@ fn on_fragment(
     ensures { at templates.new page.new result ≡ see (under options.now fragment_mid s.now) (at templates.old page.old st) }
 {
     match children_of(s) {
-        Children::Zero => leaf(page, st, 0x73, b""),
-        Children::One(Field { tag: 0x30, body }) => {
+        Children::Zero => leaf(page, st, NULL, b""),
+        Children::One(Field { tag: ELEMENT, body }) => {
             on_jsx(options, body, scratch, templates, page, st)
         }
-        Children::One(Field { tag: 0x31, body }) => {
-            on_found(options, body, scratch, templates, page, st)
-        }
-        Children::One(Field { tag: 0x61, .. }) => leave(page, st),
+        Children::One(
+            Field {
+                tag: FRAGMENT,
+                body,
+            },
+        ) => { on_found(options, body, scratch, templates, page, st) }
+        Children::One(
+            Field {
+                tag: SPREAD_CHILD,
+                ..
+            },
+        ) => leave(page, st),
         // Two arms, as in records' `record_found`: an only child and several give it by laws of their own, and behind one arm the proof would part them.
         Children::One(_) => on_template(options, s, scratch, templates, page, st),
         Children::More => on_template(options, s, scratch, templates, page, st),
@@ -253,7 +273,7 @@ fn to_jsx(
     let p = st.page;
     let a = begin_template(page, st);
     let c = to_inner(options, b, scratch, templates, page, a);
-    close(page, c, p, 0x90)
+    close(page, c, p, JSX_TEMPLATE)
 }
 
 // The gaps of an element in a template.
@@ -319,7 +339,7 @@ fn to_attrs(
         let p = cur.page;
         let x = attribute_front(page, cur, a, gap);
         let y = on_held(options, held_at(a, gap), scratch, templates, page, x);
-        cur = gap_back(page, y, p, 0x91, a, gap);
+        cur = gap_back(page, y, p, JSX_ATTR, a, gap);
     }
     cur
 }
@@ -342,15 +362,15 @@ fn to_parts(
     for field in Fields(s) {
         let b = field.body;
         match field.tag {
-            0x52 => {
+            CONTAINER => {
                 let wrapped = is_wrapped(b);
                 let p = cur.page;
                 let x = begin_if(cur, wrapped);
                 let y = on_held(options, gap_held(b), scratch, templates, page, x);
-                cur = close_if(page, y, p, 0x92, wrapped);
+                cur = close_if(page, y, p, JSX_ESCAPE, wrapped);
             }
-            0x30 => cur = to_gaps(options, b, scratch, templates, page, cur),
-            0x31 => cur = to_parts(options, b, scratch, templates, page, cur),
+            ELEMENT => cur = to_gaps(options, b, scratch, templates, page, cur),
+            FRAGMENT => cur = to_parts(options, b, scratch, templates, page, cur),
             _ => {}
         }
     }
@@ -376,8 +396,8 @@ fn to_call(
     let n = name_expr(page, begin(st), b);
     // Neither attributes nor children.
     if rest.is_empty() {
-        let z = leaf(page, n, 0x73, b"");
-        return close(page, z, p, 0x94);
+        let z = leaf(page, n, NULL, b"");
+        return close(page, z, p, JSX);
     }
     let q = n.page;
     let x = to_props(options, rest, norm, scratch, templates, page, begin(n));
@@ -386,14 +406,14 @@ fn to_call(
     let h = x.page;
     let y = children_front(page, x, stands);
     let z = to_found(options, rest, f, false, scratch, templates, page, y);
-    let c = close_if(page, z, h, 0x96, stands);
+    let c = close_if(page, z, h, PROP, stands);
     let d = close_props(page, c, q);
     let l = match key_at(rest, norm) {
         Some(Value::String(text)) => attr_string_leaf(page, d, text),
         Some(Value::Container(held)) => on_held(options, held, scratch, templates, page, d),
         Some(Value::Tag(_)) | None => d,
     };
-    close(page, l, p, 0x94)
+    close(page, l, p, JSX)
 }
 
 // The properties of a call.
@@ -415,15 +435,15 @@ fn to_props(
         let a = field.body;
         let p = cur.page;
         match field.tag {
-            0x50 => {
+            ATTRIBUTE => {
                 let gap = property_gap(a, norm);
                 let x = property_front(page, cur, a, gap);
                 let y = on_held(options, held_at(a, gap), scratch, templates, page, x);
-                cur = gap_back(page, y, p, 0x96, a, gap);
+                cur = gap_back(page, y, p, PROP, a, gap);
             }
-            0x53 => {
+            SPREAD => {
                 let x = on_expr(options, a, scratch, templates, page, begin(cur));
-                cur = close(page, x, p, 0x53);
+                cur = close(page, x, p, SPREAD);
             }
             _ => return cur,
         }
@@ -455,7 +475,7 @@ fn to_found(
         Kind::Template => {
             let a = begin_template(page, st);
             let c = to_parts(options, u, scratch, templates, page, a);
-            close(page, c, p, 0x90)
+            close(page, c, p, JSX_TEMPLATE)
         }
         Kind::Run => to_entries(options, u, 0, scratch, templates, page, st),
         Kind::Expr => match elements(u, splice) {
@@ -467,10 +487,10 @@ fn to_found(
         }
         Kind::Many(known) => {
             let c = to_entries(options, u, known, scratch, templates, page, begin(st));
-            close(page, c, p, 0x76)
+            close(page, c, p, ARRAY)
         }
         Kind::Empty if splice => st,
-        Kind::Empty => close(page, begin(st), p, 0x76),
+        Kind::Empty => close(page, begin(st), p, ARRAY),
         Kind::Hole => hole_leaf(page, st, splice),
     }
 }
@@ -496,8 +516,8 @@ fn to_entries(
     for field in Fields(s) {
         let b = field.body;
         match field.tag {
-            0x60 => run = join_text(page, cur.page, run, b),
-            0x52 => {
+            TEXT => run = join_text(page, cur.page, run, b),
+            CONTAINER => {
                 if joins(b) {
                     run = join_container(page, cur.page, run, b);
                 } else {
@@ -506,12 +526,12 @@ fn to_entries(
                     cur = on_expr(options, b, scratch, templates, page, a);
                 }
             }
-            0x30 => {
+            ELEMENT => {
                 let a = flush(page, cur, run);
                 run = 0;
                 cur = to_jsx(options, b, scratch, templates, page, a);
             }
-            0x31 => {
+            FRAGMENT => {
                 let a = flush(page, cur, run);
                 run = 0;
                 let f = found_in(options.skip, s, b, known);

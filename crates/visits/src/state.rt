@@ -6,6 +6,7 @@ ghost use Rattle.visits.specs.Visiting as Visiting;
 ghost use Rattle.visits.specs.Visiting.{recording, entered, with_first, Spliced};
 
 use field::reader::{Field, field_at};
+use field::tags::{ARRAY, ELEMENT, FRAGMENT};
 use found::{Found, Kind};
 use records::Records;
 use walk::state::{Seen, Walk};
@@ -51,7 +52,7 @@ pub fn is_left(f: Found, s: &[u8]) -> bool
         Kind::Expr => matches!(
             field_at(f.part(s)),
             Some(Field {
-                tag: 0x30 | 0x31,
+                tag: ELEMENT | FRAGMENT,
                 ..
             })
         ),
@@ -71,7 +72,7 @@ pub fn elements(u: &[u8], splice: bool) -> Option<&[u8]>
     ensures { MatchOption result (splice ≡ true → tag_of_front u.now ≡ 0x76 → ⊥) (λ w. Spliced u.now splice w.now) }
 {
     match field_at(u) {
-        Some(Field { tag: 0x76, body }) if splice => Some(body),
+        Some(Field { tag: ARRAY, body }) if splice => Some(body),
         _ => None,
     }
 }

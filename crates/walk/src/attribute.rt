@@ -22,7 +22,9 @@ use decisions::attribute::{
     Attributes, Value, is_boolean, is_key, is_listed, is_ref, put_name, value_at,
 };
 use decisions::expr::{Shape, shape_at};
+use field::HEAD;
 use field::reader::field_at;
+use field::tags::{BOOLEAN, CHOICE, NULL, STATIC_STRING, STRING};
 use strings::joins;
 
 // An 81 with the attribute's name.
@@ -31,8 +33,8 @@ fn name_leaf(page: &mut [u8], st: Walk, a: &[u8], norm: bool) -> Walk
     requires { Low (see (O.leaf 0x81 (get_attr_name (attr_name_in (read a.now)) norm)) (at [] page.old st)).st }
     ensures { at [] page.new result ≡ see (O.leaf 0x81 (get_attr_name (attr_name_in (read a.now)) norm)) (at [] page.old st) }
 {
-    let e = put_name(page, st.page + 3, a, norm);
-    close_leaf(page, st, e, 0x81)
+    let e = put_name(page, st.page + HEAD, a, norm);
+    close_leaf(page, st, e, STATIC_STRING)
 }
 
 // A field begins with the name.
@@ -166,9 +168,9 @@ pub fn attribute_front(page: &mut [u8], st: Walk, a: &[u8], gap: Gap) -> Walk
 {
     match gap {
         Gap::Nothing => st,
-        Gap::True(norm) => begin_leaf(page, st, a, norm, 0x72, b"\x01"),
-        Gap::String(norm) => begin_leaf(page, st, a, norm, 0x70, string_at(a)),
-        Gap::Null => begin_leaf(page, st, a, false, 0x73, b""),
+        Gap::True(norm) => begin_leaf(page, st, a, norm, BOOLEAN, b"\x01"),
+        Gap::String(norm) => begin_leaf(page, st, a, norm, STRING, string_at(a)),
+        Gap::Null => begin_leaf(page, st, a, false, NULL, b""),
         Gap::Attr(norm) => begin_named(page, st, a, norm),
         Gap::Choice => begin(st),
     }
@@ -229,7 +231,7 @@ pub fn gap_back(page: &mut [u8], st: Walk, p: usize, tag: u8, a: &[u8], gap: Gap
         Gap::Nothing => st,
         Gap::Choice => {
             let x = name_leaf(page, st, a, true);
-            close(page, x, p, 0x93)
+            close(page, x, p, CHOICE)
         }
         Gap::True(_) | Gap::String(_) | Gap::Null | Gap::Attr(_) => close(page, st, p, tag),
     }

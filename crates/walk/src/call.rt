@@ -10,7 +10,9 @@ ghost use Rattle.walk.specs.See.{at, see, begun, props_closed, hole_mid, Low};
 
 use crate::state::{Walk, at_page, begin, close, close_leaf, leaf};
 use decisions::element::{ElementName, element_name_at, is_upper};
+use field::HEAD;
 use field::reader::Fields;
+use field::tags::{ARRAY, HOLE, IDENT, MEMBER, NULL, PROPS, STATIC_STRING};
 use field::writer::{put_byte, put_bytes};
 
 fn member_names(page: &mut [u8], st: Walk, s: &[u8]) -> Walk
@@ -19,8 +21,8 @@ fn member_names(page: &mut [u8], st: Walk, s: &[u8]) -> Walk
 {
     let mut cur = st;
     for field in Fields(s) {
-        if field.tag == 0x40 {
-            cur = leaf(page, cur, 0x40, field.body);
+        if field.tag == IDENT {
+            cur = leaf(page, cur, IDENT, field.body);
         }
     }
     cur
@@ -31,10 +33,10 @@ fn namespaced_leaf(page: &mut [u8], st: Walk, ns: &[u8], n: &[u8]) -> Walk
     requires { Low (see (O.leaf 0x81 (ns.now ++ (58 ∷ n.now))) (at [] page.old st)).st }
     ensures { at [] page.new result ≡ see (O.leaf 0x81 (ns.now ++ (58 ∷ n.now))) (at [] page.old st) }
 {
-    let x = put_bytes(page, st.page + 3, ns);
+    let x = put_bytes(page, st.page + HEAD, ns);
     let y = put_byte(page, x, b':');
     let z = put_bytes(page, y, n);
-    close_leaf(page, st, z, 0x81)
+    close_leaf(page, st, z, STATIC_STRING)
 }
 
 // The first argument of a jsx call.
@@ -43,12 +45,12 @@ pub fn name_expr(page: &mut [u8], st: Walk, b: &[u8]) -> Walk
     ensures { at [] page.new result ≡ see (name_expr (element_name (read b.now))) (at [] page.old st) }
 {
     match element_name_at(b) {
-        ElementName::Identifier(n) if is_upper(n) => leaf(page, st, 0x40, n),
-        ElementName::Identifier(n) => leaf(page, st, 0x81, n),
+        ElementName::Identifier(n) if is_upper(n) => leaf(page, st, IDENT, n),
+        ElementName::Identifier(n) => leaf(page, st, STATIC_STRING, n),
         ElementName::Member(names) => {
             let p = st.page;
             let a = member_names(page, begin(st), names);
-            close(page, a, p, 0x41)
+            close(page, a, p, MEMBER)
         }
         ElementName::Namespaced(ns, n) => namespaced_leaf(page, st, ns, n),
     }
@@ -60,7 +62,7 @@ pub fn children_front(page: &mut [u8], st: Walk, stands: bool) -> Walk
     ensures { at [] page.new result ≡ pick stands (see (O.leaf 0x81 (ascii "children")) (begun (at [] page.old st))) (at [] page.old st) }
 {
     if stands {
-        leaf(page, begin(st), 0x81, b"children")
+        leaf(page, begin(st), STATIC_STRING, b"children")
     } else {
         st
     }
@@ -71,10 +73,10 @@ pub fn close_props(page: &mut [u8], st: Walk, q: usize) -> Walk
     requires { (q + 3 ≤ st.page) × Low (props_closed q (at [] page.old st)).st }
     ensures { at [] page.new result ≡ props_closed q (at [] page.old st) }
 {
-    if st.page == q + 3 {
-        leaf(page, at_page(st, q), 0x73, b"")
+    if st.page == q + HEAD {
+        leaf(page, at_page(st, q), NULL, b"")
     } else {
-        close(page, st, q, 0x95)
+        close(page, st, q, PROPS)
     }
 }
 
@@ -84,9 +86,9 @@ pub fn hole_leaf(page: &mut [u8], st: Walk, splice: bool) -> Walk
     ensures { at [] page.new result ≡ see (hole_mid splice) (at [] page.old st) }
 {
     if splice {
-        return leaf(page, st, 0x78, b"");
+        return leaf(page, st, HOLE, b"");
     }
     let p = st.page;
-    let x = leaf(page, begin(st), 0x78, b"");
-    close(page, x, p, 0x76)
+    let x = leaf(page, begin(st), HOLE, b"");
+    close(page, x, p, ARRAY)
 }

@@ -12,7 +12,12 @@ ghost use Rattle.strings.specs.Carve.{joined_by};
 ghost use Rattle.walk.specs.See.{at, see, to_page, marked, begun, begun_if, wrap, wrap_if, numbered, left, flushed, literal, Low};
 
 use decisions::expr::{boolean_in, put_number_bytes_at};
+use field::HEAD;
 use field::reader::{Field, field_at};
+use field::tags::{
+    BOOLEAN, DECIMAL, ELEMENT, JSX, JSX_ATTR, JSX_ESCAPE, MINUS, MINUS_DECIMAL, NULL, NUMBER,
+    OTHER_LITERAL, STRING,
+};
 use field::writer::{put_bytes, put_four, put_head};
 use strings::due::{Due, graver, with_body};
 use strings::put_joined;
@@ -48,9 +53,9 @@ fn mark(seen: Seen, tag: u8, len: usize) -> Seen
     ensures { result ≡ marked tag len seen }
 {
     Seen {
-        jsx: seen.jsx || tag == 0x94,
-        attr: seen.attr || tag == 0x91,
-        escape: seen.escape || tag == 0x92,
+        jsx: seen.jsx || tag == JSX,
+        attr: seen.attr || tag == JSX_ATTR,
+        escape: seen.escape || tag == JSX_ESCAPE,
         due: with_body(seen.due, len),
     }
 }
@@ -60,7 +65,7 @@ pub fn begin(st: Walk) -> Walk
     requires { st.page + 3 < 2 ^ 63 }
     ensures { result ≡ to_page (st.page + 3) st }
 {
-    at_page(st, st.page + 3)
+    at_page(st, st.page + HEAD)
 }
 
 pub fn begin_if(st: Walk, b: bool) -> Walk
@@ -76,7 +81,7 @@ pub fn close(page: &mut [u8], st: Walk, p: usize, tag: u8) -> Walk
     ensures { at [] page.new result ≡ wrap tag p (at [] page.old st) }
 {
     let end = st.page;
-    let len = end - (p + 3);
+    let len = end - (p + HEAD);
     put_head(page, p, tag, len);
     Walk {
         seen: mark(st.seen, tag, len),
@@ -108,7 +113,7 @@ pub fn leaf(page: &mut [u8], st: Walk, tag: u8, b: &[u8]) -> Walk
     requires { Low (see (O.leaf tag b.now) (at [] page.old st)).st }
     ensures { at [] page.new result ≡ see (O.leaf tag b.now) (at [] page.old st) }
 {
-    let e = put_bytes(page, st.page + 3, b);
+    let e = put_bytes(page, st.page + HEAD, b);
     close_leaf(page, st, e, tag)
 }
 
@@ -118,7 +123,7 @@ fn number_leaf(page: &mut [u8], st: Walk, tag: u8, s: &[u8]) -> Walk
     requires { Low (see (O.leaf tag (number_bytes (number_at s.now))) (at [] page.old st)).st }
     ensures { at [] page.new result ≡ see (O.leaf tag (number_bytes (number_at s.now))) (at [] page.old st) }
 {
-    let e = put_number_bytes_at(page, st.page + 3, s);
+    let e = put_number_bytes_at(page, st.page + HEAD, s);
     close_leaf(page, st, e, tag)
 }
 
@@ -128,14 +133,14 @@ pub fn literal_leaf(page: &mut [u8], st: Walk, s: &[u8]) -> Walk
     ensures { at [] page.new result ≡ see (literal (expr_in (read s.now))) (at [] page.old st) }
 {
     let field = field_at(s).unwrap_or(Field {
-        tag: 0x73,
+        tag: NULL,
         body: &[],
     });
     match field.tag {
-        0x70 | 0x74 => leaf(page, st, field.tag, field.body),
-        0x71 | 0x75 | 0x7a | 0x7b => number_leaf(page, st, field.tag, s),
-        0x72 => leaf(page, st, 0x72, &[u8::from(boolean_in(field.body))]),
-        _ => leaf(page, st, 0x73, b""),
+        STRING | OTHER_LITERAL => leaf(page, st, field.tag, field.body),
+        NUMBER | MINUS | DECIMAL | MINUS_DECIMAL => number_leaf(page, st, field.tag, s),
+        BOOLEAN => leaf(page, st, BOOLEAN, &[u8::from(boolean_in(field.body))]),
+        _ => leaf(page, st, NULL, b""),
     }
 }
 
@@ -145,8 +150,8 @@ pub fn attr_string_leaf(page: &mut [u8], st: Walk, s: &[u8]) -> Walk
     requires { Low (see (string_node (normalize_lit_str s.now)) (at [] page.old st)).st }
     ensures { at [] page.new result ≡ see (string_node (normalize_lit_str s.now)) (at [] page.old st) }
 {
-    let e = normalize_lit_str(page, st.page + 3, s);
-    close_leaf(page, st, e, 0x70)
+    let e = normalize_lit_str(page, st.page + HEAD, s);
+    close_leaf(page, st, e, STRING)
 }
 
 // A 70 with the text of an only child.
@@ -155,8 +160,8 @@ pub fn text_leaf(page: &mut [u8], st: Walk, s: &[u8]) -> Walk
     requires { Low (see (string_node (jsx_text_to_str s.now false true)) (at [] page.old st)).st }
     ensures { at [] page.new result ≡ see (string_node (jsx_text_to_str s.now false true)) (at [] page.old st) }
 {
-    let e = jsx_text_to_str(page, st.page + 3, s, false, true);
-    close_leaf(page, st, e, 0x70)
+    let e = jsx_text_to_str(page, st.page + HEAD, s, false, true);
+    close_leaf(page, st, e, STRING)
 }
 
 // A text joins the run of that length behind an open head at p; the run's length then. A run is told by its length, since its bytes stand in
@@ -166,7 +171,7 @@ pub fn join_text(page: &mut [u8], p: usize, run: usize, s: &[u8]) -> usize
     requires { p + 3 + run + length (jsx_text_to_str s.now false false) < 2 ^ 63 }
     ensures { Wrote page.old (p + 3 + run) (jsx_text_to_str s.now false false) page.new (p + 3 + result) }
 {
-    jsx_text_to_str(page, p + 3 + run, s, false, false) - (p + 3)
+    jsx_text_to_str(page, p + HEAD + run, s, false, false) - (p + HEAD)
 }
 
 // A container does.
@@ -174,7 +179,7 @@ pub fn join_container(page: &mut [u8], p: usize, run: usize, c: &[u8]) -> usize
     requires { p + 3 + run + length (joined_by (contained_in (read c.now))) < 2 ^ 63 }
     ensures { Wrote page.old (p + 3 + run) (joined_by (contained_in (read c.now))) page.new (p + 3 + result) }
 {
-    put_joined(page, p + 3 + run, c) - (p + 3)
+    put_joined(page, p + HEAD + run, c) - (p + HEAD)
 }
 
 // The run behind an open head becomes a 70, where it holds something.
@@ -186,7 +191,7 @@ pub fn flush(page: &mut [u8], st: Walk, run: usize) -> Walk
         return st;
     }
     let p = st.page;
-    close(page, at_page(st, p + (3 + run)), p, 0x70)
+    close(page, at_page(st, p + (HEAD + run)), p, STRING)
 }
 
 // A call of a template begins: it takes the next number of the first pass.
@@ -196,7 +201,7 @@ pub fn begin_template(page: &mut [u8], st: Walk) -> Walk
 {
     let n = st.first;
     Walk {
-        page: put_four(page, st.page + 3, n),
+        page: put_four(page, st.page + HEAD, n),
         first: n + 1,
         ..st
     }
@@ -208,7 +213,7 @@ pub fn leave(page: &mut [u8], st: Walk) -> Walk
     requires { Low (left (at [] page.old st)).st }
     ensures { at [] page.new result ≡ left (at [] page.old st) }
 {
-    let w = leaf(page, st, 0x30, b"");
+    let w = leaf(page, st, ELEMENT, b"");
     let due = graver(w.seen.due, Due::Left);
     Walk {
         seen: Seen { due, ..w.seen },

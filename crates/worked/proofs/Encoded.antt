@@ -12,7 +12,7 @@ use Rattle.page.specs.Page.{Name, identifier, member, namespaced, Tag, element, 
 use Rattle.page.specs.Tree.{choose, pieces_in, page_in}
 use Rattle.page.specs.Encode.{name_row, attr_name_row, tag_row, attributes_row, value_row, children_row, expr_row, items_row, pieces_row, module_items_row, page_row, encode}
 use Rattle.page.specs.Check.{check_page}
-use Rattle.page.specs.Refusal.{Fine}
+use Rattle.refusal.specs.Refusal.{Fine}
 use Rattle.page.proofs.Sound.{page_sound}
 use Rattle.sums.specs.Value.{Worked}
 use Rattle.sums.specs.declared.value.Sum.TheVariants.{Plus, Minus}

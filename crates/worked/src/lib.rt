@@ -9,7 +9,12 @@ ghost use Rattle.field.specs.Row.{read};
 ghost use Rattle.field.specs.Put.{Wrote};
 ghost use Rattle.worked.specs.Row.{holds, field_sum, worked_bytes, worked_field, is_piece, NextPiece};
 
+use field::HEAD;
 use field::reader::{Field, Fields};
+use field::tags::{
+    ARRAY, ARRAY_SPREAD, ATTRIBUTE, CONTAINER, ELEMENT, EXPORT, FRAGMENT, MINUS, NUMBER,
+    OTHER_EXPRESSION, PAGE, SOURCE, SPREAD, SPREAD_CHILD, STATEMENT,
+};
 use field::writer::{put_bytes, put_field, put_head, put_number_field};
 use sums::reader::{ROOM, sum_in};
 use sums::value::Sum;
@@ -21,7 +26,16 @@ fn may_hold(tag: u8) -> bool
 {
     matches!(
         tag,
-        0x01 | 0x10..=0x12 | 0x30 | 0x31 | 0x50 | 0x52 | 0x53 | 0x61 | 0x76 | 0x77 | 0x79
+        PAGE | EXPORT..=STATEMENT
+            | ELEMENT
+            | FRAGMENT
+            | ATTRIBUTE
+            | CONTAINER
+            | SPREAD
+            | SPREAD_CHILD
+            | ARRAY
+            | ARRAY_SPREAD
+            | OTHER_EXPRESSION
     )
 }
 
@@ -30,7 +44,7 @@ fn may_hold(tag: u8) -> bool
 fn is_piece(tag: u8) -> bool
     ensures { result ≡ is_piece tag }
 {
-    matches!(tag, 0x20 | 0x30 | 0x31)
+    matches!(tag, SOURCE | ELEMENT | FRAGMENT)
 }
 
 // The next piece of a row.
@@ -46,12 +60,12 @@ fn sum_of_field(field: Field<'_>, words: &mut [u64; ROOM]) -> Option<Sum>
     requires { length field.body.now ≤ 32768 }
     ensures { result ≡ field_sum field.entry.tag (read field.entry.body.now) }
 {
-    if field.tag != 0x79 {
+    if field.tag != OTHER_EXPRESSION {
         return None;
     }
     let mut pieces = Fields(field.body);
     match (next_piece(&mut pieces), next_piece(&mut pieces)) {
-        (Some(Field { tag: 0x20, body }), None) => sum_in(body, words),
+        (Some(Field { tag: SOURCE, body }), None) => sum_in(body, words),
         _ => None,
     }
 }
@@ -66,11 +80,11 @@ fn work_field(field: Field<'_>, words: &mut [u64; ROOM], out: &mut [u8], at: usi
         return put_field(out, at, field.tag, field.body);
     }
     match sum_of_field(field, words) {
-        Some(Sum::Plus(n)) => put_number_field(out, at, 0x71, n),
-        Some(Sum::Minus(n)) => put_number_field(out, at, 0x75, n),
+        Some(Sum::Plus(n)) => put_number_field(out, at, NUMBER, n),
+        Some(Sum::Minus(n)) => put_number_field(out, at, MINUS, n),
         None => {
-            let e = work_fields(field.body, words, out, at + 3);
-            put_head(out, at, field.tag, e - (at + 3));
+            let e = work_fields(field.body, words, out, at + HEAD);
+            put_head(out, at, field.tag, e - (at + HEAD));
             e
         }
     }

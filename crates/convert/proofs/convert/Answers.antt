@@ -3,14 +3,14 @@ use mathlib.Core.Path.{◌≡◌, refl, sym, ap, ◌∙◌, subst}
 use native.Mathlib.Omega.{arith}
 use Rattle.field.specs.Bytes.{AllBytes}
 use Rattle.field.proofs.NumberLaws.{all_from}
-use Rattle.page.specs.Refusal.{Fine, refusal_number}
-use Rattle.page.specs.declared.Refusal.TheVariants as R
+use Rattle.refusal.specs.Refusal.{Fine, refusal_number}
+use Rattle.refusal.specs.declared.Refusal.TheVariants as R
 use Rattle.std.proofs.lemmas.Bool.{leb-true, leb-false, not-true, not-false}
 use Rattle.outs.specs.Held.{read_out}
 use Rattle.outs.specs.PageOut.{check_page_out}
 use Rattle.outs.specs.Templates.{check_templates}
 use Rattle.outs.specs.Renumber.{Renumbers}
-use Rattle.page.proofs.Verdicts.{refused_by, fine_by}
+use Rattle.refusal.proofs.Verdicts.{refused_by, fine_by}
 use Rattle.field.specs.Row.{read}
 use Rattle.std.specs.Result.{result_ok}
 use Rattle.convert.specs.Convert.{refused}

@@ -1,12 +1,12 @@
 -- `utf8::is_ascii` meets its contract. The invariant: the words tested so far are ASCII. Assumes nothing.
 use mathlib.Core.Path.{refl}
 use native.Mathlib.Omega.{arith}
-use Rattle.utf8.specs.Utf8.{ascii}
+use Rattle.utf8.specs.Utf8.{all_ascii}
 use Rattle.utf8.proofs.Words.{words_on}
 use Rattle.utf8.proofs.is_ascii.Goals as goal
 
 pub loop-word-init : goal.loop-word-init
-unfolding ascii
+unfolding all_ascii
 loop-word-init c = refl
 
 pub loop-word-preserved : goal.loop-word-preserved

@@ -6,7 +6,7 @@ use native.Mathlib.Omega.{arith}
 use lib.ListN.{length}
 use Rattle.std.specs.Prelude.{Ok, Err}
 use Rattle.field.proofs.NumberLaws.{all_from}
-use Rattle.page.specs.Refusal.{refusal_number}
+use Rattle.refusal.specs.Refusal.{refusal_number}
 use Rattle.catalogue.specs.Page.{Page, IsBytes, A14}
 use Rattle.catalogue.specs.Catalogue.{Holds}
 use Rattle.catalogue.specs.Shares.{Shares}

@@ -4,7 +4,7 @@ use native.Mathlib.Omega.{arith}
 use Rattle.field.specs.Bytes.{Bytes}
 use Rattle.field.specs.Row.{read}
 use Rattle.field.proofs.NumberLaws.{all_from}
-use Rattle.page.specs.Refusal.{Fine}
+use Rattle.refusal.specs.Refusal.{Fine}
 use Rattle.outs.specs.PageOut.{check_page_out}
 use Rattle.outs.specs.Templates.{check_templates}
 use Rattle.outs.specs.declared.Kind.TheVariants.{New}

@@ -2,7 +2,7 @@
 use mathlib.Core.Path.{sym, ap, ◌∙◌}
 use Rattle.field.specs.Bytes.{AllBytes}
 use Rattle.field.proofs.NumberLaws.{all_from}
-use Rattle.page.specs.Refusal.{refusal_number}
+use Rattle.refusal.specs.Refusal.{refusal_number}
 use Rattle.catalogue.specs.Calls.{refused}
 use Rattle.catalogue_calls.specs.Leaves.{Finds}
 use Rattle.catalogue_calls.specs.Judges.{unkept_number}

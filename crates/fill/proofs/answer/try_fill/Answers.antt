@@ -5,9 +5,9 @@ use Rattle.std.specs.Prelude.{Some}
 use Rattle.std.proofs.lemmas.Bool.{leb-true, leb-false}
 use Rattle.field.specs.Row.{read}
 use Rattle.std.specs.Result.{result_ok}
-use Rattle.page.specs.Refusal.{Fine, refusal_number}
-use Rattle.page.specs.declared.Refusal.TheVariants as R
-use Rattle.page.proofs.Verdicts.{refused_by, fine_by}
+use Rattle.refusal.specs.Refusal.{Fine, refusal_number}
+use Rattle.refusal.specs.declared.Refusal.TheVariants as R
+use Rattle.refusal.proofs.Verdicts.{refused_by, fine_by}
 use Rattle.outs.specs.Templates.{check_templates}
 use Rattle.outs.specs.declared.Kind.TheVariants.{New}
 use Rattle.fill.specs.Answer.{refused}

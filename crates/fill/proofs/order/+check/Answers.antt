@@ -14,11 +14,11 @@ check_body-returns t c = body_then _ _ c.in-len4-up.len_at_least c.check_filling
 pub check_filling-returns-in_err-check_header : goal.check_filling-returns-in_err-check_header
 check_filling-returns-in_err-check_header t c = exit_at (filling_header _ _ _ c.is_filling.ensures) c.check_header.ensures.gives c.in_err-check_header.was c.from_residual.ensures
 
-pub check_filling-returns-then-tag-eq133 : goal.check_filling-returns-then-tag-eq133
-check_filling-returns-then-tag-eq133 t c = last_at (filling_body _ _ _ c.is_filling.ensures c.if-tag-eq133.true) c.check_header.ensures.gives c.in_ok-check_header.was c.check_body.ensures
+pub check_filling-returns-then-tag-eq-ORDER : goal.check_filling-returns-then-tag-eq-ORDER
+check_filling-returns-then-tag-eq-ORDER t c = last_at (filling_body _ _ _ c.is_filling.ensures c.if-tag-eq-ORDER.true) c.check_header.ensures.gives c.in_ok-check_header.was c.check_body.ensures
 
-pub check_filling-returns-else-tag-eq133 : goal.check_filling-returns-else-tag-eq133
-check_filling-returns-else-tag-eq133 t c = last_at (filling_text _ _ _ c.is_filling.ensures c.if-tag-eq133.false) c.check_header.ensures.gives c.in_ok-check_header.was c.check_short_text.ensures
+pub check_filling-returns-else-tag-eq-ORDER : goal.check_filling-returns-else-tag-eq-ORDER
+check_filling-returns-else-tag-eq-ORDER t c = last_at (filling_text _ _ _ c.is_filling.ensures c.if-tag-eq-ORDER.false) c.check_header.ensures.gives c.in_ok-check_header.was c.check_short_text.ensures
 
 pub check_fillings-loop-filling-preserved : goal.check_fillings-loop-filling-preserved
 check_fillings-loop-filling-preserved t c = (omega (arith, c.loop-filling.invariant.0, (c.in-Some.ensures.steps).sizes), c.loop-filling.invariant.1 ∙ on_at (fillings_step _ c.in-Some.ensures.steps) c.check_filling.ensures c.in_ok-check_filling.was)

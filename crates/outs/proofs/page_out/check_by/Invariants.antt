@@ -1,7 +1,7 @@
 use Prim.Native.Nat.{◌+◌, ◌-◌}
 use mathlib.Core.Path.{◌≡◌}
 use lib.ListN.{length}
-use Rattle.page.specs.Refusal.{Fine}
+use Rattle.refusal.specs.Refusal.{Fine}
 use Rattle.loops.proofs.Turns.{Going}
 use Rattle.outs.specs.PageOut.{check_page_out}
 use Rattle.outs.proofs.Checks.{checks}

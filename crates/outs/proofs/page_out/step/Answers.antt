@@ -3,11 +3,11 @@ use mathlib.Core.Path.{sym, ap, subst, ◌∙◌}
 use native.Mathlib.Omega.{arith}
 use Rattle.std.specs.Prelude.{Err}
 use Rattle.std.proofs.lemmas.Bool.{leb-true, leb-false}
-use Rattle.page.specs.declared.Refusal.TheVariants as R
+use Rattle.refusal.specs.declared.Refusal.TheVariants as R
 use Rattle.loops.proofs.Headers.{header_short}
 use Rattle.outs.specs.Step.{Stepped}
 use Rattle.outs.proofs.NoField.{ended_there, torn_there}
-use Rattle.page.proofs.Verdicts.{refused_by, fine_by}
+use Rattle.refusal.proofs.Verdicts.{refused_by, fine_by}
 use Rattle.outs.proofs.StepLaws.{handed_on, ended, torn, unallowed, short_front, opens, leaf_bad, leaf_ends}
 use Rattle.outs.proofs.page_out.step.Goals as goal
 
@@ -46,8 +46,8 @@ returns-in_ok-refuse_unless-in-Some-front_of c = let h = c.read_header.ensures i
 pub returns-in_err-check_leaf-in-None : goal.returns-in_err-check_leaf-in-None
 returns-in_err-check_leaf-in-None c = let h = c.read_header.ensures in let a = sym c.is_allowed.ensures ∙ fine_by R.Misplaced c.refuse_unless.ensures c.in_ok-refuse_unless.was in
     subst (Stepped c.args.width c.args.expect c.args.b.now) (sym (handed_on c.from_residual-in_err-check_leaf-in-None.ensures))
-    (leaf_bad _ _ _ h.0 h.1 c.in-Some.is a c.in-None.ensures (rw c.from.ensures at c.check_leaf.ensures) c.in_err-check_leaf-in-None.was)
+    (leaf_bad _ _ _ h.0 h.1 c.in-Some.is a c.in-None.ensures c.check_leaf.ensures c.in_err-check_leaf-in-None.was)
 
 pub returns-in_ok-check_leaf-in-None : goal.returns-in_ok-check_leaf-in-None
 returns-in_ok-check_leaf-in-None c = let h = c.read_header.ensures in let a = sym c.is_allowed.ensures ∙ fine_by R.Misplaced c.refuse_unless.ensures c.in_ok-refuse_unless.was in
-    rw c.left_of-after.ensures (leaf_ends _ _ _ h.0 h.1 c.in-Some.is a c.in-None.ensures (rw c.from.ensures at c.check_leaf.ensures) c.in_ok-check_leaf-in-None.was)
+    rw c.left_of-after.ensures (leaf_ends _ _ _ h.0 h.1 c.in-Some.is a c.in-None.ensures c.check_leaf.ensures c.in_ok-check_leaf-in-None.was)

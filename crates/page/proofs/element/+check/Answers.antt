@@ -11,10 +11,10 @@ pub check_attribute-returns-in_err-check_depth-in-Some-eq64 : goal.check_attribu
 check_attribute-returns-in_err-check_depth-in-Some-eq64 t c = exit_at (attribute_name _ c.in-Some-eq64.ensures.steps (λ y z. omega (arith, y, z))) c.check_depth.ensures.gives c.in_err-check_depth-in-Some-eq64.was c.from_residual.ensures
 
 pub check_attribute-returns-in_err-check_name_by-in-Some-eq64 : goal.check_attribute-returns-in_err-check_name_by-in-Some-eq64
-check_attribute-returns-in_err-check_name_by-in-Some-eq64 t c = exit_at (next_at (attribute_name _ c.in-Some-eq64.ensures.steps (λ y z. omega (arith, y, z))) c.check_depth.ensures.gives c.in_ok-check_depth-in-Some-eq64.was) (rw c.from.ensures at c.check_name_by.ensures) c.in_err-check_name_by-in-Some-eq64.was c.from_residual-in_err-check_name_by-in-Some-eq64.ensures
+check_attribute-returns-in_err-check_name_by-in-Some-eq64 t c = exit_at (next_at (attribute_name _ c.in-Some-eq64.ensures.steps (λ y z. omega (arith, y, z))) c.check_depth.ensures.gives c.in_ok-check_depth-in-Some-eq64.was) c.check_name_by.ensures c.in_err-check_name_by-in-Some-eq64.was c.from_residual-in_err-check_name_by-in-Some-eq64.ensures
 
 pub check_attribute-returns-in_ok-check_name_by-in-Some-eq64 : goal.check_attribute-returns-in_ok-check_name_by-in-Some-eq64
-check_attribute-returns-in_ok-check_name_by-in-Some-eq64 t c = last_at (next_at (attribute_name _ c.in-Some-eq64.ensures.steps (λ y z. omega (arith, y, z))) c.check_depth.ensures.gives c.in_ok-check_depth-in-Some-eq64.was) (rw c.from.ensures at c.check_name_by.ensures) c.in_ok-check_name_by-in-Some-eq64.was c.check_value.ensures
+check_attribute-returns-in_ok-check_name_by-in-Some-eq64 t c = last_at (next_at (attribute_name _ c.in-Some-eq64.ensures.steps (λ y z. omega (arith, y, z))) c.check_depth.ensures.gives c.in_ok-check_depth-in-Some-eq64.was) c.check_name_by.ensures c.in_ok-check_name_by-in-Some-eq64.was c.check_value.ensures
 
 pub check_attribute-returns-in-Some : goal.check_attribute-returns-in-Some
 check_attribute-returns-in-Some t c = attribute_other _ c.in-Some.ensures.steps (λ z. grind (arith, z)) (λ z. grind (arith, z))
@@ -74,7 +74,7 @@ pub check_expr_field-returns-in_err-check_depth-in-113 : goal.check_expr_field-r
 check_expr_field-returns-in_err-check_depth-in-113 t c = exit_at (expr_number _ _ (λ w x y z. grind (arith, w, x, y, z))) c.check_depth-in-113.ensures.gives c.in_err-check_depth-in-113.was c.from_residual-in_err-check_depth-in-113.ensures
 
 pub check_expr_field-returns-in_ok-check_depth-in-113 : goal.check_expr_field-returns-in_ok-check_depth-in-113
-check_expr_field-returns-in_ok-check_depth-in-113 t c = last_at (expr_number _ _ (λ w x y z. grind (arith, w, x, y, z))) c.check_depth-in-113.ensures.gives c.in_ok-check_depth-in-113.was (rw c.from.ensures at c.check_number.ensures)
+check_expr_field-returns-in_ok-check_depth-in-113 t c = last_at (expr_number _ _ (λ w x y z. grind (arith, w, x, y, z))) c.check_depth-in-113.ensures.gives c.in_ok-check_depth-in-113.was c.check_number.ensures
 
 pub check_expr_field-returns-in_default : goal.check_expr_field-returns-in_default
 check_expr_field-returns-in_default t c =

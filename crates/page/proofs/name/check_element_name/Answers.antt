@@ -9,7 +9,7 @@ pub returns-in_err-check_depth-in-Some-64-to-66 : goal.returns-in_err-check_dept
 returns-in_err-check_depth-in-Some-64-to-66 c = exit_at (element_name _ c.in-Some-64-to-66.ensures (omega arith) (omega arith)) c.check_depth.ensures.gives c.in_err-check_depth-in-Some-64-to-66.was c.from_residual.ensures
 
 pub returns-in_ok-check_depth-in-Some-64-to-66 : goal.returns-in_ok-check_depth-in-Some-64-to-66
-returns-in_ok-check_depth-in-Some-64-to-66 c = last_at (element_name _ c.in-Some-64-to-66.ensures (omega arith) (omega arith)) c.check_depth.ensures.gives c.in_ok-check_depth-in-Some-64-to-66.was (rw c.from.ensures at c.check_name_by.ensures)
+returns-in_ok-check_depth-in-Some-64-to-66 c = last_at (element_name _ c.in-Some-64-to-66.ensures (omega arith) (omega arith)) c.check_depth.ensures.gives c.in_ok-check_depth-in-Some-64-to-66.was c.check_name_by.ensures
 
 pub returns-in-Some : goal.returns-in-Some
 returns-in-Some c = element_below _ c.in-Some.ensures (omega arith)

@@ -40,11 +40,11 @@ print_field-put_quoted-requires t c = room_is _ (first_quoted _ _ c.parts.ensure
 
 pub print_field-put_number-requires : goal.print_field-put_number-requires
 unfolding text_by choose
-print_field-put_number-requires t c = rw c.from.ensures (room_is _ (first_number _ _ c.parts.ensures.front c.parts.ensures.inner c.in-113.is) c.requires)
+print_field-put_number-requires t c = room_is _ (first_number _ _ c.parts.ensures.front c.parts.ensures.inner c.in-113.is) c.requires
 
 pub print_field-put_minus-requires : goal.print_field-put_minus-requires
 unfolding text_by choose
-print_field-put_minus-requires t c = rw c.from-in-117.ensures (room_is _ (first_minus _ _ c.parts.ensures.front c.parts.ensures.inner c.in-117.is) c.requires)
+print_field-put_minus-requires t c = room_is _ (first_minus _ _ c.parts.ensures.front c.parts.ensures.inner c.in-117.is) c.requires
 
 pub print_field-print_between-requires : goal.print_field-print_between-requires
 unfolding text_by choose
@@ -97,7 +97,7 @@ print_field-returns-in-112 t c = wrote_is (sym (first_quoted _ _ c.parts.ensures
 
 pub print_field-returns-in-113 : goal.print_field-returns-in-113
 unfolding text_by choose
-print_field-returns-in-113 t c = wrote_is (sym (first_number _ _ c.parts.ensures.front c.parts.ensures.inner c.in-113.is)) (rw c.from.ensures at c.put_number.ensures)
+print_field-returns-in-113 t c = wrote_is (sym (first_number _ _ c.parts.ensures.front c.parts.ensures.inner c.in-113.is)) c.put_number.ensures
 
 pub print_field-returns-in-114 : goal.print_field-returns-in-114
 unfolding text_by choose
@@ -109,7 +109,7 @@ print_field-returns-in-115 t c = wrote_is (sym (first_at _ _ c.parts.ensures.fro
 
 pub print_field-returns-in-117 : goal.print_field-returns-in-117
 unfolding text_by choose
-print_field-returns-in-117 t c = wrote_is (sym (first_minus _ _ c.parts.ensures.front c.parts.ensures.inner c.in-117.is)) (rw c.from-in-117.ensures at c.put_minus.ensures)
+print_field-returns-in-117 t c = wrote_is (sym (first_minus _ _ c.parts.ensures.front c.parts.ensures.inner c.in-117.is)) c.put_minus.ensures
 
 pub print_field-returns-in-118 : goal.print_field-returns-in-118
 unfolding text_by choose

@@ -7,13 +7,13 @@ use Rattle.read_tag.proofs.NameWalkLaws.{parts_end}
 use Rattle.read_tag.proofs.NameFieldLaws.{name_many}
 use Rattle.read_tag.proofs.name.put_name.Goals as goal
 
-pub returns-then-tag-eq64 : goal.returns-then-tag-eq64
+pub returns-then-tag-eq-IDENT : goal.returns-then-tag-eq-IDENT
 unfolding NamePut
-returns-then-tag-eq64 c n u f g = let pre = c.requires in wrote_is (ident_name _ _ _ _ _ n pre.1 pre.2 u f g c.if-tag-eq64.true c.trim_end.ensures.value) c.put_field.ensures
+returns-then-tag-eq-IDENT c n u f g = let pre = c.requires in wrote_is (ident_name _ _ _ _ _ n pre.1 pre.2 u f g c.if-tag-eq-IDENT.true c.trim_end.ensures.value) c.put_field.ensures
 
 pub overflow_sub-o : goal.overflow_sub-o
 overflow_sub-o c = parts_end _ _ _ _ _ _ c.put_parts-o.ensures c.requires.0
 
-pub returns-else-tag-eq64 : goal.returns-else-tag-eq64
+pub returns-else-tag-eq-IDENT : goal.returns-else-tag-eq-IDENT
 unfolding PartsPut NamePut
-returns-else-tag-eq64 c n u f g = wrote_is (name_many n _ f g c.if-tag-eq64.false) (wrote_behind _ refl (c.put_parts-o.ensures n _ u) c.put_head.ensures)
+returns-else-tag-eq-IDENT c n u f g = wrote_is (name_many n _ f g c.if-tag-eq-IDENT.false) (wrote_behind _ refl (c.put_parts-o.ensures n _ u) c.put_head.ensures)

@@ -4,9 +4,9 @@ use mathlib.Core.Path.{sym, ◌∙◌, ap}
 use Rattle.std.proofs.lemmas.Bool.{leb-true, leb-false}
 use Rattle.std.specs.Prelude.{Err}
 use Rattle.std.proofs.lemmas.Result.{err_from_is_err_and}
-use Rattle.page.specs.declared.Refusal.{Refusal}
+use Rattle.refusal.specs.declared.Refusal.{Refusal}
 use Rattle.tag_pass.specs.declared.answer.Unread.TheVariants as U
-use Rattle.page.proofs.Verdicts.{refused_by, fine_by}
+use Rattle.refusal.proofs.Verdicts.{refused_by, fine_by}
 use Rattle.tag_pass.proofs.AnswerLaws.{handed, field_long, field_no_utf8, field_unread, field_read}
 use Rattle.tag_pass.proofs.answer.read_field.Goals as goal
 

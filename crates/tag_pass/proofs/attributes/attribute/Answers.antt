@@ -8,8 +8,8 @@ use Rattle.tag_pass.proofs.attributes.attribute.Goals as goal
 pub returns-in_err-name : goal.returns-in_err-name
 returns-in_err-name c = rw c.from_residual.ensures (attribute_none c.in_err-name.ensures)
 
-pub returns-then-name-eq65 : goal.returns-then-name-eq65
-returns-then-name-eq65 c = attribute_member _ c.in_ok-name.ensures c.if-name-eq65.true
+pub returns-then-name-eq-MEMBER : goal.returns-then-name-eq-MEMBER
+returns-then-name-eq-MEMBER c = attribute_member _ c.in_ok-name.ensures c.if-name-eq-MEMBER.true
 
 pub put_name-b-requires : goal.put_name-b-requires
 unfolding big_endian
@@ -20,4 +20,4 @@ pub behind_name-requires : goal.behind_name-requires
 behind_name-requires c = attribute_bounded _ _ _ _ c.requires.0 c.in_ok-name.ensures c.put_head-a.ensures c.put_name-b.ensures c.wrote-w.ensures refl
 
 pub returns : goal.returns
-returns c = attribute_found c.requires.0.grown c.in_ok-name.ensures c.if-name-eq65.false c.put_head-a.ensures c.put_name-b.ensures refl c.name_depth-d.ensures c.wrote-w.ensures refl c.behind_name.ensures
+returns c = attribute_found c.requires.0.grown c.in_ok-name.ensures c.if-name-eq-MEMBER.false c.put_head-a.ensures c.put_name-b.ensures refl c.name_depth-d.ensures c.wrote-w.ensures refl c.behind_name.ensures

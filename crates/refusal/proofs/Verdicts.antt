@@ -1,17 +1,15 @@
 -- What it takes for checks in a row to find nothing, and what is known once they did. One law for each combinator, either way.
--- Main statements: `after_fine`, `fine_after`, `header_fine`, `fine_header`, `refused_by`, `fine_by`.
+-- Main statements: `after_fine`, `fine_after`, `unless_fine`, `fine_unless`, `refused_by`, `fine_by`, `number_some`.
 -- Assumes nothing.
 use mathlib.Core.Path.{◌≡◌, refl, sym, ap, ◌∙◌}
-use mathlib.Core.Bool.{Bool, true, false, ◌||◌, not}
+use mathlib.Core.Bool.{Bool, true, false}
 use Prim.Native.Nat.{ℕ}
 use native.Mathlib.Omega.{arith}
-use lib.Dec.{T, leb}
-pub use Rattle.std.proofs.Math.Facts.{and_yes as and_both, yes_and as both_and}
-use Rattle.page.specs.Refusal.{Verdict, Fine, Refused, after, unless}
-use Rattle.page.specs.Check.{check_header}
-use Rattle.page.specs.Limits.{Deep}
-use Rattle.page.specs.declared.Refusal.{Refusal}
-use Rattle.page.specs.declared.Refusal.TheVariants as R
+use lib.Dec.{T, eqb}
+use borrow.Author.Tests.{eqb-false}
+use Rattle.refusal.specs.Refusal.{Verdict, Fine, Refused, after, unless, refusal_number, verdict_number}
+use Rattle.refusal.specs.declared.Refusal.{Refusal}
+use Rattle.refusal.specs.declared.Refusal.TheVariants as R
 
 -- ---- nothing found, so
 
@@ -43,12 +41,6 @@ refused_by {b} {v} {n} {e} u i = on b (sym u ∙ i)
     on true q = refused e (sym q)
     on false q = (refl, cc)
 
-pub header_fine : (ok : Bool) (d : ℕ) → check_header ok d ≡ Fine → T ok × Deep d
-unfolding check_header
-header_fine ok d e =
-    let a = after_fine (unless ok R.Misplaced) (λ _. unless (leb d 48) R.TooDeep) e in
-    (unless_fine ok R.Misplaced a.0, unless_fine (leb d 48) R.TooDeep a.1)
-
 -- ---- so nothing is found
 
 pub fine_after : (v : Verdict) (w : Unit {0} → Verdict) → v ≡ Fine → w tt ≡ Fine → after v w ≡ Fine
@@ -59,32 +51,17 @@ pub fine_unless : (b : Bool) (n : Refusal) → T b → unless b n ≡ Fine
 fine_unless true n t = refl
 fine_unless false n t = absurd t
 
-pub fine_header : (ok : Bool) (d : ℕ) → T ok → Deep d → check_header ok d ≡ Fine
-unfolding check_header
-fine_header ok d t h = fine_after (unless ok R.Misplaced) (λ _. unless (leb d 48) R.TooDeep) (fine_unless ok R.Misplaced t) (fine_unless (leb d 48) R.TooDeep h)
+-- ---- a refusal has a number
 
--- ---- Booleans
+pub number_some : (r : Refusal) → eqb (refusal_number r) 0 ≡ false
+unfolding refusal_number
+number_some R.ScratchTooSmall = refl
+number_some r = refl
 
-pub is_true : (b : Bool) → T b → b ≡ true
-is_true true t = refl
-is_true false t = absurd t
+pub never_zero : (r : Refusal) → refusal_number r ≡ 0 → ⊥
+never_zero r e = eqb-false (refusal_number r) 0 (number_some r) e
 
-pub is_false : (b : Bool) → T (not b) → b ≡ false
-is_false true t = absurd t
-is_false false t = refl
-
-pub or_left : (a b : Bool) → T a → T (a || b)
-or_left true b t = tt
-or_left false b t = absurd t
-
-pub or_right : (a b : Bool) → T b → T (a || b)
-or_right true b t = tt
-or_right false b t = t
-
-pub not_either : (a b : Bool) → T (not a) → T (not b) → T (not (a || b))
-not_either true b t u = absurd t
-not_either false b t u = u
-
-pub or_either : {C : Type 0} (a b : Bool) → T (a || b) → (T a → C) → (T b → C) → C
-or_either true b t p q = p t
-or_either false b t p q = q t
+pub verdict_fine : (v : Verdict) → verdict_number v ≡ 0 → v ≡ Fine
+unfolding verdict_number
+verdict_fine Fine e = refl
+verdict_fine (Refused r) e = absurd (never_zero r e)

@@ -1,7 +1,7 @@
 -- The refusals of 01 by number, and verdicts in a row. Assumes nothing: these are definitions.
 use Rattle.std.specs.Prelude.{ℕ, Bool, true, false, Result, Ok, Err}
-use Rattle.page.specs.declared.Refusal.{Refusal}
-use Rattle.page.specs.declared.Refusal.TheVariants as R
+use Rattle.refusal.specs.declared.Refusal.{Refusal}
+use Rattle.refusal.specs.declared.Refusal.TheVariants as R
 
 -- 01, Limits and the answer: the table's numbers, and 02's 16 and 19. 9 is reserved: since 02's A1 nothing is refused under it
 unfoldable pub refusal_number : Refusal → ℕ
@@ -38,3 +38,8 @@ after (Refused n) v = Refused n
 abbrev pub unless : Bool → Refusal → Verdict
 unless true n = Fine
 unless false n = Refused n
+
+-- what a check says as the number of an answer: 0 where it finds nothing
+unfoldable pub verdict_number : Verdict → ℕ
+verdict_number Fine = 0
+verdict_number (Refused n) = refusal_number n

@@ -1,0 +1,2 @@
+-- The laws of verdicts that the crates above cite.
+pub mod Verdicts
