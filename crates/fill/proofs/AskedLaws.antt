@@ -1,5 +1,5 @@
--- What is known of an order that is fine: how many records it asks for, and that without one of them there is no HTML.
--- Main statements: `order_parts`, `filling_parts`, `order_fillings`, `fillings_few`, `asked_few`, `unknown_gaps`, `unknown_none`, `unknown_at`.
+-- What is known of an order that is fine: what it asks for, and that without one of them there is no HTML.
+-- Main statements: `order_parts`, `filling_parts`, `order_fillings`, `unknown_gaps`, `unknown_none`, `unknown_at`.
 -- Assumes nothing.
 use mathlib.Core.Path.{◌≡◌, refl, ap, ◌∙◌, subst}
 use mathlib.Core.Bool.{Bool, true, false}
@@ -82,7 +82,7 @@ filling_parts d t f i r e =
       rest_fine = b.1;
     }
 
--- ---- each 85 takes a header of three bytes and a number of four
+-- ---- what is asked for
 
 -- what an 85 asks for, and what another field does
 pub asked_behind : (t : ℕ) (f : Bytes) (i r : Row) → (t ≡ 0x85 → ⊥) → asked (field t f i r) ≡ asked r
@@ -93,40 +93,6 @@ pub asked_85 : (t : ℕ) (f : Bytes) (i r : Row) → t ≡ 0x85 → asked (field
 unfolding asked choose
 asked_85 t f i r k = rw k refl
 
--- seven bytes of s for each number that x asks for
-abbrev Few : Bytes → Row → Type 0
-Few s x = (d : ℕ) → check_fillings d x ≡ Fine → 7 * length (asked x) ≤ length s
-
-no_bytes : (t : ℕ) → held_in_order t ≡ only_bytes → t ≡ 0x85 → ⊥
-unfolding held_in_order
-no_bytes t q k = let e : fields_after 4 ≡ only_bytes = subst (λ (u : ℕ). held_in_order u ≡ only_bytes) k q in let z : ◌≡◌ {A = ℕ} 0 1 = cc in omega arith
-
-opens_85 : (t n : ℕ) (w : Bytes) → Opens (held_in_order t) w n → (t ≡ 0x85) × (4 ≡ n)
-unfolding held_in_order
-opens_85 t n w = tested t 0x85 (λ k. rw k (λ (o : 4 ≡ n). (refl, o))) (λ m. rw (ne_eqb t 0x85 m) (λ (o : ⊥). absurd o))
-
-few_end : (s : Bytes) → 7 * length (asked end) ≤ length s
-unfolding asked
-few_end s = omega arith
-
-few_loose : (b s : Bytes) → 7 * length (asked (loose b)) ≤ length s
-unfolding asked
-few_loose b s = omega arith
-
-pub fillings_few : (b : Bytes) (d : ℕ) → check_fillings d (read_order b) ≡ Fine → 7 * length (asked (read_order b)) ≤ length b
-unfolding read_order
-fillings_few =
-    along held_in_order Few (λ s e d h. few_end s) (λ s e d h. few_loose s s)
-    (λ s t w r e q hr d h.
-    let p = filling_parts d t w end (read_by held_in_order r) h in
-    omega (arith, next_sizes s t w r e, ap length (asked_behind t w end (read_by held_in_order r) (no_bytes t q)), hr d p.rest_fine))
-    (λ s t w r n e o hi hr d h.
-    let i : Row = read_by held_in_order (drop n w) in
-    let x : Row = read_by held_in_order r in
-    let k = opens_85 t n w o in
-    let p = filling_parts d t (take n w) i x h in
-    omega (arith, next_sizes s t w r e, ap length (asked_85 t (take n w) i x k.0), length-append (asked i) (asked x), length-drop n w, length-take n w, k.1, p.number_whole k.0, hi (suc d) (p.inner_fine k.0), hr d p.rest_fine))
-
 -- an order is a filling at depth 1
 pub order_fillings : (o : Row) → check_order o ≡ Fine → check_fillings 1 o ≡ Fine
 unfolding check_order check_fillings check_header choose after
@@ -135,9 +101,6 @@ order_fillings (loose b) e = e
 order_fillings (field t f i r) e =
     let p = order_parts t f i r e in
     rw (p.tag_is, p.alone, le-leb 4 (length f) p.number_whole, p.fillings_fine) refl
-
-pub asked_few : (b : Bytes) → check_order (read_order b) ≡ Fine → 7 * length (asked (read_order b)) ≤ length b
-asked_few b e = fillings_few b 1 (order_fillings (read_order b) e)
 
 -- ---- a number without a record
 

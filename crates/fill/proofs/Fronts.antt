@@ -1,4 +1,4 @@
--- Where a field stands in front, by the header as the code reads it. Main statements: `three`, `header`, `none_left`, `filling_there`, `checked_there`, `string_stands`. Assumes
+-- Where a field stands in front, by the header as the code reads it. Main statements: `three`, `header`, `none_left`, `filling_there`, `string_stands`. Assumes
 -- nothing.
 use mathlib.Core.Path.{◌≡◌, refl, sym}
 use Prim.Native.Nat.{ℕ, suc, ◌+◌, ◌-◌, ◌*◌, ◌≤◌}
@@ -51,9 +51,6 @@ none_left s z = is_end s (sym (header_short s (omega (arith, z))))
 -- behind the last filling nothing is loose
 pub filling_there : {found : ℕ → Type 0} {s : Bytes} → FillingsFit found s → (length s ≡ 0 → ⊥) → header_of s ≡ None → ⊥
 filling_there {found} {s} g z h = z (no_bytes s (row_end g (is_end s h)))
-
-pub checked_there : {s : Bytes} → Checked s → (length s ≡ 0 → ⊥) → header_of s ≡ None → ⊥
-checked_there c = filling_there {found = λ n. Unit {0}} record { checked = c; all_found = λ k d l. tt }
 
 -- strings are one more than the kinds
 pub string_stands : (n : ℕ) (s : Bytes) → check_strings (suc n) (read s) ≡ Fine → header_of s ≡ None → ⊥

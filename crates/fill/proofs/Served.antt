@@ -6,7 +6,8 @@ use native.Mathlib.Omega.{arith}
 use mathlib.Core.List.{List, ◌++◌}
 use lib.Seq.{take_at}
 use lib.ListN.{length, take, drop, get_or, length-append, get_or-append}
-use Rattle.std.specs.Prelude.{Option, Some, None}
+use Rattle.std.specs.Prelude.{Option, Some, None, Result, Ok, Err, IsErr, IsErrAnd}
+use Rattle.refusal.specs.declared.Refusal.{Refusal}
 use Rattle.std.specs.List.{Contains}
 use Rattle.std.specs.List.Sorted.{IsNonDecreasing, IsPermutation}
 use Rattle.std.proofs.lemmas.Grind.{get_or_default_zero}
@@ -24,6 +25,11 @@ use Rattle.fill.proofs.AskedLaws.{order_fillings}
 use Rattle.fill.proofs.Firsts.{index_below}
 
 -- ---- the order
+
+-- what a `?` returns for a refusal
+pub err_is : {A : Type 0} (x : Result A Refusal) {n : Refusal} → IsErr x × IsErrAnd x (λ m. m ≡ n) → x ≡ Err n
+err_is (Ok a) h = absurd h.1
+err_is (Err m) h = ap Err h.1
 
 pub checked_whole : {o : Bytes} → check_order (read_order o) ≡ Fine → Checked o
 checked_whole {o} e = record { depth = 1; fine = order_fillings (read_order o) e }

@@ -1,19 +1,20 @@
--- Texts as the code tests them. Main statements: `free_is`, `ascii_is`, `escape_unmarked`, `room_at`. Assumes nothing.
+-- Texts as the code tests them. Main statements: `free_is`, `ascii_is`, `free_ends`, `escape_unmarked`, `room_at`, `escaped_block`. Assumes nothing.
 use mathlib.Core.Path.{◌≡◌, refl, sym, ap, ◌∙◌}
 use mathlib.Core.Bool.{Bool, true, false, ◌&&◌, not, and-eq-true_iff, false≢true}
 use Prim.Native.Nat.{ℕ, ◌+◌, ◌-◌, ◌*◌, ◌≤◌, ◌<◌}
 use native.Mathlib.Omega.{arith}
-use mathlib.Core.List.{[], ◌∷◌}
+use mathlib.Core.List.{[], ◌∷◌, ◌++◌}
 use lib.Dec.{eqb, ltb}
 use lib.ListN.{length, take, drop, length-take}
+use lib.Seq.{take-add}
 use Rattle.field.specs.Bytes.{Bytes}
 use Rattle.field.specs.Put.{Wrote}
 use Rattle.field.proofs.PutLaws.{length_put}
 use Rattle.utf8.specs.Utf8.{all_ascii}
 use Rattle.text.specs.Escape.{escape_html}
 use Rattle.text.specs.Runs.{plain, all}
-use Rattle.text.proofs.RunLaws.{all_on, all_last}
-use Rattle.text.proofs.EscapeLaws.{escape_plain_run, length_escape_html}
+use Rattle.text.proofs.RunLaws.{all_on, all_refused, all_last}
+use Rattle.text.proofs.EscapeLaws.{escape_append, escape_plain_run, length_escape_html}
 use Rattle.spec.specs.Words.{free}
 use Rattle.fill.specs.Writing.{no_sign, unmarked}
 
@@ -25,6 +26,14 @@ pub free_is : (s : Bytes) → all no_sign s ≡ free s
 unfolding all no_sign free
 free_is [] = refl
 free_is (c ∷ s) = rw (free_is s) (and_and (not (eqb c 60)) (not (eqb c 62)) (free s))
+
+-- by its first bytes and its last ones
+pub free_ends : (s : Bytes) → 8 ≤ length s → length s < 16 → (all no_sign (take 8 s) && all no_sign (take 8 (drop (length s - 8) s))) ≡ free s
+free_ends s l k = on (all no_sign (take 8 s)) refl ∙ free_is s
+  where
+    on : (b : Bool) → all no_sign (take 8 s) ≡ b → (b && all no_sign (take 8 (drop (length s - 8) s))) ≡ all no_sign s
+    on true a = all_last no_sign s 8 8 l l (omega (arith, l, k)) (all_on no_sign s 0 8 refl a)
+    on false a = all_refused no_sign s 0 8 refl a
 
 pub ascii_is : (s : Bytes) → all (λ b. ltb b 0x80) s ≡ all_ascii s
 unfolding all all_ascii
@@ -58,5 +67,13 @@ escape_unmarked s l k a b =
 -- ---- a text byte by byte
 
 -- six bytes for each that is left
-pub room_at : {o o' : Bytes} {at a : ℕ} (s : Bytes) (i : ℕ) → Wrote o at (escape_html (take i s)) o' a → i < length s → at + 6 * length s ≤ length o → a + 6 ≤ length o'
-room_at {o} {o'} {at} {a} s i w l h = omega (arith, w.end_is, length_escape_html (take i s), length-take i s, ap length w.out_is, length_put o at (escape_html (take i s)), l, h)
+pub room_at : {o o' : Bytes} {at a : ℕ} (s : Bytes) (i k : ℕ) → Wrote o at (escape_html (take i s)) o' a → i + k ≤ length s → at + 6 * length s ≤ length o → a + 6 * k ≤ length o'
+room_at {o} {o'} {at} {a} s i k w l h = omega (arith, w.end_is, length_escape_html (take i s), length-take i s, ap length w.out_is, length_put o at (escape_html (take i s)), l, h)
+
+-- a block more
+pub escaped_block : (s : Bytes) (i k e : ℕ) → i + k ≡ e → escape_html (take i s) ++ escape_html (take k (drop i s)) ≡ escape_html (take e s)
+escaped_block s i k e q = rw (← q, take-add) (sym (escape_append (take i s) (take k (drop i s))))
+
+-- and one that escaping leaves alone
+pub block_alone : (b : Bytes) → all unmarked b ≡ true → escape_html b ≡ b
+block_alone b a = escape_plain_run b (all_plain b a)

@@ -1,4 +1,4 @@
--- An order that is fine is one 85 alone, with all that its writing needs. Main statements: `order_is`, `body_short`, `order_short`, `entries_fit`,
+-- An order that is fine is one 85 alone, with all that its writing needs. Main statements: `order_is`, `body_short`, `entries_fit`,
 -- `order_html`. Assumes nothing.
 use mathlib.Core.Path.{◌≡◌, refl, sym, ap, ◌∙◌, subst}
 use Prim.Native.Nat.{ℕ, ◌≤◌}
@@ -80,9 +80,6 @@ module _ (s : Bytes) (c : check_order (read_order s) ≡ Fine) where
 
   pub body_short : AllBytes s → length (body_of s) ≤ 65535
   body_short a = (parts_at s 0x85 alone.0 not_none a).body_short
-
-  pub order_short : AllBytes s → length s ≤ 65538
-  order_short a = omega (arith, body_short a, order_is.sizes, no_bytes (behind_of s) alone.1)
 
   pub order_fits : {found : ℕ → Type 0} → All found (asked (read_order s)) → OrderFits found (body_of s)
   order_fits {found} a =

@@ -1,14 +1,18 @@
 -- What the index of an order promises: what is asked for, sorted, and where the record with each number stands. Nothing here needs belief. Assumes
 -- nothing: these are definitions.
-use Rattle.std.specs.Prelude.{ℕ, ◌≡◌, ◌<◌, ◌≤◌, ◌⊎◌, List, Option, Some, None, length, take, drop, slice_index}
+use Rattle.std.specs.Prelude.{ℕ, ◌≡◌, ◌+◌, ◌*◌, ◌<◌, ◌≤◌, ◌⊎◌, List, [], ◌∷◌, Option, Some, None, Result, Ok, Err, eqb, length, take, drop, slice_index}
 use Rattle.std.specs.List.{All, Contains}
 use Rattle.std.specs.List.Sorted.{IsNonDecreasing}
 use Rattle.std.proofs.Math.Option as M
 use denote.Ref.{Bor}
 use Rattle.field.specs.Bytes.{Bytes}
 use Rattle.field.specs.Front.{body_of}
+use Rattle.field.specs.Number.{number_of}
+use Rattle.field.specs.Put.{Wrote}
 use Rattle.field.specs.Row.{Row, read}
-use Rattle.refusal.specs.Refusal.{Fine}
+use Rattle.page.specs.Tree.{choose}
+use Rattle.refusal.specs.Refusal.{Verdict, Fine, Refused}
+use Rattle.refusal.specs.declared.Refusal.{Refusal}
 use Rattle.find.specs.Find.{absent, index_of}
 use Rattle.fill.specs.declared.index.Index.{Index}
 use Rattle.fill.specs.Html.{template_of}
@@ -19,6 +23,22 @@ use Rattle.fill.specs.Order.{read_order, check_fillings, asked}
 pub record Checked (s : Bytes) : Type 0 where
   pub depth : ℕ
   pub fine : check_fillings depth (read_order s) ≡ Fine
+
+-- an order has seven bytes for each number that it asks for, and as one field 65,538 at the most
+abbrev pub HasRoom : Bytes → ℕ → Type 0
+HasRoom s n = (length s < 7 * n + 7) ⊎ (9362 ≤ n)
+
+-- what the body of an 85 asks for, and what a filling does
+abbrev pub asked_in : Bytes → List ℕ
+asked_in w = number_of (take 4 w) ∷ asked (read_order (drop 4 w))
+
+unfoldable pub asked_by : ℕ → Bytes → List ℕ
+asked_by t w = choose (eqb t 0x85) (λ _. asked_in w) λ _. []
+
+-- so many bytes of an order are checked, and what they ask for stands in o' from a place on
+pub record Gathers (o : List ℕ) (at : ℕ) (ns : List ℕ) (bytes : ℕ) (o' : List ℕ) (end : ℕ) : Type 0 where
+  pub wrote : Wrote o at ns o' end
+  pub few : 7 * end ≤ 7 * at + bytes
 
 -- the first index of a number among sorted ones, or that it is not there
 abbrev pub FirstIndex : List ℕ → ℕ → Option ℕ → Type 0
@@ -45,6 +65,11 @@ pub record Served (t : Bytes) (numbers places : List ℕ) (n : ℕ) : Type 0 whe
 abbrev pub Indexed : {N : ℕ} → (templates order : Bytes) → Index N → Option (Unit {0}) → Type 0
 Indexed t o x None = (n : ℕ) × Contains (asked (read_order o)) n × (template_of (read t) n ≡ M.none)
 Indexed t o x (Some u) = (x.count ≤ length x.numbers) × All (Served t (take x.count x.numbers) x.places) (asked (read_order o))
+
+-- the same behind a check of the order
+abbrev pub IndexedIf : {N : ℕ} → Verdict → (templates order : Bytes) → Index N → Result (Option (Unit {0})) Refusal → Type 0
+IndexedIf v t o x (Ok r) = (v ≡ Fine) × Indexed t o x r
+IndexedIf v t o x (Err e) = v ≡ Refused e
 
 -- what is answered for a number: its record, or that it has no template
 abbrev pub Looked : Row → ℕ → Option (Bor Bytes) → Type 0

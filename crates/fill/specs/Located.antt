@@ -1,10 +1,11 @@
 -- What the steps of filling promise each other. Nothing here needs belief. Assumes nothing: these are definitions.
-use Rattle.std.specs.Prelude.{ℕ, ◌≡◌, ◌≤◌, length, take, drop, Option, Some, None}
+use Rattle.std.specs.Prelude.{ℕ, ◌≡◌, ◌≤◌, length, take, drop, Option, Some, None, Result, Ok, Err}
 use Rattle.std.proofs.Math.Option as M
 use Rattle.field.specs.Bytes.{Bytes}
 use Rattle.field.specs.Row.{Row, counted_front, read}
 use Rattle.field.specs.Put.{Wrote}
-use Rattle.refusal.specs.Refusal.{Fine}
+use Rattle.refusal.specs.Refusal.{Verdict, Fine, Refused}
+use Rattle.refusal.specs.declared.Refusal.{Refusal}
 use Rattle.outs.specs.Passed.{record_body}
 use Rattle.outs.specs.declared.Kind.TheVariants.{New}
 use Rattle.spec.specs.Demand.{strings_in, kinds_behind}
@@ -26,3 +27,8 @@ Fills M.none o at o' None = Unit {0}
 Fills M.none o at o' (Some e) = ⊥
 Fills (M.some h) o at o' None = ⊥
 Fills (M.some h) o at o' (Some e) = Wrote o at h o' e
+
+-- the same behind a check
+abbrev pub FillsIf : Verdict → M.Option Bytes → (o o' : Bytes) → Result (Option ℕ) Refusal → Type 0
+FillsIf v h o o' (Ok x) = (v ≡ Fine) × Fills h o 0 o' x
+FillsIf v h o o' (Err e) = v ≡ Refused e

@@ -4,16 +4,16 @@ ghost use Rattle.field.specs.Row.{read};
 ghost use Rattle.refusal.specs.Refusal.{Fine};
 ghost use Rattle.outs.specs.Templates.{check_templates};
 ghost use Rattle.outs.specs.declared.Kind.TheVariants.{New};
-ghost use Rattle.fill.specs.Order.{read_order, check_order, asked};
+ghost use Rattle.fill.specs.Order.{read_order, check_order};
 ghost use Rattle.fill.specs.Html.{html_of};
 ghost use Rattle.fill.specs.Answer.{outcome, Answered};
-ghost use Rattle.fill.specs.Located.{Fills};
+ghost use Rattle.fill.specs.Located.{FillsIf};
+ghost use Rattle.fill.specs.Indexed.{HasRoom};
 ghost use Rattle.fill.specs.Attempt.{Attempts, unfilled_number};
 ghost use Rattle.fill.specs.declared.answer.Unfilled.TheVariants as U;
 
 use crate::html::write_order;
 use crate::index::Index;
-use crate::order::check_order;
 use field::reader::body;
 use outs::Kind;
 use outs::templates::check_templates;
@@ -60,28 +60,35 @@ const FEW: usize = 64;
 
 const MANY: usize = 9362;
 
-// The length of the HTML, by an index with room for so many numbers; None, where the order has none. It is written as far as it fits.
-fn write_by<const N: usize>(templates: &[u8], order: &[u8], out: &mut [u8]) -> Option<usize>
-    requires { (check_templates New templates.now ≡ Fine) × (check_order (read_order order.now) ≡ Fine) × (length (asked (read_order order.now)) ≤ N) × (N ≤ 9362) }
-    ensures { Fills (html_of (read templates.now) (read_order order.now)) out.old 0 out.new result }
+// The check of the order, and the length of the HTML, by an index with room for so many numbers; None, where the order has none. It is written as far
+// as it fits.
+fn write_by<const N: usize>(
+    templates: &[u8],
+    order: &[u8],
+    out: &mut [u8],
+) -> Result<Option<usize>, Refusal>
+    requires { (check_templates New templates.now ≡ Fine) × HasRoom order.now N × (N ≤ 9362) }
+    ensures { FillsIf (check_order (read_order order.now)) (html_of (read templates.now) (read_order order.now)) out.old out.new result }
 {
     let mut index = Index::<N>::new();
-    index.index(templates, order)?;
-    write_order(&index.entries(templates), body(order), out, 0, &mut 0)
+    let Some(()) = index.index(templates, order)? else {
+        return Ok(None);
+    };
+    Ok(write_order(&index.entries(templates), body(order), out, 0, &mut 0))
 }
 
 // Not inlined: a small order does without the 110 KB of stack.
 #[inline(never)]
-fn write_large(templates: &[u8], order: &[u8], out: &mut [u8]) -> Option<usize>
-    requires { (check_templates New templates.now ≡ Fine) × (check_order (read_order order.now) ≡ Fine) }
-    ensures { Fills (html_of (read templates.now) (read_order order.now)) out.old 0 out.new result }
+fn write_large(templates: &[u8], order: &[u8], out: &mut [u8]) -> Result<Option<usize>, Refusal>
+    requires { check_templates New templates.now ≡ Fine }
+    ensures { FillsIf (check_order (read_order order.now)) (html_of (read templates.now) (read_order order.now)) out.old out.new result }
 {
     write_by::<MANY>(templates, order, out)
 }
 
-fn write(templates: &[u8], order: &[u8], out: &mut [u8]) -> Option<usize>
-    requires { (check_templates New templates.now ≡ Fine) × (check_order (read_order order.now) ≡ Fine) }
-    ensures { Fills (html_of (read templates.now) (read_order order.now)) out.old 0 out.new result }
+fn write(templates: &[u8], order: &[u8], out: &mut [u8]) -> Result<Option<usize>, Refusal>
+    requires { check_templates New templates.now ≡ Fine }
+    ensures { FillsIf (check_order (read_order order.now)) (html_of (read templates.now) (read_order order.now)) out.old out.new result }
 {
     if order.len() <= SMALL_ORDER {
         write_by::<FEW>(templates, order, out)
@@ -95,8 +102,8 @@ fn try_fill(templates: &[u8], order: &[u8], html_out: &mut [u8]) -> Result<Fille
     ensures { Attempts (outcome templates.now order.now (length html_out.old)) html_out.old result html_out.new }
 {
     check_templates(templates, Kind::New)?;
-    check_order(order)?;
-    let html_bytes = write(templates, order, html_out).ok_or(Unfilled::Unfitting)?;
+    let written = write(templates, order, html_out)?;
+    let html_bytes = written.ok_or(Unfilled::Unfitting)?;
     refuse_unless(html_bytes <= html_out.len(), Refusal::PageTooSmall)?;
     Ok(Filled {
         number: 0,

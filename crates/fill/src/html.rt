@@ -16,7 +16,7 @@ use crate::front::front;
 use crate::index::Entries;
 use field::reader::Field;
 use field::tags::{ATTRIBUTE_TEXT, ORDER, PLAIN_TEXT};
-use field::writer::{copy_ends, put_bytes};
+use field::writer::{copy_block, copy_ends, put_bytes};
 use field::{KINDS_AT, NUMBER_WIDTH};
 use outs::templates::counted_front;
 use text::escape::put_escaped;
@@ -58,15 +58,26 @@ impl Class for Free {
     }
 }
 
+// All of a block are tested, whatever its first bytes are: the tests then go side by side.
+#[inline(always)]
+fn are_free(block: &[u8]) -> bool
+    ensures { result ≡ all no_sign block.now }
+{
+    let mut are = true;
+    for b in block {
+        are &= is_no_sign(*b);
+    }
+    are
+}
+
+// By is_run alone the last block of a text of 14 bytes took some 25 instructions more (unproved code).
 fn is_free(s: &[u8]) -> bool
     ensures { result ≡ free s.now }
 {
-    // by blocks of 16 alone, 64 KB of components took 7 % more instructions (a probe by rustc)
-    if s.len() < 16 {
-        is_run::<_, 8>(&Free, s)
-    } else {
-        is_run::<_, 16>(&Free, s)
+    if s.len() < 8 || 16 <= s.len() {
+        return is_run::<_, 16>(&Free, s);
     }
+    are_free(&s[..8]) & are_free(&s[s.len() - 8..])
 }
 
 // The text of an attribute stands as it is.
@@ -93,7 +104,7 @@ fn put_string(out: &mut [u8], at: usize, s: &[u8]) -> usize
         return at;
     }
     let end = at + s.len();
-    if s.len() < 4 || 32 < s.len() || out.len() < end {
+    if 32 < s.len() || out.len() < end {
         return put_bytes(out, at, s);
     }
     let to = &mut out[at..end];
@@ -101,8 +112,12 @@ fn put_string(out: &mut [u8], at: usize, s: &[u8]) -> usize
         copy_ends::<16>(to, s);
     } else if 8 <= s.len() {
         copy_ends::<8>(to, s);
-    } else {
+    } else if 4 <= s.len() {
         copy_ends::<4>(to, s);
+    } else if 2 <= s.len() {
+        copy_ends::<2>(to, s);
+    } else {
+        copy_ends::<1>(to, s);
     }
     end
 }
@@ -114,7 +129,7 @@ fn is_unmarked(b: u8) -> bool
     (b != b'"') & (b != b'#') & (b != b'&') & (b != b'\'') & (b != b'<') & (b != b'>')
 }
 
-// All of a block are tested, whatever its first bytes are: the tests then go side by side.
+// As are_free.
 #[inline(always)]
 fn are_unmarked(block: &[u8]) -> bool
     ensures { result ≡ all unmarked block.now }
@@ -126,9 +141,9 @@ fn are_unmarked(block: &[u8]) -> bool
     are
 }
 
-// The escape of a byte.
-#[inline(always)]
-fn put_one(out: &mut [u8], at: usize, b: u8) -> usize
+// The escape of a byte. Not inlined, so that what is written around it stays short and is inlined.
+#[inline(never)]
+fn put_low(out: &mut [u8], at: usize, b: u8) -> usize
     requires { at + 6 ≤ length out.old }
     ensures { Wrote out.old at (escape_byte b) out.new result }
 {
@@ -145,7 +160,61 @@ fn put_one(out: &mut [u8], at: usize, b: u8) -> usize
     }
 }
 
-// A text of up to 31 bytes is written at once where it has no sign, and else byte by byte.
+// The same. No byte above `>` is a sign, and most are.
+#[inline(always)]
+fn put_one(out: &mut [u8], at: usize, b: u8) -> usize
+    requires { at + 6 ≤ length out.old }
+    ensures { Wrote out.old at (escape_byte b) out.new result }
+{
+    if b <= b'>' {
+        return put_low(out, at, b);
+    }
+    out[at] = b;
+    at + 1
+}
+
+// Byte by byte.
+#[inline(always)]
+fn put_each(out: &mut [u8], at: usize, s: &[u8]) -> usize
+    requires { at + 6 * length s.now ≤ length out.old }
+    ensures { Wrote out.old at (escape_html s.now) out.new result }
+{
+    let mut a = at;
+    for b in s {
+        a = put_one(out, a, *b);
+    }
+    a
+}
+
+#[inline(always)]
+fn put_block(out: &mut [u8], at: usize, s: &[u8]) -> usize
+    requires { (length s.now ≡ 8) × (at + 6 * length s.now ≤ length out.old) }
+    ensures { Wrote out.old at (escape_html s.now) out.new result }
+{
+    if are_unmarked(s) {
+        let end = at + s.len();
+        copy_block::<8>(&mut out[at..end], s);
+        return end;
+    }
+    put_each(out, at, s)
+}
+
+// Of a text with a sign the blocks without one are written at once. Not inlined, as put_low.
+#[inline(never)]
+fn put_blocks(out: &mut [u8], at: usize, s: &[u8]) -> usize
+    requires { at + 6 * length s.now ≤ length out.old }
+    ensures { Wrote out.old at (escape_html s.now) out.new result }
+{
+    let mut a = at;
+    let mut i = 0;
+    while 8 <= s.len() - i {
+        a = put_block(out, a, &s[i..i + 8]);
+        i += 8;
+    }
+    put_each(out, a, &s[i..])
+}
+
+// A text of up to 31 bytes is written at once where it has no sign, and else by blocks or byte by byte.
 #[inline(always)]
 fn put_text(out: &mut [u8], at: usize, s: &[u8]) -> usize
     requires { at + length (escape_html s.now) < 2 ^ 63 }
@@ -160,11 +229,10 @@ fn put_text(out: &mut [u8], at: usize, s: &[u8]) -> usize
         copy_ends::<16>(&mut out[at..end], s);
         return end;
     }
-    let mut a = at;
-    for b in s {
-        a = put_one(out, a, *b);
+    if 8 <= s.len() {
+        return put_blocks(out, at, s);
     }
-    a
+    put_each(out, at, s)
 }
 
 // A filling for a gap of a kind.

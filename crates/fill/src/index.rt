@@ -1,19 +1,18 @@
 // The index of what an order asks for. Each record of the templates is looked up once among the numbers, and not each number among the records.
-ghost use Rattle.std.specs.Prelude.{◌≡◌, ◌+◌, ◌≤◌, true, length, take, Some};
+ghost use Rattle.std.specs.Prelude.{◌≡◌, ◌≤◌, true, length, take, Some};
 ghost use Rattle.std.specs.List.Sorted.{IsNonDecreasing};
-ghost use Rattle.field.specs.Put.{Wrote};
 ghost use Rattle.field.specs.Row.{read};
 ghost use Rattle.refusal.specs.Refusal.{Fine};
 ghost use Rattle.outs.specs.Templates.{check_templates};
 ghost use Rattle.outs.specs.declared.Kind.TheVariants.{New};
-ghost use Rattle.fill.specs.Order.{read_order, check_order, asked};
-ghost use Rattle.fill.specs.Indexed.{Checked, FirstIndex, Located, Served, Indexed, Looked};
+ghost use Rattle.fill.specs.Order.{read_order, check_order};
+ghost use Rattle.fill.specs.Indexed.{HasRoom, FirstIndex, Located, Served, IndexedIf, Looked};
 
 use crate::front::front;
-use field::NUMBER_WIDTH;
+use crate::order::check_order;
 use field::reader::{Fields, body};
-use field::tags::ORDER;
 use find::ABSENT;
+use refusal::Refusal;
 
 // The numbers that an order asks for, sorted, and where the record with each begins; of a number that is asked for several times, at its first
 // index. A place is ABSENT until the record is met: an Option would take twice the room.
@@ -31,31 +30,6 @@ pub struct Entries<'i> {
     numbers: &'i [u32],
     places: &'i [usize],
     templates: &'i [u8],
-}
-
-// The numbers of all orders in a row of fillings, front to back, written from a place on; the place behind them. It calls itself to the depth of the
-// check, 48.
-fn gather(numbers: &mut [u32], at: usize, fillings: &[u8]) -> usize
-    requires { Checked fillings.now × (at + length (asked (read_order fillings.now)) ≤ length numbers.old) }
-    ensures { Wrote numbers.old at (asked (read_order fillings.now)) numbers.new result }
-{
-    let mut end = at;
-    let mut left = fillings;
-    while !left.is_empty() {
-        let (filling, behind) = front(left);
-        if filling.tag == ORDER {
-            let b = filling.body;
-            numbers[end] = u32::from_be_bytes([b[0], b[1], b[2], b[3]]);
-            // many orders have no filling
-            end = if 4 < b.len() {
-                gather(numbers, end + 1, &b[NUMBER_WIDTH..])
-            } else {
-                end + 1
-            };
-        }
-        left = behind;
-    }
-    end
 }
 
 // Where a number stands that may stand there several times.
@@ -140,15 +114,16 @@ impl<const N: usize> Index<N> {
         }
     }
 
-    // None, where some number that is asked for stands in two records, so that the order has no HTML.
-    pub fn index(&mut self, templates: &[u8], order: &[u8]) -> Option<()>
-        requires { (check_templates New templates.now ≡ Fine) × (check_order (read_order order.now) ≡ Fine) × (length (asked (read_order order.now)) ≤ N) }
-        ensures { Indexed templates.now order.now self.new result }
+    // The check of an order, and its index. None, where some number that is asked for stands in two records, so that the order has no HTML.
+    pub fn index(&mut self, templates: &[u8], order: &[u8]) -> Result<Option<()>, Refusal>
+        requires { (check_templates New templates.now ≡ Fine) × HasRoom order.now N }
+        ensures { IndexedIf (check_order (read_order order.now)) templates.now order.now self.new result }
     {
-        self.count = gather(&mut self.numbers, 0, order);
+        self.count = 0;
+        check_order(order, &mut self.numbers, &mut self.count)?;
         let numbers = &mut self.numbers[..self.count];
         numbers.sort_unstable();
-        locate(numbers, &mut self.places[..self.count], templates)
+        Ok(locate(numbers, &mut self.places[..self.count], templates))
     }
 
     pub fn entries<'i>(&'i self, templates: &'i [u8]) -> Entries<'i>

@@ -3,4 +3,5 @@ pub mod Laws
 mod Examples
 mod Forms
 mod Places
+mod Rows
 mod Words

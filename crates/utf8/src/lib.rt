@@ -1,10 +1,11 @@
-// UTF-8 (RFC 3629): one pass over the bytes, whole words at a time while they are ASCII.
+// UTF-8 (RFC 3629): one pass over the bytes, whole words at a time while they are ASCII, and sixteen bytes at a time while each of them may follow the
+// three before it.
 // It promises that is_utf8 equals the definition utf8 of specs/Utf8.antt on every slice. What the text means is left to others.
 #![tactic(auto)]
 
-ghost use Rattle.std.specs.Prelude.{◌≡◌, false, ◌∷◌, ◌%◌, ◌<◌, ◌≤◌, length, replicate, MatchOption};
+ghost use Rattle.std.specs.Prelude.{◌≡◌, false, ◌∷◌, ◌%◌, ◌<◌, ◌≤◌, true, if◌then◌else◌, length, replicate, MatchOption};
 ghost use Rattle.utf8.specs.Utf8.{◌to◌, tail, utf8, all_ascii};
-ghost use Rattle.utf8.specs.Parts.{Skips, Leaves, Passes, Lacks};
+ghost use Rattle.utf8.specs.Parts.{Skips, Leaves, Passes, Lacks, Skipped, IsWhole, Row, Follows, FollowsNarrow};
 
 // The high bits of the bytes of a word.
 const HIGH_BITS: u64 = 0x8080_8080_8080_8080;
@@ -13,18 +14,153 @@ const HIGH_BITS: u64 = 0x8080_8080_8080_8080;
 pub fn is_utf8(s: &[u8]) -> bool
     ensures { result ≡ utf8 s.now }
 {
-    let mut left = skip_ascii(s);
+    let left = skip_ascii(s);
+    left.is_empty() || is_utf8_behind(left)
+}
+
+// The same of what stands behind ASCII, apart, so that a text of ASCII does not pay for what this needs.
+#[inline(never)]
+fn is_utf8_behind(s: &[u8]) -> bool
+    ensures { result ≡ utf8 s.now }
+{
+    let mut left = skip_characters(s);
     while let [first, rest @ ..] = left {
+        if left.len() < 16 && is_short_row(left) {
+            return true;
+        }
         if first.is_ascii() {
-            left = skip_ascii(rest);
+            left = skip_characters(skip_ascii(rest));
         } else {
             let Some(behind) = character(*first, rest) else {
                 return false;
             };
+            // something among the next sixteen bytes is wrong
             left = behind;
         }
     }
     true
+}
+
+// What is left behind whole characters in front, up to a block of ASCII: first those of up to two bytes, as most letters beyond ASCII are.
+fn skip_characters(s: &[u8]) -> &[u8]
+    ensures { Skipped s.now result.now }
+{
+    skip_rows::<true>(skip_rows::<false>(s))
+}
+
+// The same by blocks, each from where the character begins that the one before it did not end.
+fn skip_rows<const WIDE: bool>(s: &[u8]) -> &[u8]
+    ensures { Skipped s.now result.now }
+{
+    let mut left = s;
+    while let Some((block, _)) = left.split_first_chunk::<16>() {
+        if is_ascii(block) || !is_row::<WIDE>(block) {
+            break;
+        }
+        left = &left[whole_bytes(block)..];
+    }
+    left
+}
+
+fn is_row<const WIDE: bool>(block: &[u8; 16]) -> bool
+    ensures { result ≡ true → Row 0 0 0 block.now }
+{
+    if WIDE {
+        is_wide_row(block)
+    } else {
+        is_narrow_row(block)
+    }
+}
+
+// How many bytes of a block stand in front of a character that it does not end.
+fn whole_bytes(block: &[u8; 16]) -> usize
+    ensures { IsWhole block.now result }
+{
+    if block[15] >= 0xC0 {
+        15
+    } else if block[14] >= 0xE0 {
+        14
+    } else if block[13] >= 0xF0 {
+        13
+    } else {
+        16
+    }
+}
+
+// Whether the bytes, too few for a block, are whole characters, if they are a row with zeros behind them.
+fn is_short_row(s: &[u8]) -> bool
+    requires { length s.now < 16 }
+    ensures { result ≡ true → utf8 s.now ≡ true }
+{
+    let mut block = [0; 16];
+    block[..s.len()].copy_from_slice(s);
+    if matches!(s, [..=0xDF, ..]) && is_narrow_row(&block) {
+        return true;
+    }
+    is_wide_row(&block)
+}
+
+// Whether each byte may follow the three before it. A block is a loop without a way out, so that LLVM has all sixteen in one register.
+fn is_wide_row(block: &[u8; 16]) -> bool
+    ensures { result ≡ true → Row 0 0 0 block.now }
+{
+    let mut is = true;
+    let (mut third, mut second, mut last) = (0, 0, 0);
+    for b in block {
+        is &= fault(third, second, last, *b) < 0x80;
+        third = second;
+        second = last;
+        last = *b;
+    }
+    is
+}
+
+// The same where no character has more than two bytes.
+fn is_narrow_row(block: &[u8; 16]) -> bool
+    ensures { result ≡ true → Row 0 0 0 block.now }
+{
+    let mut is = true;
+    let mut last = 0;
+    for b in block {
+        is &= narrow_fault(last, *b) < 0x80;
+        last = *b;
+    }
+    is
+}
+
+// At least 0x80 where b may not follow the three bytes.
+fn fault(third: u8, second: u8, last: u8, b: u8) -> u8
+    ensures { result < 0x80 → Follows third second last b }
+{
+    let begins = b.saturating_sub(0x40);
+    let goes_on = last.saturating_sub(0x40)
+        | second.saturating_sub(0x60)
+        | third.saturating_sub(0x70);
+    let from_a0 = b.saturating_sub(0x20);
+    let from_90 = b.saturating_sub(0x10);
+    (b ^ begins ^ goes_on)
+        | (begins ^ b.saturating_sub(0x42))
+        | b.saturating_sub(0x75)
+        | only_if(last == 0xE0, !from_a0)
+        | only_if(last == 0xED, from_a0)
+        | only_if(last == 0xF0, !from_90)
+        | only_if(last == 0xF4, from_90)
+}
+
+// The same where no character has more than two bytes.
+fn narrow_fault(last: u8, b: u8) -> u8
+    ensures { result < 0x80 → FollowsNarrow last b }
+{
+    let begins = b.saturating_sub(0x40);
+    (begins ^ b.saturating_sub(0x42))
+        | (b ^ begins ^ last.saturating_sub(0x40))
+        | b.saturating_sub(0x60)
+}
+
+fn only_if(is: bool, fault: u8) -> u8
+    ensures { result ≡ (if is then fault else 0) }
+{
+    if is { fault } else { 0 }
 }
 
 // What is left behind the ASCII bytes in front.

@@ -41,6 +41,8 @@ pub fn all() -> Vec<Fill> {
         set("short texts", gaps(2_000, ""), texts(2_000, &text("a", 29))),
         set("one text", gaps(1, ""), texts(1, &text("a", 65_528))),
         set("one text beyond ASCII", gaps(1, ""), texts(1, &text("\u{e9}", 65_528))),
+        set("one text of Greek words", gaps(1, ""), texts(1, &text("Το φως πάνω στη θάλασσα αλλάζει αργά. ", 65_528))),
+        set("one text of Chinese", gaps(1, ""), texts(1, &text("人们默默地走上站台，城市还在沉睡。", 65_528))),
         set("one text of signs", gaps(1, ""), texts(1, &text("&", 13_107))),
         set("attributes", template(1, &[1; 2_000], &[""; 2_001]), attributes(2_000, &text("a", 29))),
         set("gaps of a byte each", gaps(16_381, ""), texts(16_381, "a")),

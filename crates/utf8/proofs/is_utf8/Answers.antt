@@ -1,16 +1,12 @@
--- `utf8::is_utf8` meets its contract. The invariant: the whole is UTF-8 exactly if what is left is. Assumes nothing.
+-- `utf8::is_utf8` meets its contract. Assumes nothing.
 use mathlib.Core.Path.{sym, ◌∙◌}
-use native.Mathlib.Omega.{arith}
 use borrow.Author.Rules.{rules}
 use borrow.Author.Tests.{tests}
-use Rattle.utf8.proofs.Places.{skips_same, skips_first, utf8_ends}
+use Rattle.utf8.proofs.Places.{skips_same, utf8_ends}
 use Rattle.utf8.proofs.is_utf8.Goals as goal
 
-pub loop-left-init : goal.loop-left-init
-loop-left-init c = skips_same c.skip_ascii-left.ensures
+pub returns-then-is_empty : goal.returns-then-is_empty
+returns-then-is_empty c = c.if-is_empty.true ∙ utf8_ends _ (search (rules, tests)) ∙ sym (skips_same c.skip_ascii-left.ensures)
 
-pub loop-left-preserved-then-is_ascii : goal.loop-left-preserved-then-is_ascii
-loop-left-preserved-then-is_ascii c = c.loop-left.invariant ∙ skips_same (skips_first c.loop-left.left.now (omega arith) (search (rules, tests))) ∙ skips_same c.skip_ascii-left-then-is_ascii.ensures
-
-pub returns : goal.returns
-returns c = sym (c.loop-left.invariant ∙ sym (utf8_ends _ (omega arith)))
+pub returns-else-is_empty : goal.returns-else-is_empty
+returns-else-is_empty c = c.is_utf8_behind.ensures ∙ sym (skips_same c.skip_ascii-left.ensures)

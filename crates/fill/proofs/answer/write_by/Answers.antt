@@ -11,24 +11,20 @@ use Rattle.fill.specs.Writing.{html_of_body}
 use Rattle.fill.proofs.WholeLaws.{body_short, entries_fit, order_html}
 use Rattle.fill.proofs.answer.write_by.Goals as goal
 
-pub new-index-requires : goal.new-index-requires
-new-index-requires g c = omega (arith, c.requires.3)
-
-pub index-requires : goal.index-requires
-index-requires g c = (omega (arith, c.requires.3), (c.requires.0, c.requires.1, c.requires.2))
-
-pub returns-in_err-index : goal.returns-in_err-index
-returns-in_err-index g c =
-    let n = c.in_err-index.ensures in
-    rw c.from_residual.ensures (fills_is _ _ _ _ (unknown_none _ _ c.requires.1 n.0 n.1 n.2) tt)
-
-pub entries-requires : goal.entries-requires
-entries-requires g c = (omega (arith, c.requires.3), c.in_ok-index.ensures.0)
+pub returns-in_default : goal.returns-in_default
+returns-in_default g c =
+    let e = c.in_ok-index.ensures.0 in
+    let n = rw c.in_default.is at c.in_ok-index.ensures.1 in
+    (e, fills_is _ _ _ _ (unknown_none _ _ e n.0 n.1 n.2) tt)
 
 pub write_order-requires : goal.write_order-requires
 write_order-requires g c =
     let a : AllBytes c.args.order.now = all_from _ (λ i. (c.type_inv.order i).fits) in
-    (entries_fit c.args.order.now c.requires.1 c.entries.ensures c.in_ok-index.ensures.1 c.body.ensures, omega (arith, body_short c.args.order.now c.requires.1 a, ap length c.body.ensures))
+    let e = c.in_ok-index.ensures.0 in
+    let n = rw c.in-Some.is at c.in_ok-index.ensures.1 in
+    (entries_fit c.args.order.now e c.entries.ensures n.1 c.body.ensures, omega (arith, body_short c.args.order.now e a, ap length c.body.ensures))
 
 pub returns : goal.returns
-returns g c = fills_is _ _ _ _ (order_html _ c.requires.1 _ ∙ ap₂ (λ (t w : Bytes). html_of_body (read t) w) (sym c.entries.ensures.2) (sym c.body.ensures)) c.write_order.ensures.html
+returns g c =
+    let e = c.in_ok-index.ensures.0 in
+    (e, fills_is _ _ _ _ (order_html _ e _ ∙ ap₂ (λ (t w : Bytes). html_of_body (read t) w) (sym c.entries.ensures.2) (sym c.body.ensures)) c.write_order.ensures.html)

@@ -14,5 +14,11 @@ returns-then-s-ge16 c = record { out_is = rw c.copy_ends.ensures (put_part _ _ _
 pub returns-then-s-ge8 : goal.returns-then-s-ge8
 returns-then-s-ge8 c = record { out_is = rw c.copy_ends-then-s-ge8.ensures (put_part _ _ _ c.if-out-end.false); end_is = refl }
 
-pub returns-else-s-ge8 : goal.returns-else-s-ge8
-returns-else-s-ge8 c = record { out_is = rw c.copy_ends-else-s-ge8.ensures (put_part _ _ _ c.if-out-end.false); end_is = refl }
+pub returns-then-s-ge4 : goal.returns-then-s-ge4
+returns-then-s-ge4 c = record { out_is = rw c.copy_ends-then-s-ge4.ensures (put_part _ _ _ c.if-out-end.false); end_is = refl }
+
+pub returns-then-s-ge2 : goal.returns-then-s-ge2
+returns-then-s-ge2 c = record { out_is = rw c.copy_ends-then-s-ge2.ensures (put_part _ _ _ c.if-out-end.false); end_is = refl }
+
+pub returns-else-s-ge2 : goal.returns-else-s-ge2
+returns-else-s-ge2 c = record { out_is = rw c.copy_ends-else-s-ge2.ensures (put_part _ _ _ c.if-out-end.false); end_is = refl }

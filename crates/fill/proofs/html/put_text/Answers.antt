@@ -1,4 +1,4 @@
--- `html::put_text` meets its contract. The loop's invariant: the escapes of the bytes so far are written. Assumes nothing.
+-- `html::put_text` meets its contract: without a sign a text is its own escape. Assumes nothing.
 use native.Mathlib.Omega.{arith}
 use mathlib.Core.Path.{refl, sym, ap, ◌∙◌}
 use mathlib.Core.Bool.{and-eq-true_iff}
@@ -20,15 +20,8 @@ returns-then-are_unmarked c =
     let e = escape_unmarked s (omega (arith, c.if-s-ge16.true)) (omega (arith, c.if-s-ge32.false)) (sym c.are_unmarked.ensures ∙ p.0) (sym l ∙ p.1) in
     wrote_is (sym e) record { out_is = rw c.copy_ends.ensures (put_part _ _ _ (omega (arith, c.if-out-at.false, c.if-s-ge32.false))); end_is = refl }
 
-pub loop-b-init : goal.loop-b-init
-unfolding escape_html
-loop-b-init c = wrote_none _ _
+pub put_blocks-requires : goal.put_blocks-requires
+put_blocks-requires c = omega (arith, c.if-out-at.false, c.if-s-ge32.false)
 
-pub put_one-a-requires : goal.put_one-a-requires
-put_one-a-requires c = room_at c.args.s.now c.loop-b.b-index c.loop-b.invariant (omega arith) (omega (arith, c.if-out-at.false, c.if-s-ge32.false))
-
-pub loop-b-preserved : goal.loop-b-preserved
-loop-b-preserved c = wrote_more c.loop-b.invariant (escaped_sign c.args.s.now c.loop-b.b-index (omega arith)) c.put_one-a.ensures
-
-pub returns : goal.returns
-returns c = wrote_is (ap escape_html (take_all c.loop-b.b-index c.args.s.now (omega arith))) c.loop-b.invariant
+pub put_each-requires : goal.put_each-requires
+put_each-requires c = omega (arith, c.if-out-at.false, c.if-s-ge32.false)
