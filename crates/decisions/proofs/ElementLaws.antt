@@ -1,6 +1,7 @@
 -- What the code of src/element.rt learns. Main statements: `forbids_50`, `forbids_53`, `serializable_upper`, `never_serializable` and the
 -- like. Assumes nothing.
-use mathlib.Core.Path.{◌≡◌, refl, sym, ap, ◌∙◌}
+use Rattle.std.specs.Prelude.{Option, Some, None}
+use mathlib.Core.Path.{◌≡◌, refl, sym, ap, subst, ◌∙◌}
 use mathlib.Core.Bool.{Bool, true, false, ◌||◌, not, and-false, and-true}
 use Prim.Native.Nat.{ℕ}
 use mathlib.Core.List.{[]}
@@ -14,6 +15,8 @@ use Rattle.page.specs.Tree.{attributes_in, attr_name_in}
 use Rattle.spec.specs.Attributes.{first_upper}
 use Rattle.decisions.specs.Index.{names_of}
 use Rattle.decisions.specs.At.{element_name, element_named, identifier_bytes, forbids, serializable_by, serializable}
+use Rattle.decisions.specs.Repeats.{Told, AttributesTold, SerializedTold}
+use Rattle.decisions.specs.declared.repeats.Names.{Names}
 use Rattle.decisions.specs.declared.element.ElementName.{ElementName}
 use Rattle.decisions.specs.declared.element.ElementName.TheVariants as Named
 use Rattle.decisions.proofs.Series.{tested, name_41, name_42, name_other, behind_name_at, attributes_none, attributes_50, attributes_53, attributes_other}
@@ -59,6 +62,10 @@ module _ (k s : Bytes) {n : Bytes} (e : identifier n ≡ element_name (read s)) 
   unfolding serializable serializable_by
   serializable_upper h = rw (← e, ← q, h)
 
+  pub serializable_listed : {v : Bool} → v ≡ among n (names_of k) → v ≡ true → false ≡ serializable k s
+  unfolding serializable serializable_by
+  serializable_listed listed h = rw (← e, ← listed, h, and-false (not (first_upper n)))
+
   -- r lies behind the name
   module _ (low : u ≡ false) {r : Bytes} (y : r ≡ behind_of s) {x : Bool} (z : x ≡ forbids (attributes_in (read r))) where
     pub serializable_kept : x ≡ true → false ≡ serializable k s
@@ -68,6 +75,11 @@ module _ (k s : Bytes) {n : Bytes} (e : identifier n ≡ element_name (read s)) 
     pub serializable_rest : x ≡ false → {v : Bool} → v ≡ among n (names_of k) → not v ≡ serializable k s
     unfolding serializable serializable_by
     serializable_rest h {v} listed = rw (← e, behind_name_at s, ← y, ← z, h, ← q, low, ← listed, and-true (not v))
+
+  -- by what was told behind the name of one that is not listed
+  pub told_serialized : (low : u ≡ false) → {r : Bytes} → r ≡ behind_of s → {v : Bool} → v ≡ among n (names_of k) → v ≡ false → (o : Option Names) → AttributesTold r o → SerializedTold k s o
+  told_serialized low {r} y listed h None t = sym (serializable_kept low y refl t)
+  told_serialized low {r} y listed h (Some m) t = (sym (serializable_rest low y refl t.0 listed) ∙ ap not h, subst (λ w. Told w m) y t.1)
 
 -- any name but an identifier
 pub never_serializable : (k s : Bytes) (x : ElementName) → element_named x ≡ element_name (read s) → ((n : Bor Bytes) → x ≡ Named.Identifier n → ⊥) → false ≡ serializable k s

@@ -11,7 +11,7 @@ use Rattle.std.specs.Char.{is_ascii_uppercase}
 use mathlib.Core.Path.{◌≡◌, refl, sym, ap, subst, ◌∙◌}
 use mathlib.Core.Bool.{Bool, true, false, ◌&&◌, ◌||◌, not, and-false, and-eq-true_iff, or-false, false≢true}
 use Prim.Native.Nat.{ℕ, suc, ◌+◌, ◌-◌, ◌*◌, ◌/◌, ◌%◌, ◌≤◌, ◌<◌, ◌^◌}
-use native.Mathlib.Nat.{mod-lt, mul-le-mul_right}
+use native.Mathlib.Nat.{mod-lt, mul-le-mul_right, add-mul}
 use native.Mathlib.Omega.{arith}
 use mathlib.Core.List.{List, [], ◌∷◌, ◌++◌, append-nil, append_assoc}
 use lib.Dec.{eqb, leb, ltb}
@@ -19,8 +19,8 @@ use Rattle.std.specs.Int.{w64, bit_at}
 use Rattle.std.specs.Int.RustNames.{bit_or}
 use Rattle.std.proofs.Common.{bit_and}
 use Rattle.std.proofs.lemmas.Nat.Bits.{shr_and_one, bit_at_set_same, bit_at_set_other}
-use lib.ListN.{length, get_or, set, take, drop}
-use lib.Seq.{take_at, get_or-set_same, get_or-set_other}
+use lib.ListN.{length, get_or, set, take, drop, length-drop}
+use lib.Seq.{take_all, take_at, get_or-set_same, get_or-set_other}
 use borrow.Author.Tests.{eqb-true, eqb-false, leb-true, eq-eqb, ne_eqb, le-ltb}
 use Rattle.field.specs.Bytes.{Bytes, ascii, pick, same, among}
 use Rattle.field.specs.Row.{read, Ended}
@@ -36,12 +36,13 @@ use Rattle.names.specs.Table.{signed, spelled_letter, spelled}
 use Rattle.names.proofs.MarkLaws.{spelled_none}
 use Rattle.names.proofs.NormalizeLaws.{over_lists, normalize_ind}
 use Rattle.names.proofs.CompareLaws.{same_eq, capital_above, length_small, letter_at}
-use Rattle.decisions.specs.Repeats.{joined, IsPlain, letters, sign_read, behind, left_in, html_name, html_names, name_in, names_in, repeats, hash_on, name_hash, low_half, high_half, key_by, last_letter, letter_key, ends_key_by, ends_key}
+use Rattle.decisions.specs.Repeats.{joined, IsPlain, letters, sign_read, behind, left_in, html_name, html_names, name_in, names_in, repeats, hash_on, name_hash, low_half, high_half, key_by, last_letter, letter_key, ends_key_by, ends_key, inner_html_key}
 use Rattle.decisions.specs.declared.repeats.Spelled.{Spelled}
 use Rattle.names.proofs.NamespacedLaws.{namespaced_xlink, namespaced_other}
 use Rattle.page.specs.Tree.{attributes_in, attr_name_in}
 use Rattle.decisions.proofs.IndexLaws.{among_append}
-use Rattle.decisions.proofs.Series.{tested, attributes_none, attributes_50, attributes_53, attributes_other}
+use Rattle.decisions.proofs.Series.{tested, attributes_none, attributes_50, attributes_53, attributes_other, attr_name_40}
+use Rattle.field.proofs.HeaderLaws.{header_is, tag_is, body_is}
 
 -- ---- the sign before a letter
 
@@ -438,19 +439,63 @@ key_of_more (c ∷ d ∷ cs) h =
     let e : length n - 1 ≡ suc (length n - 2) = omega arith in
     ap (λ (i : ℕ). key_by c (get_or (1 ∷ n) i 0) (last_letter n)) e
 
-pub keyed : (a b : Bytes) → attr_name_in (read a) ≡ ident b → 97 ≤ last_letter b → (m : ℕ) → m ≡ letter_key b → (m < 64) × (m ≡ letter_key (name_in a))
-keyed a b e h m g = (subst (λ (x : ℕ). x < 64) (sym g) (key_low b), g ∙ sym (key_normal b h) ∙ ap (λ n. letter_key (html_name n)) (sym e))
+-- dangerouslySetInnerHTML has a capital at its end
+low_last : (n : Bytes) → 97 ≤ last_letter n → same n (ascii "dangerouslySetInnerHTML") ≡ false
+low_last n h = on (same n (ascii "dangerouslySetInnerHTML")) refl
+  where
+    on : (b : Bool) → same n (ascii "dangerouslySetInnerHTML") ≡ b → b ≡ false
+    on false e = refl
+    on true e = absurd (let z : 97 ≤ 76 = subst (λ (m : Bytes). 97 ≤ last_letter m) (same_eq n (ascii "dangerouslySetInnerHTML") e) h in omega (arith, z))
+
+pub keyed : (a b : Bytes) → attr_name_in (read a) ≡ ident b → 97 ≤ last_letter b → (m : ℕ) → m ≡ letter_key b →
+    (m < 64) × (m ≡ letter_key (name_in a)) × (same (get_attr_name (attr_name_in (read a)) false) (ascii "dangerouslySetInnerHTML") ≡ false)
+unfolding get_attr_name
+keyed a b e h m g = (
+  subst (λ (x : ℕ). x < 64) (sym g) (key_low b),
+  g ∙ sym (key_normal b h) ∙ ap (λ n. letter_key (html_name n)) (sym e),
+  ap (λ n. same (get_attr_name n false) (ascii "dangerouslySetInnerHTML")) e ∙ low_last b h,
+)
+
+-- ---- an identifier whose length fits a byte
+
+pub short_named : (a : Bytes) (n : ℕ) → 3 ≤ length a → get_or a 0 0 ≡ 0x40 → get_or a 1 0 ≡ 0 → n ≡ get_or a 2 0 → n ≤ length (take (length a - 3) (drop 3 a)) →
+    attr_name_in (read a) ≡ ident (take n (take (length a - 3) (drop 3 a)))
+short_named a n h t z i j =
+    let q = (header_is a n h (let k : n ≡ get_or a 1 0 * 256 + get_or a 2 0 = omega (arith, z, i) in k) j).0 in
+    attr_name_40 a (get_or a 0 0) (tag_is a q refl) t
+    ∙ ap ident (sym (body_is a q refl))
+    ∙ ap ident (ap (λ (m : ℕ). take m (drop 3 a)) (let k : 3 + n - 3 ≡ n = omega arith in k))
+    ∙ ap (λ (w : Bytes). ident (take n w)) (sym (take_all (length a - 3) (drop 3 a) (omega (arith, length-drop 3 a))))
 
 -- ---- the key by both ends
+
+-- 32 more at the first letter
+wide : (y b : ℕ) → (y + 512 * b) / 8 % 64 ≡ y / 8 % 64
+wide y b = omega arith
+
+first_raised : (c b : ℕ) → ((c + 32) * 16 + 135) * b / 8 % 64 ≡ (c * 16 + 135) * b / 8 % 64
+first_raised c b =
+    ap (λ (n : ℕ). n * b / 8 % 64) (let z : (c + 32) * 16 + 135 ≡ c * 16 + 135 + 512 = omega arith in z)
+    ∙ ap (λ (n : ℕ). n / 8 % 64) (add-mul (c * 16 + 135) 512 b)
+    ∙ wide ((c * 16 + 135) * b) b
+
+first_small : (c b : ℕ) → (small_letter c * 16 + 135) * b / 8 % 64 ≡ (c * 16 + 135) * b / 8 % 64
+unfolding small_letter
+first_small c b = on (capital c)
+  where
+    on : (k : Bool) → (pick k (c + 32) c * 16 + 135) * b / 8 % 64 ≡ (c * 16 + 135) * b / 8 % 64
+    on true = first_raised c b
+    on false = refl
 
 ends_key_small : (n : Bytes) → ends_key (small_letters n) ≡ ends_key n
 unfolding ends_key small_letters
 ends_key_small [] = refl
 ends_key_small (c ∷ cs) =
     let n = c ∷ cs in
-    ap (λ (a : ℕ). (a * 4 + 43) * (last_letter (small_letters n) % 32 + 14) / 4 % 64) (letter_mod n 0 (omega arith))
-    ∙ ap (λ (l : ℕ). (get_or n 0 0 % 32 * 4 + 43) * (get_or (small_letters n) (l - 1) 0 % 32 + 14) / 4 % 64) (length_small n)
-    ∙ ap (λ (d : ℕ). (get_or n 0 0 % 32 * 4 + 43) * (d + 14) / 4 % 64) (letter_mod n (length n - 1) (omega arith))
+    ap (λ (a : ℕ). (a * 16 + 135) * (last_letter (small_letters n) % 32 + 14) / 8 % 64) (letter_at true n 0 (omega arith))
+    ∙ first_small (get_or n 0 0) (last_letter (small_letters n) % 32 + 14)
+    ∙ ap (λ (l : ℕ). (get_or n 0 0 * 16 + 135) * (get_or (small_letters n) (l - 1) 0 % 32 + 14) / 8 % 64) (length_small n)
+    ∙ ap (λ (d : ℕ). (get_or n 0 0 * 16 + 135) * (d + 14) / 8 % 64) (letter_mod n (length n - 1) (omega arith))
 
 -- the rule over all names that do not simply go to small letters
 ends_key_listed : over_lists (λ w v. eqb (ends_key (small_letters v)) (ends_key w)) ≡ true
@@ -473,71 +518,82 @@ ends_key_is n = refl
 
 ends_key_low : (n : Bytes) → ends_key n < 64
 unfolding ends_key
-ends_key_low n = mod-lt ((get_or n 0 0 % 32 * 4 + 43) * (last_letter n % 32 + 14) / 4) (let l : 0 < 64 = omega arith in l)
+ends_key_low n = mod-lt ((get_or n 0 0 * 16 + 135) * (last_letter n % 32 + 14) / 8) (let l : 0 < 64 = omega arith in l)
 
--- a name of another length is another name
-another_length : (n m : Bytes) → (length n ≡ length m → ⊥) → same n m ≡ false
-another_length n m h = on (same n m) refl
+inner_html_key_is : ends_key (ascii "dangerouslySetInnerHTML") ≡ inner_html_key
+unfolding ends_key
+inner_html_key_is = refl
+
+-- a name of another key is another name
+another_key : (n : Bytes) → (ends_key n ≡ inner_html_key → ⊥) → same n (ascii "dangerouslySetInnerHTML") ≡ false
+another_key n h = on (same n (ascii "dangerouslySetInnerHTML")) refl
   where
-    on : (b : Bool) → same n m ≡ b → b ≡ false
+    on : (b : Bool) → same n (ascii "dangerouslySetInnerHTML") ≡ b → b ≡ false
     on false e = refl
-    on true e = absurd (h (ap length (same_eq n m e)))
+    on true e = absurd (h (ap ends_key (same_eq n (ascii "dangerouslySetInnerHTML") e) ∙ inner_html_key_is))
 
-pub ends_keyed : (a b : Bytes) → attr_name_in (read a) ≡ ident b → (length b ≡ 23 → ⊥) → (m : ℕ) → m ≡ ends_key b →
-    (m < 64) × (m ≡ ends_key (name_in a)) × (same (get_attr_name (attr_name_in (read a)) false) (ascii "dangerouslySetInnerHTML") ≡ false)
+pub ends_keyed : (a b : Bytes) → attr_name_in (read a) ≡ ident b → (m : ℕ) → m ≡ ends_key b →
+    (m < 64) × (m ≡ ends_key (name_in a)) × ((m ≡ inner_html_key → ⊥) → same (get_attr_name (attr_name_in (read a)) false) (ascii "dangerouslySetInnerHTML") ≡ false)
 unfolding get_attr_name
-ends_keyed a b e h m g = (
+ends_keyed a b e m g = (
   subst (λ (x : ℕ). x < 64) (sym g) (ends_key_low b),
   g ∙ sym (ends_key_normal b) ∙ ap (λ n. ends_key (html_name n)) (sym e),
-  ap (λ n. same (get_attr_name n false) (ascii "dangerouslySetInnerHTML")) e ∙ another_length b (ascii "dangerouslySetInnerHTML") h,
+  λ h. ap (λ n. same (get_attr_name n false) (ascii "dangerouslySetInnerHTML")) e ∙ another_key b (λ z. h (g ∙ z)),
 )
 
 -- ---- keys that are seen, each a bit
 
-abbrev Bits : ℕ → List Bytes → Type 0
-Bits seen ns = (x : Bytes) → among x ns ≡ true → bit_at seen (ends_key x) ≡ 1
+abbrev Bits : (Bytes → ℕ) → ℕ → List Bytes → Type 0
+Bits key seen ns = (x : Bytes) → among x ns ≡ true → bit_at seen (key x) ≡ 1
 
 -- some names are passed, no two of them one, and the key of each is seen
-pub record SeenSoFar (N : List Bytes) (seen : ℕ) (left : List Bytes) : Type 0 where
+pub record SeenSoFar (key : Bytes → ℕ) (N : List Bytes) (seen : ℕ) (left : List Bytes) : Type 0 where
   pub names : List Bytes
   pub passed : Passed N names left
-  pub bits : Bits seen names
+  pub bits : Bits key seen names
 
-pub seen_none : (N : List Bytes) → SeenSoFar N 0 N
+pub seen_none : (key : Bytes → ℕ) (N : List Bytes) (seen : ℕ) → SeenSoFar key N seen N
 unfolding among
-seen_none N = record { names = []; passed = passed_none N; bits = λ x h. absurd (false≢true h) }
+seen_none key N seen = record { names = []; passed = passed_none N; bits = λ x h. absurd (false≢true h) }
 
-module _ {N : List Bytes} {seen : ℕ} {left : List Bytes} (p : SeenSoFar N seen left) where
+abbrev marked : ℕ → ℕ → ℕ
+marked seen k = bit_or seen (1 * 2 ^ k % 2 ^ 64)
+
+clear : (seen k : ℕ) → (bit_and (seen / 2 ^ k) 1 ≡ 1 → ⊥) → bit_at seen k ≡ 1 → ⊥
+clear seen k h f = h (shr_and_one seen k ∙ f)
+
+-- dangerouslySetInnerHTML's is seen from the start
+pub not_inner : (seen k : ℕ) → bit_at seen inner_html_key ≡ 1 → (bit_and (seen / 2 ^ k) 1 ≡ 1 → ⊥) → k ≡ inner_html_key → ⊥
+not_inner seen k i h e = clear seen k h (ap (bit_at seen) e ∙ i)
+
+pub inner_more : (seen k : ℕ) → k < 64 → bit_at seen inner_html_key ≡ 1 → (bit_and (seen / 2 ^ k) 1 ≡ 1 → ⊥) → bit_at (marked seen k) inner_html_key ≡ 1
+inner_more seen k l i h = bit_at_set_other w64 seen k l inner_html_key (λ z. not_inner seen k i h (sym z)) ∙ i
+
+module _ {key : Bytes → ℕ} {N : List Bytes} {seen : ℕ} {left : List Bytes} (p : SeenSoFar key N seen left) where
   pub seen_all : left ≡ [] → repeats N ≡ false
   seen_all e = sym (passed_all p.passed e)
 
-  module _ {y : Bytes} {r : List Bytes} (e : left ≡ y ∷ r) {k : ℕ} (l : k < 64) (g : k ≡ ends_key y) (h : bit_and (seen / 2 ^ k) 1 ≡ 1 → ⊥) where
-    clear : bit_at seen k ≡ 1 → ⊥
-    clear f = h (shr_and_one seen k ∙ f)
-
+  module _ {y : Bytes} {r : List Bytes} (e : left ≡ y ∷ r) {k : ℕ} (l : k < 64) (g : k ≡ key y) (h : bit_and (seen / 2 ^ k) 1 ≡ 1 → ⊥) where
     new : among y p.names ≡ false
     new = on (among y p.names) refl
       where
         on : (b : Bool) → among y p.names ≡ b → b ≡ false
         on false f = refl
-        on true f = absurd (clear (ap (bit_at seen) g ∙ p.bits y f))
+        on true f = absurd (clear seen k h (ap (bit_at seen) g ∙ p.bits y f))
 
-    abbrev pub marked : ℕ
-    marked = bit_or seen (1 * 2 ^ k % 2 ^ 64)
-
-    more_bits : Bits marked (p.names ++ (y ∷ []))
-    unfolding among marked ends_key
-    more_bits x m = on (eqb (ends_key x) k) refl
+    more_bits : Bits key (marked seen k) (p.names ++ (y ∷ []))
+    unfolding among
+    more_bits x m = on (eqb (key x) k) refl
       where
-        kept : eqb (ends_key x) k ≡ false → (b : Bool) → same x y ≡ b → (among x p.names || (b || false)) ≡ true → among x p.names ≡ true
-        kept f true q z = absurd (eqb-false (ends_key x) k f (ap ends_key (same_eq x y q) ∙ sym g))
+        kept : eqb (key x) k ≡ false → (b : Bool) → same x y ≡ b → (among x p.names || (b || false)) ≡ true → among x p.names ≡ true
+        kept f true q z = absurd (eqb-false (key x) k f (ap key (same_eq x y q) ∙ sym g))
         kept f false q z = sym (or-false (among x p.names)) ∙ z
 
-        on : (b : Bool) → eqb (ends_key x) k ≡ b → bit_at marked (ends_key x) ≡ 1
-        on true f = ap (bit_at marked) (eqb-true (ends_key x) k f) ∙ bit_at_set_same w64 seen k l
-        on false f = bit_at_set_other w64 seen k l (ends_key x) (eqb-false (ends_key x) k f) ∙ p.bits x (kept f (same x y) refl (sym (among_append x p.names (y ∷ [])) ∙ m))
+        on : (b : Bool) → eqb (key x) k ≡ b → bit_at (marked seen k) (key x) ≡ 1
+        on true f = ap (bit_at (marked seen k)) (eqb-true (key x) k f) ∙ bit_at_set_same w64 seen k l
+        on false f = bit_at_set_other w64 seen k l (key x) (eqb-false (key x) k f) ∙ p.bits x (kept f (same x y) refl (sym (among_append x p.names (y ∷ [])) ∙ m))
 
-    pub seen_more : SeenSoFar N marked r
+    pub seen_more : SeenSoFar key N (marked seen k) r
     seen_more = record { names = p.names ++ (y ∷ []); passed = passed_one p.passed e new; bits = more_bits }
 
 -- ---- the attributes in front

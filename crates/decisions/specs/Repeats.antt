@@ -1,8 +1,9 @@
 -- 02, A4: the names that attributes have in HTML, and whether one stands twice; and how the code reads such a name. Main definitions:
 -- `html_names`, `repeats`. Assumes nothing: these are definitions.
 use Rattle.std.specs.Prelude.{ℕ, suc, ◌+◌, ◌-◌, ◌*◌, ◌/◌, ◌%◌, ◌<◌, Bool, true, false, ◌||◌, ◌&&◌, not, ◌≡◌, List, [], ◌∷◌, ◌++◌, length, get_or, Option, Some, None, option_map}
+use denote.Ref.{Bor}
 use Rattle.field.specs.Bytes.{Bytes, ascii, pick, same, among}
-use Rattle.names.specs.Names.{AttrName, get_attr_name, capital, small_letter, small_letters}
+use Rattle.names.specs.Names.{AttrName, ident, get_attr_name, capital, small_letter, small_letters}
 use Rattle.names.specs.Table.{spelled}
 use Rattle.field.specs.Row.{read}
 use Rattle.field.specs.Front.{behind_of}
@@ -94,23 +95,33 @@ last_letter n = get_or n (length n - 1) 0
 unfoldable pub letter_key : Bytes → ℕ
 letter_key n = key_by (get_or n 0 0) (get_or (1 ∷ n) (length n - 1) 0) (last_letter n)
 
--- a key of a name, where one is told
+-- that of the attribute with these fields, where one is told: its name is not dangerouslySetInnerHTML then
 abbrev pub Keyed : Bytes → Option ℕ → Type 0
-Keyed n None = Unit {0}
-Keyed n (Some k) = (k < 64) × (k ≡ letter_key n)
+Keyed a None = Unit {0}
+Keyed a (Some k) = (k < 64) × (k ≡ letter_key (name_in a)) × (same (get_attr_name (attr_name_in (read a)) false) (ascii "dangerouslySetInnerHTML") ≡ false)
 
--- ---- a key by both ends, modulo 32: normalising keeps it of every identifier
+-- ---- a key by both ends, of which 32 more makes no other: normalising keeps it of every identifier
 
 abbrev pub ends_key_by : ℕ → ℕ → ℕ
-ends_key_by c d = (c % 32 * 4 + 43) * (d % 32 + 14) / 4 % 64
+ends_key_by c d = (c * 16 + 135) * (d % 32 + 14) / 8 % 64
 
 unfoldable pub ends_key : Bytes → ℕ
 ends_key n = ends_key_by (get_or n 0 0) (last_letter n)
 
--- of the attribute with these fields: its name is not dangerouslySetInnerHTML then
+-- the name of the attribute with these fields, where one is told
+abbrev pub ShortIdent : Bytes → Option (Bor Bytes) → Type 0
+ShortIdent a None = Unit {0}
+ShortIdent a (Some b) = attr_name_in (read a) ≡ ident b.now
+
+-- that of dangerouslySetInnerHTML
+abbrev pub inner_html_key : ℕ
+inner_html_key = 6
+
+-- of the attribute with these fields
 abbrev pub EndsKeyed : Bytes → Option ℕ → Type 0
 EndsKeyed a None = Unit {0}
-EndsKeyed a (Some k) = (k < 64) × (k ≡ ends_key (name_in a)) × (same (get_attr_name (attr_name_in (read a)) false) (ascii "dangerouslySetInnerHTML") ≡ false)
+EndsKeyed a (Some k) =
+    (k < 64) × (k ≡ ends_key (name_in a)) × ((k ≡ inner_html_key → ⊥) → same (get_attr_name (attr_name_in (read a)) false) (ascii "dangerouslySetInnerHTML") ≡ false)
 
 -- ---- what is told of an element's names
 

@@ -11,7 +11,7 @@ ghost use Rattle.decisions.specs.Repeats.{AttributesTold, SerializedTold};
 
 use crate::attribute::{is_inner_html, two_names};
 use crate::index::lists;
-use crate::repeats::{Names, ends_key};
+use crate::repeats::{Names, ends_key, key_of};
 use field::reader::{Field, Fields, behind, field_at};
 use field::tags::{ATTRIBUTE, IDENT, MEMBER, NAMESPACED_NAME, SPREAD};
 use names::is_void_element;
@@ -92,21 +92,48 @@ fn unsure(s: &[u8]) -> Option<Names>
     }
 }
 
-// The same, and what the names tell on the way, by keys: so the question of A4 needs no walk of its own where all keys are different. A function of
+// The same, and what the names tell on the way, by keys of three letters.
+#[inline(never)]
+fn told_by_letters(s: &[u8]) -> Option<Names>
+    ensures { AttributesTold s.now result }
+{
+    let mut noted: u64 = 0;
+    for field in Fields(s) {
+        match field.tag {
+            ATTRIBUTE => {
+                let Some(key) = key_of(field.body) else {
+                    return unsure(s);
+                };
+                if (noted >> key) & 1 == 1 {
+                    return unsure(s);
+                }
+                noted |= 1 << key;
+            }
+            SPREAD => return None,
+            _ => return Some(Names::Different),
+        }
+    }
+    Some(Names::Different)
+}
+
+// The key of `dangerouslySetInnerHTML`. It is seen from the start, so that no name needs a test of its own for that one.
+const INNER_HTML: u64 = 1 << 6;
+
+// The same by keys of both ends, which take half as much: so the question of A4 needs no walk of its own where all keys are different. A function of
 // its own, which calls none in its loop: merged into its caller it takes 7 instructions an attribute more.
 #[inline(never)]
 fn names_told(s: &[u8]) -> Option<Names>
     ensures { AttributesTold s.now result }
 {
-    let mut seen: u64 = 0;
+    let mut seen = INNER_HTML;
     for field in Fields(s) {
         match field.tag {
             ATTRIBUTE => {
                 let Some(key) = ends_key(field.body) else {
-                    return unsure(s);
+                    return told_by_letters(s);
                 };
                 if (seen >> key) & 1 == 1 {
-                    return unsure(s);
+                    return told_by_letters(s);
                 }
                 seen |= 1 << key;
             }
@@ -117,7 +144,24 @@ fn names_told(s: &[u8]) -> Option<Names>
     Some(Names::Different)
 }
 
-// is_serializable, and what is told of its attributes' names where it is.
+// The same, without a call where no attribute stands in front.
+#[inline(always)]
+fn told_in_front(s: &[u8]) -> Option<Names>
+    ensures { AttributesTold s.now result }
+{
+    let Some(field) = field_at(s) else {
+        return Some(Names::Different);
+    };
+    match field.tag {
+        ATTRIBUTE => names_told(s),
+        SPREAD => None,
+        _ => Some(Names::Different),
+    }
+}
+
+// is_serializable, and what is told of its attributes' names where it is. Merged into its callers it takes more registers than they have. The names
+// of 02 are looked at first here, so that nothing is kept over the walk.
+#[inline(never)]
 pub fn serialized(skip: &[u8], b: &[u8]) -> Option<Names>
     ensures { SerializedTold skip.now b.now result }
 {
@@ -127,8 +171,10 @@ pub fn serialized(skip: &[u8], b: &[u8]) -> Option<Names>
     if is_upper(n) {
         return None;
     }
-    let names = names_told(behind(b))?;
-    if lists(skip, n) { None } else { Some(names) }
+    if lists(skip, n) {
+        return None;
+    }
+    told_in_front(behind(b))
 }
 
 // skip has the names of 02. They are looked at last: most options list none.

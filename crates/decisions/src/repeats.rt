@@ -6,7 +6,7 @@ ghost use Rattle.field.specs.Bytes.{same, among};
 ghost use Rattle.field.specs.Row.{read};
 ghost use Rattle.names.specs.Names.{ident, namespaced, small_letters};
 ghost use Rattle.page.specs.Tree.{attributes_in, attr_name_in};
-ghost use Rattle.decisions.specs.Repeats.{IsPlain, letters, sign_read, html_name, html_names, name_in, names_in, repeats, name_hash, Keyed, key_by, ends_key_by, EndsKeyed, Told};
+ghost use Rattle.decisions.specs.Repeats.{IsPlain, letters, sign_read, html_name, html_names, name_in, names_in, repeats, name_hash, Keyed, key_by, ends_key_by, EndsKeyed, ShortIdent, Told};
 
 use crate::attribute::{AttrName, Attributes, attr_name_at, ident_at};
 use field::reader::{Field, Fields};
@@ -202,9 +202,10 @@ fn key_by(c: u8, p: u8, d: u8) -> usize
 }
 
 // A number below 64 that is one for names that are one, from letters as they are written. It is not told where the last is no small letter,
-// since before a capital a hyphen may be put in.
-fn key_of(a: &[u8]) -> Option<usize>
-    ensures { Keyed (name_in a.now) result }
+// since before a capital a hyphen may be put in: so `dangerouslySetInnerHTML` has none.
+#[inline(always)]
+pub(crate) fn key_of(a: &[u8]) -> Option<usize>
+    ensures { Keyed a.now result }
 {
     let name = ident_at(a)?;
     let (before, last) = match name {
@@ -218,23 +219,6 @@ fn key_of(a: &[u8]) -> Option<usize>
     Some(key_by(name[0], before, last))
 }
 
-// Whether two attributes may have one name: by keys, which tell of most elements that none do.
-fn may_repeat(s: &[u8]) -> bool
-    ensures { result ≡ false → repeats (names_in s.now) ≡ false }
-{
-    let mut seen = [false; 64];
-    for a in Attributes(s) {
-        let Some(key) = key_of(a) else {
-            return true;
-        };
-        if seen[key] {
-            return true;
-        }
-        seen[key] = true;
-    }
-    false
-}
-
 // What is told of the names of an element's attributes by a walk that is made for another question.
 #[derive(Clone, Copy)]
 pub enum Names {
@@ -244,23 +228,44 @@ pub enum Names {
     Unsure,
 }
 
+// IDENT and a length below 256.
+const SHORT_IDENT: u16 = 0x4000;
+
 // From the first letter c and the last d, a number below 64. In this form `className` and `class`, `htmlFor` and `for`, `xlinkHref` and `href` come
-// to one number.
+// to one number, and 32 more at either letter, as a small letter has, change nothing.
 fn ends_key_by(c: u8, d: u8) -> u32
     ensures { result ≡ ends_key_by c d }
 {
-    (u32::from(c % 32) * 4 + 43) * (u32::from(d % 32) + 14) / 4 % 64
+    (u32::from(c) * 16 + 135) * (u32::from(d % 32) + 14) / 8 % 64
+}
+
+// The identifier that an attribute's name is, where its length fits a byte; so tag and length are one number of two bytes. None tells nothing.
+#[inline(always)]
+fn short_ident(a: &[u8]) -> Option<&[u8]>
+    ensures { ShortIdent a.now result }
+{
+    let [tag, high, low, rest @ ..] = a else {
+        return None;
+    };
+    if u16::from_be_bytes([*tag, *high]) != SHORT_IDENT {
+        return None;
+    }
+    let n = usize::from(*low);
+    if n <= rest.len() {
+        Some(&rest[..n])
+    } else {
+        None
+    }
 }
 
 // A number below 64 that is one for names that are one, by their ends as they are written: it takes half of what `key_of` takes, so it goes first.
-// None is told of a name as long as `dangerouslySetInnerHTML`, which who asks must look at.
 #[inline(always)]
 pub(crate) fn ends_key(a: &[u8]) -> Option<u32>
     ensures { EndsKeyed a.now result }
 {
-    let name = ident_at(a)?;
+    let name = short_ident(a)?;
     let n = name.len();
-    if n == 0 || n == 23 {
+    if n == 0 {
         return None;
     }
     Some(ends_key_by(name[0], name[n - 1]))
@@ -278,7 +283,7 @@ fn repeats_in(s: &[u8]) -> bool
                 tag: ATTRIBUTE | SPREAD,
                 ..
             },
-        ) => may_repeat(s) && by_tables(s),
+        ) => by_tables(s),
         _ => false,
     }
 }

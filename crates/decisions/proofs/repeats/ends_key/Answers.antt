@@ -1,8 +1,7 @@
--- By the letters at its ends, of an identifier that is not as long as dangerouslySetInnerHTML.
-use mathlib.Core.Path.{◌≡◌, ap, ◌∙◌}
-use native.Mathlib.Omega.{arith}
+-- By the letters at its ends, of an identifier.
+use mathlib.Core.Path.{◌∙◌}
 use Rattle.decisions.proofs.RepeatLaws.{ends_keyed, ends_key_is}
 use Rattle.decisions.proofs.repeats.ends_key.Goals as goal
 
 pub returns : goal.returns
-returns c = let n = c.in_ok-name.name.now in ends_keyed c.args.a.now n c.in_ok-name.ensures (λ z. c.if-n-eq23.false z) _ (c.ends_key_by.ensures ∙ ends_key_is n)
+returns c = let n = c.in_ok-name.name.now in ends_keyed c.args.a.now n c.in_ok-name.ensures _ (c.ends_key_by.ensures ∙ ends_key_is n)
