@@ -135,12 +135,6 @@ pub record Marking (o : Bytes) (at gaps : ℕ) (s out : Bytes) (x : Gaps) (i a :
   pub left_is : put out a (kind_marks (gaps - i) x.markup x.strings.0.now) ≡ put o at (kind_marks gaps M.Outside s)
   pub clear_left : all_clear (kind_marks (gaps - i) x.markup x.strings.0.now) ≡ all_clear (kind_marks gaps M.Outside s)
 
-pub marking_begins : (o : Bytes) (at gaps : ℕ) (s : Bytes) {x : Gaps} → (x.strings.0.now ≡ s) × (x.markup ≡ M.Outside) → Marking o at gaps s o x 0 at
-marking_begins o at gaps s {x} e =
-    let z : gaps - 0 ≡ gaps = omega arith in
-    let k : kind_marks (gaps - 0) x.markup x.strings.0.now ≡ kind_marks gaps M.Outside s = ap (λ (j : ℕ). kind_marks j x.markup x.strings.0.now) z ∙ ap₂ (kind_marks gaps) e.1 e.0 in
-    record { within = omega arith; place_is = omega arith; same_size = refl; left_is = ap (put o at) k; clear_left = ap all_clear k }
-
 module _ {o s out : Bytes} {at gaps i a : ℕ} {x : Gaps} (k : Marking o at gaps s out x i a) where
   module _ (h : i < gaps) {y : Gaps} where
     pub marking_on : {v : ℕ} → NextKind x (Some v) y → {out' : Bytes} {a' : ℕ} → Wrote out a (v ∷ []) out' a' → Marking o at gaps s out' y (i + 1) a'
@@ -194,12 +188,6 @@ module _ (a : Bytes) (i : ℕ) (l : i < length a) (v : ℕ) (w : Bytes) where
 pub record Comparing (a s : Bytes) (x : Gaps) (i : ℕ) : Type 0 where
   pub within : i ≤ length a
   pub left_is : same_kinds a (kind_marks (length a) M.Outside s) ≡ same_kinds (drop i a) (kind_marks (length a - i) x.markup x.strings.0.now)
-
-pub comparing_begins : (a s : Bytes) {x : Gaps} → (x.strings.0.now ≡ s) × (x.markup ≡ M.Outside) → Comparing a s x 0
-comparing_begins a s {x} e =
-    let z : length a - 0 ≡ length a = omega arith in
-    let k : kind_marks (length a - 0) x.markup x.strings.0.now ≡ kind_marks (length a) M.Outside s = ap (λ (j : ℕ). kind_marks j x.markup x.strings.0.now) z ∙ ap₂ (kind_marks (length a)) e.1 e.0 in
-    record { within = omega arith; left_is = ap (same_kinds a) (sym k) }
 
 module _ {a s : Bytes} {x : Gaps} {i : ℕ} (k : Comparing a s x i) where
   module _ (h : i < length a) {y : Gaps} where

@@ -22,8 +22,7 @@ use Rattle.refusal.specs.Refusal.{Fine}
 use Rattle.outs.specs.Templates.{check_records, check_templates}
 use Rattle.outs.specs.declared.Kind.{Kind}
 use Rattle.outs.specs.declared.Kind.TheVariants.{Old, New}
-use Rattle.convert.specs.Flat.{kind_marks, all_clear, same_kinds, gaps_in, strings_at, kinds_at, rewritten_body, body_clear, rewritten_tag, BodyFits, rewritten_bytes, all_bodies_clear, some_body_long, WroteBody, RewritesBody, WroteAll}
-use Rattle.std.specs.Prelude.{Option}
+use Rattle.convert.specs.Flat.{kind_marks, all_clear, same_kinds, gaps_in, strings_at, kinds_at, rewritten_body, body_clear, rewritten_tag, BodyFits, rewritten_bytes, all_bodies_clear, some_body_long, WroteBody, WroteAll}
 use Rattle.std.proofs.lemmas.Float.{T_from_false}
 use Rattle.std.proofs.Math.Bool.{or_assoc}
 use Rattle.convert.specs.declared.templates.Rewritten.{Rewritten}
@@ -263,7 +262,3 @@ module _ (w : Bytes) where
           long_is = ap (ltb 65535) l;
           clear_is = lower_clear ∙ ap₂ (λ (x y : Bool). x && y) (le-leb n 65535 h) k;
         }
-
--- by what a record comes from
-pub rewrites_of : {k l : Kind} (w o : Bytes) (n : ℕ) (o' : Bytes) (r : Option Rewritten) → k ≡ l → RewritesBody k w o n o' r → RewritesBody l w o n o' r
-rewrites_of w o n o' r e q = subst (λ (x : Kind). RewritesBody x w o n o' r) e q

@@ -6,9 +6,11 @@ use mathlib.Core.Bool.{Bool, true, false, ◌||◌, not, and-false, and-true}
 use Prim.Native.Nat.{ℕ}
 use mathlib.Core.List.{[]}
 use denote.Ref.{Bor}
+use lib.ListN.{length}
 use Rattle.field.specs.Bytes.{Bytes, ascii, same, among}
-use Rattle.field.specs.Row.{read, Ended}
+use Rattle.field.specs.Row.{Row, read, Ended}
 use Rattle.field.specs.Front.{tag_of_front, body_of, behind_of}
+use Rattle.field.proofs.FrontLaws.{read_empty}
 use Rattle.names.specs.Names.{get_attr_name}
 use Rattle.page.specs.Page.{identifier}
 use Rattle.page.specs.Tree.{attributes_in, attr_name_in}
@@ -50,6 +52,10 @@ module _ (s : Bytes) (t : ℕ) (e : t ≡ tag_of_front s) where
   pub forbids_other : (t ≡ 0x50 → ⊥) → (t ≡ 0x53 → ⊥) → false ≡ forbids (attributes_in (read s))
   unfolding forbids
   forbids_other a b = sym (ap forbids (attributes_other s t e a b))
+
+pub forbids_empty : (s : Bytes) → length s ≡ 0 → forbids (attributes_in (read s)) ≡ false
+unfolding forbids attributes_in
+forbids_empty s h = ap (λ (r : Row). forbids (attributes_in r)) (read_empty s h)
 
 pub forbids_none : (s : Bytes) → Ended (read s) → false ≡ forbids (attributes_in (read s))
 unfolding forbids

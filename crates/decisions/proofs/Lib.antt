@@ -11,3 +11,4 @@ pub mod RepeatLaws
 pub mod LinkLaws
 pub mod BuildLaws
 pub mod ChildrenLaws
+pub mod BecomesLaws

@@ -10,7 +10,7 @@ use lib.ListN.{length, drop, get_or}
 use borrow.Author.Tests.{lt-ltb}
 use Rattle.field.specs.Bytes.{Bytes}
 use Rattle.field.specs.Number.{big_endian}
-use Rattle.field.specs.Put.{put, Wrote}
+use Rattle.field.specs.Put.{put}
 use Rattle.field.proofs.PutLaws.{length_put, put_nil}
 use Rattle.field.proofs.NumberLaws.{length_big_endian}
 use Rattle.decisions.specs.Index.{two_at, linked}
@@ -71,10 +71,6 @@ two_same b i v h k =
     rw (length_put, lt-ltb (i + 1) (length b) k, add-one i, first_put b i (v / 256 % 256) (v % 256) l, second_put b i (v / 256 % 256) (v % 256) l) (omega arith)
 
 -- ---- one more entry
-
--- the three numbers, as they are written
-pub linked_is : (h k p : ℕ) {o o₁ o₂ o₃ : Bytes} {v n₁ n₂ n₃ : ℕ} → v ≡ two_at o (2 * h) → Wrote o (2048 + 4 * k) (big_endian 2 v []) o₁ n₁ → Wrote o₁ (2050 + 4 * k) (big_endian 2 p []) o₂ n₂ → Wrote o₂ (2 * h) (big_endian 2 (k + 1) []) o₃ n₃ → o₃ ≡ linked o h k p
-linked_is h k p e u v w = w.out_is ∙ rw (v.out_is, u.out_is, e)
 
 -- o is b with entry k, of that hash, with the name at that place: what else is read of it is as it was
 pub record Links (b : Bytes) (h k place : ℕ) (o : Bytes) : Type 0 where

@@ -257,10 +257,6 @@ same_turned [] (d ∷ y) = refl
 same_turned (c ∷ x) [] = refl
 same_turned (c ∷ x) (d ∷ y) = rw (eqb_turned c d, same_turned x y)
 
-pub repeats_none : repeats [] ≡ false
-unfolding repeats
-repeats_none = refl
-
 pub repeats_more : (ns : List Bytes) (x : Bytes) → repeats (ns ++ (x ∷ [])) ≡ (among x ns || repeats ns)
 unfolding repeats among
 repeats_more [] x = refl
@@ -411,14 +407,8 @@ key_low n = mod-lt ((get_or n 0 0 % 32 * 4 + 27) * (last_letter n + 14) + get_or
 small_room : (n m : ℕ) → n ≤ m → m ≤ 40770 → n < 2 ^ 64
 small_room n m h k = omega (arith, h, k)
 
-sum_room : (n m z : ℕ) → n ≤ m → m ≤ 40770 → z ≤ 155 → n + z < 2 ^ 64
-sum_room n m z h k l = omega (arith, h, k, l)
-
 pub key_room : {x y : ℕ} → x ≤ 151 → y ≤ 270 → x * y < 2 ^ 64
 key_room {x} {y} h k = small_room (x * y) (151 * y) (mul-le-mul_right y h) (omega (arith, k))
-
-pub key_sum_room : {x y z : ℕ} → x ≤ 151 → y ≤ 270 → z ≤ 155 → x * y + z < 2 ^ 64
-key_sum_room {x} {y} {z} h k l = sum_room (x * y) (151 * y) z (mul-le-mul_right y h) (omega (arith, k)) l
 
 -- of one letter, and of more
 pub last_of_one : (n : Bytes) → length n ≡ 1 → last_letter n ≡ get_or n 0 0

@@ -2,3 +2,4 @@
 pub mod Index
 pub mod At
 pub mod Repeats
+pub mod Becomes

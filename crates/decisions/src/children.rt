@@ -74,6 +74,7 @@ fn has_text(s: &[u8]) -> bool
 
 // Whether several children of a call become one template. Texts are looked into only where one tag alone is serializable: a series of
 // texts may be long and asked about often.
+#[inline(always)]
 pub fn becomes_template(skip: &[u8], s: &[u8]) -> bool
     ensures { result ≡ becomes skip.now (children_in (read s.now)) }
 {

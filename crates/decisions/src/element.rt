@@ -63,6 +63,7 @@ pub fn identifier(b: &[u8]) -> &[u8]
 }
 
 // A spread, or dangerouslySetInnerHTML, among the attributes in front.
+#[inline(never)]
 fn keeps_from_serializing(s: &[u8]) -> bool
     ensures { result ≡ forbids (attributes_in (read s.now)) }
 {
@@ -78,6 +79,14 @@ fn keeps_from_serializing(s: &[u8]) -> bool
         }
     }
     false
+}
+
+// The same, where anything stands behind the name: most tags of dense pages have nothing there, and that is seen before a call is made.
+#[inline(always)]
+fn keeps_from(s: &[u8]) -> bool
+    ensures { result ≡ forbids (attributes_in (read s.now)) }
+{
+    !s.is_empty() && keeps_from_serializing(s)
 }
 
 // The same where their names repeat, or where that is not told.
@@ -178,13 +187,14 @@ pub fn serialized(skip: &[u8], b: &[u8]) -> Option<Names>
 }
 
 // skip has the names of 02. They are looked at last: most options list none.
+#[inline(always)]
 pub fn is_serializable(skip: &[u8], b: &[u8]) -> bool
     ensures { result ≡ serializable skip.now b.now }
 {
     let ElementName::Identifier(n) = element_name_at(b) else {
         return false;
     };
-    !is_upper(n) && !keeps_from_serializing(behind(b)) && !lists(skip, n)
+    !is_upper(n) && !keeps_from(behind(b)) && !lists(skip, n)
 }
 
 // Names are treated as a component's where they are members or start with a capital.

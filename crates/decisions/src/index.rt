@@ -5,7 +5,7 @@ ghost use Rattle.field.specs.Row.{read};
 ghost use Rattle.names.specs.Names.{normalize_dom_attr_name};
 ghost use Rattle.names.specs.Table.{read_as};
 ghost use Rattle.page.specs.Tree.{texts_in};
-ghost use Rattle.decisions.specs.Index.{hash_from, hash, two_at, name_at, before_at, link_of, chain, names_of, linked};
+ghost use Rattle.decisions.specs.Index.{hash_from, hash, two_at, name_at, link_of, chain, names_of, linked};
 
 use field::HEAD;
 use field::reader::{Fields, body};
@@ -123,13 +123,6 @@ fn two_at(b: &[u8], i: usize) -> usize
 #[derive(Clone, Copy)]
 struct Index<'a>(&'a [u8]);
 
-// A name that is listed, and the entry before it that has its hash.
-#[derive(Clone, Copy)]
-struct Entry<'a> {
-    name: &'a [u8],
-    before: Option<usize>,
-}
-
 impl<'a> Index<'a> {
     // The entry in the two bytes at i, which hold its number and one.
     fn link_at(self, i: usize) -> Option<usize>
@@ -139,17 +132,13 @@ impl<'a> Index<'a> {
         two_at(self.0, i).checked_sub(1)
     }
 
-    fn entry(self, k: usize) -> Entry<'a>
+    // The name of entry k.
+    fn name(self, k: usize) -> &'a [u8]
         requires { k < 65535 }
-        ensures name { result.name.now ≡ name_at self.entry.0.now k }
-        ensures before { link_of result.before ≡ before_at self.entry.0.now k }
-        ensures within { link_of result.before < 65536 }
+        ensures { result.now ≡ name_at self.entry.0.now k }
     {
         let place = SERIES_AT + two_at(self.0, PLACE_AT + 4 * k);
-        Entry {
-            name: body(&self.0[place.min(self.0.len())..]),
-            before: self.link_at(BEFORE_AT + 4 * k),
-        }
+        body(&self.0[place.min(self.0.len())..])
     }
 
     // Whether one of the names with that hash is it.
@@ -162,11 +151,10 @@ impl<'a> Index<'a> {
             let Some(k) = next else {
                 return false;
             };
-            let entry = self.entry(k);
-            if asked.is(entry.name) {
+            if asked.is(self.name(k)) {
                 return true;
             }
-            next = entry.before;
+            next = self.link_at(BEFORE_AT + 4 * k);
         }
         false
     }

@@ -3,6 +3,7 @@
 #![tactic(auto)]
 
 pub mod attribute;
+pub mod becomes;
 pub mod children;
 pub mod element;
 pub mod expr;

@@ -11,7 +11,7 @@ use lib.Dec.{eqb, leb, leb→le, eqb→eq}
 use lib.ListN.{length, take, drop, get_or, length-append, length-take, length-drop}
 use borrow.Author.Tests.{ne_eqb, le-leb}
 use Rattle.std.specs.List.{Contains}
-use Rattle.std.proofs.lemmas.List.Elements.{Contains-append_cases, Contains-get_or}
+use Rattle.std.proofs.lemmas.List.Elements.{Contains-append_cases}
 use Rattle.std.proofs.Math.Option.{Option, none, some}
 use Rattle.field.specs.Bytes.{Bytes}
 use Rattle.field.specs.Number.{number_of}
@@ -178,7 +178,3 @@ unknown_none ts (loose b) e n c u = refl
 unknown_none ts (field t f i r) e n c u =
     let p = order_parts t f i r e in
     among ts n u (filled ts (template_of ts (number_of f)) i ≡ none) (number_of f) i r (subst (λ (x : List ℕ). Contains x n) (asked_85 t f i r p.tag_is) c) (within ts n u (number_of f) i (λ h. unknown_gaps ts n u i h)) (nothing_asked (filled ts (template_of ts (number_of f)) i ≡ none) r n p.alone)
-
--- of an order, by the number's place
-pub unknown_at : (ts o : Row) → check_order o ≡ Fine → (j : ℕ) → j < length (asked o) → template_of ts (get_or (asked o) j 0) ≡ none → html_of ts o ≡ none
-unknown_at ts o e j l u = unknown_none ts o e (get_or (asked o) j 0) (Contains-get_or (asked o) j 0 l) u

@@ -147,9 +147,6 @@ all_length r = (text_lengths r).all
 pub parted_length : (r : Row) → length (parted_text r) ≤ 16 * length (bytes r)
 parted_length r = (text_lengths r).parted
 
-pub behind_length : (r : Row) → length (behind_text r) ≤ 16 * length (bytes r)
-behind_length r = (text_lengths r).behind
-
 pub first_length : (r : Row) → length (first_text r) ≤ 16 * length (bytes r)
 first_length r = (text_lengths r).first
 

@@ -1,12 +1,12 @@
 -- A name of one identifier, found again from its end: the white space behind it is dropped. Main statement: `ident_name`. Assumes nothing.
-use Prim.Native.Nat.{ℕ, ◌+◌, ◌-◌, ◌*◌, ◌^◌, ◌≤◌, ◌<◌}
+use Prim.Native.Nat.{ℕ, ◌+◌, ◌-◌, ◌≤◌}
 use mathlib.Core.Path.{◌≡◌, refl, sym, ◌∙◌, ap}
 use mathlib.Core.Bool.{◌||◌, not}
 use mathlib.Core.List.{[], ◌∷◌, ◌++◌, append_assoc}
 use mathlib.Core.Logic.{◌⊎◌, inl, inr}
 use native.Mathlib.Omega.{arith}
 use lib.Dec.{T, eqb, not_T}
-use lib.ListN.{length, take, drop, length-append, length-take, length-drop}
+use lib.ListN.{length, take, drop, length-append, length-drop}
 use lib.Seq.{take_at}
 use Rattle.field.specs.Bytes.{Bytes}
 use Rattle.field.specs.Row.{field_bytes}
@@ -17,9 +17,7 @@ use Rattle.grammar.specs.Grammar.{Run, run_ends, run_on, Spaces, no_space, space
 use Rattle.grammar.proofs.Tests.{chose, passed, or_cases, at_eq, clash, letter_no_space}
 use Rattle.read_tag.specs.Progress.{name_bytes}
 use Rattle.read_tag.specs.Shapes.{name_tag}
-use Rattle.read_tag.specs.Names.{NameAt}
 use Rattle.read_tag.proofs.NameFieldLaws.{name_alone, one_part_bytes, name_one}
-use Rattle.read_tag.proofs.NameWalkLaws.{name_inside}
 
 -- ---- white space behind bytes of a name
 
@@ -98,7 +96,3 @@ pub ident_name : (s v : Bytes) (i e t : ℕ) (n : Name) → i ≤ e → e ≤ le
 ident_name s v i e t n l m (is_name {w = w} {s₁ = y} {ps = []} u (no_parts p ends)) f g z h =
     ap (field_bytes 0x40) (h ∙ ident_word s w y i e l m u p) ∙ sym (one_part_bytes 0 w) ∙ name_one (part 0 w ∷ []) t f g z
 ident_name s v i e t n l m (is_name {w = w} {ps = part d x ∷ ps} u (one_part a b c o k)) f g z h = absurd (name_alone (part 0 w) d x ps t g z)
-
--- its field takes three bytes more, and of the text there is at least one
-pub ident_room : (s v : Bytes) (i e at : ℕ) → NameAt s i → e ≤ length s → at + 8 * length s < 2 ^ 63 → length v ≤ length (take (e - i) (drop i s)) → at + (length v + 3) < 2 ^ 63
-ident_room s v i e at n m h t = omega (arith, name_inside s i n, length-take (e - i) (drop i s), length-drop i s, m, h, t)

@@ -171,10 +171,6 @@ pub parts_bytes_none : parts_bytes [] ≡ []
 unfolding parts_bytes idents texts_row bytes
 parts_bytes_none = refl
 
-pub parts_bytes_first : (d : ℕ) (w : Bytes) (n : Name) → parts_bytes (part d w ∷ n) ≡ field_bytes 0x40 w ++ parts_bytes n
-unfolding parts_bytes idents
-parts_bytes_first d w n = ident_bytes w (idents n)
-
 parts_bytes_more : (n : Name) (d : ℕ) (w : Bytes) → parts_bytes (n ++ (part d w ∷ [])) ≡ parts_bytes n ++ field_bytes 0x40 w
 unfolding parts_bytes idents
 parts_bytes_more [] d w = ident_bytes w [] ∙ (unfold texts_row bytes in append-nil (field_bytes 0x40 w))

@@ -20,7 +20,7 @@ use Rattle.spec.specs.Children.{merged_parts, children_to_string, serialize_jsx,
 use Rattle.decisions.specs.declared.children.Count.{Count}
 use Rattle.decisions.specs.declared.children.Count.TheVariants.{Zero, One, More}
 use Rattle.decisions.specs.At.{identifier_bytes}
-use Rattle.records.specs.Keep.{Kept, at, keep, write, bumped}
+use Rattle.records.specs.Keep.{Kept, at, keep, write, write_runs, bumped}
 use Rattle.records.proofs.KeepLaws.{keep_pure, keep_map, keep_template, keep_gap, keep_entry, parts_append, entries_append}
 
 -- ---- what merging leaves
@@ -261,7 +261,7 @@ module _ (cs : List Child) (w : Kept) where
 
   -- and as one template
   pub found_template : few_of cs ≡ More → becomes_template cs ≡ true → keep (found_pass (children_to_expr cs)) w
-      ≡ write w.st.next (long_run (merge false false [] cs)) (children_to_string false (short_runs (merge false false [] cs))) (keep (dynamic_exprs (children_to_string false cs)) (at w.out (bumped w.st)))
+      ≡ write_runs w.st.next cs (keep (dynamic_exprs (children_to_string false cs)) (at w.out (bumped w.st)))
   unfolding many_children choose
   found_template n h =
       let m = merge false false [] cs in

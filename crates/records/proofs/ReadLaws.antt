@@ -23,7 +23,7 @@ use Rattle.page.specs.Tree.{choose, children_in, expr_in, Contained, nothing_con
 use Rattle.spec.specs.Pass.{Mid, none}
 use Rattle.spec.specs.Output.{dynamic_exprs}
 use Rattle.spec.specs.Merge as M
-use Rattle.spec.specs.Merge.{Child, merge, long_run, short_runs, becomes_template}
+use Rattle.spec.specs.Merge.{Child, merge, becomes_template}
 use Rattle.spec.specs.Attributes.{is_serializable}
 use Rattle.spec.specs.Children.{children_to_string, children_to_expr, entries, entries_pass, entry_pass, found_pass, one_child, to_call_expr, serialize_jsx, spliced}
 use Rattle.spec.specs.Transform.{element_of, fragment_of, shape_of, child, children, expr}
@@ -32,7 +32,7 @@ use Rattle.decisions.specs.declared.children.Count.TheVariants.{Zero, One, More}
 use Rattle.decisions.specs.At.{opts, element_name, behind_name, identifier_bytes, attributes_at, children_at, element_at, serializable, is_none, few, becomes, FirstChild}
 use Rattle.decisions.proofs.Laws.{child_element, child_fragment, element_serializable, becomes_is}
 use Rattle.decisions.proofs.Series.{tested, behind_name_at, children_none, children_60, children_52, children_30, children_31, children_61, children_other}
-use Rattle.records.specs.Keep.{Kept, at, keep, write, bumped}
+use Rattle.records.specs.Keep.{Kept, at, keep, write, write_runs, bumped}
 use Rattle.records.proofs.KeepLaws.{keep_pure, keep_map, keep_gen}
 use Rattle.records.proofs.ChildLaws.{within, called, parts_within, merged_called, few_of, how_many, found_none, found_only, found_silent, found_array, found_template, element_call, element_inner}
 
@@ -282,5 +282,5 @@ module _ (k p s : Bytes) {n : Count} (d : n ≡ few (children_in (read s))) (w :
     found_2 h = found_array cs w count_2 (becomes_z ∙ h) ∙ sym (merged_called false false [] cs w)
 
     pub found_merged : z ≡ true → keep (found_pass (children_to_expr (children_at k p (read s)))) w
-        ≡ write w.st.next (long_run (merge false false [] (children_at k p (read s)))) (children_to_string false (short_runs (merge false false [] (children_at k p (read s))))) (keep (dynamic_exprs (children_to_string false (children_at k p (read s)))) (at w.out (bumped w.st)))
+        ≡ write_runs w.st.next (children_at k p (read s)) (keep (dynamic_exprs (children_to_string false (children_at k p (read s)))) (at w.out (bumped w.st)))
     found_merged h = found_template cs w count_2 (becomes_z ∙ h)

@@ -1,10 +1,12 @@
 -- Recording: templates out, what a first pass adds to it, and one template. Assumes nothing: these are definitions.
-use Rattle.std.specs.Prelude.{ℕ, ◌+◌, ◌-◌, ◌≤◌, ◌<◌, ◌^◌, Bool, ◌||◌, ◌&&◌, List, [], ◌++◌, leb, ltb, length, take, drop}
+use Rattle.std.specs.Prelude.{ℕ, ◌+◌, ◌-◌, ◌≤◌, ◌<◌, ◌^◌, Bool, false, ◌||◌, ◌&&◌, List, [], ◌++◌, leb, ltb, length, take, drop}
 use Rattle.field.specs.Bytes.{Bytes, pick}
 use Rattle.field.specs.Number.{big_endian}
 use Rattle.field.specs.Row.{end, bytes, long_body}
 use Rattle.field.specs.Put.{put, head}
 use Rattle.spec.specs.Pass.{Template, Done, Pass, Mid, Part, marks}
+use Rattle.spec.specs.Merge.{Child, merge, long_run, short_runs}
+use Rattle.spec.specs.Children.{children_to_string}
 use Rattle.spec.specs.Output.{strings_after, template_row}
 use Rattle.spec.specs.Transform.{templates_row}
 use Rattle.strings.specs.Due.{graver, long_due, grave}
@@ -60,6 +62,10 @@ write n run ps w =
       out = recorded_one (template_of n ps) w.out w.st.place;
       st = record { next = w.st.next; place = w.st.place + length (bytes (template_row (template_of n ps) end)); due = graver w.st.due (graver (grave (marks ps)) (long_due (run || long_body (template_row (template_of n ps) end)))) };
     }
+
+-- that of children that are merged: a run that is too long is left out of it and shows in what is due
+abbrev pub write_runs : ℕ → List Child → Kept → Kept
+write_runs n cs = write n (long_run (merge false false [] cs)) (children_to_string false (short_runs (merge false false [] cs)))
 
 -- its beginning: an open string behind the room for its head, its number and the count of its gaps
 abbrev pub begun : Records → Open

@@ -5,13 +5,13 @@
 ghost use Rattle.std.specs.Prelude.{◌≡◌, true, false, [], ◌+◌, ◌≤◌, ◌<◌, ◌^◌};
 ghost use Rattle.field.specs.Row.{read};
 ghost use Rattle.field.specs.Front.{behind_of};
-ghost use Rattle.spec.specs.Merge.{merge, long_run, short_runs};
+ghost use Rattle.spec.specs.Merge.{merge};
 ghost use Rattle.spec.specs.Output.{dynamic_exprs, gen_template};
 ghost use Rattle.spec.specs.Children.{children_to_string, children_to_expr, serialize_jsx, entries, entries_pass, found_pass};
 ghost use Rattle.decisions.specs.At.{element_at, children_at, serializable, under};
 ghost use Rattle.decisions.specs.Repeats.{Told};
 ghost use Rattle.strings.specs.Carve as C;
-ghost use Rattle.records.specs.Keep.{at, keep, write, begun, kinded_if, end_at, bumped, Low, Room};
+ghost use Rattle.records.specs.Keep.{at, keep, write, write_runs, begun, kinded_if, end_at, bumped, Low, Room};
 
 mod kinds;
 pub mod moves;
@@ -134,8 +134,8 @@ fn write_merged(
     n: usize,
     st: Records,
 ) -> Records
-    requires { Room scratch.old s.now (write n (long_run (merge false false [] (under options.now children_at (read s.now)))) (children_to_string false (short_runs (merge false false [] (under options.now children_at (read s.now))))) (at out.old st)) }
-    ensures { at out.new result ≡ write n (long_run (merge false false [] (under options.now children_at (read s.now)))) (children_to_string false (short_runs (merge false false [] (under options.now children_at (read s.now))))) (at out.old st) }
+    requires { Room scratch.old s.now (write_runs n (under options.now children_at (read s.now)) (at out.old st)) }
+    ensures { at out.new result ≡ write_runs n (under options.now children_at (read s.now)) (at out.old st) }
 {
     let a = opened(st);
     let c = merged_children_strings(options, s, scratch, out, a);
@@ -153,6 +153,7 @@ fn taken(st: Records) -> Records
 }
 
 // serialize_jsx
+#[inline(always)]
 #[cycle(record)]
 pub fn record_serialize(
     options: &Options<'_>,

@@ -19,7 +19,8 @@ use Rattle.page.specs.Tree.{children_in, contained_in}
 use Rattle.spec.specs.Pass.{Part, chars}
 use Rattle.spec.specs.Children.{children_to_string}
 use Rattle.decisions.specs.At.{opts, element_name, identifier_bytes, element_at, serializable, is_none, FirstChild}
-use Rattle.strings.specs.Carve.{Carved, close, carve, contained_parts, opening, put_contained, Low}
+use Rattle.decisions.specs.Becomes.{as_child}
+use Rattle.strings.specs.Carve.{Carved, close, carve, contained_parts, opening, put_child, Low}
 use Rattle.strings.proofs.CarveLaws.{carving, lows}
 use Rattle.strings.proofs.MergeLaws.{to_string_direct}
 use Rattle.strings.proofs.ShapeLaws.{parts_contained}
@@ -69,12 +70,12 @@ module _ {skip props : Bytes} {par : Bool} {s : Bytes} {start : Carved} {t : Byt
       text_on v = front_on (chars (jsx_text_to_str b true y) ∷ []) (parts_60 skip props par t k f.tag_is f.body_is f.behind_is g h) v
 
     module _ (g : k ≡ 0x52) where
-      pub container_room : Low total → Low (put_contained (contained_in (read b)) w)
+      pub container_room : Low total → Low (put_child (as_child (contained_in (read b))) w)
       container_room l =
           subst Low (parts_contained (opts skip props) (contained_in (read b)) w)
           (front_room (contained_parts (opts skip props) (contained_in (read b))) (parts_52 skip props par t k f.tag_is f.body_is f.behind_is g) l)
 
-      pub container_on : {w' : Carved} → w' ≡ put_contained (contained_in (read b)) w → Left skip props par s start r w'
+      pub container_on : {w' : Carved} → w' ≡ put_child (as_child (contained_in (read b))) w → Left skip props par s start r w'
       container_on v =
           front_on (contained_parts (opts skip props) (contained_in (read b))) (parts_52 skip props par t k f.tag_is f.body_is f.behind_is g)
           (v ∙ sym (parts_contained (opts skip props) (contained_in (read b)) w))

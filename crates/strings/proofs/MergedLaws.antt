@@ -6,30 +6,32 @@ use Prim.Native.Nat.{ℕ, ◌+◌, ◌*◌, ◌≤◌, ◌<◌, ◌^◌}
 use native.Mathlib.Omega.{arith}
 use mathlib.Core.Bool.{Bool, true, false}
 use mathlib.Core.List.{List, [], ◌∷◌, ◌++◌, append-nil, append_assoc}
-use mathlib.Core.Option.{Option, none, some}
 use lib.Dec.{ltb}
 use lib.ListN.{length, take, drop, length-append}
 use lib.Seq.{length-take-le, take_at}
 use borrow.Author.Tests.{lt-ltb, le-ltb, ltb-false}
 use Rattle.field.specs.Bytes.{Bytes}
-use Rattle.field.specs.Row.{read, Ended}
+use Rattle.field.specs.Row.{Row, read, Ended}
 use Rattle.field.specs.Fields.{IsFront}
 use Rattle.field.specs.Put.{Wrote}
 use Rattle.field.proofs.PutLaws.{put_fits, wrote_length}
+use Rattle.text.specs.Escape.{escape_html}
 use Rattle.text.specs.Text.{jsx_text_to_str}
 use Rattle.text.proofs.TextBounds.{length_text}
-use Rattle.page.specs.Tree.{contained_in, Contained, nothing_contained, contained}
+use Rattle.page.specs.Tree.{contained_in, Contained, nothing_contained, contained, expr_in}
 use Rattle.spec.specs.Pass as S
 use Rattle.spec.specs.Pass.{Part, chars, gap, pure}
-use Rattle.spec.specs.Merge.{Child, joined_text, merge, long_run, short_runs}
+use Rattle.spec.specs.Merge.{Child, merge, long_run, short_runs}
 use Rattle.spec.specs.Children.{children_to_string}
 use Rattle.spec.specs.Transform.{shape_of, fragment_of, expr}
 use Rattle.decisions.specs.At.{opts, element_at}
+use Rattle.decisions.specs.Becomes.{joins, leaves, as_child}
+use Rattle.decisions.proofs.BecomesLaws.{joins_text, joins_nothing, leaves_none, leaves_expr}
 use Rattle.strings.specs.declared.writer.Open.{Open}
 use Rattle.strings.specs.declared.due.Due.{Due}
 use Rattle.strings.specs.declared.due.Due.TheVariants.{Long}
 use Rattle.strings.specs.Due.{graver, long_due}
-use Rattle.strings.specs.Carve.{Carved, at, carve, close, flagged, put_again, is_some, option_bytes, is_joined, joined_by, Low}
+use Rattle.strings.specs.Carve.{Carved, at, carve, close, flagged, put_again, Low}
 use Rattle.strings.proofs.CarveLaws.{lows}
 use Rattle.strings.proofs.MergeLaws.{twice, twice_is, run, twice_none, twice_text, twice_empty, twice_spread, twice_joined, twice_container, twice_element, twice_fragment, twice_low}
 use Rattle.strings.proofs.ShapeLaws.{joined_length}
@@ -82,24 +84,18 @@ run_is {scratch} {buf} {n} h m w = on (ltb 65535 n) refl ∙ ap (λ (k : ℕ). p
 -- ---- a container, with the run so far
 
 module _ (skip props : Bytes) (buf : Bytes) (cs : List Child) (w : Carved) where
-  held_joined : (x : Contained) → is_joined x ≡ true → twice buf (held skip props x ∷ cs) w ≡ twice (buf ++ joined_by x) cs w
-  unfolding is_joined joined_by
-  held_joined nothing_contained h = twice_empty buf cs w ∙ ap (λ (b : Bytes). twice b cs w) (sym (append-nil buf))
-  held_joined (contained e) h = on (joined_text (shape_of e)) refl h
-    where
-      on : (j : Option Bytes) → joined_text (shape_of e) ≡ j → is_some j ≡ true →
-          twice buf (held skip props (contained e) ∷ cs) w ≡ twice (buf ++ option_bytes j) cs w
-      on (some b) q h = twice_joined buf cs w (shape_of e) (expr (opts skip props) e S.none) q
-      on none q h = absurd (let z : ◌≡◌ {A = ℕ} 0 1 = cc in omega arith)
+  held_joined : (x : Contained) {u : Bytes} → joins u ≡ as_child x → twice buf (held skip props x ∷ cs) w ≡ twice (buf ++ escape_html u) cs w
+  unfolding as_child
+  held_joined nothing_contained q = twice_empty buf cs w ∙ ap (λ (b : Bytes). twice b cs w) (sym (ap (λ (j : Bytes). buf ++ j) (joins_nothing q) ∙ append-nil buf))
+  held_joined (contained e) q = twice_joined buf cs w (shape_of e) (expr (opts skip props) e S.none) (joins_text (shape_of e) q)
 
-  held_cut : (x : Contained) → is_joined x ≡ false → twice buf (held skip props x ∷ cs) w ≡ twice [] cs (close (run buf w))
-  unfolding is_joined
-  held_cut nothing_contained h = absurd (let z : ◌≡◌ {A = ℕ} 0 1 = cc in omega arith)
-  held_cut (contained e) h = on (joined_text (shape_of e)) refl h
-    where
-      on : (j : Option Bytes) → joined_text (shape_of e) ≡ j → is_some j ≡ false → twice buf (held skip props (contained e) ∷ cs) w ≡ twice [] cs (close (run buf w))
-      on (some b) q h = absurd (let z : ◌≡◌ {A = ℕ} 0 1 = cc in omega arith)
-      on none q h = twice_container buf cs w (shape_of e) (expr (opts skip props) e S.none) q
+  held_cut : (r : Row) {z : Bool} → leaves z ≡ as_child (contained_in r) → twice buf (held skip props (contained_in r) ∷ cs) w ≡ twice [] cs (close (run buf w))
+  unfolding as_child
+  held_cut r {z} q =
+      let e = expr_in r in
+      let h : contained_in r ≡ contained e = leaves_expr r q in
+      ap (λ (x : Contained). twice buf (held skip props x ∷ cs) w) h
+      ∙ twice_container buf cs w (shape_of e) (expr (opts skip props) e S.none) (leaves_none (shape_of e) (q ∙ ap as_child h))
 
 -- ---- the loop
 
@@ -118,8 +114,8 @@ module _ {skip props s : Bytes} {start : Carved} {big : ℕ} where
       pub text_room : n + length (jsx_text_to_str b false false) < 2 ^ 63
       text_room = omega (arith, m.room, short, length_text b false, f.sizes)
 
-      pub joined_room : n + length (joined_by (contained_in (read b))) < 2 ^ 63
-      joined_room = omega (arith, m.room, short, joined_length b, f.sizes)
+      pub joined_room : {u : Bytes} → joins u ≡ as_child (contained_in (read b)) → n + length (escape_html u) < 2 ^ 63
+      joined_room q = omega (arith, m.room, short, joined_length b q, f.sizes)
 
     -- something is written into scratch
     more : {j scratch' : Bytes} {n' : ℕ} → Wrote scratch n j scratch' n' → length j ≤ 6 * length b + 36 →
@@ -138,18 +134,17 @@ module _ {skip props s : Bytes} {start : Carved} {big : ℕ} where
         more u (omega (arith, length_text b false))
         (ap (λ (cs : List Child). twice m.buf cs w) (kids_60 skip props t k f.tag_is f.body_is f.behind_is g) ∙ twice_text m.buf (kids skip props r) w b)
 
-    module _ (g : k ≡ 0x52) {y : Bool} (ye : y ≡ is_joined (contained_in (read b))) where
+    module _ (g : k ≡ 0x52) where
       contained_left : twice m.buf (kids skip props t) w ≡ twice m.buf (held skip props (contained_in (read b)) ∷ kids skip props r) w
       contained_left = ap (λ (cs : List Child). twice m.buf cs w) (kids_52 skip props t k f.tag_is f.body_is f.behind_is g)
 
-      pub joined_on : y ≡ true → {scratch' : Bytes} {n' : ℕ} → Wrote scratch n (joined_by (contained_in (read b))) scratch' n' → Merging skip props s start big scratch' w r n'
-      joined_on j u =
-          more u (joined_length b)
-          (contained_left ∙ held_joined skip props m.buf (kids skip props r) w (contained_in (read b)) (sym ye ∙ j))
+      pub joined_on : {j : Bytes} → joins j ≡ as_child (contained_in (read b)) → {scratch' : Bytes} {n' : ℕ} → Wrote scratch n (escape_html j) scratch' n' →
+          Merging skip props s start big scratch' w r n'
+      joined_on q u = more u (joined_length b q) (contained_left ∙ held_joined skip props m.buf (kids skip props r) w (contained_in (read b)) q)
 
-      ends_52 : y ≡ false → twice m.buf (kids skip props t) w ≡ twice [] (kids skip props r) (carve (gap (pure S.none) ∷ []) (run m.buf w))
+      ends_52 : {z : Bool} → leaves z ≡ as_child (contained_in (read b)) → twice m.buf (kids skip props t) w ≡ twice [] (kids skip props r) (carve (gap (pure S.none) ∷ []) (run m.buf w))
       unfolding carve
-      ends_52 j = contained_left ∙ held_cut skip props m.buf (kids skip props r) w (contained_in (read b)) (sym ye ∙ j)
+      ends_52 q = contained_left ∙ held_cut skip props m.buf (kids skip props r) w (read b) q
 
     ends_30 : k ≡ 0x30 → twice m.buf (kids skip props t) w ≡ twice [] (kids skip props r) (carve (element_at skip props b).to_string_vec (run m.buf w))
     ends_30 g =
@@ -201,18 +196,18 @@ module _ {skip props s : Bytes} {start : Carved} {big : ℕ} where
 
     module _ {k : ℕ} {b r : Bytes} (f : IsFront t k b r) where
       -- a container that stays dynamic
-      module _ (g : k ≡ 0x52) {y : Bool} (ye : y ≡ is_joined (contained_in (read b))) (j : y ≡ false) where
+      module _ (g : k ≡ 0x52) {z : Bool} (q : leaves z ≡ as_child (contained_in (read b))) where
         pub cut_run : Low (put_again n (take n scratch) w)
-        cut_run = run_room (gap (pure S.none) ∷ []) r (ends_52 m f g ye j)
+        cut_run = run_room (gap (pure S.none) ∷ []) r (ends_52 m f g q)
 
         module _ {w₁ : Carved} (u : w₁ ≡ put_again n (take n scratch) w) where
           pub cut_room : Low (close w₁)
           unfolding carve
-          cut_room = parts_room (gap (pure S.none) ∷ []) r (ends_52 m f g ye j) u
+          cut_room = parts_room (gap (pure S.none) ∷ []) r (ends_52 m f g q) u
 
           pub cut_on : {w₂ : Carved} → w₂ ≡ close w₁ → Merging skip props s start big scratch w₂ r 0
           unfolding carve
-          cut_on v = flush_on (gap (pure S.none) ∷ []) r (ends_52 m f g ye j) u v (omega (arith, f.sizes))
+          cut_on v = flush_on (gap (pure S.none) ∷ []) r (ends_52 m f g q) u v (omega (arith, f.sizes))
 
       module _ (g : k ≡ 0x30) where
         pub element_run : Low (put_again n (take n scratch) w)

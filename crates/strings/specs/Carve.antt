@@ -1,14 +1,13 @@
 -- Writing static strings: the buffer with an open string, and what the parts of a template do to it. The open string's head is written when
 -- it is closed. Assumes nothing: these are definitions.
-use Rattle.std.specs.Prelude.{ℕ, ◌+◌, ◌-◌, ◌<◌, ◌^◌, Bool, true, false, List, [], ◌∷◌, ltb, length}
-use Rattle.std.proofs.Math.Option.{Option, none, some}
+use Rattle.std.specs.Prelude.{ℕ, ◌+◌, ◌-◌, ◌<◌, ◌^◌, true, false, List, [], ◌∷◌, ltb, length}
+use Rattle.std.proofs.Math.Option.{none, some}
 use Rattle.field.specs.Bytes.{Bytes, pick}
 use Rattle.field.specs.Row.{read}
-use Rattle.field.specs.Front.{body_of}
 use Rattle.field.specs.Put.{put, head}
 use Rattle.text.specs.Escape.{escape_html}
 use Rattle.text.specs.Text.{jsx_text_to_str}
-use Rattle.names.specs.Names.{get_attr_name, is_boolean_attr}
+use Rattle.names.specs.Names.{get_attr_name}
 use Rattle.page.specs.Page.{Options}
 use Rattle.page.specs.Tree.{attr_name_in, attributes_in, Contained, nothing_contained, contained}
 use Rattle.spec.specs.Pass as P
@@ -16,14 +15,11 @@ use Rattle.spec.specs.Pass.{Part, chars, gap, mark, Mid, pure}
 use Rattle.spec.specs.Merge as M
 use Rattle.spec.specs.Merge.{joined_text}
 use Rattle.spec.specs.Children.{maybe_wrap}
-use Rattle.spec.specs.Attributes.{tag_flags, serialize_attr}
+use Rattle.spec.specs.Attributes.{tag_flags}
 use Rattle.spec.specs.Transform.{attributes, shape_of, expr}
 use Rattle.spec.specs.declared.Flags.{Flags}
-use Rattle.decisions.specs.At.{opts, number_text}
-use Rattle.decisions.specs.declared.expr.Shape.{Shape}
-use Rattle.decisions.specs.declared.expr.Shape.TheVariants as Form
-use Rattle.strings.specs.declared.attributes.Text.{Text}
-use Rattle.strings.specs.declared.attributes.Text.TheVariants as T
+use Rattle.decisions.specs.At.{opts}
+use Rattle.decisions.specs.Becomes.{Among, joins, leaves}
 use Rattle.strings.specs.declared.due.Due.{Due}
 use Rattle.strings.specs.Due.{graver, long_due, grave}
 use Rattle.strings.specs.declared.writer.Open.{Open}
@@ -78,43 +74,6 @@ opening n r = mark (flags_at n r) ∷ chars (60 ∷ escape_html n) ∷ []
 abbrev pub name_at : Bytes → Bytes
 name_at a = get_attr_name (attr_name_in (read a)) true
 
--- the value of an attribute that is serialized
-abbrev pub text : Text → Bytes
-text (T.String s) = s.now
-text (T.Number c) = number_text c.now
-text (T.Minus c) = 45 ∷ number_text c.now
-
--- an attribute's gap, and what its container gives, by its shape and its fields: the options do not matter to it
-abbrev pub space_gap : List Part
-space_gap = chars (32 ∷ []) ∷ gap (pure P.none) ∷ []
-
-abbrev pub attr_by : Bytes → Shape → Bytes → List Part
-attr_by n Form.Empty c = []
-attr_by n Form.String c = chars (serialize_attr n (body_of c)) ∷ []
-attr_by n Form.Number c = chars (serialize_attr n (number_text c)) ∷ []
-attr_by n (Form.Boolean v) c = pick (is_boolean_attr n) (pick v (chars (32 ∷ n) ∷ []) []) space_gap
-attr_by n Form.Null c = space_gap
-attr_by n Form.Literal c = space_gap
-attr_by n Form.Minus c = chars (serialize_attr n (45 ∷ number_text c)) ∷ []
-attr_by n Form.Other c = space_gap
-
--- what joins a run, or nothing where the run ends
-abbrev pub option_bytes : Option Bytes → Bytes
-option_bytes none = []
-option_bytes (some b) = b
-
-abbrev pub is_some : Option Bytes → Bool
-is_some none = false
-is_some (some b) = true
-
-unfoldable pub joined_by : Contained → Bytes
-joined_by nothing_contained = []
-joined_by (contained e) = option_bytes (joined_text (shape_of e))
-
-unfoldable pub is_joined : Contained → Bool
-is_joined nothing_contained = true
-is_joined (contained e) = is_some (joined_text (shape_of e))
-
 -- a container among children: what joins the run, or a gap
 unfoldable pub child_parts : M.Shape → Mid → List Part
 child_parts s m = elim (joined_text s) [ some b ↦ chars b ∷ [] | none ↦ gap (pure (maybe_wrap s m)) ∷ [] ]
@@ -124,8 +83,9 @@ contained_parts o nothing_contained = []
 contained_parts o (contained e) = child_parts (shape_of e) (expr o e P.none)
 
 -- the same written: the options do not matter to it
-abbrev pub put_contained : Contained → Carved → Carved
-put_contained x w = pick (is_joined x) (put_on (joined_by x) w) (close w)
+abbrev pub put_child : Among → Carved → Carved
+put_child (joins t) w = put_on (escape_html t) w
+put_child (leaves z) w = close w
 
 -- a run of n bytes is merged a second time, or was too long
 unfoldable pub put_again : ℕ → Bytes → Carved → Carved

@@ -11,23 +11,24 @@ ghost use Rattle.page.specs.Tree.{children_in, contained_in};
 ghost use Rattle.spec.specs.Pass.{chars};
 ghost use Rattle.spec.specs.Children.{children_to_string};
 ghost use Rattle.decisions.specs.At.{children_at, element_at, serializable, is_none, under};
+ghost use Rattle.decisions.specs.Becomes.{as_child};
 ghost use Rattle.decisions.specs.Repeats.{Told};
 ghost use Rattle.strings.specs.Due.{graver, grave};
-ghost use Rattle.strings.specs.Carve.{at, carve, flags_at, opening, is_joined, joined_by, put_contained, Low};
+ghost use Rattle.strings.specs.Carve.{at, carve, flags_at, opening, put_child, Low};
 
-use crate::attributes::attributes_strings;
+use crate::attributes::{attributes_strings, put_value};
 use crate::due::{Due, graver};
 use crate::writer::{Open, cut, put_chars, put_text};
+use decisions::becomes::{AsChild, as_child};
 use decisions::children::children_at;
 use decisions::element::{identifier, serialized};
-use decisions::expr::{Shape, put_number_at, shape_at};
 use decisions::options::Options;
 use decisions::repeats::{Names, repeats};
-use field::reader::{Fields, behind, body};
+use field::reader::{Fields, behind};
 use field::tags::{CONTAINER, ELEMENT, FRAGMENT, TEXT};
 use field::writer::{put_byte, put_bytes};
 use names::{Void, void_kind};
-use text::escape::{put_escaped, put_short_escaped};
+use text::escape::put_short_escaped;
 
 // `<name`
 #[tactic(auto, unfolding(crate::specs::Carve::carve))]
@@ -83,43 +84,17 @@ fn put_close(out: &mut [u8], st: Open, n: &[u8]) -> Open
     st.ended(e)
 }
 
-// Whether a container, by its fields c, joins the text around it.
-pub fn joins(c: &[u8]) -> bool
-    ensures { result ≡ is_joined (contained_in (read c.now)) }
-{
-    matches!(
-        shape_at(c),
-        Shape::Empty | Shape::String | Shape::Number | Shape::Boolean(_)
-    )
-}
-
-// What a container adds to a run.
-pub fn put_joined(out: &mut [u8], at: usize, c: &[u8]) -> usize
-    requires { at + length (joined_by (contained_in (read c.now))) < 2 ^ 63 }
-    ensures { Wrote out.old at (joined_by (contained_in (read c.now))) out.new result }
-{
-    match shape_at(c) {
-        Shape::String => put_escaped(out, at, body(c)),
-        Shape::Number => put_number_at(out, at, c),
-        Shape::Empty
-        | Shape::Boolean(_)
-        | Shape::Null
-        | Shape::Literal
-        | Shape::Minus
-        | Shape::Other => at,
-    }
-}
-
 // A container among children.
 fn container_child(c: &[u8], out: &mut [u8], st: Open) -> Open
-    requires { Low (put_contained (contained_in (read c.now)) (at out.old st)) }
-    ensures { at out.new result ≡ put_contained (contained_in (read c.now)) (at out.old st) }
+    requires { Low (put_child (as_child (contained_in (read c.now))) (at out.old st)) }
+    ensures { at out.new result ≡ put_child (as_child (contained_in (read c.now))) (at out.old st) }
 {
-    if joins(c) {
-        let end = put_joined(out, st.end(), c);
-        st.ended(end)
-    } else {
-        cut(out, st)
+    match as_child(c) {
+        AsChild::Text(text) => {
+            let end = put_value(out, st.end(), text);
+            st.ended(end)
+        }
+        AsChild::Gap(_) => cut(out, st),
     }
 }
 

@@ -9,6 +9,7 @@ mod elements;
 mod merged;
 mod writer;
 
-pub use elements::{children_strings, joins, put_joined, tag_strings};
+pub use attributes::put_value;
+pub use elements::{children_strings, tag_strings};
 pub use merged::merged_children_strings;
 pub use writer::{Open, cut};

@@ -7,9 +7,11 @@ ghost use Rattle.decisions.specs.At.{children_at, under};
 ghost use Rattle.strings.specs.Due.{long_due};
 ghost use Rattle.strings.specs.Carve.{at, carve, flagged, put_again, Low};
 
+use crate::attributes::put_value;
 use crate::due::{Due, graver};
-use crate::elements::{children_strings, element_strings, joins, put_joined};
+use crate::elements::{children_strings, element_strings};
 use crate::writer::{Open, cut, put_text};
+use decisions::becomes::{AsChild, as_child};
 use decisions::options::Options;
 use field::MAX_BODY;
 use field::reader::Fields;
@@ -51,15 +53,14 @@ pub fn merged_children_strings(
         // Three arms write the run first: one arm for all three would match the tag again.
         match field.tag {
             TEXT => n = jsx_text_to_str(scratch, n, field.body, false, false),
-            CONTAINER => {
-                if joins(field.body) {
-                    n = put_joined(scratch, n, field.body);
-                } else {
+            CONTAINER => match as_child(field.body) {
+                AsChild::Text(text) => n = put_value(scratch, n, text),
+                AsChild::Gap(_) => {
                     let a = put_run(out, cur, scratch, n);
                     n = 0;
                     cur = cut(out, a);
                 }
-            }
+            },
             ELEMENT => {
                 let a = put_run(out, cur, scratch, n);
                 n = 0;

@@ -226,10 +226,6 @@ one_reading t m q n p (point w f e d g x y) (point v k a b c i j) =
 
 -- ---- samples
 
-pub shortest_no_place : (n : ℕ) → shortest n 0 ≡ decimal n
-unfolding shortest
-shortest_no_place n = refl
-
 pub samples :
     (shortest 125 1 ≡ ascii "12.5") × (shortest 5 1 ≡ ascii "0.5") × (shortest 100 2 ≡ ascii "1") × (shortest 1250 2 ≡ ascii "12.5") ×
     (shortest 0 15 ≡ ascii "0") × (shortest 1 15 ≡ ascii "0.000000000000001") ×

@@ -9,8 +9,8 @@ use Prim.Native.Nat.{ℕ, zero, suc, ◌+◌, ◌-◌, ◌/◌, ◌%◌, ◌^◌
 use native.Mathlib.Nat.{pow-succ', div-div-eq-div-mul, div-one}
 use native.Mathlib.Omega.{arith}
 use mathlib.Core.List.{[], ◌∷◌, ◌++◌}
-use lib.Dec.{eqb, lit≤}
-use lib.ListN.{length, set, take, drop, length-set, length-drop, length-append, drop_of_length-le}
+use lib.Dec.{eqb}
+use lib.ListN.{length, set, take, drop, length-set, length-drop, length-append}
 use lib.Seq.{take_all}
 use borrow.Author.Tests.{eq-eqb, ne_eqb}
 use Rattle.field.specs.Bytes.{Bytes, AllBytes, pick, null?}
@@ -31,16 +31,6 @@ pub record Placing (n places : ℕ) (buf : Bytes) (i m left : ℕ) : Type 0 wher
   pub within : i ≤ 16
   pub whole : m / 10 ^ left ≡ n / 10 ^ places
   pub rest : last_digits left m (drop i buf) ≡ last_digits places n []
-
-pub placing_start : (n places left : ℕ) (buf : Bytes) → length buf ≡ 16 → places ≤ 15 → left ≡ places → Placing n places buf 16 n left
-placing_start n places left buf l h e =
-    record {
-      size = l;
-      room = omega arith;
-      within = lit≤ tt;
-      whole = ap (λ (k : ℕ). n / 10 ^ k) e;
-      rest = rw (e, drop_of_length-le buf {i = 16} (omega arith));
-    }
 
 pub placing_more : {n places i m left : ℕ} {buf : Bytes} (less : ℕ) → Placing n places buf i m left → left ≡ suc less →
     Placing n places (set buf (i - 1) (48 + m % 10)) (i - 1) (m / 10) less

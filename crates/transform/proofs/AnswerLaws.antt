@@ -26,7 +26,7 @@ use Rattle.walk.specs.See.{World, at}
 use Rattle.transform.specs.declared.Answer.{Answer}
 use Rattle.strings.specs.declared.due.Due.{Due}
 use Rattle.strings.specs.declared.due.Due.TheVariants as D
-use Rattle.transform.specs.Run.{due_verdict, Answers, written_page, verdict_of}
+use Rattle.transform.specs.Run.{due_verdict, Answers, transformed_page, verdict_of}
 use Rattle.transform.proofs.WrittenLaws.{verdict_is}
 use Rattle.transform.proofs.PageLaws.{source_short}
 
@@ -93,7 +93,7 @@ zeros_same b b' e = ap (λ (n : ℕ). replicate n 0) e
 -- ---- the walk has written both outputs: w is the state behind it, v the verdict of that state
 
 module _ (page options scratch t g : Bytes) (fine : check_inputs page options (length scratch) ≡ Fine) {t' g' : Bytes} {w : Walk}
-    (is : at t' g' w ≡ written_page (options_in (read options)) (transform (options_in (read options)) (page_given page options)) t g) where
+    (is : at t' g' w ≡ transformed_page options (page_given page options) t g) where
   abbrev opts_of : Options
   opts_of = options_in (read options)
 

@@ -11,8 +11,8 @@ use borrow.Author.Tests.{eqb-true}
 use Rattle.field.specs.Bytes.{Bytes}
 use Rattle.field.specs.Row.{Row, end, loose, field, read}
 use Rattle.field.specs.Put.{Wrote}
-use Rattle.page.specs.Page.{Options, Page}
-use Rattle.page.specs.Tree.{choose, page_in, works_sums, options_in}
+use Rattle.page.specs.Page.{Page}
+use Rattle.page.specs.Tree.{choose, page_in, works_sums}
 use Rattle.page.specs.Check.{check_page}
 use Rattle.refusal.specs.declared.Refusal.TheVariants as R
 use Rattle.refusal.specs.Refusal.{Fine}
@@ -20,12 +20,11 @@ use Rattle.refusal.proofs.Verdicts.{refused, after_fine}
 use Rattle.page.proofs.Headers.{header_fine}
 use Rattle.worked.specs.Row.{field_sum, number_or, worked_row, worked_bytes}
 use Rattle.worked.proofs.Exact.{worked_bound, read_worked, buffer_fits, buffer_part, buffer_bytes, buffer_worked}
-use Rattle.spec.specs.Transform.{transform}
 use Rattle.spec.specs.Answer.{check_inputs, worked_if, page_given}
 use Rattle.spec.proofs.Answers.{inputs_fine}
 use Rattle.walk.specs.declared.state.Walk.{Walk}
 use Rattle.walk.specs.See.{at}
-use Rattle.transform.specs.Run.{written_page, fronted, Ready}
+use Rattle.transform.specs.Run.{transformed_page, fronted, Ready}
 
 -- ---- a 01 in front
 
@@ -87,22 +86,22 @@ module _ (page options : Bytes) (n : ℕ) (ready : Ready page options n) (short 
       }
 
   -- what is written of it is written of the worked page
-  pub written_worked : (t g : Bytes) {t' g' : Bytes} {w : Walk} → at t' g' w ≡ written_page (options_in (read options)) (transform (options_in (read options)) (page_in (read (take k o')))) t g →
-      at t' g' w ≡ written_page (options_in (read options)) (transform (options_in (read options)) (worked_if true (page_in (read page)))) t g
+  pub written_worked : (t g : Bytes) {t' g' : Bytes} {w : Walk} → at t' g' w ≡ transformed_page options (page_in (read (take k o'))) t g →
+      at t' g' w ≡ transformed_page options (worked_if true (page_in (read page))) t g
   unfolding worked_if
-  written_worked t g h = h ∙ ap (λ (x : Page). written_page (options_in (read options)) (transform (options_in (read options)) x) t g) (buffer_worked page short room u)
+  written_worked t g h = h ∙ ap (λ (x : Page). transformed_page options x t g) (buffer_worked page short room u)
 
 -- ---- one or the other
 
-pub written_plain : (page : Bytes) (o : Options) {b : Bool} → b ≡ false → (t g : Bytes) {t' g' : Bytes} {w : Walk} → at t' g' w ≡ written_page o (transform o (page_in (read page))) t g →
-    at t' g' w ≡ written_page o (transform o (worked_if b (page_in (read page)))) t g
+pub written_plain : (page options : Bytes) {b : Bool} → b ≡ false → (t g : Bytes) {t' g' : Bytes} {w : Walk} → at t' g' w ≡ transformed_page options (page_in (read page)) t g →
+    at t' g' w ≡ transformed_page options (worked_if b (page_in (read page))) t g
 unfolding worked_if
-written_plain page o e t g h = h ∙ ap (λ (c : Bool). written_page o (transform o (worked_if c (page_in (read page)))) t g) (sym e)
+written_plain page options e t g h = h ∙ ap (λ (c : Bool). transformed_page options (worked_if c (page_in (read page))) t g) (sym e)
 
 -- by what the options were asked
 pub written_given : (page options : Bytes) {b : Bool} → b ≡ works_sums (read options) → (c : Bool) → b ≡ c → (t g : Bytes) {t' g' : Bytes} {w : Walk} →
-    at t' g' w ≡ written_page (options_in (read options)) (transform (options_in (read options)) (worked_if c (page_in (read page)))) t g →
-    at t' g' w ≡ written_page (options_in (read options)) (transform (options_in (read options)) (page_given page options)) t g
+    at t' g' w ≡ transformed_page options (worked_if c (page_in (read page))) t g →
+    at t' g' w ≡ transformed_page options (page_given page options) t g
 unfolding page_given
 written_given page options e c f t g h =
-    h ∙ ap (λ (x : Bool). written_page (options_in (read options)) (transform (options_in (read options)) (worked_if x (page_in (read page)))) t g) (sym f ∙ e)
+    h ∙ ap (λ (x : Bool). transformed_page options (worked_if x (page_in (read page))) t g) (sym f ∙ e)

@@ -12,6 +12,3 @@ use Rattle.decisions.proofs.IndexLaws.{listed_plain}
 
 pub by_series : (s : Bytes) {l : List Bytes} → length s ≤ 32 → texts_in 0x20 (read s) ≡ l → (n : Bytes) → among n (names_of s) ≡ among n l
 by_series s h e n = ap (λ (x : List Bytes). among n x) (listed_plain s (omega (arith, h)) ∙ e)
-
-pub by_index : (b : Bytes) {x l : List Bytes} → ((n : Bytes) → among n (names_of b) ≡ among n x) → x ≡ l → (n : Bytes) → among n (names_of b) ≡ among n l
-by_index b h e n = h n ∙ ap (λ (y : List Bytes). among n y) e

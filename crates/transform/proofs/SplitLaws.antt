@@ -106,9 +106,6 @@ pub record Passing (s t : Bytes) (n : ℕ) : Type 0 where
   pub before : items_before (module_items_in (read s)) ≡ passed ++ items_before (module_items_in (read t))
   pub cut : (k : ℕ) → module_items_in (read (take (n + k) s)) ≡ passed ++ module_items_in (read (take k t))
 
-pub passing_begins : (s : Bytes) → Passing s s 0
-passing_begins s = record { sizes = zero-add (length s); rest_is = refl; stands = refl; from = refl; passed = []; before = refl; cut = λ k. ap (λ (n : ℕ). module_items_in (read (take n s))) (zero-add k) }
-
 behind_drop : (s : Bytes) (t : ℕ) (w r : Bytes) → next_of s ≡ next t w r → drop (3 + length w) s ≡ r
 behind_drop s t w r e =
     let p = next_parts s t w r e in

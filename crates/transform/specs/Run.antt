@@ -1,11 +1,12 @@
 -- The export: the items with the place of the templates among them, the import, and the whole answer. Assumes nothing: these are definitions.
 use Rattle.std.specs.Prelude.{ℕ, ◌+◌, ◌≤◌, Bool, true, false, ◌||◌, not, [], ◌∷◌, ◌++◌, ◌≡◌, eqb, leb, ltb, length}
-use Rattle.field.specs.Bytes.{Bytes, ascii, pick}
+use Rattle.field.specs.Bytes.{Bytes, among, ascii, pick}
 use Rattle.field.specs.Row.{Row, end, loose, field, bytes, read, long_body}
 use Rattle.field.specs.Put.{put, head}
 use Rattle.page.specs.Page as P
 use Rattle.page.specs.Page.{Options, Page}
-use Rattle.page.specs.Tree.{pieces_in, module_items_in}
+use Rattle.decisions.specs.Index.{names_of}
+use Rattle.page.specs.Tree.{pieces_in, module_items_in, listed_in, options_in}
 use Rattle.refusal.specs.Refusal.{Verdict, Fine, Refused, unless, after}
 use Rattle.refusal.specs.declared.Refusal.TheVariants as R
 use Rattle.spec.specs.Pass.{Done, Mid, none, node}
@@ -137,6 +138,15 @@ written_page o d t p =
             due = graver (grave d.flags) (long_due (long_body (templates_row d.templates) || long_body d.value));
           };
     })
+
+-- the same of a page that is transformed under these options
+abbrev pub transformed_page : (options : Bytes) → Page → (templates page : Bytes) → World
+transformed_page options p = written_page (options_in (read options)) (T.transform (options_in (read options)) p)
+
+-- names list what 02 and 03 of the options do
+abbrev pub Lists : (skip props options : Bytes) → Type 0
+Lists skip props options =
+    ((n : Bytes) → among n (names_of skip) ≡ among n (listed_in 2 (read options))) × ((n : Bytes) → among n (names_of props) ≡ among n (listed_in 3 (read options)))
 
 -- a 01 stands in front
 abbrev pub fronted : Row → Bool

@@ -2,12 +2,11 @@
 // own, so that pages without a 05 do not pay for it.
 ghost use Rattle.std.specs.Prelude.{◌≡◌, true, length};
 ghost use Rattle.field.specs.Row.{read};
-ghost use Rattle.page.specs.Tree.{page_in, options_in};
+ghost use Rattle.page.specs.Tree.{page_in};
 ghost use Rattle.refusal.specs.Refusal.{Fine};
 ghost use Rattle.spec.specs.Answer.{check_inputs, worked_if, page_given};
-ghost use Rattle.spec.specs.Transform.{transform};
 ghost use Rattle.walk.specs.See.{at};
-ghost use Rattle.transform.specs.Run.{written_page};
+ghost use Rattle.transform.specs.Run.{transformed_page};
 
 use crate::module::write_page;
 use crate::options::{room, works_sums};
@@ -28,7 +27,7 @@ fn write_worked(
     page: &mut [u8],
 ) -> Walk
     requires { check_inputs input.now options.now (length scratch.old) ≡ Fine }
-    ensures { at templates.new page.new result ≡ written_page (options_in (read options.now)) (transform (options_in (read options.now)) (worked_if true (page_in (read input.now)))) templates.old page.old }
+    ensures { at templates.new page.new result ≡ transformed_page options.now (worked_if true (page_in (read input.now))) templates.old page.old }
 {
     let mut worked = room::<PAGE_ROOM>();
     let n = work_page(input, &mut worked);
@@ -44,7 +43,7 @@ pub fn write_given(
     page: &mut [u8],
 ) -> Walk
     requires { check_inputs input.now options.now (length scratch.old) ≡ Fine }
-    ensures { at templates.new page.new result ≡ written_page (options_in (read options.now)) (transform (options_in (read options.now)) (page_given input.now options.now)) templates.old page.old }
+    ensures { at templates.new page.new result ≡ transformed_page options.now (page_given input.now options.now) templates.old page.old }
 {
     if works_sums(options) {
         write_worked(input, options, scratch, templates, page)

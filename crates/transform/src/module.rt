@@ -2,14 +2,12 @@
 ghost use Rattle.std.specs.Prelude.{◌≡◌, ◌+◌, ◌≤◌, ◌<◌, ◌^◌, false, [], ◌++◌, length};
 ghost use Rattle.field.specs.Bytes.{Bytes, among};
 ghost use Rattle.field.specs.Row.{read};
-ghost use Rattle.page.specs.Tree.{texts_in, listed_in, pieces_in, module_items_in, page_in, options_in};
-ghost use Rattle.spec.specs.Transform.{transform};
+ghost use Rattle.page.specs.Tree.{texts_in, listed_in, pieces_in, module_items_in, page_in};
 ghost use Rattle.field.specs.Put.{put, Wrote};
 ghost use Rattle.decisions.specs.At.{opts, under};
-ghost use Rattle.decisions.specs.Index.{names_of};
-ghost use Rattle.walk.specs.See.{at, see, Low};
+ghost use Rattle.walk.specs.See.{at, see};
 ghost use Rattle.visits.specs.Visiting.{Room};
-ghost use Rattle.transform.specs.Run.{item_mid, module_mid, items_mid, Splits, has_html, piece_html, started, import_bytes, sum_of, Headed, written_page, Ready};
+ghost use Rattle.transform.specs.Run.{item_mid, module_mid, items_mid, Splits, has_html, piece_html, started, import_bytes, sum_of, Headed, transformed_page, Lists, Ready};
 
 use crate::options::{names_in, room, source};
 use decisions::element::is_serializable;
@@ -203,7 +201,7 @@ pub fn write_page(
     page: &mut [u8],
 ) -> Walk
     requires { Ready input.now options.now (length scratch.old) }
-    ensures { at templates.new page.new result ≡ written_page (options_in (read options.now)) (transform (options_in (read options.now)) (page_in (read input.now))) templates.old page.old }
+    ensures { at templates.new page.new result ≡ transformed_page options.now (page_in (read input.now)) templates.old page.old }
 {
     let names = Options {
         skip: names_in(options, ELEMENTS_NOT_SERIALIZED),
@@ -228,7 +226,7 @@ fn write_indexed(
     requires ready { Ready input.now options.now (length scratch.old) }
     requires skip_len_bound { (length names.now.skip.now ≤ 4096) × (length names.now.props.now ≤ 4096) }
     requires skip_value { (texts_in 0x20 (read names.now.skip.now) ≡ listed_in 2 (read options.now)) × (texts_in 0x20 (read names.now.props.now) ≡ listed_in 3 (read options.now)) }
-    ensures { at templates.new page.new result ≡ written_page (options_in (read options.now)) (transform (options_in (read options.now)) (page_in (read input.now))) templates.old page.old }
+    ensures { at templates.new page.new result ≡ transformed_page options.now (page_in (read input.now)) templates.old page.old }
 {
     let mut elements = room::<INDEX_ROOM>();
     index_names(names.skip, &mut elements);
@@ -251,8 +249,8 @@ fn write_listed(
     page: &mut [u8],
 ) -> Walk
     requires ready { Ready input.now options.now (length scratch.old) }
-    requires props_value { ((n : Bytes) → among n (names_of names.now.skip.now) ≡ among n (listed_in 2 (read options.now))) × ((n : Bytes) → among n (names_of names.now.props.now) ≡ among n (listed_in 3 (read options.now))) }
-    ensures { at templates.new page.new result ≡ written_page (options_in (read options.now)) (transform (options_in (read options.now)) (page_in (read input.now))) templates.old page.old }
+    requires props_value { Lists names.now.skip.now names.now.props.now options.now }
+    ensures { at templates.new page.new result ≡ transformed_page options.now (page_in (read input.now)) templates.old page.old }
 {
     let s = body(input);
     let source = source(options);

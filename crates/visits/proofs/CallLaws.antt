@@ -1,6 +1,7 @@
 -- A jsx call: whether `children` stands; what is left to be done at each step, with the room that it takes and where it ends; and a turn over
 -- the attributes that become properties, where s is what is left of them, w where the walk stands and total where it is to end.
 -- Main statements: `found_stands`, `call_is`; `begin_room`, `begun_on` and the like; `prop_on`, `spread_on`, `props_end`. Assumes nothing.
+use Rattle.std.specs.Prelude.{Option, None}
 use mathlib.Core.Path.{◌≡◌, refl, sym, ap, ◌∙◌, subst}
 use Prim.Native.Nat.{ℕ, ◌+◌, ◌≤◌, ◌<◌, ◌^◌}
 use native.Mathlib.Omega.{arith}
@@ -33,17 +34,14 @@ use Rattle.decisions.proofs.Series.{behind_name_at, attributes_50, attributes_53
 use Rattle.found.specs.Finds as Finds
 use Rattle.found.specs.declared.Kind.{Kind}
 use Rattle.found.specs.declared.Kind.TheVariants as K
-use Rattle.walk.specs.declared.attribute.Gap.{Gap}
-use Rattle.walk.specs.declared.attribute.Gap.TheVariants as G
 use Rattle.walk.specs.declared.state.Walk.{Walk}
 use Rattle.walk.specs.See.{World, at, see, act, passed, to_page, begun, wrap, wrap_if, props_closed, Low}
-use Rattle.walk.specs.Plan.{Plan, prop_gap, plan_by, plan_front, plan_back, attr_plan, prop_plan}
 use Rattle.walk.proofs.SeeLaws.{Grows, grows_same, grows_then, see_grows, begun_grows, wrap_grows, low_back, low_is, see_none, see_node, see_page, see_state, see_templates_length, see_page_length, plain, lift, lift_world, lift_wrap, lift_wrap_if, lift_begun, lift_props_closed}
 use Rattle.walk.proofs.ActLaws.{see_append, act_grows, act_pure, act_map_pure, passed_see, passed_props_closed, call_named, call_props, children_begun, call_closed, act_call_none, act_call_some, act_to_call, is_none, template_stands, raised_stands, call_stands, array_stands}
-use Rattle.walk.proofs.GapLaws.{plan_mid, prop_plan_is, plan_front_same, plan_back_same, plan_held_same}
+use Rattle.decisions.specs.Becomes.{Dynamic, as_property, property_mid}
+use Rattle.decisions.proofs.BecomesLaws.{property_is}
 use Rattle.visits.specs.Visiting.{expr_at, found_out, is_found}
 use Rattle.visits.proofs.FieldLaws.{field_begin, field_inner, field_close, field_done}
-use Rattle.visits.proofs.PartLaws.{passed_plan, plan_is, front_at, back_at, front_page, back_grows}
 
 -- ---- whether the children give something
 
@@ -461,30 +459,14 @@ module _ (m n : Mid) (w w₀ : World) (g : see m w ≡ see n w₀) where
   pub seen_page : length w.page ≡ length w₀.page
   seen_page = sym (see_page_length m w) ∙ ap (λ (x : World). length x.page) g ∙ see_page_length n w₀
 
--- whether it stands goes neither by the text nor by the value
-stands_text : (t : ℕ) (f f' : Bytes → Bytes) (g : Gap) (n : AttrName) (v v' : A.Value) → (plan_by t f g n v).stands ≡ (plan_by t f' g n v').stands
-unfolding plan_by
-stands_text t f f' G.Nothing n v v' = refl
-stands_text t f f' (G.True norm) n v v' = refl
-stands_text t f f' (G.String norm) n v v' = refl
-stands_text t f f' G.Null n v v' = refl
-stands_text t f f' (G.Attr norm) n v v' = refl
-stands_text t f f' G.Choice n v v' = refl
-
 module _ (skip props : Bytes) (norm : Bool) (s : Bytes) (n : ℕ) (e : n ≡ tag_of_front s) (w : World) {total : World} (g : see (props_in skip props norm s) w ≡ total) where
-  -- a is the fields of a 50, and u the gap that it leaves
-  module _ (h : n ≡ 0x50) {a : Bytes} (p : a ≡ body_of s) {u : Gap} (k : u ≡ prop_gap norm (attr_name_in (read a)) (value_in (read a))) where
+  -- a is the fields of a 50, and f the property
+  module _ (h : n ≡ 0x50) {a : Bytes} (p : a ≡ body_of s) where
     abbrev attr_name : AttrName
     attr_name = attr_name_in (read a)
 
-    abbrev held_value : A.Value
-    held_value = value (opts skip props) (value_in (read a))
-
-    abbrev plan : Plan
-    plan = prop_plan skip props u a
-
     abbrev property : Mid
-    property = prop_of (get_attr_name attr_name norm) held_value
+    property = prop_of (get_attr_name attr_name norm) (value (opts skip props) (value_in (read a)))
 
     props_50 : {r : Bytes} → r ≡ behind_of s → props_in skip props norm s ≡ property +++ props_in skip props norm r
     unfolding props_of attributes
@@ -493,69 +475,19 @@ module _ (skip props : Bytes) (norm : Bool) (s : Bytes) (n : ℕ) (e : n ≡ tag
         ∙ ap (λ (x : Bytes). prop_of (get_attr_name (attr_name_in (read x)) norm) (value (opts skip props) (value_in (read x))) +++ props_in skip props norm (behind_of s)) (sym p)
         ∙ ap (λ (x : Bytes). property +++ props_in skip props norm x) (sym q)
 
-    prop_is : plan_back plan w.st.page (see plan.held (plan_front plan w)) ≡ see property w
-    prop_is =
-        let x = see (plan_mid plan) w in
-        sym (plan_is 0x96 normalize_lit_str attr_name held_value w u)
-        ∙ passed_plan (plan_mid plan) x
-        ∙ ap (λ (m : Mid). see m w) (ap (λ (y : Gap). plan_mid (plan_by 0x96 normalize_lit_str y attr_name held_value)) k ∙ sym (prop_plan_is (opts skip props) norm attr_name (value_in (read a))))
+    module _ {f : Option Dynamic} (k : f ≡ as_property norm attr_name (value_in (read a))) where
+      made : see property w ≡ see (property_mid normalize_lit_str (opts skip props) attr_name f) w
+      made = ap (λ (m : Mid). see m w) (property_is (opts skip props) attr_name norm (value_in (read a)) ∙ ap (property_mid normalize_lit_str (opts skip props) attr_name) (sym k))
 
-    prop_low : Low total.st → Low (plan_back plan w.st.page (see plan.held (plan_front plan w))).st
-    prop_low l = low_is prop_is (room sees sees_low property (by sees (props_50 refl) g) l)
+      pub prop_low : Low total.st → Low (see (property_mid normalize_lit_str (opts skip props) attr_name f) w).st
+      prop_low l = low_is (sym made) (room sees sees_low property (by sees (props_50 refl) g) l)
 
-    inner_low : Low total.st → Low (see plan.held (plan_front plan w)).st
-    inner_low l = low_back (back_grows plan (see plan.held (plan_front plan w)) w.st.page) (prop_low l)
+      pub prop_on : {r : Bytes} → r ≡ behind_of s → {w' : World} → w' ≡ see (property_mid normalize_lit_str (opts skip props) attr_name f) w → see (props_in skip props norm r) w' ≡ total
+      prop_on q d = on sees property (by sees (props_50 q) g) (d ∙ sym made)
 
-    -- the front, as code answers it for page out alone
-    abbrev front_answer : World
-    front_answer = plan_front (prop_plan [] [] u a) (at [] w.page w.st)
-
-    front_is : at w.templates front_answer.page front_answer.st ≡ plan_front plan w
-    front_is =
-        front_at w.templates 0x96 normalize_lit_str attr_name (value (opts [] []) (value_in (read a))) w.page w.st u
-        ∙ plan_front_same (opts [] []) (opts skip props) 0x96 normalize_lit_str u attr_name (value_in (read a)) w
-
-    pub prop_front_room : Low total.st → Low (plan_front (prop_plan [] [] u a) (at [] w.page w.st)).st
-    prop_front_room l =
-        subst Low (sym (ap (λ (x : World). x.st) front_is)) (low_back (see_grows plan.held (plan_front plan w)) (inner_low l))
-
-    module _ {p₁ : Bytes} {x₁ : Walk} (f₁ : at [] p₁ x₁ ≡ plan_front (prop_plan [] [] u a) (at [] w.page w.st)) {m : Mid} (d : m ≡ (attr_plan skip props u a).held) where
-      fronted : at w.templates p₁ x₁ ≡ plan_front plan w
-      fronted = lift_world w.templates f₁ ∙ front_is
-
-      inner_is : see m (at w.templates p₁ x₁) ≡ see plan.held (plan_front plan w)
-      inner_is =
-          ap (λ (y : Mid). see y (at w.templates p₁ x₁)) (d ∙ plan_held_same 0x91 0x96 (λ b. b) normalize_lit_str u attr_name held_value)
-          ∙ ap (see plan.held) fronted
-
-      pub prop_held_room : Low total.st → Low (see m (at w.templates p₁ x₁)).st
-      prop_held_room l = low_is inner_is (inner_low l)
-
-      module _ {o₂ p₂ : Bytes} {x₂ : Walk} (e₂ : at o₂ p₂ x₂ ≡ see m (at w.templates p₁ x₁)) where
-        abbrev back_answer : World
-        back_answer = plan_back (plan_by 0x96 (λ b. b) u attr_name A.absent) w.st.page (at [] p₂ x₂)
-
-        back_is : at o₂ back_answer.page back_answer.st ≡ plan_back plan w.st.page (see plan.held (plan_front plan w))
-        back_is =
-            back_at o₂ 0x96 (λ b. b) attr_name A.absent p₂ x₂ w.st.page u
-            ∙ plan_back_same 0x96 (λ b. b) normalize_lit_str u attr_name A.absent held_value w.st.page (at o₂ p₂ x₂)
-            ∙ ap (plan_back plan w.st.page) (e₂ ∙ inner_is)
-
-        pub prop_back_page : (plan_by 0x96 (λ b. b) u (attr_name_in (read a)) A.absent).stands ≡ true → w.st.page + 3 ≤ x₂.page
-        prop_back_page y =
-            omega (
-              arith,
-              front_page plan w (stands_text 0x96 normalize_lit_str (λ b. b) u attr_name held_value A.absent ∙ y),
-              (see_grows plan.held (plan_front plan w)).g_page,
-              ap (λ (x : World). x.st.page) (e₂ ∙ inner_is),
-            )
-
-        pub prop_back_room : Low total.st → Low (plan_back (plan_by 0x96 (λ b. b) u (attr_name_in (read a)) A.absent) w.st.page (at [] p₂ x₂)).st
-        prop_back_room l = subst Low (sym (ap (λ (x : World). x.st) back_is)) (prop_low l)
-
-        pub prop_on : {r : Bytes} → r ≡ behind_of s → {p₃ : Bytes} {x₃ : Walk} → at [] p₃ x₃ ≡ plan_back (plan_by 0x96 (λ b. b) u (attr_name_in (read a)) A.absent) w.st.page (at [] p₂ x₂) →
-            see (props_in skip props norm r) (at o₂ p₃ x₃) ≡ total
-        prop_on q f₃ = on sees property (by sees (props_50 q) g) (lift_world o₂ f₃ ∙ back_is ∙ prop_is)
+    -- the key, or one that is ignored
+    pub prop_gone : None ≡ as_property norm attr_name (value_in (read a)) → {r : Bytes} → r ≡ behind_of s → see (props_in skip props norm r) w ≡ total
+    prop_gone k q = prop_on k q (sym (see_none w))
 
   -- b is the expression of a spread
   module _ (h : n ≡ 0x53) {b : Bytes} (p : b ≡ body_of s) where

@@ -4,16 +4,17 @@
 use mathlib.Core.Path.{◌≡◌, refl, sym, ap, ◌∙◌, subst}
 use Prim.Native.Nat.{ℕ, ◌+◌, ◌≤◌, ◌<◌, ◌^◌}
 use native.Mathlib.Omega.{arith}
-use mathlib.Core.Bool.{Bool, true, false, false≢true}
+use mathlib.Core.Bool.{Bool, true, false}
 use mathlib.Core.List.{List, [], ◌∷◌, ◌++◌, append-nil}
 use mathlib.Core.Option.{Option, none, some}
 use lib.Dec.{eqb}
 use lib.ListN.{length, length-append}
 use Rattle.field.specs.Bytes.{Bytes, pick}
-use Rattle.field.specs.Row.{Row, end, loose, field, read, Ended}
+use Rattle.field.specs.Row.{Row, read, Ended}
 use Rattle.field.specs.Front.{tag_of_front, body_of, behind_of}
 use Rattle.field.specs.Put.{put, Wrote}
 use Rattle.field.proofs.PutLaws.{put_put, put_nil}
+use Rattle.text.specs.Escape.{escape_html}
 use Rattle.text.specs.Text.{jsx_text_to_str}
 use Rattle.page.specs.Tree.{Contained, nothing_contained, contained, contained_in, expr_in}
 use Rattle.spec.specs.Pass as S
@@ -23,12 +24,13 @@ use Rattle.spec.specs.Merge.{Shape, Element, Fragment, still, passed, Child, tex
 use Rattle.spec.specs.Children.{serialize_jsx, spliced, entry_pass, entries, entries_pass}
 use Rattle.spec.specs.Transform.{expr, shape_of, fragment_of}
 use Rattle.decisions.specs.At.{opts, element_at}
-use Rattle.strings.specs.Carve.{is_some, option_bytes, is_joined, joined_by}
+use Rattle.decisions.specs.Becomes.{joins, leaves, as_child}
+use Rattle.decisions.proofs.BecomesLaws.{joins_text, joins_nothing, leaves_none, leaves_expr}
 use Rattle.strings.proofs.TreeLaws.{kids, held, kids_60, kids_52, kids_30, kids_31, kids_none, kids_other}
 use Rattle.found.specs.Finds.{found_at}
 use Rattle.walk.specs.declared.state.Walk.{Walk}
 use Rattle.walk.specs.See.{World, at, see, act, along, wrap, flushed, Low}
-use Rattle.walk.proofs.SeeLaws.{Grows, grows_same, low_back, low_is, see_grows, see_leaf, see_string, lift_flushed}
+use Rattle.walk.proofs.SeeLaws.{Grows, low_back, low_is, see_grows, see_leaf, see_string, lift_flushed}
 use Rattle.walk.proofs.ActLaws.{act_grows, act_entry, act_still, act_no_entries, act_entries_append}
 use Rattle.visits.specs.Visiting.{expr_at, found_out}
 
@@ -38,10 +40,6 @@ use Rattle.visits.specs.Visiting.{expr_at, found_out}
 abbrev ran : Bytes → World → World
 ran [] w = w
 ran (b ∷ buf) w = see (string_node (b ∷ buf)) w
-
-ran_grows : (buf : Bytes) (w : World) → Grows w (ran buf w)
-ran_grows [] w = grows_same w
-ran_grows (b ∷ buf) w = see_grows (string_node (b ∷ buf)) w
 
 ran_page : (buf : Bytes) (w : World) → w.st.page + length buf ≤ (ran buf w).st.page
 ran_page [] w = omega arith
@@ -138,28 +136,19 @@ run_page buf (spread m ∷ cs) w = run_page buf cs w
 -- ---- a container, with the run so far
 
 module _ (skip props : Bytes) (buf : Bytes) (cs : List Child) (w : World) where
-  held_joined : (x : Contained) → is_joined x ≡ true → entering buf (held skip props x ∷ cs) w ≡ entering (buf ++ joined_by x) cs w
-  unfolding is_joined joined_by
-  held_joined nothing_contained h = enter_empty buf cs w ∙ ap (λ (b : Bytes). entering b cs w) (sym (append-nil buf))
-  held_joined (contained e) h = on (joined_text (shape_of e)) refl h
-    where
-      on : (j : Option Bytes) → joined_text (shape_of e) ≡ j → is_some j ≡ true →
-          entering buf (held skip props (contained e) ∷ cs) w ≡ entering (buf ++ option_bytes j) cs w
-      on (some b) q h = enter_joined buf cs w (shape_of e) (expr (opts skip props) e S.none) q
-      on none q h = absurd (false≢true h)
+  held_joined : (x : Contained) {u : Bytes} → joins u ≡ as_child x → entering buf (held skip props x ∷ cs) w ≡ entering (buf ++ escape_html u) cs w
+  unfolding as_child
+  held_joined nothing_contained q = enter_empty buf cs w ∙ ap (λ (b : Bytes). entering b cs w) (sym (ap (λ (j : Bytes). buf ++ j) (joins_nothing q) ∙ append-nil buf))
+  held_joined (contained e) q = enter_joined buf cs w (shape_of e) (expr (opts skip props) e S.none) (joins_text (shape_of e) q)
 
-  held_apart : (r : Row) → is_joined (contained_in r) ≡ false →
+  held_apart : (r : Row) {z : Bool} → leaves z ≡ as_child (contained_in r) →
       entering buf (held skip props (contained_in r) ∷ cs) w ≡ entering [] cs (see (expr (opts skip props) (expr_in r) S.none) (ran buf w))
-  unfolding is_joined contained_in expr_in
-  held_apart end h = absurd (false≢true (sym h))
-  held_apart (loose b) h = absurd (false≢true (sym h))
-  held_apart (field t f i r) h = on (joined_text (shape_of (expr_in (field t f i r)))) refl h
-    where
-      on : (j : Option Bytes) → joined_text (shape_of (expr_in (field t f i r))) ≡ j → is_some j ≡ false →
-          entering buf (container (shape_of (expr_in (field t f i r))) (expr (opts skip props) (expr_in (field t f i r)) S.none) ∷ cs) w
-          ≡ entering [] cs (see (expr (opts skip props) (expr_in (field t f i r)) S.none) (ran buf w))
-      on (some b) q h = absurd (false≢true (sym h))
-      on none q h = enter_container buf cs w (shape_of (expr_in (field t f i r))) (expr (opts skip props) (expr_in (field t f i r)) S.none) q
+  unfolding as_child
+  held_apart r {z} q =
+      let e = expr_in r in
+      let h : contained_in r ≡ contained e = leaves_expr r q in
+      ap (λ (x : Contained). entering buf (held skip props x ∷ cs) w) h
+      ∙ enter_container buf cs w (shape_of e) (expr (opts skip props) e S.none) (leaves_none (shape_of e) (q ∙ ap as_child h))
 
 -- ---- the loop: page out is base with a run of n bytes behind an open head, and the whole is to end at total
 
@@ -232,13 +221,13 @@ module _ (skip props : Bytes) (total : World) where
         on_60 g =
             ap (λ (cs : List Child). entering m.buf cs here) (kids_60 skip props t k e p q g) ∙ enter_text m.buf (kids skip props r) here b
 
-        on_52 : k ≡ 0x52 → is_joined (contained_in (read b)) ≡ true →
-            entering m.buf (kids skip props t) here ≡ entering (m.buf ++ joined_by (contained_in (read b))) (kids skip props r) here
+        on_52 : k ≡ 0x52 → {u : Bytes} → joins u ≡ as_child (contained_in (read b)) →
+            entering m.buf (kids skip props t) here ≡ entering (m.buf ++ escape_html u) (kids skip props r) here
         on_52 g j =
             ap (λ (cs : List Child). entering m.buf cs here) (kids_52 skip props t k e p q g)
             ∙ held_joined skip props m.buf (kids skip props r) here (contained_in (read b)) j
 
-        ends_52 : k ≡ 0x52 → is_joined (contained_in (read b)) ≡ false →
+        ends_52 : k ≡ 0x52 → {z : Bool} → leaves z ≡ as_child (contained_in (read b)) →
             entering m.buf (kids skip props t) here ≡ entering [] (kids skip props r) (see (expr_at skip props b) (ran m.buf here))
         ends_52 g j =
             ap (λ (cs : List Child). entering m.buf cs here) (kids_52 skip props t k e p q g) ∙ held_apart skip props m.buf (kids skip props r) here (read b) j
@@ -261,25 +250,25 @@ module _ (skip props : Bytes) (total : World) where
             Wrote page (cur.page + 3 + n) (jsx_text_to_str b false false) page' (cur.page + 3 + n') → Entering templates page' cur r n'
         text_on g {r} q v = more_on (jsx_text_to_str b false false) r (on_60 p q g) v
 
-        module _ (g : k ≡ 0x52) {y : Bool} (ye : y ≡ is_joined (contained_in (read b))) where
-          pub joined_room : y ≡ true → Low total.st → cur.page + 3 + n + length (joined_by (contained_in (read b))) < 2 ^ 63
-          joined_room j low = more_room (joined_by (contained_in (read b))) (behind_of t) (on_52 p refl g (sym ye ∙ j)) low
+        module _ (g : k ≡ 0x52) where
+          module _ {u : Bytes} (j : joins u ≡ as_child (contained_in (read b))) where
+            pub joined_room : Low total.st → cur.page + 3 + n + length (escape_html u) < 2 ^ 63
+            joined_room low = more_room (escape_html u) (behind_of t) (on_52 p refl g j) low
 
-          pub joined_on : y ≡ true → {r : Bytes} → r ≡ behind_of t → {page' : Bytes} {n' : ℕ} →
-              Wrote page (cur.page + 3 + n) (joined_by (contained_in (read b))) page' (cur.page + 3 + n') → Entering templates page' cur r n'
-          joined_on j {r} q v = more_on (joined_by (contained_in (read b))) r (on_52 p q g (sym ye ∙ j)) v
+            pub joined_on : {r : Bytes} → r ≡ behind_of t → {page' : Bytes} {n' : ℕ} → Wrote page (cur.page + 3 + n) (escape_html u) page' (cur.page + 3 + n') → Entering templates page' cur r n'
+            joined_on {r} q v = more_on (escape_html u) r (on_52 p q g j) v
 
           -- one that does not
-          module _ (j : y ≡ false) where
+          module _ {z : Bool} (j : leaves z ≡ as_child (contained_in (read b))) where
             pub expr_run : Low total.st → Low (flushed n (at [] page cur)).st
-            expr_run low = run_room (see (expr_at skip props b)) (see_grows (expr_at skip props b)) (behind_of t) (ends_52 p refl g (sym ye ∙ j)) low
+            expr_run low = run_room (see (expr_at skip props b)) (see_grows (expr_at skip props b)) (behind_of t) (ends_52 p refl g j) low
 
             module _ {page₁ : Bytes} {cur₁ : Walk} (u : at [] page₁ cur₁ ≡ flushed n (at [] page cur)) where
               pub expr_room : Low total.st → Low (see (expr_at skip props b) (at templates page₁ cur₁)).st
-              expr_room low = done_room (see (expr_at skip props b)) (see_grows (expr_at skip props b)) (behind_of t) (ends_52 p refl g (sym ye ∙ j)) u low
+              expr_room low = done_room (see (expr_at skip props b)) (see_grows (expr_at skip props b)) (behind_of t) (ends_52 p refl g j) u low
 
               pub expr_on : {r : Bytes} → r ≡ behind_of t → {templates₂ page₂ : Bytes} {cur₂ : Walk} → at templates₂ page₂ cur₂ ≡ see (expr_at skip props b) (at templates page₁ cur₁) → Entering templates₂ page₂ cur₂ r 0
-              expr_on {r} q v = done_on (see (expr_at skip props b)) (see_grows (expr_at skip props b)) r (ends_52 p q g (sym ye ∙ j)) u v
+              expr_on {r} q v = done_on (see (expr_at skip props b)) (see_grows (expr_at skip props b)) r (ends_52 p q g j) u v
 
         module _ (g : k ≡ 0x30) {page₁ : Bytes} {cur₁ : Walk} (u : at [] page₁ cur₁ ≡ flushed n (at [] page cur)) where
           pub element_room : Low total.st → Low (act (serialize_jsx (element_at skip props b)) (at templates page₁ cur₁)).st

@@ -20,7 +20,7 @@ use Rattle.decisions.specs.At.{opts}
 use Rattle.decisions.proofs.Series.{tested, contained_none, contained_field, expr_none, items_none, pieces_none, expr_70, expr_71, expr_72, expr_74, expr_75, expr_76, expr_79, expr_7a, expr_7b, expr_30, expr_31, expr_other, items_77, items_78, items_other, pieces_20, pieces_30, pieces_31, pieces_other}
 use Rattle.decisions.proofs.Laws.{raw_element, raw_fragment}
 use Rattle.walk.specs.declared.state.Walk.{Walk}
-use Rattle.walk.specs.Plan.{contained_mid}
+use Rattle.decisions.specs.Becomes.{contained_mid}
 use Rattle.walk.specs.See.{World, at, see, to_page, begun, wrap, literal, Low}
 use Rattle.walk.proofs.SeeLaws.{see_none, see_node, see_grows, lift, plain}
 use Rattle.visits.specs.Visiting.{expr_at, held_at, items_at, pieces_at, element_mid, fragment_mid}

@@ -33,9 +33,6 @@ front_none {s} a e = subst (FieldAt s) e a
 abbrev pub Growing : (World → World) → Type 0
 Growing F = (x : World) → Grows x (F x)
 
-pub both_grow : (F G : World → World) → Growing F → Growing G → Growing (λ (x : World). G (F x))
-both_grow F G f g x = grows_then (f x) (g (F x))
-
 -- ---- two things, one after the other
 
 module _ (F G : World → World) (w total : World) (is : G (F w) ≡ total) where

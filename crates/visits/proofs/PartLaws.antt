@@ -17,30 +17,36 @@ use Rattle.field.proofs.Actions.{Action, Lows, by, on, room, finish, low_now}
 use Rattle.text.specs.Escape.{escape_html}
 use Rattle.names.specs.Names.{AttrName, is_void_element}
 use Rattle.page.specs.Page.{Name, identifier, member, namespaced, Options}
-use Rattle.page.specs.Tree.{choose, attributes_in, attr_name_in, value_in, contained_in, Contained}
+use Rattle.page.specs.Tree.{choose, attributes_in, attr_name_in, value_in, contained_in, expr_in, Contained, nothing_contained, contained}
 use Rattle.spec.specs.Pass as S
 use Rattle.spec.specs.Pass.{no_flags, Done, Pass, pure, Mid, node, ◌+++◌, Part, chars, gap}
-use Rattle.spec.specs.Output.{dynamic_exprs, gen_template}
-use Rattle.spec.specs.Merge.{joined_text, Child, text, empty, container, element, fragment, spread, flush, merge}
+use Rattle.spec.specs.Output.{escape_node, dynamic_exprs, gen_template}
+use Rattle.spec.specs.Merge.{Shape, joined_text, Child, text, empty, container, element, fragment, spread, flush, merge}
 use Rattle.spec.specs.Attributes as A
 use Rattle.spec.specs.Attributes.{Attribute, is_serializable}
 use Rattle.spec.specs.Children.{maybe_wrap, merged_parts, children_to_string, serialize_jsx, to_call_expr, element_to_string_vec}
-use Rattle.spec.specs.Transform.{value, element_of, attributes}
+use Rattle.spec.specs.Transform.{element_of, attributes, shape_of, expr}
 use Rattle.decisions.specs.Index.{names_of}
 use Rattle.decisions.specs.At.{opts, element_name, behind_name, identifier_bytes, attributes_at, children_at, element_at, serializable, IsAttribute, NoAttribute}
+use Rattle.decisions.specs.Becomes.{Fate, dynamic, in_tag, tag_case, tag_parts, gap_case, gap_tag, gap_front, gap_expr, gap_behind, gap_mid, contained_mid, held as held_bytes, joins, leaves, as_child, child_case}
+use Rattle.decisions.proofs.BecomesLaws.{parts_are, held_is, joins_text, leaves_none, leaves_wraps, leaves_expr}
+use Rattle.decisions.specs.declared.becomes.AsChild.{AsChild}
+use Rattle.decisions.specs.declared.becomes.AsChild.TheVariants as C
 use Rattle.decisions.proofs.Laws.{element_serializable}
 use Rattle.decisions.proofs.Series.{tested}
 use Rattle.strings.specs.Carve.{child_parts, contained_parts}
 use Rattle.strings.proofs.MergeLaws.{direct, child_direct}
 use Rattle.strings.proofs.TreeLaws.{kids, attrs_at, attr_at, attrs_step, attrs_gone, inner, parts_at, parts_60, parts_52, parts_30, parts_31, parts_none, parts_other, element_open}
-use Rattle.walk.specs.declared.attribute.Gap.{Gap}
-use Rattle.walk.specs.declared.attribute.Gap.TheVariants as G
+use Rattle.decisions.specs.declared.becomes.InTag.{InTag}
+use Rattle.decisions.specs.declared.becomes.InTag.TheVariants as I
+use Rattle.decisions.specs.declared.becomes.Gap.{Gap}
+use Rattle.decisions.specs.declared.becomes.Gap.TheVariants as G
 use Rattle.walk.specs.declared.state.Walk.{Walk}
 use Rattle.walk.specs.See.{World, at, see, act, passed, begun, numbered, wrap, wrap_if, begun_if, to_page, Low}
-use Rattle.walk.specs.Plan.{Plan, plan_by, plan_front, plan_back, attr_plan, attr_gap, gap_wraps, gap_held}
-use Rattle.walk.proofs.SeeLaws.{see_node, Grows, see_grows, low_back, low_is, grows_same, grows_then, wrap_grows, at_see, lift_world}
-use Rattle.walk.proofs.ActLaws.{see_append, act_pure, act_gen_template, act_no_parts, act_chars, act_mark, act_gap, act_dynamic_append, act_grows, act_templates_length, act_page_length, passed_see}
-use Rattle.walk.proofs.GapLaws.{plan_mid, plan_done, attr_parts_plan, plan_front_same, plan_back_same, gap_mid, contained_gap}
+use Rattle.walk.specs.Plan.{front, back}
+use Rattle.walk.proofs.SeeLaws.{plain, see_node, Grows, see_grows, low_back, low_is, grows_same, grows_then, wrap_grows, at_see, lift_world}
+use Rattle.walk.proofs.ActLaws.{see_append, act_pure, act_gen_template, act_no_parts, act_chars, act_mark, act_gap, act_dynamic_append, act_grows, act_templates_length, act_page_length}
+use Rattle.visits.specs.Visiting.{expr_at, held_at}
 
 -- ---- gaps, one after the other
 
@@ -222,14 +228,41 @@ module _ (skip props b : Bytes) {z : Bool} (e : z ≡ serializable skip b) (w : 
     pub element_bare : {r : Bytes} → r ≡ behind_of b → length r ≡ 0 → w ≡ act (dynamic_exprs (element_at skip props b).to_string_vec) w
     element_bare {r} q n = bare r q n
 
--- ---- a container
+-- ---- a container, by what becomes of it
 
-container_is : (o : Options) (c : Contained) (w : World) → act (dynamic_exprs (contained_parts o c)) w ≡ wrap_if (gap_wraps c) 0x92 w.st.page (see (gap_held o c) (begun_if (gap_wraps c) w))
-container_is o c w = act_by (dynamic_exprs (contained_parts o c)) (pure (gap_mid o c)) w (contained_gap o c w.st.first) ∙ act_pure (gap_mid o c) w ∙ wrapped (gap_wraps c)
-  where
-    wrapped : (z : Bool) → see (pick z (node 0x92 [] (gap_held o c) S.none) (gap_held o c)) w ≡ wrap_if z 0x92 w.st.page (see (gap_held o c) (begun_if z w))
-    wrapped true = see_node 0x92 (gap_held o c) w
-    wrapped false = refl
+module _ (o : Options) where
+  abbrev by_join : Shape → Mid → Option Bytes → List Part
+  by_join s m j = elim j [ some b ↦ chars b ∷ [] | none ↦ gap (pure (maybe_wrap s m)) ∷ [] ]
+
+  -- its expression, wrapped with jsxEscape or not
+  leaves_parts : (r : Row) {z : Bool} → leaves z ≡ as_child (contained_in r) →
+      contained_parts o (contained_in r) ≡ gap (pure (pick z (escape_node (expr o (expr_in r) S.none)) (expr o (expr_in r) S.none))) ∷ []
+  unfolding contained_parts child_parts as_child
+  leaves_parts r {z} q =
+      let e = expr_in r in
+      let h : contained_in r ≡ contained e = leaves_expr r q in
+      let k : leaves z ≡ as_child (contained e) = q ∙ ap as_child h in
+      ap (contained_parts o) h
+      ∙ ap (by_join (shape_of e) (expr o e S.none)) (leaves_none (shape_of e) k)
+      ∙ ap (λ (m : Mid). gap (pure m) ∷ []) (leaves_wraps (shape_of e) (expr o e S.none) k)
+
+  container_is : (r : Row) (w : World) {z : Bool} → leaves z ≡ as_child (contained_in r) →
+      act (dynamic_exprs (contained_parts o (contained_in r))) w ≡ wrap_if z 0x92 w.st.page (see (expr o (expr_in r) S.none) (begun_if z w))
+  container_is r w {z} q =
+      let m = expr o (expr_in r) S.none in
+      let n = pick z (escape_node m) m in
+      ap (λ (ps : List Part). act (dynamic_exprs ps) w) (leaves_parts r q) ∙ act_gap (pure n) [] w ∙ act_no_parts (act (pure n) w) ∙ act_pure n w ∙ wrapped z
+    where
+      wrapped : (z : Bool) → see (pick z (escape_node (expr o (expr_in r) S.none)) (expr o (expr_in r) S.none)) w ≡ wrap_if z 0x92 w.st.page (see (expr o (expr_in r) S.none) (begun_if z w))
+      wrapped true = see_node 0x92 (expr o (expr_in r) S.none) w
+      wrapped false = refl
+
+  -- what joins has no gap
+  joins_no_gap : (x : Contained) (w : World) {t : Bytes} → joins t ≡ as_child x → act (dynamic_exprs (contained_parts o x)) w ≡ w
+  unfolding contained_parts child_parts as_child
+  joins_no_gap nothing_contained w q = act_no_parts w
+  joins_no_gap (contained e) w {t} q =
+      ap (λ (j : Option Bytes). act (dynamic_exprs (by_join (shape_of e) (expr o e S.none) j)) w) (joins_text (shape_of e) q) ∙ act_chars (escape_html t) [] w ∙ act_no_parts w
 
 wrap_if_grows : (z : Bool) (t q : ℕ) (w : World) → Grows w (wrap_if z t q w)
 wrap_if_grows true t q w = wrap_grows t q w
@@ -244,33 +277,44 @@ module _ (skip props s : Bytes) (n : ℕ) (e : n ≡ tag_of_front s) (w : World)
   pub parts_room : Low total.st → Low w.st
   parts_room l = low_now parts_low g l
 
-  module _ (h : n ≡ 0x52) {c : Bytes} (p : c ≡ body_of s) {z : Bool} (f : z ≡ gap_wraps (contained_in (read c))) {m : Mid} (d : m ≡ gap_held (opts skip props) (contained_in (read c))) where
-    contained_is : wrap_if z 0x92 w.st.page (see m (begun_if z w)) ≡ act (dynamic_exprs (contained_parts (opts skip props) (contained_in (read c)))) w
-    contained_is =
-        ap (λ (y : Bool). wrap_if y 0x92 w.st.page (see m (begun_if y w))) f
-        ∙ ap (λ (x : Mid). wrap_if (gap_wraps (contained_in (read c))) 0x92 w.st.page (see x (begun_if (gap_wraps (contained_in (read c))) w))) d
-        ∙ sym (container_is (opts skip props) (contained_in (read c)) w)
+  module _ (h : n ≡ 0x52) {c : Bytes} (p : c ≡ body_of s) where
+    abbrev child : List Part
+    child = contained_parts (opts skip props) (contained_in (read c))
 
-    contained_low : Low total.st → Low (see m (begun_if z w)).st
-    contained_low l =
-        low_back (wrap_if_grows z 0x92 w.st.page (see m (begun_if z w)))
-        (low_is contained_is (room parts parts_low (contained_parts (opts skip props) (contained_in (read c))) (by parts (parts_52 skip props false s n e p refl h) g) l))
+    -- a text leaves none
+    joined_past : {t : Bytes} → joins t ≡ as_child (contained_in (read c)) → {r : Bytes} → r ≡ behind_of s → act (dynamic_exprs (parts_at skip props false r)) w ≡ total
+    joined_past f q = on parts child (by parts (parts_52 skip props false s n e p q h) g) (sym (joins_no_gap (opts skip props) (contained_in (read c)) w f))
 
-    module _ {w₁ : World} (e₁ : w₁ ≡ begun_if z w) where
-      pub container_room : Low total.st → Low (see m w₁).st
-      container_room l = low_is (ap (see m) e₁) (contained_low l)
+    pub child_past : (x : AsChild) → ((z : Bool) → x ≡ C.Gap z → ⊥) → child_case x ≡ as_child (contained_in (read c)) → {r : Bytes} → r ≡ behind_of s →
+        act (dynamic_exprs (parts_at skip props false r)) w ≡ total
+    child_past (C.Text t) g f q = joined_past f q
+    child_past (C.Gap z) g f q = absurd (g z refl)
 
-      module _ {w₂ : World} (e₂ : w₂ ≡ see m w₁) where
-        pub container_page : z ≡ true → w.st.page + 3 ≤ w₂.st.page
-        container_page y = omega (arith, begun_if_page z w y, (see_grows m (begun_if z w)).g_page, ap (λ (x : World). x.st.page) (e₂ ∙ ap (see m) e₁))
+    module _ {z : Bool} (f : leaves z ≡ as_child (contained_in (read c))) where
+      abbrev m : Mid
+      m = expr_at skip props c
 
-        pub container_low : Low total.st → Low w₂.st
-        container_low l = low_is e₂ (container_room l)
+      contained_is : wrap_if z 0x92 w.st.page (see m (begun_if z w)) ≡ act (dynamic_exprs child) w
+      contained_is = sym (container_is (opts skip props) (read c) w f)
 
-        pub container_on : {r : Bytes} → r ≡ behind_of s → {w₃ : World} → w₃ ≡ wrap_if z 0x92 w.st.page w₂ → act (dynamic_exprs (parts_at skip props false r)) w₃ ≡ total
-        container_on q e₃ =
-            on parts (contained_parts (opts skip props) (contained_in (read c))) (by parts (parts_52 skip props false s n e p q h) g)
-            (e₃ ∙ ap (wrap_if z 0x92 w.st.page) (e₂ ∙ ap (see m) e₁) ∙ contained_is)
+      contained_low : Low total.st → Low (see m (begun_if z w)).st
+      contained_low l =
+          low_back (wrap_if_grows z 0x92 w.st.page (see m (begun_if z w)))
+          (low_is contained_is (room parts parts_low child (by parts (parts_52 skip props false s n e p refl h) g) l))
+
+      module _ {w₁ : World} (e₁ : w₁ ≡ begun_if z w) where
+        pub container_room : Low total.st → Low (see m w₁).st
+        container_room l = low_is (ap (see m) e₁) (contained_low l)
+
+        module _ {w₂ : World} (e₂ : w₂ ≡ see m w₁) where
+          pub container_page : z ≡ true → w.st.page + 3 ≤ w₂.st.page
+          container_page y = omega (arith, begun_if_page z w y, (see_grows m (begun_if z w)).g_page, ap (λ (x : World). x.st.page) (e₂ ∙ ap (see m) e₁))
+
+          pub container_low : Low total.st → Low w₂.st
+          container_low l = low_is e₂ (container_room l)
+
+          pub container_on : {r : Bytes} → r ≡ behind_of s → {w₃ : World} → w₃ ≡ wrap_if z 0x92 w.st.page w₂ → act (dynamic_exprs (parts_at skip props false r)) w₃ ≡ total
+          container_on q e₃ = on parts child (by parts (parts_52 skip props false s n e p q h) g) (e₃ ∙ ap (wrap_if z 0x92 w.st.page) (e₂ ∙ ap (see m) e₁) ∙ contained_is)
 
   module _ (h : n ≡ 0x30) {b : Bytes} (p : b ≡ body_of s) where
     pub element_room : Low total.st → Low (act (dynamic_exprs (element_at skip props b).to_string_vec) w).st
@@ -295,157 +339,121 @@ module _ (skip props s : Bytes) (n : ℕ) (e : n ≡ tag_of_front s) (w : World)
   pub parts_end : Ended (read s) → w ≡ total
   parts_end i = finish parts (by parts (parts_none skip props false s i) g)
 
--- ---- what an attribute leaves, by its plan
+-- ---- the field that an attribute leaves, in an opening tag or in a call
 
--- a pass that takes no number
-pub passed_plan : (m : Mid) (x : World) → passed (record { value = m; taken = 0; templates = []; flags = no_flags }) x ≡ x
-passed_plan m x =
-    let k : x.st.first + 0 ≡ x.st.first = omega arith in
-    λ i. at x.templates x.page (record { first = k i; later = x.st.later; templates = x.st.templates; page = x.st.page; seen = x.st.seen })
+-- a field's fields, one behind the other
+field_is : (t : ℕ) (f h z : Mid) (w : World) → see (node t [] (f +++ (h +++ z)) S.none) w ≡ wrap t w.st.page (see z (see h (see f (begun w))))
+field_is t f h z w = see_node t (f +++ (h +++ z)) w ∙ ap (wrap t w.st.page) (see_append f (h +++ z) (begun w) ∙ see_append h z (see f (begun w)))
 
--- the field of it
-module _ (t : ℕ) (f h z : Mid) (w : World) where
-  abbrev field_done : Done Mid
-  field_done = plan_done (record { stands = true; tag = t; front = f; held = h; behind = z })
+-- no template stands in its ends
+front_plain : (turn : Bytes → Bytes) (n : AttrName) (u : Gap) → plain (gap_front turn n (gap_case u)) ≡ true
+front_plain turn n (G.True norm) = refl
+front_plain turn n (G.String norm b) = refl
+front_plain turn n G.Null = refl
+front_plain turn n (G.Attr norm c) = refl
+front_plain turn n (G.Choice c) = refl
 
-  field_is : passed field_done (see (node t [] (f +++ (h +++ z)) S.none) w) ≡ wrap t w.st.page (see z (see h (see f (begun w))))
-  field_is =
-      let q = w.st.page in
-      let x = see f (begun w) in
-      ap (passed field_done) (see_node t (f +++ (h +++ z)) w ∙ ap (wrap t q) (see_append f (h +++ z) (begun w) ∙ see_append h z x))
-      ∙ ap (wrap t q) (passed_see field_done z (see h x) ∙ ap (see z) (passed_see field_done h x ∙ ap (see h) (passed_plan field_done.value x)))
+behind_plain : (n : AttrName) (u : Gap) → plain (gap_behind n (gap_case u)) ≡ true
+behind_plain n (G.True norm) = refl
+behind_plain n (G.String norm b) = refl
+behind_plain n G.Null = refl
+behind_plain n (G.Attr norm c) = refl
+behind_plain n (G.Choice c) = refl
 
-module _ (t : ℕ) (text : Bytes → Bytes) (n : AttrName) (v : A.Value) (w : World) where
-  abbrev pub plan_of : Gap → Plan
-  plan_of g = plan_by t text g n v
+-- a is the fields of a 50, u the gap that it leaves, and t its tag
+module _ (skip props : Bytes) (t : ℕ) (turn : Bytes → Bytes) (a : Bytes) (u : Gap) (w : World) where
+  abbrev name : AttrName
+  name = attr_name_in (read a)
 
-  pub plan_is : (g : Gap) → passed (plan_done (plan_of g)) (see (plan_mid (plan_of g)) w) ≡ plan_back (plan_of g) w.st.page (see (plan_of g).held (plan_front (plan_of g) w))
-  unfolding plan_by
-  plan_is G.Nothing = passed_plan S.none (see S.none w)
-  plan_is (G.True norm) = field_is t _ _ _ w
-  plan_is (G.String norm) = field_is t _ _ _ w
-  plan_is G.Null = field_is t _ _ _ w
-  plan_is (G.Attr norm) = field_is t _ _ _ w
-  plan_is G.Choice = field_is 0x93 _ _ _ w
+  abbrev pub gap_field : Mid
+  gap_field = gap_mid t turn (opts skip props) name (gap_case u)
 
--- both ends, shown of page out alone
-module _ (o : Bytes) (t : ℕ) (text : Bytes → Bytes) (n : AttrName) (v : A.Value) (p : Bytes) (s : Walk) where
-  abbrev pub plan_by_gap : Gap → Plan
-  plan_by_gap g = plan_by t text g n v
+  abbrev held : Mid
+  held = contained_mid (opts skip props) (gap_expr (gap_case u))
 
-  pub front_at : (g : Gap) → at o (plan_front (plan_by_gap g) (at [] p s)).page (plan_front (plan_by_gap g) (at [] p s)).st ≡ plan_front (plan_by_gap g) (at o p s)
-  unfolding plan_by
-  front_at G.Nothing = refl
-  front_at (G.True norm) = at_see o _ refl p (to_page (s.page + 3) s)
-  front_at (G.String norm) = at_see o _ refl p (to_page (s.page + 3) s)
-  front_at G.Null = at_see o _ refl p (to_page (s.page + 3) s)
-  front_at (G.Attr norm) = at_see o _ refl p (to_page (s.page + 3) s)
-  front_at G.Choice = at_see o _ refl p (to_page (s.page + 3) s)
+  gap_is : back t a u w.st.page (see held (front turn a u w)) ≡ see gap_field w
+  unfolding gap_mid
+  gap_is = sym (field_is (gap_tag t (gap_case u)) (gap_front turn name (gap_case u)) held (gap_behind name (gap_case u)) w)
 
-  pub back_at : (q : ℕ) (g : Gap) → at o (plan_back (plan_by_gap g) q (at [] p s)).page (plan_back (plan_by_gap g) q (at [] p s)).st ≡ plan_back (plan_by_gap g) q (at o p s)
-  unfolding plan_by
-  back_at q G.Nothing = refl
-  back_at q (G.True norm) = ap (wrap t q) (at_see o _ refl p s)
-  back_at q (G.String norm) = ap (wrap t q) (at_see o _ refl p s)
-  back_at q G.Null = ap (wrap t q) (at_see o _ refl p s)
-  back_at q (G.Attr norm) = ap (wrap t q) (at_see o _ refl p s)
-  back_at q G.Choice = ap (wrap 0x93 q) (at_see o _ refl p s)
+  inner_low : Low (see gap_field w).st → Low (see held (front turn a u w)).st
+  inner_low l =
+      let x = see held (front turn a u w) in
+      let b = gap_behind name (gap_case u) in
+      low_back (grows_then (see_grows b x) (wrap_grows (gap_tag t (gap_case u)) w.st.page (see b x))) (low_is gap_is l)
 
-stands_same : (t : ℕ) (f : Bytes → Bytes) (g : Gap) (n : AttrName) (v v' : A.Value) → (plan_by t f g n v).stands ≡ (plan_by t f g n v').stands
-unfolding plan_by
-stands_same t f G.Nothing n v v' = refl
-stands_same t f (G.True norm) n v v' = refl
-stands_same t f (G.String norm) n v v' = refl
-stands_same t f G.Null n v v' = refl
-stands_same t f (G.Attr norm) n v v' = refl
-stands_same t f G.Choice n v v' = refl
+  front_is : at w.templates (front turn a u (at [] w.page w.st)).page (front turn a u (at [] w.page w.st)).st ≡ front turn a u w
+  front_is = at_see w.templates (gap_front turn name (gap_case u)) (front_plain turn name u) w.page (to_page (w.st.page + 3) w.st)
 
-module _ (p : Plan) (w : World) where
-  pub front_page : p.stands ≡ true → w.st.page + 3 ≤ (plan_front p w).st.page
-  front_page h =
-      subst (λ (b : Bool). w.st.page + 3 ≤ (pick b (see p.front (begun w)) w).st.page) (sym h)
-      (omega (arith, (see_grows p.front (begun w)).g_page))
+  pub gap_front_room : Low (see gap_field w).st → Low (front turn a u (at [] w.page w.st)).st
+  gap_front_room l = subst Low (sym (ap (λ (x : World). x.st) front_is)) (low_back (see_grows held (front turn a u w)) (inner_low l))
 
-  pub back_grows : (q : ℕ) → Grows w (plan_back p q w)
-  back_grows q = either p.stands
-    where
-      either : (b : Bool) → Grows w (pick b (wrap p.tag q (see p.behind w)) w)
-      either true = grows_then (see_grows p.behind w) (wrap_grows p.tag q (see p.behind w))
-      either false = grows_same w
+  -- what the code visits, c, is what is held
+  module _ {p₁ : Bytes} {x₁ : Walk} (f₁ : at [] p₁ x₁ ≡ front turn a u (at [] w.page w.st)) {c : Bytes} (d : c ≡ held_bytes u) where
+    inner_is : see (held_at skip props c) (at w.templates p₁ x₁) ≡ see held (front turn a u w)
+    unfolding contained_mid
+    inner_is =
+        ap (λ (y : Mid). see y (at w.templates p₁ x₁)) (ap (λ (x : Bytes). held_at skip props x) d ∙ ap (contained_mid (opts skip props)) (held_is u))
+        ∙ ap (see held) (lift_world w.templates f₁ ∙ front_is)
 
--- ---- a turn over attributes: a is the fields of a 50, u the gap that it leaves, and r the row behind it
+    pub gap_held_room : Low (see gap_field w).st → Low (see (held_at skip props c) (at w.templates p₁ x₁)).st
+    gap_held_room l = low_is inner_is (inner_low l)
+
+    module _ {o₂ p₂ : Bytes} {x₂ : Walk} (e₂ : at o₂ p₂ x₂ ≡ see (held_at skip props c) (at w.templates p₁ x₁)) where
+      back_is : at o₂ (back t a u w.st.page (at [] p₂ x₂)).page (back t a u w.st.page (at [] p₂ x₂)).st ≡ see gap_field w
+      back_is = ap (wrap (gap_tag t (gap_case u)) w.st.page) (at_see o₂ (gap_behind name (gap_case u)) (behind_plain name u) p₂ x₂) ∙ ap (back t a u w.st.page) (e₂ ∙ inner_is) ∙ gap_is
+
+      pub gap_back_room : Low (see gap_field w).st → (w.st.page + 3 ≤ x₂.page) × Low (back t a u w.st.page (at [] p₂ x₂)).st
+      gap_back_room l = (
+        omega (
+          arith,
+          (see_grows (gap_front turn name (gap_case u)) (begun w)).g_page,
+          (see_grows held (front turn a u w)).g_page,
+          ap (λ (x : World). x.st.page) (e₂ ∙ inner_is),
+        ),
+        subst Low (sym (ap (λ (x : World). x.st) back_is)) l,
+      )
+
+      pub gap_done : {p₃ : Bytes} {x₃ : Walk} → at [] p₃ x₃ ≡ back t a u w.st.page (at [] p₂ x₂) → at o₂ p₃ x₃ ≡ see gap_field w
+      gap_done f₃ = lift_world o₂ f₃ ∙ back_is
+
+-- ---- a turn over attributes: a is the fields of a 50, f what becomes of it, and r the row behind it
 
 module _ (skip props s : Bytes) (w : World) {total : World} (g : act (dynamic_exprs (attrs_at skip props s)) w ≡ total) where
-  module _ {a r : Bytes} (i : IsAttribute s a r) {u : Gap} (k : u ≡ attr_gap (names_of props) (attr_name_in (read a)) (value_in (read a))) where
-    abbrev name : AttrName
-    name = attr_name_in (read a)
+  -- the gap u of the attribute with the fields a
+  abbrev left : Bytes → Gap → Mid
+  left a u = gap_field skip props 0x91 (λ b. b) a u w
 
-    abbrev plan : Plan
-    plan = attr_plan skip props u a
-
-    attr_is : plan_back plan w.st.page (see plan.held (plan_front plan w)) ≡ act (dynamic_exprs (attr_at skip props a)) w
-    unfolding act
-    attr_is =
-        let v = value (opts skip props) (value_in (read a)) in
+  module _ {a r : Bytes} (i : IsAttribute s a r) {f : Fate} (k : f ≡ in_tag (names_of props) (attr_name_in (read a)) (value_in (read a))) where
+    fate_is : act (dynamic_exprs (tag_parts (opts skip props) (attr_name_in (read a)) f)) w ≡ act (dynamic_exprs (attr_at skip props a)) w
+    fate_is =
         sym
-        (ap (λ (d : Done Mid). passed d (see d.value w))
-        (attr_parts_plan skip props name (value_in (read a)) w.st.first ∙ ap (λ (x : Gap). plan_done (plan_by 0x91 (λ b. b) x name v)) (sym k))
-        ∙ plan_is 0x91 (λ b. b) name v w u)
+        (ap (λ (ps : List Part). act (dynamic_exprs ps) w)
+        (parts_are (opts skip props) (attr_name_in (read a)) (value_in (read a)) ∙ ap (tag_parts (opts skip props) (attr_name_in (read a))) (sym k)))
 
-    attr_low : Low total.st → Low (plan_back plan w.st.page (see plan.held (plan_front plan w))).st
-    attr_low l = low_is attr_is (room parts parts_low (attr_at skip props a) (by parts (attrs_step skip props i) g) l)
+    fate_on : {w' : World} → w' ≡ act (dynamic_exprs (tag_parts (opts skip props) (attr_name_in (read a)) f)) w → act (dynamic_exprs (attrs_at skip props r)) w' ≡ total
+    fate_on e = on parts (attr_at skip props a) (by parts (attrs_step skip props i) g) (e ∙ fate_is)
 
-    held_low : Low total.st → Low (see plan.held (plan_front plan w)).st
-    held_low l = low_back (back_grows plan (see plan.held (plan_front plan w)) w.st.page) (attr_low l)
+    fate_low : Low total.st → Low (act (dynamic_exprs (tag_parts (opts skip props) (attr_name_in (read a)) f)) w).st
+    fate_low l = low_is fate_is (room parts parts_low (attr_at skip props a) (by parts (attrs_step skip props i) g) l)
 
-    -- the front, as code answers it for page out alone
-    abbrev front_answer : World
-    front_answer = plan_front (attr_plan [] [] u a) (at [] w.page w.st)
+  module _ {a r : Bytes} (i : IsAttribute s a r) where
+    -- one that leaves no gap
+    pub attr_past : (x : InTag) → ((u : Gap) → x ≡ I.Gap u → ⊥) → tag_case x ≡ in_tag (names_of props) (attr_name_in (read a)) (value_in (read a)) → act (dynamic_exprs (attrs_at skip props r)) w ≡ total
+    attr_past I.Nothing n k = fate_on i k (sym (act_no_parts w))
+    attr_past I.Name n k = fate_on i k (sym (act_chars _ [] w ∙ act_no_parts w))
+    attr_past (I.Text v) n k = fate_on i k (sym (act_chars _ [] w ∙ act_no_parts w))
+    attr_past (I.Gap u) n k = absurd (n u refl)
 
-    front_is : at w.templates front_answer.page front_answer.st ≡ plan_front plan w
-    front_is =
-        front_at w.templates 0x91 (λ b. b) name (value (opts [] []) (value_in (read a))) w.page w.st u
-        ∙ plan_front_same (opts [] []) (opts skip props) 0x91 (λ b. b) u name (value_in (read a)) w
+    -- one that leaves the gap u
+    module _ (u : Gap) (k : dynamic (gap_case u) ≡ in_tag (names_of props) (attr_name_in (read a)) (value_in (read a))) where
+      one_gap : act (dynamic_exprs (tag_parts (opts skip props) (attr_name_in (read a)) (dynamic (gap_case u)))) w ≡ see (left a u) w
+      one_gap = act_chars (32 ∷ []) (gap (pure (left a u)) ∷ []) w ∙ act_gap (pure (left a u)) [] w ∙ act_no_parts (act (pure (left a u)) w) ∙ act_pure (left a u) w
 
-    pub front_room : Low total.st → Low (plan_front (attr_plan [] [] u a) (at [] w.page w.st)).st
-    front_room l =
-        subst Low (sym (ap (λ (x : World). x.st) front_is)) (low_back (see_grows plan.held (plan_front plan w)) (held_low l))
+      pub attr_low : Low total.st → Low (see (left a u) w).st
+      attr_low l = low_is (sym one_gap) (fate_low i k l)
 
-    module _ {p₁ : Bytes} {x₁ : Walk} (f₁ : at [] p₁ x₁ ≡ plan_front (attr_plan [] [] u a) (at [] w.page w.st)) {m : Mid} (d : m ≡ (attr_plan skip props u a).held) where
-      fronted : at w.templates p₁ x₁ ≡ plan_front plan w
-      fronted = lift_world w.templates f₁ ∙ front_is
-
-      held_is : see m (at w.templates p₁ x₁) ≡ see plan.held (plan_front plan w)
-      held_is = ap (λ (y : Mid). see y (at w.templates p₁ x₁)) d ∙ ap (see plan.held) fronted
-
-      pub held_room : Low total.st → Low (see m (at w.templates p₁ x₁)).st
-      held_room l = low_is held_is (held_low l)
-
-      module _ {w₂ : World} (e₂ : w₂ ≡ see m (at w.templates p₁ x₁)) where
-        abbrev back_answer : World
-        back_answer = plan_back (plan_by 0x91 (λ b. b) u name A.absent) w.st.page (at [] w₂.page w₂.st)
-
-        back_is : at w₂.templates back_answer.page back_answer.st ≡ plan_back plan w.st.page (see plan.held (plan_front plan w))
-        back_is =
-            back_at w₂.templates 0x91 (λ b. b) name A.absent w₂.page w₂.st w.st.page u
-            ∙ plan_back_same 0x91 (λ b. b) (λ b. b) u name A.absent (value (opts skip props) (value_in (read a))) w.st.page w₂
-            ∙ ap (plan_back plan w.st.page) (e₂ ∙ held_is)
-
-        pub back_page : (plan_by 0x91 (λ b. b) u (attr_name_in (read a)) A.absent).stands ≡ true → w.st.page + 3 ≤ w₂.st.page
-        back_page y =
-            omega (
-              arith,
-              front_page plan w (stands_same 0x91 (λ b. b) u name (value (opts skip props) (value_in (read a))) A.absent ∙ y),
-              (see_grows plan.held (plan_front plan w)).g_page,
-              ap (λ (x : World). x.st.page) (e₂ ∙ held_is),
-            )
-
-        pub back_room : Low total.st → Low (plan_back (plan_by 0x91 (λ b. b) u (attr_name_in (read a)) A.absent) w.st.page (at [] w₂.page w₂.st)).st
-        back_room l = subst Low (sym (ap (λ (x : World). x.st) back_is)) (attr_low l)
-
-        pub attr_on : {p₃ : Bytes} {x₃ : Walk} → at [] p₃ x₃ ≡ plan_back (plan_by 0x91 (λ b. b) u (attr_name_in (read a)) A.absent) w.st.page (at [] w₂.page w₂.st) →
-            act (dynamic_exprs (attrs_at skip props r)) (at w₂.templates p₃ x₃) ≡ total
-        attr_on f₃ = on parts (attr_at skip props a) (by parts (attrs_step skip props i) g) (lift_world w₂.templates f₃ ∙ back_is ∙ attr_is)
+      pub attr_on : {w' : World} → w' ≡ see (left a u) w → act (dynamic_exprs (attrs_at skip props r)) w' ≡ total
+      attr_on e = fate_on i k (e ∙ sym one_gap)
 
   pub attrs_end : {r : Bytes} → NoAttribute s r → w ≡ total
   attrs_end n = finish parts (by parts (attrs_gone skip props n) g)

@@ -7,7 +7,7 @@ use native.Mathlib.Omega.{arith}
 use mathlib.Core.List.{List, [], ◌∷◌, ◌++◌}
 use mathlib.Core.Bool.{Bool, true, false, ◌||◌, or-false, false≢true}
 use lib.Dec.{eqb}
-use lib.ListN.{length, drop, length-take, length-drop}
+use lib.ListN.{length}
 use borrow.Author.Tests.{ne_eqb}
 use Rattle.field.specs.Bytes.{Bytes, pick}
 use Rattle.field.specs.Row.{Row, end, field, read, bytes, long_body}
@@ -286,10 +286,6 @@ module _ (skip props b : Bytes) where
 pub given_untagged : (skip props s : Bytes) (f : Place) → Given skip props s f → is_left f.kind (part s f) ≡ false → (n : ℕ) →
     is_raw (found_pass (children_to_expr (children_at skip props (read s))) n).value ≡ false
 given_untagged skip props s f e u n = finds_untagged skip props (part s f) (children_to_expr (children_at skip props (read s))) f.kind e.finds u n
-
--- a place is no longer than what it lies in
-pub part_short : (s : Bytes) (f : Place) {c : Bytes} → c ≡ part s f → length c ≤ length s
-part_short s f q = omega (arith, ap length q, length-take f.len (drop f.from s), length-drop f.from s)
 
 -- ---- a fragment in a fragment, by what its children give
 

@@ -19,7 +19,7 @@ use Rattle.found.specs.declared.Kind.TheVariants as F
 use Rattle.records.specs.declared.Records.{Records}
 use Rattle.records.specs.Keep as K
 use Rattle.walk.specs.declared.state.Walk.{Walk}
-use Rattle.walk.specs.Plan.{contained_mid}
+use Rattle.decisions.specs.Becomes.{contained_mid}
 use Rattle.walk.specs.See.{World, at, Low}
 
 abbrev pub Place : Type 0

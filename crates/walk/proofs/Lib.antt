@@ -1,7 +1,6 @@
--- Laws of the page walk: of what the second pass writes, of both passes, of what attributes read as, and of the gaps that they leave.
+-- Laws of the page walk: of what the second pass writes, of both passes, of the key, of leaves, and of both ends of what an attribute leaves.
 pub mod SeeLaws
 pub mod ActLaws
 pub mod ReadLaws
-pub mod GapLaws
 pub mod LeafLaws
 pub mod ArmLaws

@@ -2,15 +2,17 @@
 ghost use Rattle.std.specs.Prelude.{◌≡◌, ◌+◌, ◌-◌, ◌≤◌, ◌<◌, ◌^◌, ◌||◌, true, false, [], eqb, ltb, length};
 ghost use Rattle.field.specs.Row.{read};
 ghost use Rattle.field.specs.Put.{Wrote};
+ghost use Rattle.text.specs.Escape.{escape_html};
 ghost use Rattle.text.specs.Text.{jsx_text_to_str, normalize_lit_str};
 ghost use Rattle.page.specs.Number.{number_bytes};
-ghost use Rattle.page.specs.Tree.{contained_in, expr_in};
+ghost use Rattle.page.specs.Tree.{expr_in};
 ghost use Rattle.spec.specs.Output.{string_node};
 ghost use Rattle.spec.specs.Output as O;
 ghost use Rattle.decisions.specs.At.{number_at};
-ghost use Rattle.strings.specs.Carve.{joined_by};
+ghost use Rattle.decisions.specs.Becomes.{text};
 ghost use Rattle.walk.specs.See.{at, see, to_page, marked, begun, begun_if, wrap, wrap_if, numbered, left, flushed, literal, Low};
 
+use decisions::becomes::Text;
 use decisions::expr::{boolean_in, put_number_bytes_at};
 use field::HEAD;
 use field::reader::{Field, field_at};
@@ -20,7 +22,7 @@ use field::tags::{
 };
 use field::writer::{put_bytes, put_four, put_head};
 use strings::due::{Due, graver, with_body};
-use strings::put_joined;
+use strings::put_value;
 use text::jsx_text::{jsx_text_to_str, normalize_lit_str};
 
 // What was called, and what is due.
@@ -174,12 +176,12 @@ pub fn join_text(page: &mut [u8], p: usize, run: usize, s: &[u8]) -> usize
     jsx_text_to_str(page, p + HEAD + run, s, false, false) - (p + HEAD)
 }
 
-// A container does.
-pub fn join_container(page: &mut [u8], p: usize, run: usize, c: &[u8]) -> usize
-    requires { p + 3 + run + length (joined_by (contained_in (read c.now))) < 2 ^ 63 }
-    ensures { Wrote page.old (p + 3 + run) (joined_by (contained_in (read c.now))) page.new (p + 3 + result) }
+// A container does, by its text.
+pub fn join_container(page: &mut [u8], p: usize, run: usize, t: Text<'_>) -> usize
+    requires { p + 3 + run + length (escape_html (text t)) < 2 ^ 63 }
+    ensures { Wrote page.old (p + 3 + run) (escape_html (text t.entry)) page.new (p + 3 + result) }
 {
-    put_joined(page, p + HEAD + run, c) - (p + HEAD)
+    put_value(page, p + HEAD + run, t) - (p + HEAD)
 }
 
 // The run behind an open head becomes a 70, where it holds something.

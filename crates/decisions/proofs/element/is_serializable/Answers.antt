@@ -7,16 +7,16 @@ use Rattle.decisions.proofs.element.is_serializable.Goals.{then-not-is_upper, el
 pub returns-in_default : goal.returns-in_default
 returns-in_default c = never_serializable _ _ c.element_name_at.result c.element_name_at.ensures c.in_default.not-Identifier
 
-pub returns-then-not-keeps_from_serializing : goal.returns-then-not-keeps_from_serializing
-returns-then-not-keeps_from_serializing c =
+pub returns-then-not-keeps_from : goal.returns-then-not-keeps_from
+returns-then-not-keeps_from c =
     elim c.if-not-is_upper.branch [
-      | then-not-is_upper w ↦ serializable_rest _ _ c.in-Identifier.ensures c.is_upper.ensures w.if-not-is_upper.true w.behind.ensures w.keeps_from_serializing.ensures (grind arith) c.lists.ensures
+      | then-not-is_upper w ↦ serializable_rest _ _ c.in-Identifier.ensures c.is_upper.ensures w.if-not-is_upper.true w.behind.ensures w.keeps_from.ensures (grind arith) c.lists.ensures
       | else-not-is_upper w ↦ grind arith
     ]
 
-pub returns-else-not-keeps_from_serializing : goal.returns-else-not-keeps_from_serializing
-returns-else-not-keeps_from_serializing c =
+pub returns-else-not-keeps_from : goal.returns-else-not-keeps_from
+returns-else-not-keeps_from c =
     elim c.if-not-is_upper.branch [
-      | then-not-is_upper w ↦ c.if-not-keeps_from_serializing.false ∙ serializable_kept _ _ c.in-Identifier.ensures c.is_upper.ensures w.if-not-is_upper.true w.behind.ensures w.keeps_from_serializing.ensures (grind arith)
-      | else-not-is_upper w ↦ c.if-not-keeps_from_serializing.false ∙ serializable_upper _ _ c.in-Identifier.ensures c.is_upper.ensures w.if-not-is_upper.false
+      | then-not-is_upper w ↦ c.if-not-keeps_from.false ∙ serializable_kept _ _ c.in-Identifier.ensures c.is_upper.ensures w.if-not-is_upper.true w.behind.ensures w.keeps_from.ensures (grind arith)
+      | else-not-is_upper w ↦ c.if-not-keeps_from.false ∙ serializable_upper _ _ c.in-Identifier.ensures c.is_upper.ensures w.if-not-is_upper.false
     ]

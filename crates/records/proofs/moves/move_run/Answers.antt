@@ -13,4 +13,4 @@ pub loop-i-preserved : goal.loop-i-preserved
 loop-i-preserved c = let a = c.args in (omega arith, (omega arith, move_block a.out.now 16 c.loop-i.i (c.loop-i.i - 16) a.end a.n (omega arith) c.loop-i.invariant.1.0 c.requires.1 c.loop-i.invariant.1.1 c.move_block.ensures))
 
 pub returns : goal.returns
-returns c = (let a = c.args in move_block a.out.now (c.loop-i.i - a.p) c.loop-i.i a.p a.end a.n (omega arith) c.loop-i.invariant.1.0 c.requires.1 c.loop-i.invariant.1.1 c.move_bytes.ensures)
+returns c = (let a = c.args in move_block a.out.now (c.loop-i.i - a.p) c.loop-i.i a.p a.end a.n (omega arith) c.loop-i.invariant.1.0 c.requires.1 c.loop-i.invariant.1.1 c.move_few.ensures)

@@ -1,6 +1,7 @@
 -- The space, the name, `="`, the value and the quote, one after the other.
 use Rattle.field.proofs.PutLaws.{wrote_then, wrote_is}
-use Rattle.strings.specs.Carve.{name_at, text}
+use Rattle.decisions.specs.Becomes.{text}
+use Rattle.strings.specs.Carve.{name_at}
 use Rattle.strings.proofs.CarveLaws.{put_is}
 use Rattle.strings.proofs.AttrLaws.{serialized}
 use Rattle.strings.proofs.attributes.put_serialized.Goals as goal

@@ -7,9 +7,9 @@ use Rattle.field.proofs.PutLaws.{wrote_then, wrote_is}
 use Rattle.text.specs.Escape.{escape_html}
 use Rattle.page.proofs.NumberLaws.{render_escaped, minus_escaped}
 use Rattle.decisions.specs.At.{number_at, number_text}
-use Rattle.strings.specs.Carve.{text}
-use Rattle.strings.specs.declared.attributes.Text.{Text}
-use Rattle.strings.specs.declared.attributes.Text.TheVariants as T
+use Rattle.decisions.specs.Becomes.{text}
+use Rattle.decisions.specs.declared.becomes.Text.{Text}
+use Rattle.decisions.specs.declared.becomes.Text.TheVariants as T
 use Rattle.strings.proofs.attributes.put_value.Goals as goal
 
 -- what is written for each

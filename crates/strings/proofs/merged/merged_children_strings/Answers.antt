@@ -9,17 +9,17 @@ jsx_text_to_str-n-requires c = text_room c.loop-field.invariant c.in-Some.ensure
 pub loop-field-preserved-in-96 : goal.loop-field-preserved-in-96
 loop-field-preserved-in-96 c = text_on c.loop-field.invariant c.in-Some.ensures.steps c.in-96.is c.jsx_text_to_str-n.ensures
 
-pub put_joined-n-requires : goal.put_joined-n-requires
-put_joined-n-requires c = joined_room c.loop-field.invariant c.in-Some.ensures.steps c.requires.in_bounds.1
+pub put_value-n-requires : goal.put_value-n-requires
+put_value-n-requires c = joined_room c.loop-field.invariant c.in-Some.ensures.steps c.requires.in_bounds.1 c.in-Text.ensures
 
-pub loop-field-preserved-then-joins : goal.loop-field-preserved-then-joins
-loop-field-preserved-then-joins c = joined_on c.loop-field.invariant c.in-Some.ensures.steps c.in-82.is c.joins.ensures c.if-joins.true c.put_joined-n.ensures
+pub loop-field-preserved-in-Text : goal.loop-field-preserved-in-Text
+loop-field-preserved-in-Text c = joined_on c.loop-field.invariant c.in-Some.ensures.steps c.in-82.is c.in-Text.ensures c.put_value-n.ensures
 
 pub cut-cur-requires : goal.cut-cur-requires
-cut-cur-requires c = cut_room c.loop-field.invariant c.requires.in_bounds.0 c.requires.low c.in-Some.ensures.steps c.in-82.is c.joins.ensures c.if-joins.false c.put_run-a.ensures
+cut-cur-requires c = cut_room c.loop-field.invariant c.requires.in_bounds.0 c.requires.low c.in-Some.ensures.steps c.in-82.is c.in-Gap.ensures c.put_run-a.ensures
 
-pub loop-field-preserved-else-joins : goal.loop-field-preserved-else-joins
-loop-field-preserved-else-joins c = cut_on c.loop-field.invariant c.requires.in_bounds.0 c.requires.low c.in-Some.ensures.steps c.in-82.is c.joins.ensures c.if-joins.false c.put_run-a.ensures c.cut-cur.ensures
+pub loop-field-preserved-in-Gap : goal.loop-field-preserved-in-Gap
+loop-field-preserved-in-Gap c = cut_on c.loop-field.invariant c.requires.in_bounds.0 c.requires.low c.in-Some.ensures.steps c.in-82.is c.in-Gap.ensures c.put_run-a.ensures c.cut-cur.ensures
 
 pub element_strings-cur-requires : goal.element_strings-cur-requires
 element_strings-cur-requires c = element_room c.loop-field.invariant c.requires.in_bounds.0 c.requires.low c.in-Some.ensures.steps c.in-48.is c.put_run-a-in-48.ensures
@@ -40,7 +40,7 @@ pub loop-field-preserved : goal.loop-field-preserved
 loop-field-preserved c = other_on c.loop-field.invariant c.in-Some.ensures.steps (λ z. omega (arith, z)) (λ z. omega (arith, z)) (λ z. omega (arith, z)) (λ z. omega (arith, z))
 
 pub put_run-a-requires-clause-low : goal.put_run-a-requires-clause-low
-put_run-a-requires-clause-low c = cut_run c.loop-field.invariant c.requires.in_bounds.0 c.requires.low c.in-Some.ensures.steps c.in-82.is c.joins.ensures c.if-joins.false
+put_run-a-requires-clause-low c = cut_run c.loop-field.invariant c.requires.in_bounds.0 c.requires.low c.in-Some.ensures.steps c.in-82.is c.in-Gap.ensures
 
 pub put_run-a-requires-in-48-clause-low : goal.put_run-a-requires-in-48-clause-low
 put_run-a-requires-in-48-clause-low c = element_run c.loop-field.invariant c.requires.in_bounds.0 c.requires.low c.in-Some.ensures.steps c.in-48.is

@@ -4,15 +4,16 @@ use mathlib.Core.Logic.{⊎_elim}
 use native.Mathlib.Omega.{arith}
 use Rattle.visits.proofs.FieldLaws.{front_some, front_none, room_part, room_is}
 use Rattle.visits.proofs.ExprLaws.{expr_literal, see_element, see_fragment, array_begin, array_inner, array_close, array_done, source_begin, source_inner, source_close, source_done, literal_room, literal_done, held_nothing, held_expr, spread_begin, spread_inner, spread_close, spread_on, hole_room, hole_on, item_room, item_on, items_end, piece_room, piece_on, piece_element_room, piece_element_on, piece_fragment_room, piece_fragment_on, pieces_past, pieces_end}
+use Rattle.text.specs.Text.{normalize_lit_str}
 use Rattle.walk.specs.See.{at}
 use Rattle.walk.proofs.SeeLaws.{low_is, lift_numbered, lift_wrap, lift_begun_if, lift_wrap_if}
 use Rattle.visits.proofs.VisitLaws.{left_room, left_done, found_left, found_recorded, found_paged, found_done, null_room, null_done, fragment_null, fragment_several, fragment_element, fragment_fragment, fragment_spread, fragment_only, element_recorded, element_paged, element_done, template_recorded, template_start, template_parts, template_end, template_visited}
 use native.Mathlib.Nat.{le_refl}
-use Rattle.visits.proofs.PartLaws.{front_room, held_room, back_page, back_room, attr_on, attrs_end, element_call, element_bare, attrs_room, inner_room, inner_done, jsx_template, jsx_call, template_room, template_inside, template_page, template_low, template_done, parts_direct, parts_room, container_room, container_page, container_low, container_on, element_room as to_parts_element_room, element_on as to_parts_element_on, fragment_room as to_parts_fragment_room, fragment_on as to_parts_fragment_on, parts_past, parts_end}
+use Rattle.visits.proofs.PartLaws.{gap_front_room, gap_held_room, gap_back_room, gap_done, attr_past, attr_low, attr_on, attrs_end, element_call, element_bare, attrs_room, inner_room, inner_done, jsx_template, jsx_call, template_room, template_inside, template_page, template_low, template_done, parts_direct, parts_room, child_past, container_room, container_page, container_low, container_on, element_room as to_parts_element_room, element_on as to_parts_element_on, fragment_room as to_parts_fragment_room, fragment_on as to_parts_fragment_on, parts_past, parts_end}
 use mathlib.Core.Bool.{false}
 use lib.ListN.{length}
 use Rattle.strings.proofs.FrontSizes.{behind_le}
-use Rattle.visits.proofs.CallLaws.{prop_front_room, prop_held_room, prop_back_page, prop_back_room, prop_on, spread_begin as to_props_spread_begin, spread_inner as to_props_spread_inner, spread_close as to_props_spread_close, spread_on as to_props_spread_on, props_end}
+use Rattle.visits.proofs.CallLaws.{prop_low, prop_on, prop_gone, spread_begin as to_props_spread_begin, spread_inner as to_props_spread_inner, spread_close as to_props_spread_close, spread_on as to_props_spread_on, props_end}
 use Rattle.visits.proofs.CallSteps.{begin_asked, name_asked, bare_asked, bare_close_asked, bare_done, props_begin_asked, props_asked, front_asked, found_asked, child_asked, closed_asked, key_as, braces_as, key_asked, keyed_asked, keyed_done, string_asked, string_closed, string_done, keyless_asked, keyless_done}
 use Rattle.visits.proofs.EntryLaws.{entering_start, text_room, text_on, joined_room, joined_on, expr_run, expr_room, expr_on, element_run, element_room, element_on, fragment_run, fragment_room, fragment_on, other_on, last_run, entering_end}
 use Rattle.found.proofs.KnownLaws.{known_none, known_front, known_behind}
@@ -254,25 +255,29 @@ on_template-returns t c = template_visited _ _ _ _ _ _ c.records_of.ensures c.re
 
 pub to_attrs-attribute_front-x-requires : goal.to_attrs-attribute_front-x-requires
 to_attrs-attribute_front-x-requires t c = let w = at c.loop-a.templates c.loop-a.page c.loop-a.cur in let i = c.loop-a.invariant in let f = c.in-Some.ensures.steps in
-    front_room _ _ _ w i.1 f c.attribute_gap-gap.ensures c.requires.low
+    gap_front_room _ _ 0x91 (λ b. b) _ _ w (attr_low _ _ _ w i.1 f c.in-Gap.gap c.in-Gap.ensures.is c.requires.low)
 
 pub to_attrs-on_held-y-requires : goal.to_attrs-on_held-y-requires
 to_attrs-on_held-y-requires t c = let w = at c.loop-a.templates c.loop-a.page c.loop-a.cur in let i = c.loop-a.invariant in let f = c.in-Some.ensures.steps in (
-  omega (arith, c.held_at.ensures.1, f.sizes, i.0, c.decreases),
+  omega (arith, c.in-Gap.ensures.within, ap length c.held.ensures, f.sizes, i.0, c.decreases),
   record {
     desk = omega (arith, c.loop-a.auto.scratch, c.requires.desk);
-    short = omega (arith, c.held_at.ensures.1, f.sizes, i.0, c.requires.short);
-    low = held_room _ _ _ w i.1 f c.attribute_gap-gap.ensures c.attribute_front-x.ensures (c.held_at.ensures.0 c.args.options.now.skip.now c.args.options.now.props.now) c.requires.low;
+    short = omega (arith, c.in-Gap.ensures.within, ap length c.held.ensures, f.sizes, i.0, c.requires.short);
+    low = gap_held_room _ _ 0x91 (λ b. b) _ _ w c.attribute_front-x.ensures c.held.ensures (attr_low _ _ _ w i.1 f c.in-Gap.gap c.in-Gap.ensures.is c.requires.low);
   },
 )
 
 pub to_attrs-gap_back-cur-requires : goal.to_attrs-gap_back-cur-requires
 to_attrs-gap_back-cur-requires t c = let w = at c.loop-a.templates c.loop-a.page c.loop-a.cur in let i = c.loop-a.invariant in let f = c.in-Some.ensures.steps in
-    (back_page _ _ _ w i.1 f c.attribute_gap-gap.ensures c.attribute_front-x.ensures (c.held_at.ensures.0 c.args.options.now.skip.now c.args.options.now.props.now) c.on_held-y.ensures, back_room _ _ _ w i.1 f c.attribute_gap-gap.ensures c.attribute_front-x.ensures (c.held_at.ensures.0 c.args.options.now.skip.now c.args.options.now.props.now) c.on_held-y.ensures c.requires.low)
+    gap_back_room _ _ 0x91 (λ b. b) _ _ w c.attribute_front-x.ensures c.held.ensures c.on_held-y.ensures (attr_low _ _ _ w i.1 f c.in-Gap.gap c.in-Gap.ensures.is c.requires.low)
+
+pub to_attrs-loop-a-preserved-in-Gap : goal.to_attrs-loop-a-preserved-in-Gap
+to_attrs-loop-a-preserved-in-Gap t c = let w = at c.loop-a.templates c.loop-a.page c.loop-a.cur in let i = c.loop-a.invariant in let f = c.in-Some.ensures.steps in
+    (omega (arith, f.sizes, i.0), attr_on _ _ _ w i.1 f c.in-Gap.gap c.in-Gap.ensures.is (gap_done _ _ 0x91 (λ b. b) _ _ w c.attribute_front-x.ensures c.held.ensures c.on_held-y.ensures c.gap_back-cur.ensures))
 
 pub to_attrs-loop-a-preserved : goal.to_attrs-loop-a-preserved
 to_attrs-loop-a-preserved t c = let w = at c.loop-a.templates c.loop-a.page c.loop-a.cur in let i = c.loop-a.invariant in let f = c.in-Some.ensures.steps in
-    (omega (arith, f.sizes, i.0), attr_on _ _ _ w i.1 f c.attribute_gap-gap.ensures c.attribute_front-x.ensures (c.held_at.ensures.0 c.args.options.now.skip.now c.args.options.now.props.now) c.on_held-y.ensures c.gap_back-cur.ensures)
+    (omega (arith, f.sizes, i.0), attr_past _ _ _ w i.1 f c.in_tag.result c.in_default.not-Gap c.in_tag.ensures.is)
 
 pub to_attrs-returns : goal.to_attrs-returns
 to_attrs-returns t c = attrs_end _ _ _ _ c.loop-a.invariant.1 c.in-None.ensures.steps
@@ -288,22 +293,22 @@ to_entries-loop-field-preserved-in-96 t c = let i = c.loop-field.invariant in le
     (omega (arith, l, i.0), known_behind c.in-Some.ensures.steps _ _ _ i.1, text_on _ _ _ i.2 _ tag c.in-Some.ensures.steps.body_is c.in-96.is c.in-Some.ensures.steps.behind_is c.join_text-run.ensures)
 
 pub to_entries-join_container-run-requires : goal.to_entries-join_container-run-requires
-to_entries-join_container-run-requires t c = joined_room _ _ _ c.loop-field.invariant.2 _ c.in-Some.ensures.steps.tag_is c.in-Some.ensures.steps.body_is c.in-82.is c.joins.ensures c.if-joins.true c.requires.room.low
+to_entries-join_container-run-requires t c = joined_room _ _ _ c.loop-field.invariant.2 _ c.in-Some.ensures.steps.tag_is c.in-Some.ensures.steps.body_is c.in-82.is c.in-Text.ensures c.requires.room.low
 
-pub to_entries-loop-field-preserved-then-joins : goal.to_entries-loop-field-preserved-then-joins
-to_entries-loop-field-preserved-then-joins t c = let i = c.loop-field.invariant in let tag = c.in-Some.ensures.steps.tag_is in let l = c.in-Some.ensures.steps.sizes in
-    (omega (arith, l, i.0), known_behind c.in-Some.ensures.steps _ _ _ i.1, joined_on _ _ _ i.2 _ tag c.in-Some.ensures.steps.body_is c.in-82.is c.joins.ensures c.if-joins.true c.in-Some.ensures.steps.behind_is c.join_container-run.ensures)
+pub to_entries-loop-field-preserved-in-Text : goal.to_entries-loop-field-preserved-in-Text
+to_entries-loop-field-preserved-in-Text t c = let i = c.loop-field.invariant in let tag = c.in-Some.ensures.steps.tag_is in let l = c.in-Some.ensures.steps.sizes in
+    (omega (arith, l, i.0), known_behind c.in-Some.ensures.steps _ _ _ i.1, joined_on _ _ _ i.2 _ tag c.in-Some.ensures.steps.body_is c.in-82.is c.in-Text.ensures c.in-Some.ensures.steps.behind_is c.join_container-run.ensures)
 
 pub to_entries-flush-a-requires : goal.to_entries-flush-a-requires
-to_entries-flush-a-requires t c = expr_run _ _ _ c.loop-field.invariant.2 _ c.in-Some.ensures.steps.tag_is c.in-Some.ensures.steps.body_is c.in-82.is c.joins.ensures c.if-joins.false c.requires.room.low
+to_entries-flush-a-requires t c = expr_run _ _ _ c.loop-field.invariant.2 _ c.in-Some.ensures.steps.tag_is c.in-Some.ensures.steps.body_is c.in-82.is c.in-Gap.ensures c.requires.room.low
 
 pub to_entries-on_expr-cur-requires : goal.to_entries-on_expr-cur-requires
 to_entries-on_expr-cur-requires t c = let i = c.loop-field.invariant in let tag = c.in-Some.ensures.steps.tag_is in let l = c.in-Some.ensures.steps.sizes in
-    (omega (arith, l, i.0, c.decreases), record { desk = omega (arith, c.loop-field.auto.scratch, c.requires.room.desk); short = omega (arith, l, i.0, c.requires.room.short); low = expr_room _ _ _ i.2 _ tag c.in-Some.ensures.steps.body_is c.in-82.is c.joins.ensures c.if-joins.false c.flush-a.ensures c.requires.room.low })
+    (omega (arith, l, i.0, c.decreases), record { desk = omega (arith, c.loop-field.auto.scratch, c.requires.room.desk); short = omega (arith, l, i.0, c.requires.room.short); low = expr_room _ _ _ i.2 _ tag c.in-Some.ensures.steps.body_is c.in-82.is c.in-Gap.ensures c.flush-a.ensures c.requires.room.low })
 
-pub to_entries-loop-field-preserved-else-joins : goal.to_entries-loop-field-preserved-else-joins
-to_entries-loop-field-preserved-else-joins t c = let i = c.loop-field.invariant in let tag = c.in-Some.ensures.steps.tag_is in let l = c.in-Some.ensures.steps.sizes in
-    (omega (arith, l, i.0), known_behind c.in-Some.ensures.steps _ _ _ i.1, expr_on _ _ _ i.2 _ tag c.in-Some.ensures.steps.body_is c.in-82.is c.joins.ensures c.if-joins.false c.flush-a.ensures c.in-Some.ensures.steps.behind_is c.on_expr-cur.ensures)
+pub to_entries-loop-field-preserved-in-Gap : goal.to_entries-loop-field-preserved-in-Gap
+to_entries-loop-field-preserved-in-Gap t c = let i = c.loop-field.invariant in let tag = c.in-Some.ensures.steps.tag_is in let l = c.in-Some.ensures.steps.sizes in
+    (omega (arith, l, i.0), known_behind c.in-Some.ensures.steps _ _ _ i.1, expr_on _ _ _ i.2 _ tag c.in-Some.ensures.steps.body_is c.in-82.is c.in-Gap.ensures c.flush-a.ensures c.in-Some.ensures.steps.behind_is c.on_expr-cur.ensures)
 
 pub to_entries-flush-a-requires-in-48 : goal.to_entries-flush-a-requires-in-48
 to_entries-flush-a-requires-in-48 t c = element_run _ _ _ c.loop-field.invariant.2 _ c.in-Some.ensures.steps.tag_is c.in-48.is c.requires.room.low
@@ -476,18 +481,21 @@ to_parts-begin_if-x-requires t c = omega (arith, (parts_room _ _ _ _ c.in-Some.e
 pub to_parts-loop-field-init : goal.to_parts-loop-field-init
 to_parts-loop-field-init t c = rw c.into_iter-field-iterator.ensures.into_iter_gives (le_refl _, sym (parts_direct false _ _))
 
-pub to_parts-on_held-y-requires : goal.to_parts-on_held-y-requires
-to_parts-on_held-y-requires t c = let e = lift_begun_if c.loop-field.templates c.is_wrapped-wrapped.result c.loop-field.page c.loop-field.cur c.begin_if-x.result c.begin_if-x.ensures in
+pub to_parts-on_expr-y-requires : goal.to_parts-on_expr-y-requires
+to_parts-on_expr-y-requires t c = let e = lift_begun_if c.loop-field.templates c.in-Gap.wrapped c.loop-field.page c.loop-field.cur c.begin_if-x.result c.begin_if-x.ensures in
     let b = c.in-Some.ensures.steps.sizes in
-    (omega (arith, c.gap_held.ensures.1, b, c.loop-field.invariant.0, c.decreases), record { desk = omega (arith, c.loop-field.auto.scratch, c.requires.desk); short = omega (arith, c.gap_held.ensures.1, b, c.loop-field.invariant.0, c.requires.short); low = container_room _ _ _ _ c.in-Some.ensures.steps.tag_is _ c.loop-field.invariant.1 c.in-82.is c.in-Some.ensures.steps.body_is c.is_wrapped-wrapped.ensures (c.gap_held.ensures.0 c.args.options.now.skip.now c.args.options.now.props.now) e c.requires.low })
+    (omega (arith, b, c.loop-field.invariant.0, c.decreases), record { desk = omega (arith, c.loop-field.auto.scratch, c.requires.desk); short = omega (arith, b, c.loop-field.invariant.0, c.requires.short); low = container_room _ _ _ _ c.in-Some.ensures.steps.tag_is _ c.loop-field.invariant.1 c.in-82.is c.in-Some.ensures.steps.body_is c.in-Gap.ensures e c.requires.low })
 
 pub to_parts-close_if-cur-requires : goal.to_parts-close_if-cur-requires
-to_parts-close_if-cur-requires t c = let e = lift_begun_if c.loop-field.templates c.is_wrapped-wrapped.result c.loop-field.page c.loop-field.cur c.begin_if-x.result c.begin_if-x.ensures in
-    (container_page _ _ _ _ c.in-Some.ensures.steps.tag_is _ c.loop-field.invariant.1 c.in-82.is c.in-Some.ensures.steps.body_is c.is_wrapped-wrapped.ensures (c.gap_held.ensures.0 c.args.options.now.skip.now c.args.options.now.props.now) e c.on_held-y.ensures, container_low _ _ _ _ c.in-Some.ensures.steps.tag_is _ c.loop-field.invariant.1 c.in-82.is c.in-Some.ensures.steps.body_is c.is_wrapped-wrapped.ensures (c.gap_held.ensures.0 c.args.options.now.skip.now c.args.options.now.props.now) e c.on_held-y.ensures c.requires.low)
+to_parts-close_if-cur-requires t c = let e = lift_begun_if c.loop-field.templates c.in-Gap.wrapped c.loop-field.page c.loop-field.cur c.begin_if-x.result c.begin_if-x.ensures in
+    (container_page _ _ _ _ c.in-Some.ensures.steps.tag_is _ c.loop-field.invariant.1 c.in-82.is c.in-Some.ensures.steps.body_is c.in-Gap.ensures e c.on_expr-y.ensures, container_low _ _ _ _ c.in-Some.ensures.steps.tag_is _ c.loop-field.invariant.1 c.in-82.is c.in-Some.ensures.steps.body_is c.in-Gap.ensures e c.on_expr-y.ensures c.requires.low)
 
-pub to_parts-loop-field-preserved-in-82 : goal.to_parts-loop-field-preserved-in-82
-to_parts-loop-field-preserved-in-82 t c = let e = lift_begun_if c.loop-field.templates c.is_wrapped-wrapped.result c.loop-field.page c.loop-field.cur c.begin_if-x.result c.begin_if-x.ensures in
-    (omega (arith, c.in-Some.ensures.steps.sizes, c.loop-field.invariant.0), container_on _ _ _ _ c.in-Some.ensures.steps.tag_is _ c.loop-field.invariant.1 c.in-82.is c.in-Some.ensures.steps.body_is c.is_wrapped-wrapped.ensures (c.gap_held.ensures.0 c.args.options.now.skip.now c.args.options.now.props.now) e c.on_held-y.ensures c.in-Some.ensures.steps.behind_is (lift_wrap_if c.on_held-y.new.templates c.on_held-y.new.page _ c.on_held-y.result _ c.is_wrapped-wrapped.result 0x92 c.loop-field.cur.page c.close_if-cur.ensures))
+pub to_parts-loop-field-preserved-in-Gap : goal.to_parts-loop-field-preserved-in-Gap
+to_parts-loop-field-preserved-in-Gap t c = let e = lift_begun_if c.loop-field.templates c.in-Gap.wrapped c.loop-field.page c.loop-field.cur c.begin_if-x.result c.begin_if-x.ensures in
+    (omega (arith, c.in-Some.ensures.steps.sizes, c.loop-field.invariant.0), container_on _ _ _ _ c.in-Some.ensures.steps.tag_is _ c.loop-field.invariant.1 c.in-82.is c.in-Some.ensures.steps.body_is c.in-Gap.ensures e c.on_expr-y.ensures c.in-Some.ensures.steps.behind_is (lift_wrap_if c.on_expr-y.new.templates c.on_expr-y.new.page _ c.on_expr-y.result _ c.in-Gap.wrapped 0x92 c.loop-field.cur.page c.close_if-cur.ensures))
+
+pub to_parts-loop-field-preserved-in_default-as_child : goal.to_parts-loop-field-preserved-in_default-as_child
+to_parts-loop-field-preserved-in_default-as_child t c = (omega (arith, c.in-Some.ensures.steps.sizes, c.loop-field.invariant.0), child_past _ _ _ _ c.in-Some.ensures.steps.tag_is _ c.loop-field.invariant.1 c.in-82.is c.in-Some.ensures.steps.body_is c.as_child.result c.in_default-as_child.not-Gap c.as_child.ensures c.in-Some.ensures.steps.behind_is)
 
 pub to_parts-to_gaps-cur-requires : goal.to_parts-to_gaps-cur-requires
 to_parts-to_gaps-cur-requires t c = let b = c.in-Some.ensures.steps.sizes in
@@ -510,29 +518,30 @@ pub to_parts-loop-field-preserved : goal.to_parts-loop-field-preserved
 to_parts-loop-field-preserved t c = (omega (arith, c.in-Some.ensures.steps.sizes, c.loop-field.invariant.0), parts_past _ _ _ _ c.in-Some.ensures.steps.tag_is _ c.loop-field.invariant.1 (λ z. omega (arith, c.in-Some.ensures.steps.tag_below, z)) (λ z. omega arith) (λ z. omega arith) (λ z. omega arith) c.in-Some.ensures.steps.behind_is)
 
 pub to_props-property_front-x-requires : goal.to_props-property_front-x-requires
-to_props-property_front-x-requires t c = prop_front_room _ _ _ _ _ c.in-Some.ensures.steps.tag_is _ c.loop-field.invariant.1 c.in-80.is c.in-Some.ensures.steps.body_is c.property_gap-gap.ensures c.requires.low
+to_props-property_front-x-requires t c = let w = at c.loop-field.templates c.loop-field.page c.loop-field.cur in let f = c.in-Some.ensures.steps in let g = c.loop-field.invariant in
+    gap_front_room _ _ 0x96 normalize_lit_str _ _ w (prop_low _ _ _ _ _ f.tag_is w g.1 c.in-80.is f.body_is c.in-Some-as_property.ensures.is c.requires.low)
 
 pub to_props-on_held-y-requires : goal.to_props-on_held-y-requires
-to_props-on_held-y-requires t c = let n = c.in-Some.ensures.steps.sizes in (
-  omega (arith, c.held_at.ensures.1, n, c.loop-field.invariant.0, c.decreases),
+to_props-on_held-y-requires t c = let w = at c.loop-field.templates c.loop-field.page c.loop-field.cur in let f = c.in-Some.ensures.steps in let g = c.loop-field.invariant in (
+  omega (arith, c.in-Some-as_property.ensures.within, ap length c.held.ensures, f.sizes, g.0, c.decreases),
   record {
     desk = omega (arith, c.loop-field.auto.scratch, c.requires.desk);
-    short = omega (arith, c.held_at.ensures.1, n, c.loop-field.invariant.0, c.requires.short);
-    low = prop_held_room _ _ _ _ _ c.in-Some.ensures.steps.tag_is _ c.loop-field.invariant.1 c.in-80.is c.in-Some.ensures.steps.body_is c.property_gap-gap.ensures c.property_front-x.ensures (c.held_at.ensures.0 _ _) c.requires.low;
+    short = omega (arith, c.in-Some-as_property.ensures.within, ap length c.held.ensures, f.sizes, g.0, c.requires.short);
+    low = gap_held_room _ _ 0x96 normalize_lit_str _ _ w c.property_front-x.ensures c.held.ensures (prop_low _ _ _ _ _ f.tag_is w g.1 c.in-80.is f.body_is c.in-Some-as_property.ensures.is c.requires.low);
   },
 )
 
 pub to_props-gap_back-cur-requires : goal.to_props-gap_back-cur-requires
-to_props-gap_back-cur-requires t c = (
-  prop_back_page _ _ _ _ _ c.in-Some.ensures.steps.tag_is _ c.loop-field.invariant.1 c.in-80.is c.in-Some.ensures.steps.body_is c.property_gap-gap.ensures c.property_front-x.ensures (c.held_at.ensures.0 _ _) c.on_held-y.ensures,
-  prop_back_room _ _ _ _ _ c.in-Some.ensures.steps.tag_is _ c.loop-field.invariant.1 c.in-80.is c.in-Some.ensures.steps.body_is c.property_gap-gap.ensures c.property_front-x.ensures (c.held_at.ensures.0 _ _) c.on_held-y.ensures c.requires.low,
-)
+to_props-gap_back-cur-requires t c = let w = at c.loop-field.templates c.loop-field.page c.loop-field.cur in let f = c.in-Some.ensures.steps in let g = c.loop-field.invariant in
+    gap_back_room _ _ 0x96 normalize_lit_str _ _ w c.property_front-x.ensures c.held.ensures c.on_held-y.ensures (prop_low _ _ _ _ _ f.tag_is w g.1 c.in-80.is f.body_is c.in-Some-as_property.ensures.is c.requires.low)
 
-pub to_props-loop-field-preserved-in-80 : goal.to_props-loop-field-preserved-in-80
-to_props-loop-field-preserved-in-80 t c = (
-  omega (arith, (c.in-Some.ensures.steps.sizes), c.loop-field.invariant.0),
-  prop_on _ _ _ _ _ c.in-Some.ensures.steps.tag_is _ c.loop-field.invariant.1 c.in-80.is c.in-Some.ensures.steps.body_is c.property_gap-gap.ensures c.property_front-x.ensures (c.held_at.ensures.0 _ _) c.on_held-y.ensures c.in-Some.ensures.steps.behind_is c.gap_back-cur.ensures,
-)
+pub to_props-loop-field-preserved-in-Some-as_property : goal.to_props-loop-field-preserved-in-Some-as_property
+to_props-loop-field-preserved-in-Some-as_property t c = let w = at c.loop-field.templates c.loop-field.page c.loop-field.cur in let f = c.in-Some.ensures.steps in let g = c.loop-field.invariant in
+    (omega (arith, f.sizes, g.0), prop_on _ _ _ _ _ f.tag_is w g.1 c.in-80.is f.body_is c.in-Some-as_property.ensures.is f.behind_is (gap_done _ _ 0x96 normalize_lit_str _ _ w c.property_front-x.ensures c.held.ensures c.on_held-y.ensures c.gap_back-cur.ensures))
+
+pub to_props-loop-field-preserved-in_default-as_property : goal.to_props-loop-field-preserved-in_default-as_property
+to_props-loop-field-preserved-in_default-as_property t c = let f = c.in-Some.ensures.steps in let g = c.loop-field.invariant in
+    (omega (arith, f.sizes, g.0), prop_gone _ _ _ _ _ f.tag_is _ g.1 c.in-80.is f.body_is c.in_default-as_property.ensures.is f.behind_is)
 
 pub to_props-begin-requires : goal.to_props-begin-requires
 to_props-begin-requires t c = to_props_spread_begin _ _ _ _ _ c.in-Some.ensures.steps.tag_is _ c.loop-field.invariant.1 c.in-83.is c.in-Some.ensures.steps.body_is c.requires.low

@@ -11,14 +11,14 @@ pub returns-in_default : goal.returns-in_default
 returns-in_default g c = chain_none _ _ _ c.in_default.is ∙ c.loop-passed.invariant.1
 
 pub returns-then-is : goal.returns-then-is
-returns-then-is g c = chain_here _ _ (1366 - c.loop-passed.passed) c.in-Some.is (omega arith) c.entry-entry.ensures.name c.is.ensures c.if-is.true ∙ c.loop-passed.invariant.1
+returns-then-is g c = chain_here _ _ (1366 - c.loop-passed.passed) c.in-Some.is (omega arith) c.name.ensures c.is.ensures c.if-is.true ∙ c.loop-passed.invariant.1
 
 pub loop-passed-preserved : goal.loop-passed-preserved
 loop-passed-preserved g c =
     let e : 1366 - (c.loop-passed.passed + 1) ≡ 1366 - c.loop-passed.passed - 1 = omega arith in (
-      c.entry-entry.ensures.within,
-      ap (λ (f : ℕ). among (g.N.Asked.bytes c.args.asked.now) (chain f c.args.self.0.now (link_of c.entry-entry.result.before))) e
-          ∙ chain_on _ _ (1366 - c.loop-passed.passed) c.in-Some.is (omega arith) c.entry-entry.ensures.name c.is.ensures c.if-is.false c.entry-entry.result.before c.entry-entry.ensures.before ∙ c.loop-passed.invariant.1,
+      c.link_at-next-in-loop-passed.ensures.within,
+      ap (λ (f : ℕ). among (g.N.Asked.bytes c.args.asked.now) (chain f c.args.self.0.now (link_of c.link_at-next-in-loop-passed.result))) e
+          ∙ chain_on _ _ (1366 - c.loop-passed.passed) c.in-Some.is (omega arith) c.name.ensures c.is.ensures c.if-is.false c.link_at-next-in-loop-passed.result c.link_at-next-in-loop-passed.ensures.value ∙ c.loop-passed.invariant.1,
     )
 
 pub returns : goal.returns
