@@ -31,6 +31,11 @@ pub record PassesOver (m : Markup) (s t : Bytes) : Type 0 where
   pub same_end : all_passed m s ≡ all_passed m t
   pub no_longer : length t ≤ length s
 
+-- so of c and s on one side, d and t on the other, unless we stand right behind a `<`; d is no sign
+pub record EndsRun (c : ℕ) (s : Bytes) (d : ℕ) (t : Bytes) : Type 0 where
+  pub last_is : plain (d ∷ []) ≡ true
+  pub passes : (m : Markup) → (m ≡ M.Entered → ⊥) → PassesOver m (c ∷ s) (d ∷ t)
+
 -- ---- kinds
 
 -- 1 or 2, or 0 where a gap is neither

@@ -1,7 +1,7 @@
 // The kinds of gaps from the strings before them, joined.
-ghost use Rattle.std.specs.Prelude.{◌≡◌, ◌+◌, ◌<◌, ◌^◌, length};
+ghost use Rattle.std.specs.Prelude.{◌≡◌, ◌+◌, ◌<◌, ◌^◌, [], ◌∷◌, true, length};
 ghost use Rattle.convert.specs.Kinds.{passed, all_passed};
-ghost use Rattle.convert.specs.Flat.{plain, PassesOver, KindIs, NextKind, Marks, kind_marks, same_kinds};
+ghost use Rattle.convert.specs.Flat.{plain, EndsRun, KindIs, NextKind, Marks, kind_marks, same_kinds};
 ghost use Rattle.convert.specs.declared.kinds.Markup.TheVariants as M;
 
 use field::reader::Fields;
@@ -47,40 +47,54 @@ fn is_plain(block: &[u8]) -> bool
     is
 }
 
-// What is left behind plain blocks, where more comes behind them: in an opening tag the last byte counts. Right behind a `<` nothing is skipped,
-// since the next byte says which tag it is.
-fn skip_plain(m: Markup, s: &[u8]) -> &[u8]
-    ensures { PassesOver m s.now result.now }
+fn is_plain_byte(c: u8) -> bool
+    ensures { result ≡ plain (c ∷ []) }
 {
-    if let Markup::Entered = m {
-        return s;
-    }
-    let mut left = s;
-    // no `for` over chunks: what is left is answered, and a block that is not plain stays in front of it
-    while let Some((block, rest)) = left.split_first_chunk::<8>() {
-        if rest.is_empty() || !is_plain(block) {
-            break;
-        }
-        left = rest;
-    }
-    left
+    (c != b'<') & (c != b'>')
 }
 
-// Byte by byte, but for what is skipped where a tag has begun or ended.
+// The last byte of the run without signs that c and the bytes behind it begin with, and what is left behind the run. Of a run the last byte alone
+// counts, unless it stands right behind a `<`. By blocks alone, runs of four to seven bytes took 22 instructions a byte for 15.
+#[inline(always)]
+fn run_from(c: u8, s: &[u8]) -> (u8, &[u8])
+    requires { plain (c ∷ []) ≡ true }
+    ensures { EndsRun c s.now result.0 result.1.now }
+{
+    let mut last = c;
+    let mut left = s;
+    // no `for` over chunks: what is left is answered, and a block that is not plain stays in front of it
+    while let Some((block, more)) = left.split_first_chunk::<8>() {
+        if !is_plain(block) {
+            break;
+        }
+        last = block[7];
+        left = more;
+    }
+    while let [d, more @ ..] = left {
+        if !is_plain_byte(*d) {
+            break;
+        }
+        last = *d;
+        left = more;
+    }
+    (last, left)
+}
+
+// Run by run, sign by sign. Right behind a `<` one byte is passed, since it says which tag it is.
 pub fn pass_all(m: Markup, s: &[u8]) -> Markup
     ensures { result ≡ all_passed m s.now }
 {
     let mut q = m;
-    let mut left = skip_plain(q, s);
+    let mut left = s;
     // by what is left, since a turn may pass many bytes
     while let [c, rest @ ..] = left {
-        let entered = matches!(q, Markup::Entered);
-        q = pass(q, *c);
-        left = if entered || *c == b'>' {
-            skip_plain(q, rest)
-        } else {
-            rest
+        let (last, behind) = match q {
+            Markup::Entered => (*c, rest),
+            _ if is_plain_byte(*c) => run_from(*c, rest),
+            _ => (*c, rest),
         };
+        q = pass(q, last);
+        left = behind;
     }
     q
 }

@@ -2,14 +2,10 @@
 -- `among_hashed`, `hash_low`, `among_gathered`; for the loops of the code `hash_on`, `small_on`, `chain_here`, `chain_on` and the like; `two_within`, `name_here`.
 -- Assumes nothing.
 use Rattle.names.specs.Table.{read_as}
-use mathlib.Core.Path.{◌≡◌, refl, sym, ap, ◌∙◌, subst}
+use mathlib.Core.Path.{◌≡◌, refl, sym, ap, ◌∙◌}
 use mathlib.Core.Bool.{Bool, true, false, ◌&&◌, ◌||◌, false≢true, and-false, or-false, or_assoc}
 use Rattle.std.specs.Prelude.{Option, Some, None}
-use Rattle.std.specs.List.{slice_range}
-use Rattle.std.specs.Slice.{IsGetRangeResult}
-use Rattle.std.proofs.lemmas.List.{get_or-take, get_or-drop, drop_min}
-use denote.Ref.{Bor}
-use mathlib.Core.Logic.{⊎_elim}
+use Rattle.std.proofs.lemmas.List.{drop_min}
 use Prim.Native.Nat.{ℕ, zero, suc, min, ◌+◌, ◌-◌, ◌*◌, ◌%◌, ◌≤◌, ◌<◌}
 use native.Mathlib.Numerals.{add-one}
 use native.Mathlib.Omega.{arith}
@@ -146,33 +142,16 @@ module _ (n b : Bytes) (f : ℕ) where
     pub chain_on : v ≡ false → (p : Option ℕ) → link_of p ≡ before_at b k → among n (chain (f - 1) b (link_of p)) ≡ among n (chain f b (link_of o))
     chain_on h p u = sym (in_front ∙ rw (h, u))
 
--- ---- two bytes: r is what is left of b from i on
+-- ---- two bytes
 
-module _ (b : Bytes) (i : ℕ) {r : Option (Bor Bytes)} (h : IsGetRangeResult b i (length b) r) where
-  module _ {s : Bor Bytes} (e : r ≡ Some s) where
-    left_of : (s.now ≡ slice_range b i (length b)) × (length s.now + i ≡ length b)
-    left_of = let k : IsGetRangeResult b i (length b) (Some s) = subst (IsGetRangeResult b i (length b)) e h in (k.0.2, k.0.3)
-
-    byte_of : (j : ℕ) → j < length s.now → get_or s.now j 0 ≡ get_or b (i + j) 0
-    byte_of j u =
-        let k = left_of in
-        ap (λ (x : Bytes). get_or x j 0) k.0 ∙ get_or-take (length b - i) (drop i b) j 0 (omega (arith, k.1, u)) ∙ get_or-drop i b j 0
-
-    pub two_within : 2 ≤ length s.now → get_or s.now 0 0 * 256 + get_or s.now 1 0 ≡ two_at b i
-    unfolding two_at
-    two_within u =
-        let z : i + 0 ≡ i = omega arith in
-        rw (lt-ltb (i + 1) (length b) (omega (arith, left_of.1, u)), byte_of 0 (omega (arith, u)), byte_of 1 u, z)
-
-    pub two_short : length s.now < 2 → 0 ≡ two_at b i
-    unfolding two_at
-    two_short u = rw (le-ltb (i + 1) (length b) (omega (arith, left_of.1, u)))
-
-  pub two_past : r ≡ None → 0 ≡ two_at b i
+module _ (b : Bytes) (i : ℕ) where
+  pub two_within : i + 1 < length b → get_or b i 0 * 256 + get_or b (i + 1) 0 ≡ two_at b i
   unfolding two_at
-  two_past e =
-      let k : IsGetRangeResult b i (length b) None = subst (IsGetRangeResult b i (length b)) e h in
-      rw (le-ltb (i + 1) (length b) (⊎_elim (λ z. omega (arith, z)) (λ z. omega (arith, z)) k.0))
+  two_within u = rw (lt-ltb (i + 1) (length b) u)
+
+  pub two_past : length b ≤ i + 1 → 0 ≡ two_at b i
+  unfolding two_at
+  two_past u = rw (le-ltb (i + 1) (length b) u)
 
 -- an entry's name, from its place on, where that is within
 pub name_here : (b : Bytes) (k : ℕ) {w : ℕ} → w ≡ two_at b (2050 + 4 * k) → {p : ℕ} → p ≡ min (7512 + w) (length b) → body_of (take (length b - p) (drop p b)) ≡ name_at b k

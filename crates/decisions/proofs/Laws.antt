@@ -1,6 +1,8 @@
 -- What the walks need of elements, values, shapes and children as they stand in bytes.
 -- Main statements: `child_element`, `raw_element`, `child_fragment`, `raw_fragment`, `element_serializable`, `becomes_is`; for what
--- `shape_at` answers `string_contained` and the like. The readings by the tag in front are in `Series`. Assumes nothing.
+-- `value_at` answers `value_told`, and by that `string_held`, `container_held`, `element_held`, `fragment_held`, `absent_held`; for what `shape_at`
+-- answers `string_contained` and the like. The readings by the tag in front are in `Series`. Assumes nothing.
+use Rattle.std.specs.Prelude.{Option, Some, None}
 use mathlib.Core.Path.{◌≡◌, refl, sym, ap, ap₂, ◌∙◌, subst}
 use mathlib.Core.Bool.{Bool, false, ◌&&◌, ◌||◌, not, and_assoc}
 use Prim.Native.Nat.{ℕ, ◌+◌}
@@ -10,22 +12,24 @@ use lib.Dec.{leb, eqb}
 use borrow.Author.Tests.{ne_eqb}
 use Rattle.field.specs.Bytes.{Bytes, ascii, pick, same, among, null?}
 use Rattle.field.specs.Row.{Row, end, loose, field, read}
-use Rattle.field.specs.Front.{tag_of_front, body_of}
+use Rattle.field.specs.Front.{tag_of_front, body_of, behind_of}
 use Rattle.names.specs.Names.{get_attr_name}
 use Rattle.text.specs.Text.{jsx_text_to_str}
 use Rattle.page.specs.Number.{number_in}
 use Rattle.page.specs.Page as P
 use Rattle.page.specs.Page.{Options, Name, identifier, member, namespaced, Expr, string_literal, number_literal, boolean_literal, null_literal, other_literal, minus_literal}
-use Rattle.page.specs.Tree.{choose, boolean_in, expr_by, Contained, nothing_contained, contained, element_in, fragment_in, attributes_in, children_in, contained_in, expr_in}
+use Rattle.page.specs.Tree.{choose, boolean_in, expr_by, Contained, nothing_contained, contained, contained_value, element_in, fragment_in, attributes_in, value_in, value_behind, children_in, contained_in, expr_in}
 use Rattle.spec.specs.Attributes.{first_upper, keeps_from_serializing, is_serializable}
 use Rattle.spec.specs.Merge as M
 use Rattle.spec.specs.Merge.{text_count, serializable_count, becomes_template}
 use Rattle.spec.specs.Visit.{visit_fragment}
 use Rattle.spec.specs.Transform.{element_of, fragment_of, element_raw, shape_of, child, raw_tag, attributes, children}
-use Rattle.decisions.specs.At.{opts, element_name, behind_name, element_at, forbids, serializable_by, serializable, becomes, shape_by, shape_of_contained}
+use Rattle.decisions.specs.At.{opts, element_name, behind_name, element_at, forbids, serializable_by, serializable, becomes, Holds, value_of, value_kind, shape_by, shape_of_contained}
+use Rattle.decisions.specs.declared.attribute.Value.{Value}
+use Rattle.decisions.specs.declared.attribute.Value.TheVariants as Held
 use Rattle.decisions.specs.declared.expr.Shape.{Shape}
 use Rattle.decisions.specs.declared.expr.Shape.TheVariants as Form
-use Rattle.decisions.proofs.Series.{tested, any_front, fragment_is, contained_field, expr_70, expr_71, expr_72, expr_74, expr_75, expr_76, expr_79, expr_7a, expr_7b, expr_30, expr_31}
+use Rattle.decisions.proofs.Series.{tested, any_front, value_in_at, fragment_is, value_51, value_52, value_30, value_31, value_other, contained_field, expr_70, expr_71, expr_72, expr_74, expr_75, expr_76, expr_79, expr_7a, expr_7b, expr_30, expr_31}
 
 -- ---- an element and a fragment, by their bytes
 
@@ -108,6 +112,121 @@ module _ (k p : Bytes) where
   pub becomes_is : (cs : P.Children) → becomes_template (children (opts k p) cs) ≡ becomes k cs
   unfolding becomes becomes_template
   becomes_is cs = ap₂ (λ (n m : ℕ). leb 2 n || (eqb n 1 && leb 1 m)) (tags_same cs) (texts_same cs)
+
+-- ---- an attribute's value, by its kind
+
+pub held_contained : (c : Contained) → value_of (contained_value c) ≡ Some 0x52
+unfolding value_of contained_value
+held_contained nothing_contained = refl
+held_contained (contained e) = refl
+
+pub held_element : (r : Row) → value_of (P.tag_value (element_in r)) ≡ Some 0x30
+unfolding value_of element_in
+held_element end = refl
+held_element (loose b) = refl
+held_element (field t f i r) = refl
+
+pub held_fragment : (r : Row) → value_of (P.tag_value (fragment_in r)) ≡ Some 0x31
+unfolding value_of
+held_fragment r = ap (λ (x : P.Tag). value_of (P.tag_value x)) (fragment_is r)
+
+-- the value that lies behind a name, with its bytes
+pub data ValueAt (s : Bytes) : P.Value → Option ℕ → Type 0 where
+  is_absent : ValueAt s P.absent None
+  is_string : ValueAt s (P.string_value (body_of s)) (Some 0x51)
+  is_container : ValueAt s (contained_value (contained_in (read (body_of s)))) (Some 0x52)
+  is_element : ValueAt s (P.tag_value (element_in (read (body_of s)))) (Some 0x30)
+  is_fragment : ValueAt s (P.tag_value (fragment_in (read (body_of s)))) (Some 0x31)
+
+module _ (s : Bytes) where
+  valued : (v : P.Value) {w : Option ℕ} → value_of v ≡ w → ValueAt s v w → value_behind (read s) ≡ v → ValueAt s (value_behind (read s)) (value_of (value_behind (read s)))
+  valued v {w} e x q = subst (λ (y : P.Value). ValueAt s y (value_of y)) (sym q) (subst (ValueAt s v) (sym e) x)
+
+  pub value_view : ValueAt s (value_behind (read s)) (value_of (value_behind (read s)))
+  unfolding value_of
+  value_view =
+      let t = tag_of_front s in
+      tested t 0x51 (λ k. valued _ refl is_string (value_51 s t refl k)) λ a.
+      tested t 0x52 (λ k. valued _ (held_contained _) is_container (value_52 s t refl k)) λ b.
+      tested t 0x30 (λ k. valued _ (held_element _) is_element (value_30 s t refl k)) λ c.
+      tested t 0x31 (λ k. valued _ (held_fragment _) is_fragment (value_31 s t refl k)) λ d.
+      valued P.absent refl is_absent (value_other s t refl a b c d)
+
+string_view : {s : Bytes} {v : P.Value} → ValueAt s v (Some 0x51) → v ≡ P.string_value (body_of s)
+string_view is_string = refl
+
+container_view : {s : Bytes} {v : P.Value} → ValueAt s v (Some 0x52) → v ≡ contained_value (contained_in (read (body_of s)))
+container_view is_container = refl
+
+element_view : {s : Bytes} {v : P.Value} → ValueAt s v (Some 0x30) → v ≡ P.tag_value (element_in (read (body_of s)))
+element_view is_element = refl
+
+fragment_view : {s : Bytes} {v : P.Value} → ValueAt s v (Some 0x31) → v ≡ P.tag_value (fragment_in (read (body_of s)))
+fragment_view is_fragment = refl
+
+absent_view : {s : Bytes} {v : P.Value} → ValueAt s v None → v ≡ P.absent
+absent_view is_absent = refl
+
+-- a tag that is an expression is of the kind of the field in front
+module _ (s : Bytes) (g : P.Tag) where
+  abbrev IsKind : Row → Type 0
+  IsKind r = contained_in r ≡ contained (P.tag_expr g) → value_of (P.tag_value g) ≡ Some (tag_of_front s)
+
+  module _ (t : ℕ) (q : t ≡ tag_of_front s) (z : t ≡ 256 → ⊥) where
+    no_tag : {e : Expr} → expr_in (read s) ≡ e → (e ≡ P.tag_expr g → ⊥) → IsKind (read s)
+    no_tag x n h = absurd (n (let c = contained_field s t q z in cc))
+
+    of_kind : {u : P.Tag} → expr_in (read s) ≡ P.tag_expr u → {n : ℕ} → value_of (P.tag_value u) ≡ Some n → t ≡ n → IsKind (read s)
+    of_kind {u} x v k h =
+        let c = contained_field s t q z in
+        let e : u ≡ g = cc in
+        ap (λ (y : P.Tag). value_of (P.tag_value y)) (sym e) ∙ v ∙ ap Some (sym k ∙ q)
+
+  pub tag_in_front : IsKind (read s)
+  unfolding contained_in expr_by choose
+  tag_in_front =
+      let t = tag_of_front s in
+      tested t 0x70 (λ k. no_tag t refl (λ z. omega arith) (expr_70 s t refl k) (λ y. cc)) λ a.
+      tested t 0x71 (λ k. no_tag t refl (λ z. omega arith) (expr_71 s t refl k) (λ y. cc)) λ b.
+      tested t 0x72 (λ k. no_tag t refl (λ z. omega arith) (expr_72 s t refl k) (λ y. cc)) λ c.
+      tested t 0x74 (λ k. no_tag t refl (λ z. omega arith) (expr_74 s t refl k) (λ y. cc)) λ d.
+      tested t 0x75 (λ k. no_tag t refl (λ z. omega arith) (expr_75 s t refl k) (λ y. cc)) λ e.
+      tested t 0x76 (λ k. no_tag t refl (λ z. omega arith) (expr_76 s t refl k) (λ y. cc)) λ o.
+      tested t 0x79 (λ k. no_tag t refl (λ z. omega arith) (expr_79 s t refl k) (λ y. cc)) λ h.
+      tested t 0x7a (λ k. no_tag t refl (λ z. omega arith) (expr_7a s t refl k) (λ y. cc)) λ m.
+      tested t 0x7b (λ k. no_tag t refl (λ z. omega arith) (expr_7b s t refl k) (λ y. cc)) λ n.
+      tested t 0x30 (λ k. of_kind t refl (λ z. omega arith) (expr_30 s t refl k) (held_element _) k) λ j.
+      tested t 0x31 (λ k. of_kind t refl (λ z. omega arith) (expr_31 s t refl k) (held_fragment _) k) λ l.
+      any_front IsKind s t refl (λ x. cc) (λ w x. cc) λ f i.
+      rw (ne_eqb t 0x70 a, ne_eqb t 0x71 b, ne_eqb t 0x72 c, ne_eqb t 0x74 d, ne_eqb t 0x75 e, ne_eqb t 0x76 o, ne_eqb t 0x79 h, ne_eqb t 0x7a m, ne_eqb t 0x7b n, ne_eqb t 0x30 j, ne_eqb t 0x31 l) (λ x. cc)
+
+-- a is the body of a 50
+module _ (a : Bytes) where
+  -- by the answer of value_at
+  pub value_told : (v : Option Value) → Holds a v → value_kind v ≡ value_of (value_in (read a))
+  unfolding value_of
+  value_told None h = sym (ap value_of h)
+  value_told (Some (Held.String b)) h = sym (ap value_of h)
+  value_told (Some (Held.Container c)) h = sym (ap value_of h.0 ∙ held_contained _)
+  value_told (Some (Held.Tag t)) h = sym (ap value_of h.0.value_is ∙ tag_in_front t.now h.0.tag h.0.expression_is)
+
+  viewed : {w : Option ℕ} → value_of (value_in (read a)) ≡ w → ValueAt (behind_of a) (value_in (read a)) w
+  viewed {w} h = subst (ValueAt (behind_of a) (value_in (read a))) h (subst (λ (v : P.Value). ValueAt (behind_of a) v (value_of v)) (sym (value_in_at a)) (value_view (behind_of a)))
+
+  pub string_held : value_of (value_in (read a)) ≡ Some 0x51 → value_in (read a) ≡ P.string_value (body_of (behind_of a))
+  string_held h = string_view (viewed h)
+
+  pub container_held : value_of (value_in (read a)) ≡ Some 0x52 → value_in (read a) ≡ contained_value (contained_in (read (body_of (behind_of a))))
+  container_held h = container_view (viewed h)
+
+  pub element_held : value_of (value_in (read a)) ≡ Some 0x30 → value_in (read a) ≡ P.tag_value (element_in (read (body_of (behind_of a))))
+  element_held h = element_view (viewed h)
+
+  pub fragment_held : value_of (value_in (read a)) ≡ Some 0x31 → value_in (read a) ≡ P.tag_value (fragment_in (read (body_of (behind_of a))))
+  fragment_held h = fragment_view (viewed h)
+
+  pub absent_held : value_of (value_in (read a)) ≡ None → value_in (read a) ≡ P.absent
+  absent_held h = absent_view (viewed h)
 
 -- ---- what a container holds, by its shape
 

@@ -1,5 +1,5 @@
 -- Elements, attributes, expressions and children as they stand in bytes. Assumes nothing: these are definitions.
-use Rattle.std.specs.Prelude.{Bool, true, false, ◌&&◌, ◌||◌, not, ◌≡◌, ◌+◌, ◌≤◌, List, [], T, length, Option, Some, None}
+use Rattle.std.specs.Prelude.{ℕ, Bool, true, false, ◌&&◌, ◌||◌, not, ◌≡◌, ◌+◌, ◌≤◌, List, [], T, length, Option, Some, None}
 use denote.Ref.{Bor}
 use Rattle.field.specs.Bytes.{Bytes, ascii, same, among, pick, null?}
 use Rattle.field.specs.Row.{Row, end, loose, field, read}
@@ -114,6 +114,22 @@ Holds a None = value_in (read a) ≡ P.absent
 Holds a (Some (Held.String b)) = value_in (read a) ≡ P.string_value b.now
 Holds a (Some (Held.Container c)) = (value_in (read a) ≡ contained_value (contained_in (read c.now))) × (length c.now ≤ length a)
 Holds a (Some (Held.Tag t)) = TagHeld (value_in (read a)) t.now × (length t.now ≤ length a)
+
+-- a value's kind, which is the tag of the field behind the name: none, or a string's, a container's, an element's or a fragment's
+unfoldable pub value_of : P.Value → Option ℕ
+value_of P.absent = None
+value_of (P.string_value b) = Some 0x51
+value_of P.empty_value = Some 0x52
+value_of (P.container_value e) = Some 0x52
+value_of (P.tag_value (P.element n as' cs)) = Some 0x30
+value_of (P.tag_value (P.fragment cs)) = Some 0x31
+
+-- the kind that the code's value tells: a tag's by the field in front
+abbrev pub value_kind : Option Value → Option ℕ
+value_kind None = None
+value_kind (Some (Held.String b)) = Some 0x51
+value_kind (Some (Held.Container c)) = Some 0x52
+value_kind (Some (Held.Tag t)) = Some (tag_of_front t.now)
 
 -- the attributes that are written, not spread
 unfoldable pub written : P.Attributes → P.Attributes

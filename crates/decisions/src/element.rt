@@ -169,7 +169,7 @@ fn told_in_front(s: &[u8]) -> Option<Names>
 }
 
 // is_serializable, and what is told of its attributes' names where it is. Merged into its callers it takes more registers than they have. The names
-// of 02 are looked at first here, so that nothing is kept over the walk.
+// of 02 are looked at last, as there: before the walk, pages of spreads under a full 02 of one hash take 95.3 million instructions for 2.9.
 #[inline(never)]
 pub fn serialized(skip: &[u8], b: &[u8]) -> Option<Names>
     ensures { SerializedTold skip.now b.now result }
@@ -180,10 +180,8 @@ pub fn serialized(skip: &[u8], b: &[u8]) -> Option<Names>
     if is_upper(n) {
         return None;
     }
-    if lists(skip, n) {
-        return None;
-    }
-    told_in_front(behind(b))
+    let names = told_in_front(behind(b))?;
+    if lists(skip, n) { None } else { Some(names) }
 }
 
 // skip has the names of 02. They are looked at last: most options list none.

@@ -103,11 +103,15 @@ impl<'a> Iterator for Spelled<'a> {
     }
 }
 
-// The name that the identifier n has in HTML.
+// No name of the table in names is longer.
+const MOST: usize = 26;
+
+// The name that the identifier n has in HTML. `is_plain` reads to the end, so it goes first for short names alone: for longer ones `spelling_of` looks
+// at the length. Asked of all, an element full of names of 128 letters and one hash takes 38.5 million instructions for 6.3.
 fn of_ident(n: &[u8]) -> Spelled<'_>
     ensures { letters result ≡ html_name (ident n.now) }
 {
-    if is_plain(n) {
+    if n.len() <= MOST && is_plain(n) {
         return Spelled::plain(n);
     }
     match spelling_of(n) {

@@ -1,19 +1,20 @@
 -- A search among numbers that rise finds what stands there; whether numbers rise. Main statements: `index_found`, `index_none`, `rising_is`.
 -- Assumes nothing.
 use mathlib.Core.Path.{◌≡◌, refl, sym, ap, ◌∙◌, subst}
-use Prim.Native.Nat.{ℕ, zero, suc, ◌+◌, ◌≤◌, ◌<◌}
+use Prim.Native.Nat.{ℕ, zero, suc, ◌+◌, ◌-◌, ◌^◌, ◌≤◌, ◌<◌}
 use native.Mathlib.Omega.{arith}
 use native.Mathlib.Decide.{dec_le}
 use mathlib.Core.Bool.{Bool, true, false, ◌&&◌}
-use mathlib.Core.List.{List, [], ◌∷◌}
+use mathlib.Core.List.{List, [], ◌∷◌, ◌++◌}
 use lib.Dec.{T, eqb, ltb, ltb→lt, eqb_refl}
-use lib.ListN.{length, get_or}
-use borrow.Author.Tests.{ne_eqb, lt-ltb}
-use Rattle.std.specs.Prelude.{Result, Ok, Err, MatchResult, IsTrue}
-use Rattle.std.specs.Ordering.{nat_cmp}
-use Rattle.std.specs.List.Sorted.{IsBinarySearchResult}
-use Rattle.std.proofs.lemmas.List.Sorted.{searched}
+use lib.ListN.{length, get_or, replicate, length-append, length-replicate, get_or-replicate}
+use borrow.Author.Tests.{ne_eqb, lt-ltb, ltb-true, ltb-false}
+use Rattle.std.specs.Prelude.{IsTrue}
+use Rattle.std.specs.List.Sorted.{IsNonDecreasingBy, IsPartitionedBy, IsPartitionPoint}
+use Rattle.std.proofs.lemmas.List.{get_or_append_left, get_or-append_right}
+use Rattle.std.proofs.lemmas.List.Sorted.{IsNonDecreasingBy-from_default}
 use Rattle.find.specs.Find.{rising, index_of}
+use Rattle.find.specs.Search.{padded}
 
 -- ---- rising numbers
 
@@ -74,28 +75,56 @@ module _ (ns : List ℕ) (r : rising ns ≡ true) where
       on (yes s) = omega (arith, rises ns r j k s m)
       on (no s) = let z : j ≡ k = omega arith in omega (arith, ap (λ (x : ℕ). get_or ns x 0) z)
 
-  -- what a search in them answers
-  module _ (n : ℕ) (v : Result ℕ ℕ) (b : IsBinarySearchResult (λ y. nat_cmp y n) ns v) where
-    abbrev Asked : Result ℕ ℕ → Type 0
-    Asked u = MatchResult u (λ i. (i < length ns) × (get_or ns i 0 ≡ n)) (λ i. (i ≤ length ns) × ((k : ℕ) → k < i → get_or ns k 0 < n) × ((k : ℕ) → i ≤ k → k < length ns → n < get_or ns k 0))
+  up : IsNonDecreasingBy (λ (x : ℕ). x) ns
+  up = IsNonDecreasingBy-from_default (λ (x : ℕ). x) ns 0 ordered
 
-    asked : Asked v
-    asked = searched ns n v b ordered
+  -- the table: the numbers, and none less than another behind them
+  module _ (m : length ns ≤ 256) (n : ℕ) (b : n < 2 ^ 32) where
+    in_front : (k d : ℕ) → k < length ns → get_or (padded ns) k d ≡ get_or ns k d
+    in_front k d l = get_or_append_left ns (replicate (256 - length ns) (2 ^ 32 - 1)) d k l
 
-    pub index_found : {i : ℕ} → v ≡ Ok i → (i < length ns) × (i ≡ index_of n ns)
-    index_found {i} q =
-        let there : (i < length ns) × (get_or ns i 0 ≡ n) = subst Asked q asked in
-        (there.0, sym (index_present ns n i there.0 there.1 (λ j k p. omega (arith, rises ns r j i k there.0, there.1))))
+    behind : (k d : ℕ) → length ns ≤ k → k < length (padded ns) → get_or (padded ns) k d ≡ 2 ^ 32 - 1
+    behind k d l h =
+        let w = length-append ns (replicate (256 - length ns) (2 ^ 32 - 1)) in
+        let v = length-replicate (256 - length ns) (2 ^ 32 - 1) in
+        get_or-append_right ns (replicate (256 - length ns) (2 ^ 32 - 1)) (length ns) k d refl l ∙ get_or-replicate (256 - length ns) (k - length ns) (2 ^ 32 - 1) d (omega (arith, w, v))
 
-    pub index_none : {i : ℕ} → v ≡ Err i → length ns ≤ index_of n ns
-    index_none {i} q = omega (arith, index_missing ns n (λ j l p. on j l p (dec_le i j)))
+    pub table_parts : IsPartitionedBy (λ y. ltb y n) (padded ns)
+    table_parts i j d le lt e = on (dec_le (suc j) (length ns))
       where
-        apart : (i ≤ length ns) × ((k : ℕ) → k < i → get_or ns k 0 < n) × ((k : ℕ) → i ≤ k → k < length ns → n < get_or ns k 0)
-        apart = subst Asked q asked
+        less : get_or (padded ns) j d < n
+        less = ltb-true (get_or (padded ns) j d) n e
 
-        on : (j : ℕ) → j < length ns → get_or ns j 0 ≡ n → Dec (i ≤ j) → ⊥
-        on j l p (yes k) = omega (arith, apart.2 j k l)
-        on j l p (no k) = omega (arith, apart.1 j (omega arith))
+        on : Dec (suc j ≤ length ns) → ltb (get_or (padded ns) i d) n ≡ true
+        on (yes s) =
+            let a = in_front i d (omega arith) in
+            let c = in_front j d s in
+            let o = up i j d le s in
+            lt-ltb (get_or (padded ns) i d) n (omega (arith, a, c, o, less))
+        on (no s) = absurd (omega (arith, behind j d (omega arith) lt, less))
+
+    -- what a search in it answers
+    module _ (i : ℕ) (p : IsPartitionPoint (λ y. ltb y n ≡ true) (λ y. ltb y n ≡ false) (padded ns) i) where
+      before : (j : ℕ) → j < length ns → j < i → get_or ns j 0 < n
+      before j l k = omega (arith, in_front j 0 l, ltb-true (get_or (padded ns) j 0) n (p.0 j 0 (omega arith) k))
+
+      not_before : (j : ℕ) → j < length ns → i ≤ j → n ≤ get_or ns j 0
+      not_before j l k =
+          let w = length-append ns (replicate (256 - length ns) (2 ^ 32 - 1)) in
+          omega (arith, in_front j 0 l, ltb-false (get_or (padded ns) j 0) n (p.1 j 0 k (omega (arith, w))))
+
+      pub index_found : i < length ns → get_or ns i 0 ≡ n → (i < length ns) × (i ≡ index_of n ns)
+      index_found l e = (l, sym (index_present ns n i l e (λ j k q. omega (arith, before j (omega arith) k, q))))
+
+      pub index_none : (i < length ns → get_or ns i 0 ≡ n → ⊥) → length ns ≤ index_of n ns
+      index_none f = omega (arith, index_missing ns n (λ j l q. on j l q (dec_le i j)))
+        where
+          on : (j : ℕ) → j < length ns → get_or ns j 0 ≡ n → Dec (i ≤ j) → ⊥
+          on j l q (yes k) =
+              let a : get_or ns i 0 ≤ get_or ns j 0 = ordered i j k l in
+              let b : n ≤ get_or ns i 0 = not_before i (omega arith) (omega arith) in
+              f (omega arith) (omega (arith, q))
+          on j l q (no k) = omega (arith, before j l (omega arith), q)
 
 -- ---- whether numbers rise, one after the other
 

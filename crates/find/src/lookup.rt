@@ -6,7 +6,7 @@ ghost use Rattle.outs.specs.declared.Kind.TheVariants.{New};
 ghost use Rattle.find.specs.Find.{rising};
 ghost use Rattle.find.specs.Answer.{Walked};
 
-use crate::search::MOST;
+use crate::search::{MOST, place_of, table_of};
 use field::reader::Fields;
 
 // No place in any buffer: all bits set. The C interface has no Option.
@@ -27,6 +27,7 @@ pub fn walk(templates: &[u8], numbers: &[u32]) -> Places
     requires { (check_templates New templates.now ≡ Fine) × ((rising numbers.now ≡ true) × (length numbers.now ≤ 256)) }
     ensures { Walked templates.now numbers.now result.number result.records result.places }
 {
+    let table = table_of(numbers);
     let mut places = [ABSENT; MOST];
     let mut waiting = numbers.len();
     let mut records: usize = 0;
@@ -39,7 +40,7 @@ pub fn walk(templates: &[u8], numbers: &[u32]) -> Places
         let b = record.body;
         let number = u32::from_be_bytes([b[0], b[1], b[2], b[3]]);
         // An `if` in another: where one of both in a row fails, the proof does not learn which.
-        if let Ok(i) = numbers.binary_search(&number) {
+        if let Some(i) = place_of(numbers, &table, number) {
             if places[i] == ABSENT {
                 places[i] = at;
                 waiting -= 1;

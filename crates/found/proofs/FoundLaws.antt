@@ -13,6 +13,7 @@ use Rattle.field.specs.Bytes.{Bytes, pick}
 use Rattle.field.specs.Row.{read, Ended}
 use Rattle.field.specs.Front.{tag_of_front, body_of, behind_of}
 use Rattle.field.specs.Fields.{IsFront}
+use Rattle.field.proofs.RowLaws.{read_nil}
 use Rattle.page.specs.Check.{is_child}
 use Rattle.page.specs.Page as P
 use Rattle.page.specs.Tree.{choose, Contained, nothing_contained, contained, contained_child, element_in, fragment_in, children_in, contained_in, expr_in}
@@ -26,13 +27,13 @@ use Rattle.decisions.specs.At.{opts, few, is_none, becomes, FirstChild}
 use Rattle.decisions.proofs.Series.{tested, children_none, children_60, children_52, children_30, children_31, children_61, contained_none, contained_field}
 use Rattle.decisions.proofs.Laws.{child_element, child_fragment, becomes_is}
 use Rattle.found.proofs.ItemLaws.{how_many}
-use Rattle.found.specs.Finds.{Within, part, placed, kids, entries_at, found_at, expr_at, text_entry, element_entry, template_entry, Finds, Flattened, Several, is_most, KnownOf, Known, known_around}
+use Rattle.found.specs.Finds.{Within, part, placed, kids, entries_at, found_at, expr_at, text_entry, element_entry, template_entry, Finds, Flattened, Narrowed, Several, is_most, KnownOf, Known, known_around}
 use Rattle.found.specs.declared.Kind.{Kind}
 use Rattle.found.specs.declared.Kind.TheVariants as K
 use Rattle.found.specs.declared.Found.{Found}
-use Rattle.found.proofs.Places.{Stands, stands_room, stands_part, tail_of, body_in}
-use Rattle.found.proofs.KnownLaws.{reached_all, known_more, known_less}
-use Rattle.found.proofs.MergeLaws.{run_entries, left_31}
+use Rattle.found.proofs.Places.{Stands, Tail, tail_all, stands_room, stands_part, stands_body, tail_of, body_in}
+use Rattle.found.proofs.KnownLaws.{reached_all, known_more, known_less, known_front}
+use Rattle.found.proofs.MergeLaws.{run_entries, left_31, left_end}
 use Rattle.found.proofs.EnterLaws.{moved}
 use Rattle.found.proofs.WalkLaws.{Entered}
 
@@ -57,11 +58,41 @@ unfolding spliced
 several_added skip b y g h props = let m = given_many skip b y g h props in (ap spliced m.0, m.1.0)
 
 -- what is known need not be looked for
-pub found_again : (skip b : Bytes) (n k : ℕ) → 0 < k → KnownOf k skip n b → is_most n (length b) ≡ true → {r : Found} → r ≡ placed (K.Many (k - 1)) 0 (length b) → Given skip b r
-found_again skip b n k l h m {r} q =
-    let d = known_less skip b n k l h m in
-    subst (Given skip b) (sym q)
-    (omega arith, λ props. subst (Finds skip props (found_at skip props b) (K.Many (k - 1))) (sym (take_all (length b) b (omega arith))) ((d.0 props).0, ((d.0 props).1, d.1)))
+pub found_again : (skip b : Bytes) (n k : ℕ) → 0 < k → KnownOf k skip n b → is_most n (length b) ≡ true → (r : Found) → Within r b × Narrowed (k - 1) b r → Given skip b r
+found_again skip b n k l h m r q = let d = known_less skip b n k l h m in (q.0, λ props. q.1 skip props (found_at skip props b) ((d.0 props).0, ((d.0 props).1, d.1)))
+
+-- ---- down a chain of fragments
+
+-- t is left of s, and has all that is known of s
+pub record Inner (s : Bytes) (n : ℕ) (t : Bytes) (k : ℕ) : Type 0 where
+  pub tail : Tail s t
+  pub same_found : (skip props : Bytes) (x : M.Found) → Finds skip props x (K.Many n) s → Finds skip props x (K.Many k) t
+
+pub inner_all : (s : Bytes) (n : ℕ) → Inner s n s n
+inner_all s n = record { tail = tail_all s; same_found = λ skip props x h. h }
+
+no_entries : (skip props r : Bytes) → length r ≡ 0 → entries_at skip props r ≡ []
+unfolding run_entries
+no_entries skip props [] h = left_end skip props [] [] (subst Ended (sym read_nil) tt)
+no_entries skip props (c ∷ r) h = absurd (omega (arith, h))
+
+-- a fragment that is all there is in t, and more than half of it
+pub inner_step : {s : Bytes} {n : ℕ} {t : Bytes} {k : ℕ} → Inner s n t k → {u : ℕ} {b r : Bytes} → IsFront t u b r → u ≡ 0x31 → length r ≡ 0 → 0 < k → is_most (length t) (length b) ≡ true →
+    Inner s n b (k - 1)
+unfolding run_entries spliced
+inner_step {s} {n} {t} {k} i {u} {b} {r} f g e l m = record {
+  tail =
+      subst (λ (m : ℕ). Stands s m b) (let z : (length s - length t) + 3 ≡ length s - length b = omega (arith, stands_room s (length s - length t) t i.tail, f.sizes, e) in z)
+      (stands_body s t i.tail f);
+  same_found = λ skip props x h.
+      let j = i.same_found skip props x h in
+      let d = known_less skip b (length t) k l (known_front f k skip (length t) j.1.1 g) m in
+      let all : entries_at skip props t ≡ entries_at skip props b =
+      left_31 skip props t f [] g
+      ∙ (ap (λ (es : List Entry). spliced (found_at skip props b) ++ es) (no_entries skip props r e)
+      ∙ (append-nil (spliced (found_at skip props b)) ∙ ap spliced (d.0 props).0)) in
+      (j.0 ∙ ap array_found all, ((d.0 props).1, d.1));
+}
 
 -- ---- none, one, or more
 

@@ -156,6 +156,10 @@ abbrev pub Spliced : Bytes → Found → Found → Type 0
 Spliced s f r =
     (skip props : Bytes) (x : M.Found) → Finds skip props x f.kind (part s f) → Enters skip props (Runs skip props) (C.spliced x) r.kind (part s r)
 
+-- from several entries, of which k levels are known, of the children in s to the same in a place in s
+abbrev pub Narrowed : ℕ → Bytes → Found → Type 0
+Narrowed k s r = (skip props : Bytes) (x : M.Found) → Finds skip props x (K.Many k) s → Finds skip props x r.kind (part s r)
+
 unfoldable pub item_count : Row → Count
 item_count end = Zero
 item_count (loose b) = Zero

@@ -5,7 +5,7 @@ ghost use Rattle.std.specs.Prelude.{◌≡◌, ◌+◌, ◌<◌, ◌^◌, length
 ghost use Rattle.field.specs.Bytes.{Bytes};
 ghost use Rattle.field.specs.Row.{read};
 ghost use Rattle.page.specs.Tree.{contained_in};
-ghost use Rattle.found.specs.Finds.{Within, part, placed, Runs, Enters, Finds, Flattened, Spliced, KnownOf, item_count, joined_of, then_found, run_found, is_settled, is_most, known_around, entries_at, found_at};
+ghost use Rattle.found.specs.Finds.{Within, part, placed, Runs, Enters, Finds, Flattened, Spliced, Narrowed, KnownOf, item_count, joined_of, then_found, run_found, is_settled, is_most, known_around, entries_at, found_at};
 
 use decisions::children::{Count, becomes_template, children_at};
 use decisions::expr::{Shape, shape_at};
@@ -316,13 +316,39 @@ pub fn found_of(skip: &[u8], s: &[u8]) -> Found
     flattened(s, entries_of(skip, s))
 }
 
+// Where the several entries of the children in b stand, of which so many levels are known: a fragment that is all there is in another has the
+// entries of both, so no such level is entered. Entered one by one, 43 of them around a text and an empty array took 1.8 times as long.
+fn innermost(b: &[u8], known: usize) -> Found
+    requires { length b.now < 2 ^ 62 }
+    ensures { Within result b.now × Narrowed known b.now result }
+{
+    let mut t = b;
+    let mut left = known;
+    while 0 < left {
+        let mut fields = Fields(t);
+        match fields.next() {
+            Some(
+                Field {
+                    tag: FRAGMENT,
+                    body,
+                },
+            ) if fields.0.is_empty() && is_most(t, body) => {
+                t = body;
+                left -= 1;
+            }
+            _ => break,
+        }
+    }
+    place(Kind::Many(left), b.len() - t.len(), t)
+}
+
 // The same of a fragment among the children in s, of which so many levels are known.
 pub fn found_in(skip: &[u8], s: &[u8], b: &[u8], known: usize) -> Found
     requires { (length b.now < 2 ^ 62) × KnownOf known skip.now (length s.now) b.now }
     ensures { Within result b.now × ((props : Bytes) → Finds skip.now props (found_at skip.now props b.now) result.kind (part b.now result)) }
 {
     if 0 < known && is_most(s, b) {
-        place(Kind::Many(known - 1), 0, b)
+        innermost(b, known - 1)
     } else {
         found_of(skip, b)
     }

@@ -22,7 +22,7 @@ use Rattle.grammar.proofs.Tests.{chose, passed, clash, not_or, letter_no_space, 
 use Rattle.grammar.proofs.Complete.{go, through, refused_never, skip_behind, skip_sep, name_leaves}
 use Rattle.read_tag.specs.Runs.{Ran}
 use Rattle.read_tag.specs.Shapes.{name_tag, all_short, all_plain, all_points, Separated, shape_tag}
-use Rattle.read_tag.specs.Names.{Behind, last, parted, PartAt, place_behind, Passed, PartStep, named_if, Scanned}
+use Rattle.read_tag.specs.Names.{Behind, last, parted, PartAt, place_behind, PartStep, named_if, LetterAt, Scanned}
 use Rattle.read_tag.specs.declared.name.NamePart.{NamePart}
 use Rattle.read_tag.specs.declared.name.NameParts.{NameParts}
 use Rattle.read_tag.proofs.FlagLaws.{and_assoc, and_true}
@@ -191,9 +191,6 @@ module _ (s : Bytes) (k : ℕ) (r : NamePart) (h : k < length s) (p : PartAt s k
   pub part_length : length r.word.now ≡ p.end - k
   part_length = ap length p.word_is ∙ word_length s k p.end p.ran.inside
 
-  pub part_first : get_or r.word.now 0 0 ≡ get_or s k 0
-  part_first = ap (λ (w : Bytes). get_or w 0 0) (p.word_is ∙ part_word)
-
 -- ---- what is counted
 
 short_more : (n : Name) (d : ℕ) (w : Bytes) → all_short (n ++ (part d w ∷ [])) ≡ (all_short n && short w)
@@ -244,10 +241,10 @@ pub record Naming (s : Bytes) (i k parts : ℕ) (a b c : Bool) : Type 0 where
   pub leads : (x : For) → k < length s → T (letter (get_or s k 0)) → outcome (in_ident [] 0 (get_or s i 0 ∷ []) x) (drop (i + 1) s) ≡ outcome (in_ident before sign (get_or s k 0 ∷ []) x) (drop (k + 1) s)
   pub broken : Ends letter (drop k s) → Scanned s i None
 
--- the same by the place, which is left until the last part has passed
+-- the same by the place, which is left until the last part has passed, and where a letter stands
 abbrev pub NamingOn : Bytes → ℕ → Option ℕ → ℕ → Bool → Bool → Bool → Type 0
 NamingOn s i None parts a b c = ⊥
-NamingOn s i (Some k) parts a b c = Naming s i k parts a b c
+NamingOn s i (Some k) parts a b c = Naming s i k parts a b c × LetterAt s k
 
 -- a name that is none of 01's fits nothing
 fits_nothing : (n : Name) → T (not (tag_name_fits n)) → (x : For) → T (not (fits x n))
@@ -394,41 +391,53 @@ module _ (s : Bytes) (i : ℕ) where
 
   -- ---- the same by the place where the next part begins
 
-  -- the text ends where the next part should begin
+  -- a letter stands there, so the text does not end
   pub naming_out : (k k' : Option ℕ) (parts : ℕ) (a b c : Bool) → NamingOn s i k parts a b c → PartStep s k None k' → Scanned s i None
-  unfolding Ends
   naming_out None k' parts a b c u y = absurd u
-  naming_out (Some k) k' parts a b c u y = u.broken (subst (Ends letter) (sym (drop_of_length-le s y)) tt)
+  naming_out (Some k) k' parts a b c u y = absurd (omega (arith, u.1.0))
+
+  first_letter : (k : ℕ) → LetterAt s k → T (letter (get_or s k 0))
+  first_letter k u = subst T (sym u.1) tt
 
   module _ (k' : Option ℕ) (parts : ℕ) (a b c : Bool) (r : NamePart) where
     pub naming_room : (k : Option ℕ) → NamingOn s i k parts a b c → PartStep s k (Some r) k' → (parts < length s) × (0 < length r.word.now)
     naming_room None u y = absurd u
-    naming_room (Some k) u y = (omega (arith, u.few, y.inside), omega (arith, part_length s k r y.inside y.part, part_after s k r y.inside y.part))
+    naming_room (Some k) u y = (omega (arith, u.0.few, y.inside), omega (arith, part_length s k r y.inside y.part, part_after s k r y.inside y.part))
 
-    -- t: what the test of its first byte answered
-    module _ (t : Bool) (v : t ≡ letter (get_or r.word.now 0 0)) where
-      pub naming_broken : (k : Option ℕ) → NamingOn s i k parts a b c → PartStep s k (Some r) k' → not t ≡ true → Scanned s i None
-      unfolding Ends
-      naming_broken None u y x = absurd u
-      naming_broken (Some k) u y x = u.broken (subst (Ends letter) (sym (next s k y.inside)) (subst (λ (d : ℕ). T (not (letter d))) (part_first s k r y.inside y.part) (subst T (sym (ap not (sym v) ∙ x)) tt)))
+    module _ (f : Bool) (q : f ≡ no_hyphen r.word.now) where
+      module _ (g : ℕ) (z : r.sign ≡ Some g) where
+        -- behind the sign
+        naming_behind : (k : ℕ) → NamingOn s i (Some k) parts a b c → PartStep s (Some k) (Some r) k' → Naming s i r.next (parts + 1) (a && leb (length r.word.now) 128) (b && f) (c && eqb g 46)
+        naming_behind k u y = naming_next k parts a b c f r u.0 y.inside (first_letter k u.1) y.part q g z
 
-      module _ (x : not t ≡ false) (f : Bool) (q : f ≡ no_hyphen r.word.now) where
-        first_letter : (k : ℕ) → Passed s k r k' → T (letter (get_or s k 0))
-        first_letter k y = subst (λ (d : ℕ). T (letter d)) (part_first s k r y.inside y.part) (subst T (sym (not-false t x) ∙ v) tt)
+        -- the text ends there; what the test of the byte there answered
+        pub naming_cut : (k : Option ℕ) → NamingOn s i k parts a b c → PartStep s k (Some r) k' → length s ≤ r.next → Scanned s i None
+        unfolding Ends
+        naming_cut None u y h = absurd u
+        naming_cut (Some k) u y h = (naming_behind k u y).broken (subst (Ends letter) (sym (drop_of_length-le s h)) tt)
 
-        pub naming_step : (k : Option ℕ) → NamingOn s i k parts a b c → PartStep s k (Some r) k' → (g : ℕ) → r.sign ≡ Some g → NamingOn s i k' (parts + 1) (a && leb (length r.word.now) 128) (b && f) (c && eqb g 46)
-        naming_step None u y g z = absurd u
-        naming_step (Some k) u y g z =
-            subst (λ (m : Option ℕ). NamingOn s i m (parts + 1) (a && leb (length r.word.now) 128) (b && f) (c && eqb g 46)) (sym (y.then ∙ ap (λ (m : Option ℕ). place_behind m r.next) z))
-            (naming_next k parts a b c f r u y.inside (first_letter k y) y.part q g z)
+        module _ (d : ℕ) (h : r.next < length s) (e : d ≡ get_or s r.next 0) (t : Bool) (v : t ≡ letter d) where
+          pub naming_broken : (k : Option ℕ) → NamingOn s i k parts a b c → PartStep s k (Some r) k' → not t ≡ true → Scanned s i None
+          unfolding Ends
+          naming_broken None u y x = absurd u
+          naming_broken (Some k) u y x =
+              (naming_behind k u y).broken
+              (subst (Ends letter) (sym (next s r.next h)) (subst (λ (o : ℕ). T (not (letter o))) e (subst T (sym (ap not (sym v) ∙ x)) tt)))
 
-        pub naming_found : (k : Option ℕ) → NamingOn s i k parts a b c → PartStep s k (Some r) k' → r.sign ≡ None → (o : Option ℕ) {n : ℕ} → o ≡ shape_tag (parts + 1) (a && leb (length r.word.now) 128) (b && f) c → o ≡ Some n → Scanned s i (Some record { tag = n; end = r.next })
-        naming_found None u y z o e = absurd u
-        naming_found (Some k) u y z o e = name_found k parts a b c f r u y.inside (first_letter k y) y.part q z o e
+          pub naming_step : (k : Option ℕ) → NamingOn s i k parts a b c → PartStep s k (Some r) k' → not t ≡ false → NamingOn s i k' (parts + 1) (a && leb (length r.word.now) 128) (b && f) (c && eqb g 46)
+          naming_step None u y x = absurd u
+          naming_step (Some k) u y x =
+              subst (λ (m : Option ℕ). NamingOn s i m (parts + 1) (a && leb (length r.word.now) 128) (b && f) (c && eqb g 46)) (sym (y.then ∙ ap (λ (m : Option ℕ). place_behind m r.next) z))
+              (naming_behind k u y, (h, ap letter (sym e) ∙ sym v ∙ not-false t x))
 
-        pub naming_misfit : (k : Option ℕ) → NamingOn s i k parts a b c → PartStep s k (Some r) k' → r.sign ≡ None → (o : Option ℕ) → o ≡ shape_tag (parts + 1) (a && leb (length r.word.now) 128) (b && f) c → o ≡ None → Scanned s i None
-        naming_misfit None u y z o e = absurd u
-        naming_misfit (Some k) u y z o e = name_misfit k parts a b c f r u y.inside (first_letter k y) y.part q z o e
+      module _ (z : r.sign ≡ None) (o : Option ℕ) (e : o ≡ shape_tag (parts + 1) (a && leb (length r.word.now) 128) (b && f) c) where
+        pub naming_found : (k : Option ℕ) → NamingOn s i k parts a b c → PartStep s k (Some r) k' → {n : ℕ} → o ≡ Some n → Scanned s i (Some record { tag = n; end = r.next })
+        naming_found None u y x = absurd u
+        naming_found (Some k) u y x = name_found k parts a b c f r u.0 y.inside (first_letter k u.1) y.part q z o e x
+
+        pub naming_misfit : (k : Option ℕ) → NamingOn s i k parts a b c → PartStep s k (Some r) k' → o ≡ None → Scanned s i None
+        naming_misfit None u y x = absurd u
+        naming_misfit (Some k) u y x = name_misfit k parts a b c f r u.0 y.inside (first_letter k u.1) y.part q z o e x
 
   -- ---- one identifier alone
 

@@ -1,5 +1,5 @@
 -- A run grows by a byte, and ends. Main statements: `next`, `running_none`, `tested_on`, `tested_stops`, `ran_out`,
--- `any_some`, `not_all`. Assumes nothing.
+-- `any_some`, `all_others`, `not_all`. Assumes nothing.
 use Prim.Native.Nat.{ℕ, suc, ◌+◌, ◌-◌, ◌≤◌, ◌<◌}
 use mathlib.Core.Path.{◌≡◌, refl, sym, ◌∙◌, ap, subst}
 use mathlib.Core.Bool.{Bool, true, false, ◌&&◌, ◌||◌, not, false≢true}
@@ -9,7 +9,7 @@ use native.Mathlib.Numerals.{add-one}
 use lib.Dec.{T}
 use lib.ListN.{length, take, drop, get_or, length-append, length-drop, drop_of_length-le}
 use lib.Seq.{drop-cons, drop-drop, take_at}
-use Rattle.std.specs.List.{list_any}
+use Rattle.std.specs.List.{list_any, list_all}
 use Rattle.field.specs.Bytes.{Bytes, pick}
 use Rattle.text.specs.Runs.{run, all}
 use Rattle.text.proofs.RunLaws.{run_le}
@@ -94,6 +94,16 @@ any_some p [] = refl
 any_some p (c ∷ s) = on (p c) (any_some p s)
   where
     on : (b : Bool) → list_any p s ≡ some_byte p s → (b || list_any p s) ≡ not (not b && each (λ d. not (p d)) s)
+    on true e = refl
+    on false e = e
+
+-- all are others
+pub all_others : (p : ℕ → Bool) (s : Bytes) → list_all (λ c. not (p c)) s ≡ not (some_byte p s)
+unfolding each
+all_others p [] = refl
+all_others p (c ∷ s) = on (p c) (all_others p s)
+  where
+    on : (b : Bool) → list_all (λ c. not (p c)) s ≡ not (some_byte p s) → (not b && list_all (λ c. not (p c)) s) ≡ not (not (not b && each (λ d. not (p d)) s))
     on true e = refl
     on false e = e
 

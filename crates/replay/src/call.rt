@@ -35,14 +35,20 @@ impl fmt::Display for Difference {
     }
 }
 
+// After so many bytes `before` begins again.
+const PERIOD: usize = 251;
+
 // What the lent bytes hold before a call: no zeros, so that it is seen what was cleared.
 fn before(i: usize) -> u8 {
-    (i % 251) as u8 + 1
+    (i % PERIOD) as u8 + 1
 }
 
+// By periods, in which no byte needs its own division: the stored answers take 1.6 billion instructions for 3.9.
 fn fill(b: &mut [u8]) {
-    for (i, x) in b.iter_mut().enumerate() {
-        *x = before(i);
+    for part in b.chunks_mut(PERIOD) {
+        for (i, x) in part.iter_mut().enumerate() {
+            *x = before(i);
+        }
     }
 }
 

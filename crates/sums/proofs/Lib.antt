@@ -9,3 +9,4 @@ pub mod Samples
 pub mod Packs
 pub mod Sim
 pub mod Loop
+pub mod Turns

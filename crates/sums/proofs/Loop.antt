@@ -20,12 +20,7 @@ use Rattle.sums.specs.Value.{Worked}
 use Rattle.std.specs.Prelude.{Some, None}
 use Rattle.sums.specs.declared.reader.Before.{Before}
 use Rattle.sums.specs.declared.reader.Before.TheVariants.{NoSum, SumPlus, SumMinus}
-use Rattle.sums.specs.declared.reader.Waiting.{Waiting}
-use Rattle.sums.specs.declared.reader.State.{State}
-use Rattle.sums.specs.declared.reader.State.TheVariants.{Awaits, Digits, Behind}
-use Rattle.sums.specs.declared.reader.Act.{Act}
-use Rattle.sums.specs.declared.reader.Act.TheVariants.{On, Open, Close, Refused}
-use Rattle.sums.specs.Small.{Factor}
+use Rattle.sums.specs.Small.{Factor, Waiting, State, Awaits, Digits, Behind, Act, On, Open, Close, Refused}
 use Rattle.sums.specs.Small.{finished, times_by, act_behind, act_awaits, act_digits, awaits, act, Stack, stands, stopped, moved, small_step, ended, small_end, result}
 use Rattle.sums.specs.Packed.{before_tag, before_of, factor_tag, factor_of, words}
 use Rattle.sums.proofs.Packs.{factor_low, words_low, before_none, factor_none}
@@ -347,3 +342,21 @@ module _ {s : Bytes} {fs : List ℕ} {top i : ℕ} {x : State} (g : Going s fs t
           } in
           subst (λ (n : ℕ). Going s fs n (i + 1) (Behind b' y)) (sym t_is)
           (subst (λ (j : Before). Going s fs k.t (i + 1) (Behind j y)) (sym bs) (subst (λ (j : Worked). Going s fs k.t (i + 1) (Behind k.w.before j)) (sym ys) c))
+
+-- another state that does the same with the next byte
+pub again : {s : Bytes} {fs : List ℕ} {top i : ℕ} {x : State} → Going s fs top i x → i < length s → (y : State) → act y (get_or s i 0) ≡ act x (get_or s i 0) → weight y ≤ weight x → Going s fs top i y
+unfolding result small_step
+again {s} {fs} {top} {i} {x} g l y q w =
+    let e : drop i s ≡ get_or s i 0 ∷ drop (i + 1) s = rw (add-one, drop-cons s i 0) in
+    record {
+      within = g.within;
+      high = g.high;
+      frames = g.frames;
+      held = g.held;
+      paid = omega (arith, g.paid);
+      total = ap (result (stands y g.frames)) e ∙ ap (λ (z : Act). result (moved z g.frames) (drop (i + 1) s)) q ∙ ap (result (stands x g.frames)) (sym e) ∙ g.total;
+    }
+
+pub lighter : (n : ℕ) (w : Waiting) (y : Worked) → weight (Behind w.before y) ≤ weight (Digits n w)
+unfolding weight
+lighter n w y = omega arith

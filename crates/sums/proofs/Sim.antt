@@ -18,12 +18,7 @@ use Rattle.sums.specs.declared.value.Sum.TheVariants as W
 use Rattle.std.specs.Prelude.{Some, None}
 use Rattle.sums.specs.declared.reader.Before.{Before}
 use Rattle.sums.specs.declared.reader.Before.TheVariants.{NoSum, SumPlus, SumMinus}
-use Rattle.sums.specs.declared.reader.Waiting.{Waiting}
-use Rattle.sums.specs.declared.reader.State.{State}
-use Rattle.sums.specs.declared.reader.State.TheVariants.{Awaits, Digits, Behind}
-use Rattle.sums.specs.declared.reader.Act.{Act}
-use Rattle.sums.specs.declared.reader.Act.TheVariants.{Close}
-use Rattle.sums.specs.Small.{Factor}
+use Rattle.sums.specs.Small.{Factor, Waiting, State, Awaits, Digits, Behind, Act, Close}
 use Rattle.sums.specs.Small.{finished, times_by, capped, grown, act_behind, act_awaits, act_digits, act, awaits, Stack, Small, stands, stopped, moved, small_step, ended, small_end, result}
 
 before_worked : M.Before → Before

@@ -7,16 +7,36 @@ use Rattle.sums.specs.declared.value.Sum.{Sum}
 use Rattle.sums.specs.declared.value.Sum.TheVariants.{Plus, Minus}
 use Rattle.sums.specs.declared.reader.Before.{Before}
 use Rattle.sums.specs.declared.reader.Before.TheVariants.{NoSum, SumPlus, SumMinus}
-use Rattle.sums.specs.declared.reader.Waiting.{Waiting}
-use Rattle.sums.specs.declared.reader.State.{State}
-use Rattle.sums.specs.declared.reader.State.TheVariants.{Awaits, Digits, Behind}
-use Rattle.sums.specs.declared.reader.Act.{Act}
-use Rattle.sums.specs.declared.reader.Act.TheVariants.{On, Open, Close, Refused}
+use Rattle.sums.specs.declared.reader.Mode.{Mode}
+use Rattle.sums.specs.declared.reader.Mode.TheVariants as M
 use Rattle.std.specs.Prelude.{Option, Some, None}
 
 -- what waits for an operand: nothing, or a product and `*`
 abbrev pub Factor : Type 0
 Factor = Option Worked
+
+-- what waits for a product, and what waits for an operand
+pub record Waiting : Type 0 where
+  pub before : Before
+  pub factor : Factor
+
+pub data State : Type 0 where
+  Awaits : Waiting → State  -- an operand
+  Digits : ℕ → Waiting → State
+  Behind : Before → Worked → State  -- the product so far, behind an operand
+
+-- what a byte does
+pub data Act : Type 0 where
+  On : State → Act
+  Open : Waiting → Act
+  Close : Worked → Act
+  Refused : Act
+
+-- the state as the loop holds it: a mode, and what there is in it
+unfoldable pub state_of : Mode → ℕ → Before → Factor → Worked → State
+state_of M.Awaits n b f y = Awaits (record { before = b; factor = f })
+state_of M.Digits n b f y = Digits n (record { before = b; factor = f })
+state_of M.Behind n b f y = Behind b y
 
 abbrev pub size : Sum → ℕ
 size (Plus n) = n

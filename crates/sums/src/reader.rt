@@ -1,7 +1,7 @@
 // What a text comes to: one loop over its bytes, with what waits for open brackets in lent words. What is right says `sum_of`.
 ghost use Rattle.std.specs.Prelude.{◌≡◌, ◌+◌, ◌*◌, ◌≤◌, ◌<◌, length};
 ghost use Rattle.sums.specs.Machine.{sum_of};
-ghost use Rattle.sums.specs.Small.{finished, times_by, grown, awaits, act, act_awaits, act_behind, ended};
+ghost use Rattle.sums.specs.Small.{finished, times_by, grown, ended, state_of};
 ghost use Rattle.sums.specs.Packed.{worked_kind, worked_size, worked_from, before_tag, before_size, before_of, factor_tag, factor_size, factor_of, words};
 
 use crate::value::{MOST, Sum, add, bounded, multiply, size, subtract};
@@ -18,27 +18,12 @@ enum Before {
     SumMinus(Option<Sum>),
 }
 
-// What waits for an operand: nothing, or a product and `*`, which is an option of what the product comes to; and what waits for its product.
+// Where the loop stands: an operand is awaited, within a number, behind an operand.
 #[derive(Clone, Copy)]
-struct Waiting {
-    before: Before,
-    factor: Option<Option<Sum>>,
-}
-
-#[derive(Clone, Copy)]
-enum State {
-    Awaits(Waiting),
-    Digits(u64, Waiting),
-    Behind(Before, Option<Sum>),
-}
-
-// What a byte does.
-#[derive(Clone, Copy)]
-enum Act {
-    On(State),
-    Open(Waiting),
-    Close(Option<Sum>),
-    Refused,
+enum Mode {
+    Awaits,
+    Digits,
+    Behind,
 }
 
 // What is read of a number, with one digit more; past the bound all are alike.
@@ -46,9 +31,10 @@ fn grow(n: u64, c: u8) -> u64
     requires { 48 ≤ c }
     ensures { result ≡ grown n c }
 {
-    n.saturating_mul(10)
-        .saturating_add(u64::from(c - b'0'))
-        .min(MOST + 1)
+    if MOST < n {
+        return MOST + 1;
+    }
+    (n * 10 + u64::from(c - b'0')).min(MOST + 1)
 }
 
 // The sum so far, with the product y.
@@ -74,86 +60,21 @@ fn product(factor: Option<Option<Sum>>, y: Option<Sum>) -> Option<Sum>
     }
 }
 
-// The first operand of a product is awaited.
-fn awaits(before: Before) -> State
-    ensures { result ≡ awaits before }
-{
-    State::Awaits(Waiting {
-        before,
-        factor: None,
-    })
-}
-
-// Where an operand is awaited.
-#[inline(always)]
-#[tactic(auto, unfolding(crate::specs::Small::act_awaits, crate::specs::Choice::choose, crate::specs::Choice::digit))]
-fn act_awaits(waiting: Waiting, c: u8) -> Act
-    ensures { result ≡ act_awaits waiting c }
-{
-    match c {
-        b' ' => Act::On(State::Awaits(waiting)),
-        b'0' => Act::On(State::Behind(
-            waiting.before,
-            product(waiting.factor, bounded(Sum::Plus(0))),
-        )),
-        b'(' => Act::Open(waiting),
-        _ if c.is_ascii_digit() => Act::On(State::Digits(u64::from(c - b'0'), waiting)),
-        _ => Act::Refused,
-    }
-}
-
-// Behind an operand, with the product so far.
-#[inline(always)]
-#[tactic(auto, unfolding(crate::specs::Small::act_behind, crate::specs::Choice::choose))]
-fn act_behind(before: Before, y: Option<Sum>, c: u8) -> Act
-    ensures { result ≡ act_behind before y c }
-{
-    match c {
-        b' ' => Act::On(State::Behind(before, y)),
-        b'+' => Act::On(awaits(Before::SumPlus(total(before, y)))),
-        b'-' => Act::On(awaits(Before::SumMinus(total(before, y)))),
-        b'*' => Act::On(State::Awaits(Waiting {
-            before,
-            factor: Some(y),
-        })),
-        b')' => Act::Close(total(before, y)),
-        _ => Act::Refused,
-    }
-}
-
-// What a byte does. Inlined, as the two before it: by calls a text of `1+` takes 181 instructions a byte for 128, and one of digits 167 for 49.
-#[inline(always)]
-#[tactic(auto, unfolding(crate::specs::Small::act, crate::specs::Small::act_digits, crate::specs::Choice::choose, crate::specs::Choice::digit))]
-fn act_of(state: State, c: u8) -> Act
-    ensures { result ≡ act state c }
-{
-    match state {
-        State::Awaits(waiting) => act_awaits(waiting, c),
-        State::Digits(n, waiting) if c.is_ascii_digit() => Act::On(State::Digits(
-            grow(n, c),
-            waiting,
-        )),
-        State::Digits(n, waiting) => act_behind(
-            waiting.before,
-            product(waiting.factor, bounded(Sum::Plus(n))),
-            c,
-        ),
-        State::Behind(before, y) => act_behind(before, y, c),
-    }
-}
-
 // The answer where the text ends and no bracket is open.
-#[tactic(auto, unfolding(crate::specs::Small::ended))]
-fn end_of(state: State) -> Option<Sum>
-    ensures { result ≡ ended state }
+#[tactic(auto, unfolding(crate::specs::Small::ended, crate::specs::Small::state_of))]
+fn end_of(
+    mode: Mode,
+    n: u64,
+    before: Before,
+    factor: Option<Option<Sum>>,
+    y: Option<Sum>,
+) -> Option<Sum>
+    ensures { result ≡ ended (state_of mode n before factor y) }
 {
-    match state {
-        State::Awaits(..) => None,
-        State::Digits(n, waiting) => total(
-            waiting.before,
-            product(waiting.factor, bounded(Sum::Plus(n))),
-        ),
-        State::Behind(before, y) => total(before, y),
+    match mode {
+        Mode::Awaits => None,
+        Mode::Digits => total(before, product(factor, bounded(Sum::Plus(n)))),
+        Mode::Behind => total(before, y),
     }
 }
 
@@ -261,41 +182,109 @@ pub fn sum_in(text: &[u8], stack: &mut [u64; ROOM]) -> Option<Sum>
     requires { length text.now ≤ 32768 }
     ensures { result ≡ sum_of text.now }
 {
-    let mut state = awaits(Before::NoSum);
+    let mut mode = Mode::Awaits;
+    let mut before = Before::NoSum;
+    let mut factor: Option<Option<Sum>> = None;
+    let mut n: u64 = 0;
+    let mut y: Option<Sum> = None;
     let mut top: usize = 0;
-    for c in text {
-        match act_of(state, *c) {
-            Act::On(next) => {
-                state = next;
+    // counted, since the byte that ends a number is looked at once more
+    let mut i: usize = 0;
+    while i < text.len() {
+        let c = text[i];
+        match mode {
+            Mode::Digits if c.is_ascii_digit() => {
+                n = grow(n, c);
+                i += 1;
+                continue;
             }
-            Act::Open(waiting) => {
-                let b = before_tag(waiting.before);
-                let f = factor_tag(waiting.factor);
-                let at = top + words_of(b);
-                let last = at + words_of(f);
-                if ROOM <= last {
-                    return None;
+            Mode::Digits => {
+                y = product(factor, bounded(Sum::Plus(n)));
+                mode = Mode::Behind;
+                continue;
+            }
+            Mode::Awaits => match c {
+                b' ' => {
+                    i += 1;
+                    continue;
                 }
-                stack[top] = before_size(waiting.before);
-                stack[at] = factor_size(waiting.factor);
-                stack[last] = b * 4 + f;
-                top = last + 1;
-                state = awaits(Before::NoSum);
-            }
-            Act::Close(v) => {
-                if top == 0 {
-                    return None;
+                b'0' => {
+                    y = product(factor, bounded(Sum::Plus(0)));
+                    mode = Mode::Behind;
+                    i += 1;
+                    continue;
                 }
-                let tag = stack[top - 1];
-                let at = top - 1 - words_of(tag % 4);
-                let low = at - words_of(tag / 4);
-                let before = before_of(tag / 4, stack[low]);
-                let factor = factor_of(tag % 4, stack[at]);
-                state = State::Behind(before, product(factor, v));
-                top = low;
-            }
-            Act::Refused => return None,
+                b'(' => {
+                    let b = before_tag(before);
+                    let f = factor_tag(factor);
+                    let at = top + words_of(b);
+                    let last = at + words_of(f);
+                    if ROOM <= last {
+                        return None;
+                    }
+                    stack[top] = before_size(before);
+                    stack[at] = factor_size(factor);
+                    stack[last] = b * 4 + f;
+                    top = last + 1;
+                    before = Before::NoSum;
+                    factor = None;
+                    i += 1;
+                    continue;
+                }
+                _ if c.is_ascii_digit() => {
+                    n = u64::from(c - b'0');
+                    mode = Mode::Digits;
+                    i += 1;
+                    continue;
+                }
+                _ => return None,
+            },
+            Mode::Behind => match c {
+                b' ' => {
+                    i += 1;
+                    continue;
+                }
+                b'+' => {
+                    before = Before::SumPlus(total(before, y));
+                    factor = None;
+                    mode = Mode::Awaits;
+                    i += 1;
+                    continue;
+                }
+                b'-' => {
+                    before = Before::SumMinus(total(before, y));
+                    factor = None;
+                    mode = Mode::Awaits;
+                    i += 1;
+                    continue;
+                }
+                b'*' => {
+                    factor = Some(y);
+                    mode = Mode::Awaits;
+                    i += 1;
+                    continue;
+                }
+                b')' => {
+                    if top == 0 {
+                        return None;
+                    }
+                    let v = total(before, y);
+                    let tag = stack[top - 1];
+                    let at = top - 1 - words_of(tag % 4);
+                    let low = at - words_of(tag / 4);
+                    before = before_of(tag / 4, stack[low]);
+                    y = product(factor_of(tag % 4, stack[at]), v);
+                    top = low;
+                    i += 1;
+                    continue;
+                }
+                _ => return None,
+            },
         }
     }
-    if top == 0 { end_of(state) } else { None }
+    if top == 0 {
+        end_of(mode, n, before, factor, y)
+    } else {
+        None
+    }
 }

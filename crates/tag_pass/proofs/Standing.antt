@@ -22,13 +22,9 @@ use Rattle.tag_pass.specs.declared.state.Mode.{Mode}
 use Rattle.tag_pass.specs.declared.state.Mode.TheVariants as M
 use Rattle.tag_pass.specs.Worlds.{World, more, tag_world, children_world, world_of, Made}
 use Rattle.tag_pass.specs.States.{Named, kind_of, frame_name, PlainFrame, Fifty, Stands, Next, next_tag, next_children, next_inner, next_ended, next_done, next_none, Unended, Settled}
-use Rattle.tag_pass.specs.Turns.{at_mode, at_more}
+use Rattle.tag_pass.specs.Turns.{at_mode}
 use Rattle.tag_pass.specs.declared.state.Reading.{Reading}
 use Rattle.tag_pass.proofs.WorldLaws.{made_more}
-
--- what was written and holds no number
-pub more_fits : (st : Reading) (a : ℕ) (z : Bool) → record st { at = a; shallow = st.shallow && z } ≡ at_more st a true z
-more_fits st a z = ap (λ (y : Bool). record st { at = a; numbers = y; shallow = st.shallow && z }) (sym (and_true st.numbers))
 
 -- ---- tests of depth: the deeper one decides
 

@@ -53,6 +53,7 @@ fn known(
     let a = put_head(out, st.at, kind.tag(), 0);
     let held = put_known(text, j, e, out, a)?;
     let d = st.depth + kind.depth() + 1 + held.deep;
+    // Not by the function `wrote`, which notes both: as LLVM has it a row of `{}` takes 31.0 instructions a byte for 23.0, components 25.4 for 24.6.
     let w = Reading {
         numbers: st.numbers & held.fits,
         ..st.wrote(held.at, d)

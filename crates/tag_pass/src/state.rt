@@ -118,6 +118,18 @@ impl Mode {
     }
 }
 
+// Something more was written; whether its number is in range, and whether it is not too deep. A flag that is down stays down.
+pub fn wrote(st: Reading, at: usize, fits: bool, shallow: bool) -> Reading
+    ensures { result ≡ at_more st at fits shallow }
+{
+    Reading {
+        at,
+        numbers: st.numbers & fits,
+        shallow: st.shallow & shallow,
+        ..st
+    }
+}
+
 impl Reading {
     pub fn in_mode(self, mode: Mode, i: usize) -> Reading
         ensures { result ≡ at_mode self mode i }
@@ -129,16 +141,11 @@ impl Reading {
         }
     }
 
-    // Something more was written, at that depth.
-    #[tactic(auto, using(crate::proofs::Standing::more_fits))]
+    // The same of what holds no number, at that depth.
     pub fn wrote(self, at: usize, depth: usize) -> Reading
         ensures { result ≡ at_more self at true (leb depth 48) }
     {
-        Reading {
-            at,
-            shallow: self.shallow & (depth <= MAX_DEPTH),
-            ..self
-        }
+        wrote(self, at, true, depth <= MAX_DEPTH)
     }
 }
 

@@ -1,6 +1,6 @@
 -- Digits over a power of ten, written and read back.
 -- Main statements: `shortest_means`, the text means the number; `nothing_shorter`, no shorter text does; `one_reading`, a text means one
--- number; `shortest_no_place`, and `samples` by computation.
+-- number; `samples`, by computation.
 -- Assumes nothing.
 use mathlib.Core.Path.{◌≡◌, refl, sym, ap, ◌∙◌, subst}
 use mathlib.Core.Bool.{Bool, true, false, true≢false}

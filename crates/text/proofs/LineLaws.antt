@@ -1,5 +1,5 @@
 -- Laws of lines: where the first line ends by a search for LF, and how a walk from line to line goes through `lines`.
--- Main statements: `line_last`, `line_cr`, `line_no_cr` for `line_at`; `lines_cons`, `line_cut` for its callers.
+-- Main statements: `line_none` for `read_line`; `line_last`, `line_cr`, `line_no_cr` for `line_at`; `lines_cons`, `line_cut` for its callers.
 -- Assumes nothing.
 use mathlib.Core.Path.{◌≡◌, refl, sym, ap, subst, ◌∙◌}
 use mathlib.Core.Bool.{Bool, true, false, ◌&&◌, ◌||◌, not, false≢true, and-false}
@@ -8,7 +8,7 @@ use native.Mathlib.Nat.{le_of_suc-le-suc, not-suc-le-zero}
 use native.Mathlib.Omega.{arith}
 use mathlib.Core.List.{List, [], ◌∷◌}
 use lib.Dec.{eqb, ltb}
-use lib.ListN.{length, get_or, take, drop, length-drop}
+use lib.ListN.{length, get_or, take, drop, length-drop, drop_of_length-le}
 use lib.Seq.{drop-cons, drop-drop, get_or-drop, length-take-le}
 use borrow.Author.Tests.{eq-eqb, ne_eqb, not-true, not-false}
 use Rattle.field.specs.Bytes.{Bytes, pick}
@@ -100,6 +100,11 @@ length_no_cr (c ∷ cs) (suc k) h l e =
 
 line_is : {e e' n n' : ℕ} → e ≡ e' → n ≡ n' → ◌≡◌ {A = Line} (record { end = e; next = n }) (record { end = e'; next = n' })
 line_is p q = rw (p, q)
+
+-- no byte is left
+pub line_none : (s : Bytes) (at : ℕ) → length s ≤ at → ◌≡◌ {A = Line} (record { end = at; next = at }) (line_at s at)
+unfolding line_at line_length line_width
+line_none s at h = rw (drop_of_length-le s {i = at} h) (line_is (omega arith) (omega arith))
 
 -- an LF stands at the place
 pub line_empty : (s : Bytes) (at : ℕ) → at < length s → get_or s at 0 ≡ 10 → ◌≡◌ {A = Line} (record { end = at; next = at + 1 }) (line_at s at)

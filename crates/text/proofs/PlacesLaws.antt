@@ -1,5 +1,5 @@
 -- Laws of digits over a power of ten.
--- Main statements: `placing_start`, `placing_more`, `placed` for `put_pointed`; `shortest_whole`, `shortest_less`, `shortest_pointed` for
+-- Main statements: `placing_more`, `placed` for `put_pointed`; `shortest_whole`, `shortest_less`, `shortest_pointed` for
 -- `put_shortest`; `length_shortest`, `shortest_all_bytes`, `shortest_some`, `shortest_escaped`, and `shortest_each`, by which every byte
 -- is a digit or the point.
 -- Assumes nothing.

@@ -53,6 +53,17 @@ fn line_at(s: &[u8], at: usize) -> Line
     }
 }
 
+// At any place, also behind the end: the iterator goes through all lines from the front, and gives no line's places.
+pub fn read_line(s: &[u8], at: usize) -> Line
+    ensures { result ≡ line_at s.now at }
+{
+    if s.len() <= at {
+        Line { end: at, next: at }
+    } else {
+        line_at(s, at)
+    }
+}
+
 // A line without its end, and whether others stand before and behind it.
 #[derive(Clone, Copy)]
 pub struct TextLine<'a> {

@@ -1,4 +1,4 @@
--- The names of 02 and 03 as the walk is given them: their series, or an index of it. Main statements: `by_series`, `by_index`. Assumes nothing.
+-- The names of 02 and 03 as the walk is given them: their series. Main statement: `by_series`. Assumes nothing.
 use Prim.Native.Nat.{◌≤◌}
 use native.Mathlib.Omega.{arith}
 use mathlib.Core.Path.{◌≡◌, ap, ◌∙◌}

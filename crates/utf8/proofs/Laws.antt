@@ -1,4 +1,4 @@
--- What callers need to know of UTF-8: it goes by whole characters, and ASCII is part of it. Main statements: utf8_append, all_ascii-utf8.
+-- What callers need to know of UTF-8: it goes by whole characters, and ASCII is part of it. Main statements: utf8_append, ascii_utf8.
 -- Assumes nothing.
 use mathlib.Core.Path.{◌≡◌, refl, ◌∙◌}
 use Prim.Native.Nat.{ℕ, ◌<◌}

@@ -8,15 +8,19 @@ use mathlib.Core.Bool.{Bool, true, false}
 use lib.ListN.{length}
 use Rattle.field.specs.Bytes.{Bytes, ascii, pick, same}
 use Rattle.field.specs.Row.{read}
+use Rattle.field.specs.Front.{tag_of_front, body_of, behind_of}
+use Rattle.field.proofs.FrontLaws.{sizes}
 use Rattle.names.specs.Names.{get_attr_name}
 use Rattle.page.specs.Page as P
 use Rattle.page.specs.Page.{Options}
-use Rattle.page.specs.Tree.{Contained, nothing_contained, contained, contained_value, contained_in, attributes_in, attr_name_in, value_in}
+use Rattle.page.specs.Tree.{Contained, nothing_contained, contained, contained_value, contained_in, element_in, fragment_in, attributes_in, attr_name_in, value_in, value_behind}
+use Rattle.page.proofs.CheckLaws.{behind_short}
 use Rattle.spec.specs.Pass.{Mid, none}
 use Rattle.spec.specs.Attributes.{key_from, key_of}
 use Rattle.spec.specs.Transform.{value, attributes}
 use Rattle.decisions.specs.At.{opts, attributes_at, Holds, written, IsAttribute, NoAttribute}
 use Rattle.decisions.specs.Becomes.{contained_mid}
+use Rattle.decisions.proofs.Series.{tested, value_in_at, value_51, value_52, value_30, value_31, value_other}
 use Rattle.decisions.specs.declared.attribute.Value.{Value}
 use Rattle.decisions.specs.declared.attribute.Value.TheVariants as V
 use Rattle.walk.specs.Plan.{key_given, key_braces}
@@ -36,11 +40,28 @@ key_step o a (Some (V.Container c)) e key =
     ap (λ (v : P.Value). key_from (value o v) (key_given o key)) e.0 ∙ contained_key o (contained_in (read c.now)) (key_given o key)
 key_step o a (Some (V.Tag t)) e key = ap (λ (v : P.Value). key_from (value o v) (key_given o key)) e.0.value_is
 
+-- only a 51 behind the name is a string, and it lies in the attribute
+string_behind : (s b : Bytes) → value_behind (read s) ≡ P.string_value b → length b ≤ length s
+unfolding contained_value
+string_behind s b e =
+    tested (tag_of_front s) 0x51 (λ k. let q : P.string_value (body_of s) ≡ P.string_value b = sym (value_51 s _ refl k) ∙ e in let j : body_of s ≡ b = cc in omega (arith, sizes s _ refl (λ z. omega (arith, k, z)), ap length j)) λ n1.
+    tested (tag_of_front s) 0x52 (λ k. absurd (held (contained_in (read (body_of s))) (sym (value_52 s _ refl k) ∙ e))) λ n2.
+    tested (tag_of_front s) 0x30 (λ k. let q : P.tag_value (element_in (read (body_of s))) ≡ P.string_value b = sym (value_30 s _ refl k) ∙ e in let x : ◌≡◌ {A = ℕ} 0 1 = cc in omega arith) λ n3.
+    tested (tag_of_front s) 0x31 (λ k. let q : P.tag_value (fragment_in (read (body_of s))) ≡ P.string_value b = sym (value_31 s _ refl k) ∙ e in let x : ◌≡◌ {A = ℕ} 0 1 = cc in omega arith) λ n4.
+    let q : P.absent ≡ P.string_value b = sym (value_other s _ refl n1 n2 n3 n4) ∙ e in let x : ◌≡◌ {A = ℕ} 0 1 = cc in omega arith
+  where
+    held : (x : Contained) → contained_value x ≡ P.string_value b → ⊥
+    held nothing_contained q = let x : ◌≡◌ {A = ℕ} 0 1 = cc in omega arith
+    held (contained e) q = let x : ◌≡◌ {A = ℕ} 0 1 = cc in omega arith
+
+string_room : (a b : Bytes) → value_in (read a) ≡ P.string_value b → length b ≤ length a
+string_room a b e = omega (arith, string_behind (behind_of a) b (sym (value_in_at a) ∙ e), behind_short a)
+
 key_room : (a : Bytes) (h : Option Value) → Holds a h → {n : ℕ} → length a ≤ n → (key : Option Value) → length (key_braces key) ≤ n → length (key_braces (option_or h key)) ≤ n
 key_room a None e l key q = q
-key_room a (Some (V.String b)) e l key q = omega arith
+key_room a (Some (V.String b)) e l key q = omega (arith, string_room a b.now e)
 key_room a (Some (V.Container c)) e l key q = omega (arith, e.1)
-key_room a (Some (V.Tag t)) e l key q = omega arith
+key_room a (Some (V.Tag t)) e l key q = omega (arith, e.1)
 
 -- the key after the attributes in s, from k on
 module _ (skip props : Bytes) (norm : Bool) where

@@ -29,8 +29,9 @@ key_given o (Some (V.String b)) = string_node (normalize_lit_str b.now)
 key_given o (Some (V.Container c)) = contained_mid o (contained_in (read c.now))
 key_given o (Some (V.Tag t)) = none
 
+-- its bytes, whatever decides it: a string's text, what stands in braces, or a tag
 abbrev pub key_braces : Option Value → Bytes
 key_braces None = []
-key_braces (Some (V.String b)) = []
+key_braces (Some (V.String b)) = b.now
 key_braces (Some (V.Container c)) = c.now
-key_braces (Some (V.Tag t)) = []
+key_braces (Some (V.Tag t)) = t.now

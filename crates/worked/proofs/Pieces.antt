@@ -1,6 +1,6 @@
 -- Looking for the one source piece of a 79. Main statements: `passed_over`, `piece_in`, `no_79`, `no_piece`, `no_source`, `not_alone`, `alone`. Assumes nothing.
 use Prim.Native.Nat.{ℕ, ◌≤◌}
-use mathlib.Core.Path.{◌≡◌, refl, sym, ◌∙◌, ap, ap₂}
+use mathlib.Core.Path.{◌≡◌, refl, sym, ◌∙◌, ap, ap₂, subst}
 use mathlib.Core.Bool.{Bool, true, false, ◌||◌}
 use native.Mathlib.Omega.{arith}
 use lib.Dec.{eqb}
@@ -9,7 +9,7 @@ use borrow.Author.Tests.{eqb-true, eqb-false, eq-eqb, ne_eqb}
 use Rattle.field.specs.Bytes.{Bytes}
 use Rattle.field.specs.Row.{Row, end, loose, field, Inside, only_bytes, fields_after, counted, counted_front, inside, opened, read, Ended}
 use Rattle.field.specs.Front.{body_of, behind_of}
-use Rattle.field.specs.Fields.{IsFront, GivesField}
+use Rattle.field.specs.Fields.{IsFront, IsEnd, GivesField}
 use Rattle.field.specs.declared.reader.Field.{Field}
 use Rattle.field.specs.declared.reader.Fields.{Fields}
 use Rattle.std.specs.Iterator.{Yields, FindsItem}
@@ -82,10 +82,13 @@ passed_by k (x ∷ xs) s t p q (j, g, y) (h, r, f) = let i = passed_by k xs j t 
 
 -- the first that it doesn't pass over
 pub next_is : {F : Type 0} {g : Mut F (Bor Field × Unit {0}) Bool} (s u : Fields) (f : F) (r : Option Field) → FindsItem GivesField g s f r u → ((p : F) (x : Field) (b : Bool) (q : F) → CalledAt g p x b q → b ≡ is_piece x.tag) → NextPiece s.0.now r u.0.now
-next_is s u f None (xs, j, (t, y, e), h, z) k = (passed_by (λ p x q c. sym (k p x false q c)) xs s t f j y h).0 ∙ none_in _ e.ended
+next_is s u f None (xs, j, (t, y, e), h, z) k =
+    let i = passed_by (λ p x q c. sym (k p x false q c)) xs s t f j y h in
+    record { pieces_are = i.0 ∙ none_in _ e.ended; at_end = subst (λ (x : Bytes). IsEnd x x) (sym e.stays) (record { ended = e.ended; no_tag = e.no_tag; stays = refl }); rest_within = omega (arith, ap length e.stays, i.1) }
 next_is s u f (Some x) (xs, j, (t, y, e), h, (l, z)) k =
     let i = passed_by (λ p x q c. sym (k p x false q c)) xs s t f j y h in
-    record { pieces_are = i.0 ∙ piece_in e (sym (k j x true l z)); body_within = omega (arith, e.sizes, i.1) }
+    let a : is_piece x.tag ≡ true = sym (k j x true l z) in
+    record { pieces_are = i.0 ∙ piece_in e a; tag_is = a; sizes = omega (arith, e.sizes, i.1) }
 
 -- ---- the answers of the code
 

@@ -1,9 +1,10 @@
 -- The same on rows of fields, whatever the fields: a 79 goes by the tree that its pieces are read as. Assumes nothing: these are
 -- definitions.
-use Rattle.std.specs.Prelude.{ℕ, ◌≡◌, ◌≤◌, Bool, ◌&&◌, ◌||◌, [], leb, eqb, length, Option}
+use Rattle.std.specs.Prelude.{ℕ, ◌≡◌, ◌+◌, ◌≤◌, Bool, true, ◌&&◌, ◌||◌, [], leb, eqb, length, Option}
 use Rattle.field.specs.Bytes.{Bytes, pick}
 use Rattle.field.specs.Row.{Row, end, loose, field, bytes, inside, opened, read}
 use Rattle.page.specs.Number.{whole, number_bytes}
+use Rattle.field.specs.Fields.{IsEnd}
 use Rattle.field.specs.declared.reader.Field.{Field}
 use Rattle.page.specs.Page.{Pieces, no_pieces, source_piece, tag_piece}
 use Rattle.page.specs.Tree.{choose, pieces_in, element_in, fragment_in}
@@ -46,11 +47,18 @@ is_piece t = eqb t 0x20 || (eqb t 0x30 || eqb t 0x31)
 unfoldable pub piece_before : ℕ → Bytes → Pieces → Pieces
 piece_before t w ps = choose (eqb t 0x20) (λ _. source_piece w ps) λ _. choose (eqb t 0x30) (λ _. tag_piece (element_in (read w)) ps) λ _. tag_piece (fragment_in (read w)) ps
 
--- the next piece of a row, and the row behind it; no piece is left where there is none
+-- the next piece of a row, a 20, 30 or 31, and the row behind it, both within the row
 pub record IsPiece (s : Bytes) (t : ℕ) (w r : Bytes) : Type 0 where
   pub pieces_are : pieces_in (read s) ≡ piece_before t w (pieces_in (read r))
-  pub body_within : length w ≤ length s
+  pub tag_is : is_piece t ≡ true
+  pub sizes : 3 + length w + length r ≤ length s
+
+-- no piece is left, and no field in the rest, which is no longer than the row
+pub record NoPiece (s r : Bytes) : Type 0 where
+  pub pieces_are : pieces_in (read s) ≡ no_pieces
+  pub at_end : IsEnd r r
+  pub rest_within : length r ≤ length s
 
 abbrev pub NextPiece : Bytes → Option Field → Bytes → Type 0
-NextPiece s None r = pieces_in (read s) ≡ no_pieces
+NextPiece s None r = NoPiece s r
 NextPiece s (Some f) r = IsPiece s f.tag f.body.now r

@@ -1,3 +1,4 @@
+use Rattle.std.proofs.Common.{rules}
 use native.Mathlib.Omega.{arith}
 use Rattle.found.proofs.Places.{front_is, front_none}
 use Rattle.found.proofs.SpliceLaws.{splice_nothing, splice_none, splice_one, splice_more, splice_plain, splice_rest}
@@ -7,7 +8,7 @@ pub returns-in-Nothing : goal.returns-in-Nothing
 returns-in-Nothing c = splice_nothing _ _ c.requires c.in-Nothing.is c.nowhere.ensures
 
 pub returns-in-Zero : goal.returns-in-Zero
-returns-in-Zero c = splice_none _ _ c.requires c.in-Expr.is c.part.ensures c.in-Some-eq118.ensures (omega arith) c.in-Zero.ensures c.nowhere-in-Zero.ensures
+returns-in-Zero c = splice_none _ _ c.requires c.in-Expr.is c.part.ensures c.in-Some-eq118.ensures (omega arith) c.in-Zero.ensures (search rules)
 
 pub returns-in-One : goal.returns-in-One
 returns-in-One c = splice_one _ _ c.requires c.in-Expr.is c.part.ensures c.in-Some-eq118.ensures (omega arith) c.in-One.ensures c.place.ensures

@@ -1,13 +1,17 @@
 use mathlib.Core.Path.{◌∙◌}
 use native.Mathlib.Omega.{arith}
-use Rattle.decisions.proofs.IndexLaws.{two_within, two_short, two_past}
+use Rattle.decisions.proofs.IndexLaws.{two_within, two_past}
 use Rattle.decisions.proofs.index.two_at.Goals as goal
+use Rattle.decisions.proofs.index.two_at.Goals.{else-i-b-via-then-i-b+else-b-i-gt1, else-i-b-via-else-i-b}
 
-pub returns-in-Some-len2-up : goal.returns-in-Some-len2-up
-returns-in-Some-len2-up c = (c.from.ensures ∙ c.from_be_bytes.ensures ∙ two_within _ _ c.get.ensures.lookup c.in-Some-len2-up.is c.in-Some-len2-up.len_at_least, omega (arith, c.from.ensures, c.from_be_bytes.type_inv))
+pub returns-then-b-i-gt1 : goal.returns-then-b-i-gt1
+returns-then-b-i-gt1 c = (c.from.ensures ∙ c.from_be_bytes.ensures ∙ two_within _ _ (omega arith), omega (arith, c.from.ensures, c.from_be_bytes.type_inv))
 
-pub returns-in_default : goal.returns-in_default
-returns-in_default c = (two_short _ _ c.get.ensures.lookup c.in_default.is (grind arith), omega arith)
-
-pub returns-in_default-2 : goal.returns-in_default-2
-returns-in_default-2 c = (two_past _ _ c.get.ensures.lookup c.in_default.is, omega arith)
+pub returns-else-i-b : goal.returns-else-i-b
+returns-else-i-b c = (
+  two_past _ _ (elim c.else-i-b.branch [
+    | else-i-b-via-then-i-b+else-b-i-gt1 w ↦ omega arith
+    | else-i-b-via-else-i-b w ↦ omega arith
+  ]),
+  omega arith,
+)
