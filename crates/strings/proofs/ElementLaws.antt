@@ -1,5 +1,5 @@
 -- Elements and children as they are written: a name byte by byte, the loop over children, and an element piece by piece.
--- Main statements: `last_child`, `Left`, `text_on` and the like, `left_end`, `gap_end`, `void_end`, `close_end`.
+-- Main statements: `last_child`, `Left`, `text_on` and the like, `left_end`, `gap_end`, `void_end`, `no_kids`, `close_end`.
 -- Assumes nothing.
 use mathlib.Core.Path.{◌≡◌, sym, ap, ◌∙◌, subst}
 use Prim.Native.Nat.{ℕ, ◌+◌, ◌*◌, ◌≤◌, ◌<◌}
@@ -13,6 +13,7 @@ use Rattle.field.specs.Row.{read, Ended}
 use Rattle.field.specs.Front.{behind_of}
 use Rattle.field.specs.Fields.{IsFront}
 use Rattle.field.proofs.Actions.{by, on, finish, room}
+use Rattle.field.proofs.FrontLaws.{read_empty}
 use Rattle.text.specs.Text.{jsx_text_to_str}
 use Rattle.names.specs.Names.{is_void_element}
 use Rattle.page.specs.Tree.{children_in, contained_in}
@@ -102,6 +103,10 @@ module _ {skip props : Bytes} {par : Bool} {s : Bytes} {start : Carved} {t : Byt
         }
 
 -- ---- an element
+
+-- nothing behind its name leaves the open string
+pub no_kids : (skip props r : Bytes) (w : Carved) → length r ≡ 0 → w ≡ carve (children_to_string true (kids skip props r)) w
+no_kids skip props r w z = left_end (left_start skip props true r w) (subst Ended (sym (read_empty r z)) tt)
 
 module _ (skip props b : Bytes) (w : Carved) {l : Bool} (e : l ≡ serializable skip b) where
   abbrev whole : Carved

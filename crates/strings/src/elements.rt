@@ -105,16 +105,17 @@ fn is_last(parent: bool, s: &[u8]) -> bool
     parent && children_at(s).is_empty()
 }
 
-// An element in a template: one that is no HTML leaves a gap.
+// An element in a template: one that is no HTML leaves a gap. Inlined: as a call of its own it would copy the open string there and back.
+#[inline(always)]
 #[cycle(strings)]
 pub fn element_strings(options: &Options<'_>, b: &[u8], out: &mut [u8], st: Open) -> Open
     requires { Low (carve (under options.now element_at b.now).to_string_vec (at out.old st)) }
     ensures { at out.new result ≡ carve (under options.now element_at b.now).to_string_vec (at out.old st) }
 {
-    match serialized(options.skip, b) {
-        Some(names) => tag_strings(options, b, names, out, st),
-        None => cut(out, st),
-    }
+    let Some(names) = serialized(options.skip, b) else {
+        return cut(out, st);
+    };
+    tag_strings(options, b, names, out, st)
 }
 
 // One that is known to be HTML: its tags, and what stands between them. That it is serializable is the caller's test, which tells of its attributes'
@@ -131,13 +132,15 @@ pub fn tag_strings(options: &Options<'_>, b: &[u8], names: Names, out: &mut [u8]
     let p = open_tag(out, st, n, kind, names, rest);
     let a = attributes_strings(options, rest, out, p);
     let c = put_chars(out, a, b">");
-    match kind {
-        Some(Void::AsWritten) => c,
-        Some(Void::InSmallLetters) | None => {
-            let d = children_strings(options, rest, true, out, c);
-            put_close(out, d, n)
-        }
+    if let Some(Void::AsWritten) = kind {
+        return c;
     }
+    // most small elements hold nothing, and a call copies the open string
+    if rest.is_empty() {
+        return put_close(out, c, n);
+    }
+    let d = children_strings(options, rest, true, out, c);
+    put_close(out, d, n)
 }
 
 // Children in a template; `parent` where they are an element's.

@@ -25,13 +25,12 @@ fn put_run(out: &mut [u8], st: Open, scratch: &[u8], n: usize) -> Open
     ensures { at out.new result ≡ put_again n (take n scratch.now) (at out.old st) }
 {
     if MAX_BODY < n {
-        Open {
+        return Open {
             due: graver(st.due, Due::Long),
             ..st
-        }
-    } else {
-        put_text(out, st, &scratch[..n], false)
+        };
     }
+    put_text(out, st, &scratch[..n], false)
 }
 
 pub fn merged_children_strings(

@@ -1,6 +1,6 @@
 -- The turns of the loop. What it holds: the words below `top` are the open brackets' frames, and the small machine, going on from here over
 -- the bytes left, answers what the text is answered. Main statements: `begins`, `finishes`, `unfinished`, `refuses`, `goes`, `opens`,
--- `too_deep`, `closes_nothing`, `closes`. Assumes nothing.
+-- `too_deep`, `opens_alone`, `closes_nothing`, `closes`, `closes_alone`, `again`, `over`. Assumes nothing.
 use Prim.Native.Nat.{ℕ, zero, suc, ◌+◌, ◌-◌, ◌*◌, ◌/◌, ◌%◌, ◌≤◌, ◌<◌}
 use mathlib.Core.Path.{◌≡◌, refl, sym, ◌∙◌, ap, subst}
 use mathlib.Core.Bool.{Bool, true, false}
@@ -196,6 +196,19 @@ module _ {s : Bytes} {fs : List ℕ} {top i : ℕ} {x : State} (g : Going s fs t
         none_stopped (drop (i + 1) s) ∙ ap (λ (K : Stack). result (moved (Close w) K) (drop (i + 1) s)) (sym (at_bottom g.held z))
         ∙ ap (λ (z : Act). result (moved z g.frames) (drop (i + 1) s)) (sym h) ∙ turn
 
+-- a bracket that nothing waits for
+pub opens_alone : {s : Bytes} {fs : List ℕ} {top i : ℕ} {x : State} → Going s fs top i x → i < length s → {a : Act} → a ≡ act x (get_or s i 0) → a ≡ Open (record { before = NoSum; factor = None }) → length fs ≡ 16384 → top < 16384
+    → Going s (set fs top 0) (top + 1) (i + 1) (awaits NoSum)
+unfolding before_tag factor_tag words before_of factor_of choose
+opens_alone {s} {fs} {top} {i} g l q h n d =
+    let e : top + 0 + 0 ≡ top = omega arith in
+    subst (λ (k : ℕ). Going s (set fs top 0) (k + 1) (i + 1) (awaits NoSum)) e
+    (opens g l q h (set fs top 0) (λ j k. get_or-set_other fs top j 0 0 (λ z. omega (arith, z, k))) refl refl (ap (λ (k : ℕ). get_or (set fs top 0) k 0) e ∙ get_or-set_same fs top 0 0 (omega arith)) (omega arith))
+
+pub too_high_alone : {s : Bytes} {fs : List ℕ} {top i : ℕ} {x : State} → Going s fs top i x → i < length s → {a : Act} → a ≡ act x (get_or s i 0) → a ≡ Open (record { before = NoSum; factor = None }) → 16384 ≤ top → length s ≤ 32768 → None ≡ sum_of s
+unfolding before_tag factor_tag words choose
+too_high_alone g l q h d m = too_deep g l q h (omega arith) m
+
 -- ---- a frame is stored
 words_of_none : (t : ℕ) → words t ≡ 0 → t ≡ 0
 unfolding words choose
@@ -343,6 +356,13 @@ module _ {s : Bytes} {fs : List ℕ} {top i : ℕ} {x : State} (g : Going s fs t
           subst (λ (n : ℕ). Going s fs n (i + 1) (Behind b' y)) (sym t_is)
           (subst (λ (j : Before). Going s fs k.t (i + 1) (Behind j y)) (sym bs) (subst (λ (j : Worked). Going s fs k.t (i + 1) (Behind k.w.before j)) (sym ys) c))
 
+  -- a bracket that nothing waited for
+  pub closes_alone : tag ≡ 0 → i < length s → {a : Act} {w : Worked} → a ≡ act x (get_or s i 0) → a ≡ Close w → Going s fs (top - 1) (i + 1) (Behind NoSum w)
+  unfolding words before_of factor_of times_by choose
+  closes_alone h l {w = w} q k =
+      let m : top - 1 - 0 - 0 ≡ top - 1 = omega arith in
+      subst (λ (n : ℕ). Going s fs n (i + 1) (Behind NoSum w)) m (closes {w₃ = 0} (ap (λ (n : ℕ). words (n % 4)) (sym h)) {w₄ = 0} (ap (λ (n : ℕ). words (n / 4)) (sym h)) l q k (ap (λ (n : ℕ). before_of (n / 4) (get_or fs (top - 1 - 0 - 0) 0)) (sym h)) (ap (λ (n : ℕ). factor_of (n % 4) (get_or fs (top - 1 - 0) 0)) (sym h)) refl)
+
 -- another state that does the same with the next byte
 pub again : {s : Bytes} {fs : List ℕ} {top i : ℕ} {x : State} → Going s fs top i x → i < length s → (y : State) → act y (get_or s i 0) ≡ act x (get_or s i 0) → weight y ≤ weight x → Going s fs top i y
 unfolding result small_step
@@ -355,6 +375,25 @@ again {s} {fs} {top} {i} {x} g l y q w =
       held = g.held;
       paid = omega (arith, g.paid);
       total = ap (result (stands y g.frames)) e ∙ ap (λ (z : Act). result (moved z g.frames) (drop (i + 1) s)) q ∙ ap (result (stands x g.frames)) (sym e) ∙ g.total;
+    }
+
+same_end : (y x : State) (K : Stack) → ended y ≡ ended x → small_end (stands y K) ≡ small_end (stands x K)
+unfolding small_end
+same_end y x [] q = q
+same_end y x (w ∷ K) q = refl
+
+-- another state that comes to the same at the end
+pub over : {s : Bytes} {fs : List ℕ} {top i : ℕ} {x : State} → Going s fs top i x → i ≡ length s → (y : State) → ended y ≡ ended x → weight y ≤ weight x → Going s fs top i y
+unfolding result
+over {s} {fs} {top} {i} {x} g e y q w =
+    let d : drop i s ≡ [] = ap (λ (n : ℕ). drop n s) e ∙ drop-length s in
+    record {
+      within = g.within;
+      high = g.high;
+      frames = g.frames;
+      held = g.held;
+      paid = omega (arith, g.paid);
+      total = ap (result (stands y g.frames)) d ∙ same_end y x g.frames q ∙ sym (ap (result (stands x g.frames)) d) ∙ g.total;
     }
 
 pub lighter : (n : ℕ) (w : Waiting) (y : Worked) → weight (Behind w.before y) ≤ weight (Digits n w)

@@ -33,10 +33,9 @@ pub data Act : Type 0 where
   Refused : Act
 
 -- the state as the loop holds it: a mode, and what there is in it
-unfoldable pub state_of : Mode → ℕ → Before → Factor → Worked → State
-state_of M.Awaits n b f y = Awaits (record { before = b; factor = f })
-state_of M.Digits n b f y = Digits n (record { before = b; factor = f })
-state_of M.Behind n b f y = Behind b y
+unfoldable pub state_of : Mode → Before → Factor → Worked → State
+state_of M.Awaits b f y = Awaits (record { before = b; factor = f })
+state_of M.Behind b f y = Behind b y
 
 abbrev pub size : Sum → ℕ
 size (Plus n) = n

@@ -1,7 +1,7 @@
 // What a text comes to: one loop over its bytes, with what waits for open brackets in lent words. What is right says `sum_of`.
 ghost use Rattle.std.specs.Prelude.{◌≡◌, ◌+◌, ◌*◌, ◌≤◌, ◌<◌, length};
 ghost use Rattle.sums.specs.Machine.{sum_of};
-ghost use Rattle.sums.specs.Small.{finished, times_by, grown, ended, state_of};
+ghost use Rattle.sums.specs.Small.{Factor, finished, times_by, grown, ended, state_of};
 ghost use Rattle.sums.specs.Packed.{worked_kind, worked_size, worked_from, before_tag, before_size, before_of, factor_tag, factor_size, factor_of, words};
 
 use crate::value::{MOST, Sum, add, bounded, multiply, size, subtract};
@@ -18,11 +18,10 @@ enum Before {
     SumMinus(Option<Sum>),
 }
 
-// Where the loop stands: an operand is awaited, within a number, behind an operand.
+// Where the loop stands: an operand is awaited, or one has been read. A number is passed by a loop of its own.
 #[derive(Clone, Copy)]
 enum Mode {
     Awaits,
-    Digits,
     Behind,
 }
 
@@ -62,18 +61,11 @@ fn product(factor: Option<Option<Sum>>, y: Option<Sum>) -> Option<Sum>
 
 // The answer where the text ends and no bracket is open.
 #[tactic(auto, unfolding(crate::specs::Small::ended, crate::specs::Small::state_of))]
-fn end_of(
-    mode: Mode,
-    n: u64,
-    before: Before,
-    factor: Option<Option<Sum>>,
-    y: Option<Sum>,
-) -> Option<Sum>
-    ensures { result ≡ ended (state_of mode n before factor y) }
+fn end_of(mode: Mode, before: Before, y: Option<Sum>) -> Option<Sum>
+    ensures { (f : Factor) → result ≡ ended (state_of mode before f y) }
 {
     match mode {
         Mode::Awaits => None,
-        Mode::Digits => total(before, product(factor, bounded(Sum::Plus(n)))),
         Mode::Behind => total(before, y),
     }
 }
@@ -185,29 +177,18 @@ pub fn sum_in(text: &[u8], stack: &mut [u64; ROOM]) -> Option<Sum>
     let mut mode = Mode::Awaits;
     let mut before = Before::NoSum;
     let mut factor: Option<Option<Sum>> = None;
-    let mut n: u64 = 0;
     let mut y: Option<Sum> = None;
     let mut top: usize = 0;
-    // counted, since the byte that ends a number is looked at once more
+    // counted, since a number is passed by a loop of its own
     let mut i: usize = 0;
     while i < text.len() {
         let c = text[i];
+        if c == b' ' {
+            i += 1;
+            continue;
+        }
         match mode {
-            Mode::Digits if c.is_ascii_digit() => {
-                n = grow(n, c);
-                i += 1;
-                continue;
-            }
-            Mode::Digits => {
-                y = product(factor, bounded(Sum::Plus(n)));
-                mode = Mode::Behind;
-                continue;
-            }
             Mode::Awaits => match c {
-                b' ' => {
-                    i += 1;
-                    continue;
-                }
                 b'0' => {
                     y = product(factor, bounded(Sum::Plus(0)));
                     mode = Mode::Behind;
@@ -215,6 +196,16 @@ pub fn sum_in(text: &[u8], stack: &mut [u64; ROOM]) -> Option<Sum>
                     continue;
                 }
                 b'(' => {
+                    // nothing waits, as in a row of brackets: one word that says so
+                    if let (Before::NoSum, None) = (before, factor) {
+                        if ROOM <= top {
+                            return None;
+                        }
+                        stack[top] = 0;
+                        top += 1;
+                        i += 1;
+                        continue;
+                    }
                     let b = before_tag(before);
                     let f = factor_tag(factor);
                     let at = top + words_of(b);
@@ -232,18 +223,23 @@ pub fn sum_in(text: &[u8], stack: &mut [u64; ROOM]) -> Option<Sum>
                     continue;
                 }
                 _ if c.is_ascii_digit() => {
-                    n = u64::from(c - b'0');
-                    mode = Mode::Digits;
+                    let mut n = u64::from(c - b'0');
                     i += 1;
+                    while i < text.len() {
+                        let digit = text[i];
+                        if !digit.is_ascii_digit() {
+                            break;
+                        }
+                        n = grow(n, digit);
+                        i += 1;
+                    }
+                    y = product(factor, bounded(Sum::Plus(n)));
+                    mode = Mode::Behind;
                     continue;
                 }
                 _ => return None,
             },
             Mode::Behind => match c {
-                b' ' => {
-                    i += 1;
-                    continue;
-                }
                 b'+' => {
                     before = Before::SumPlus(total(before, y));
                     factor = None;
@@ -270,6 +266,14 @@ pub fn sum_in(text: &[u8], stack: &mut [u64; ROOM]) -> Option<Sum>
                     }
                     let v = total(before, y);
                     let tag = stack[top - 1];
+                    // nothing waited before it, so no word is read back
+                    if tag == 0 {
+                        before = Before::NoSum;
+                        y = v;
+                        top -= 1;
+                        i += 1;
+                        continue;
+                    }
                     let at = top - 1 - words_of(tag % 4);
                     let low = at - words_of(tag / 4);
                     before = before_of(tag / 4, stack[low]);
@@ -283,7 +287,7 @@ pub fn sum_in(text: &[u8], stack: &mut [u64; ROOM]) -> Option<Sum>
         }
     }
     if top == 0 {
-        end_of(mode, n, before, factor, y)
+        end_of(mode, before, y)
     } else {
         None
     }

@@ -3,11 +3,12 @@
 -- The loop keeps that what is left of the series, written from here on, gives what the whole gives from the start. Assumes nothing.
 use Rattle.names.proofs.VoidLaws.{void_by_kind, not_void_by_kind}
 use Rattle.strings.proofs.FrontSizes.{behind_le}
-use mathlib.Core.Path.{refl, sym, subst}
+use mathlib.Core.Path.{refl, sym, ◌∙◌, subst}
+use borrow.Author.Tests.{eqb-true}
 use native.Mathlib.Omega.{arith}
 use borrow.Author.Rules.{rules}
 use Rattle.decisions.specs.Repeats.{Told}
-use Rattle.strings.proofs.ElementLaws.{left_start, left_end, body_falls, text_room, text_on, container_room, container_on, element_room, element_on, fragment_room, fragment_on, other_on, gap_room, gap_end, open_room, attrs_room, end_room, void_end, kids_room, close_room, close_end}
+use Rattle.strings.proofs.ElementLaws.{left_start, left_end, body_falls, text_room, text_on, container_room, container_on, element_room, element_on, fragment_room, fragment_on, other_on, gap_room, gap_end, open_room, attrs_room, end_room, void_end, no_kids, kids_room, close_room, close_end}
 use Rattle.strings.proofs.elements.+strings.Goals as goal
 
 pub children_strings-loop-field-init : goal.children_strings-loop-field-init
@@ -47,10 +48,10 @@ pub element_strings-tag_strings-requires : goal.element_strings-tag_strings-requ
 element_strings-tag_strings-requires t c = (omega (arith, c.decreases), (c.in-Some.ensures.0, c.requires, c.in-Some.ensures.1))
 
 pub element_strings-cut-requires : goal.element_strings-cut-requires
-element_strings-cut-requires t c = gap_room _ _ _ _ refl c.in-None.ensures c.requires
+element_strings-cut-requires t c = gap_room _ _ _ _ refl c.in_default.ensures c.requires
 
-pub element_strings-returns-in-None : goal.element_strings-returns-in-None
-element_strings-returns-in-None t c = gap_end _ _ _ _ refl c.in-None.ensures c.cut.ensures
+pub element_strings-returns-in_default : goal.element_strings-returns-in_default
+element_strings-returns-in_default t c = gap_end _ _ _ _ refl c.in_default.ensures c.cut.ensures
 
 pub tag_strings-open_tag-p-requires : goal.tag_strings-open_tag-p-requires
 tag_strings-open_tag-p-requires t c = (
@@ -72,7 +73,13 @@ pub tag_strings-children_strings-d-requires : goal.tag_strings-children_strings-
 tag_strings-children_strings-d-requires t c = (omega (arith, behind_le _ c.behind-rest.ensures, c.decreases), kids_room _ _ _ _ refl c.requires.0 c.identifier-n.ensures c.behind-rest.ensures c.open_tag-p.ensures c.attributes_strings-a.ensures c.put_chars-c.ensures refl (not_void_by_kind _ c.void_kind-kind.ensures (search rules)) c.requires.1)
 
 pub tag_strings-put_close-requires : goal.tag_strings-put_close-requires
-tag_strings-put_close-requires t c = close_room _ _ _ _ refl c.requires.0 c.identifier-n.ensures c.behind-rest.ensures c.open_tag-p.ensures c.attributes_strings-a.ensures c.put_chars-c.ensures refl (not_void_by_kind _ c.void_kind-kind.ensures (search rules)) c.children_strings-d.ensures c.requires.1
+tag_strings-put_close-requires t c = close_room _ _ _ _ refl c.requires.0 c.identifier-n.ensures c.behind-rest.ensures c.open_tag-p.ensures c.attributes_strings-a.ensures c.put_chars-c.ensures refl (not_void_by_kind _ c.void_kind-kind.ensures (search rules)) (no_kids _ _ _ _ (eqb-true _ 0 (sym c.is_empty.ensures ∙ c.if-is_empty.true))) c.requires.1
 
-pub tag_strings-returns-in-Some-InSmallLetters : goal.tag_strings-returns-in-Some-InSmallLetters
-tag_strings-returns-in-Some-InSmallLetters t c = close_end _ _ _ _ refl c.requires.0 c.identifier-n.ensures c.behind-rest.ensures c.open_tag-p.ensures c.attributes_strings-a.ensures c.put_chars-c.ensures refl (not_void_by_kind _ c.void_kind-kind.ensures (search rules)) c.children_strings-d.ensures c.put_close.ensures
+pub tag_strings-returns-then-is_empty : goal.tag_strings-returns-then-is_empty
+tag_strings-returns-then-is_empty t c = close_end _ _ _ _ refl c.requires.0 c.identifier-n.ensures c.behind-rest.ensures c.open_tag-p.ensures c.attributes_strings-a.ensures c.put_chars-c.ensures refl (not_void_by_kind _ c.void_kind-kind.ensures (search rules)) (no_kids _ _ _ _ (eqb-true _ 0 (sym c.is_empty.ensures ∙ c.if-is_empty.true))) c.put_close.ensures
+
+pub tag_strings-put_close-requires-2 : goal.tag_strings-put_close-requires-2
+tag_strings-put_close-requires-2 t c = close_room _ _ _ _ refl c.requires.0 c.identifier-n.ensures c.behind-rest.ensures c.open_tag-p.ensures c.attributes_strings-a.ensures c.put_chars-c.ensures refl (not_void_by_kind _ c.void_kind-kind.ensures (search rules)) c.children_strings-d.ensures c.requires.1
+
+pub tag_strings-returns : goal.tag_strings-returns
+tag_strings-returns t c = close_end _ _ _ _ refl c.requires.0 c.identifier-n.ensures c.behind-rest.ensures c.open_tag-p.ensures c.attributes_strings-a.ensures c.put_chars-c.ensures refl (not_void_by_kind _ c.void_kind-kind.ensures (search rules)) c.children_strings-d.ensures c.put_close-2.ensures

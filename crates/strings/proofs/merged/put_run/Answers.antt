@@ -11,5 +11,5 @@ returns-then-n-gt-MAX_BODY c = let a = c.args in run_long a.out.now a.st a.n (ta
 pub put_text-requires : goal.put_text-requires
 put_text-requires c = let a = c.args in subst Low (run_short a.out.now a.st a.n (take a.n a.scratch.now) c.if-n-gt-MAX_BODY.false) c.requires.low
 
-pub returns-else-n-gt-MAX_BODY : goal.returns-else-n-gt-MAX_BODY
-returns-else-n-gt-MAX_BODY c = let a = c.args in c.put_text.ensures ∙ sym (run_short a.out.now a.st a.n (take a.n a.scratch.now) c.if-n-gt-MAX_BODY.false)
+pub returns : goal.returns
+returns c = let a = c.args in c.put_text.ensures ∙ sym (run_short a.out.now a.st a.n (take a.n a.scratch.now) c.if-n-gt-MAX_BODY.false)
