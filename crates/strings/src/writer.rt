@@ -12,9 +12,9 @@ use text::jsx_text::jsx_text_to_str;
 
 // Where its head stands, how long it is, how many gaps stand before it, and what is due. It is a state by value with the buffer beside it: in a
 // probe that puts bytes one by one, a struct of both that is lent as &mut took 20 % more (8,743 instructions for 7,256).
-// What answers one returns it early, `return cut(..)`, and not as the value of an `if` or a `match`: such a value is copied whole, and the seven
-// bytes behind `due` that no one reads go along as two words that overlap, each of which waits for the one before. Pages of thousands of small
-// elements took 1.2 to 1.4 times the time by it, at equal instructions.
+// `element_strings`, `tag_strings` and `put_run` return it early, and not as the value of an `if` or a `match`: such a value is copied whole, and
+// the seven bytes behind `due` that no one reads go along as two words that overlap, each of which waits for the one before. Pages of thousands
+// of small elements took 1.2 to 1.4 times the time by it, at equal instructions.
 #[derive(Clone, Copy)]
 pub struct Open {
     pub head: usize,
